@@ -1,0 +1,38 @@
+//! Decimal numbers.
+
+ghost use Rattle.std.specs.Prelude.{◌≡◌, ◌+◌, ◌≤◌, nat_lt};
+ghost use Rattle.oidc_replay.specs.Number.{digits_from, number_of, number_within};
+
+fn read_digits(word: &[u8]) -> Option<u64>
+    ensures { result ≡ digits_from 0 word.now }
+{
+    let mut number = 0u64;
+    for byte in word {
+        if !byte.is_ascii_digit() {
+            return None;
+        }
+        let digit = (*byte - b'0') as u64;
+        number = number.checked_mul(10)?.checked_add(digit)?;
+    }
+    Some(number)
+}
+
+/// The number of a word of decimal digits, without leading zeros and below 2^64.
+fn read_number(word: &[u8]) -> Option<u64>
+    ensures { result ≡ number_of word.now }
+{
+    match word {
+        [] => None,
+        [b'0'] => Some(0),
+        [b'0', _, ..] => None,
+        _ => read_digits(word),
+    }
+}
+
+/// The number of a word, from `low` to `high`; None where it is no such number.
+pub fn read_within(word: &str, low: u64, high: u64) -> Option<u64>
+    ensures { result ≡ number_within low high word.now }
+{
+    let number = read_number(word.as_bytes())?;
+    (low <= number && number <= high).then_some(number)
+}

@@ -1,0 +1,6 @@
+pub mod Sinks
+pub mod Removing
+pub mod RowLaws
+pub mod Literal
+pub mod Lives
+mod Samples

@@ -1,0 +1,249 @@
+-- The definitions computed on small cases: what each accepts, and what it refuses.
+use Rattle.std.proofs.Common.{◌≡◌, ℕ, ◌-◌, ◌^◌, ◌≤◌, true, false, List, [], ◌∷◌, length, take, Option, Some, None, Ok, Err, refl, ap, subst, suc, zero, arith, if◌then◌else◌}
+use Rattle.std.specs.Str.{bytes_eq}
+use Rattle.sso_base.specs.declared.history.Entry.{Entry}
+use Rattle.sso_base.specs.declared.history.Pair.{Pair}
+use Rattle.sso_base.specs.Words.{Word, is_word, fresh_word}
+use Rattle.sso_base.specs.Faults.{Rose, HasCause}
+use Rattle.sso_base.specs.Outside.{Content, Takes, TakesFront, content_of, Fetches}
+use Rattle.sso_base.specs.Rows.{without, put, row_of, rows_by, lives, if_lives, live_rows}
+use Rattle.sso_base.specs.Stands.{is_named, carried, NoneMakes, Stands, KeepsNames, IsDistinct}
+use Rattle.sso_base.specs.Legal.{last_moment, IsEntry, IsLegalBy}
+use Rattle.sso_base.proofs.Literal.{stands-row_of, row_of-stands}
+
+-- ---- lives of 600 seconds from 1000
+
+lives-at_its_last_second : lives 600 1000 1599 ≡ true
+lives-at_its_last_second = refl
+
+lives-not_at_its_end : lives 600 1000 1600 ≡ false
+lives-not_at_its_end = refl
+
+-- ---- doors with names and colours: they are hung, painted and taken away
+
+record Door : Type 0 where
+  name : Word
+  colour : ℕ
+
+data Deed : Type 0 where
+  hang : Word → ℕ → Deed
+  paint : Word → ℕ → Deed
+  unhang : Word → Deed
+
+abbrev hung : List Door → List Deed → Deed → Option Door
+hung held past (hang w colour) = Some (record { name = w; colour = colour })
+hung held past (paint w colour) = None
+hung held past (unhang w) = None
+
+abbrev left : List Deed → Deed → Door → Option Door
+left past (hang w colour) door = Some door
+left past (paint w colour) door = if bytes_eq door.name w then Some (record { name = door.name; colour = colour }) else Some door
+left past (unhang w) door = if bytes_eq door.name w then None else Some door
+
+abbrev name_of : Door → Word
+name_of door = door.name
+
+abbrev colour_of : Option Door → ℕ
+colour_of None = 0
+colour_of (Some door) = door.colour
+
+abbrev front : Word
+front = 1 ∷ []
+
+abbrev back : Word
+back = 2 ∷ []
+
+abbrev a_door : Word → ℕ → Door
+a_door w colour = record { name = w; colour = colour }
+
+without-takes_every_row_of_the_name : without name_of front (a_door front 1 ∷ a_door back 2 ∷ a_door front 3 ∷ []) ≡ a_door back 2 ∷ []
+without-takes_every_row_of_the_name = refl
+
+put-in_place_of_one_of_its_name : put name_of (Some (a_door front 3)) (a_door front 1 ∷ a_door back 2 ∷ []) ≡ a_door back 2 ∷ a_door front 3 ∷ []
+put-in_place_of_one_of_its_name = refl
+
+put-nothing : put name_of None (a_door front 1 ∷ []) ≡ a_door front 1 ∷ []
+put-nothing = refl
+
+row_of-the_first_of_its_name : row_of name_of front (a_door back 2 ∷ a_door front 1 ∷ a_door front 3 ∷ []) ≡ Some (a_door front 1)
+row_of-the_first_of_its_name = refl
+
+row_of-no_such_name : row_of name_of front (a_door back 2 ∷ []) ≡ None
+row_of-no_such_name = refl
+
+abbrev deeds : List Deed
+deeds = unhang back ∷ paint front 5 ∷ hang back 2 ∷ hang front 1 ∷ []
+
+rows_by-deeds : rows_by name_of hung left deeds ≡ a_door front 5 ∷ []
+rows_by-deeds = refl
+
+lives-of_one : if_lives 600 (λ (door : Door). door.colour) 1599 (a_door front 1000) ≡ Some (a_door front 1000)
+lives-of_one = refl
+
+lives-of_none : if_lives 600 (λ (door : Door). door.colour) 1600 (a_door front 1000) ≡ None
+lives-of_none = refl
+
+live_rows-until_their_end : live_rows 600 (λ (door : Door). door.colour) 1600 (a_door front 1000 ∷ a_door back 1001 ∷ []) ≡ a_door back 1001 ∷ []
+live_rows-until_their_end = refl
+
+-- ---- what stands literally
+
+is_named-a_row_of_the_name : is_named name_of front (Some (a_door front 1)) ≡ true
+is_named-a_row_of_the_name = refl
+
+is_named-a_row_of_another : is_named name_of front (Some (a_door back 2)) ≡ false
+is_named-a_row_of_another = refl
+
+carried-through_a_painting : carried left (paint front 5 ∷ hang back 2 ∷ []) [] (a_door front 1) ≡ Some (a_door front 5)
+carried-through_a_painting = refl
+
+carried-to_its_end : carried left (paint back 5 ∷ unhang back ∷ []) [] (a_door back 2) ≡ None
+carried-to_its_end = refl
+
+none_makes-a_painting : NoneMakes name_of hung left front (paint front 5 ∷ hang back 2 ∷ []) []
+none_makes-a_painting = (refl, (refl, tt))
+
+none_makes-not_a_hanging : NoneMakes name_of hung left front (paint front 5 ∷ hang front 2 ∷ []) [] → ⊥
+none_makes-not_a_hanging n = (let made : true ≡ false = n.1.0 in cc)
+
+left-keeps_names : KeepsNames name_of left
+left-keeps_names past (hang w colour) row after e = grind arith
+left-keeps_names past (paint w colour) row after e = grind arith
+left-keeps_names past (unhang w) row after e = grind arith
+
+-- a deed that gives a door another name does not keep names
+abbrev renamed : List Deed → Deed → Door → Option Door
+renamed past deed row = Some (a_door back row.colour)
+
+renamed-keeps_no_names : KeepsNames name_of renamed → ⊥
+renamed-keeps_no_names keeps = (let same : back ≡ front = keeps [] (unhang back) (a_door front 1) (a_door back 1) refl in cc)
+
+stands-as_it_was_painted : Stands name_of hung left deeds front (a_door front 5)
+stands-as_it_was_painted = stands-row_of name_of hung left left-keeps_names front deeds (a_door front 5) refl
+
+stands-not_as_it_was_hung : Stands name_of hung left deeds front (a_door front 1) → ⊥
+stands-not_as_it_was_hung s =
+    (let colour : Option Door → ℕ = λ o. colour_of o in
+    let wrong : ◌≡◌ {A = ℕ} 5 1 = ap colour (row_of-stands name_of hung left left-keeps_names front deeds (a_door front 1) s) in
+    omega arith)
+
+stands-not_once_it_was_unhung : Stands name_of hung left deeds back (a_door back 2) → ⊥
+stands-not_once_it_was_unhung s =
+    (let found : None ≡ Some (a_door back 2) = row_of-stands name_of hung left left-keeps_names back deeds (a_door back 2) s in cc)
+
+distinct-two_names : IsDistinct name_of (a_door front 1 ∷ a_door back 1 ∷ [])
+distinct-two_names = (refl, (refl, tt))
+
+distinct-not_one_name_twice : IsDistinct name_of (a_door front 1 ∷ a_door front 2 ∷ []) → ⊥
+distinct-not_one_name_twice d = (let found : Some (a_door front 2) ≡ None = d.0 in cc)
+
+-- ---- words
+
+is_word-this_one : is_word (Some front) front ≡ true
+is_word-this_one = refl
+
+is_word-another : is_word (Some back) front ≡ false
+is_word-another = refl
+
+is_word-none : is_word None front ≡ false
+is_word-none = refl
+
+fresh_word-the_second : fresh_word (front ∷ back ∷ []) 1 ≡ back
+fresh_word-the_second = refl
+
+-- ---- counts of faults
+
+rose-by_one : Rose 0 1
+rose-by_one = omega arith
+
+rose-not_where_it_stands : Rose 0 0 → ⊥
+rose-not_where_it_stands h = omega arith
+
+rose-at_the_end_of_a_counter : Rose (2 ^ 64 - 1) (2 ^ 64 - 1)
+rose-at_the_end_of_a_counter = omega arith
+
+cause-of_an_answer : HasCause {T = ℕ} {E = ℕ} 3 3 (Ok 0)
+cause-of_an_answer = record { later = omega arith; failed = tt }
+
+cause-not_of_an_error_without_a_count : HasCause {T = ℕ} {E = ℕ} 3 3 (Err 0) → ⊥
+cause-not_of_an_error_without_a_count c = (let rose : Rose 3 3 = c.failed in omega arith)
+
+cause-not_where_the_count_fell : HasCause {T = ℕ} {E = ℕ} 3 2 (Ok 0) → ⊥
+cause-not_where_the_count_fell c = (let later : 3 ≤ 2 = c.later in omega arith)
+
+-- ---- sinks and shelves
+
+takes-the_piece : Takes (Some (1 ∷ [])) (Some (1 ∷ 2 ∷ 3 ∷ [])) (2 ∷ 3 ∷ [])
+takes-the_piece = refl
+
+takes-not_less : Takes (Some (1 ∷ [])) (Some (1 ∷ 2 ∷ [])) (2 ∷ 3 ∷ []) → ⊥
+takes-not_less e = cc
+
+takes-not_where_it_tells_no_more : Takes (Some (1 ∷ [])) None (2 ∷ []) → ⊥
+takes-not_where_it_tells_no_more e = cc
+
+takes_front-of_one_byte : TakesFront (Some (1 ∷ [])) (Some (1 ∷ 2 ∷ [])) (2 ∷ 3 ∷ [])
+takes_front-of_one_byte = (1, omega arith, refl)
+
+takes_front-not_other_bytes : TakesFront (Some []) (Some (3 ∷ [])) (2 ∷ 3 ∷ []) → ⊥
+takes_front-not_other_bytes (zero, few, e) = cc
+takes_front-not_other_bytes (suc n, few, e) = cc
+
+abbrev whole : List ℕ
+whole = 1 ∷ 2 ∷ 3 ∷ []
+
+abbrev first_two : List ℕ
+first_two = 1 ∷ 2 ∷ []
+
+abbrev files : List Content
+files = (front, whole) ∷ (back, []) ∷ (front, 9 ∷ []) ∷ []
+
+content_of-the_first_of_its_name : content_of files front ≡ Some whole
+content_of-the_first_of_its_name = refl
+
+content_of-no_such_name : content_of files (3 ∷ []) ≡ None
+content_of-no_such_name = refl
+
+fetches-the_first_bytes : Fetches (Some files) front 2 first_two
+fetches-the_first_bytes = (whole, refl, refl)
+
+fetches-all_of_a_short_content : Fetches (Some files) front 4 whole
+fetches-all_of_a_short_content = (whole, refl, refl)
+
+fetches-not_one_byte_more : Fetches (Some files) front 2 whole → ⊥
+fetches-not_one_byte_more (content, found, bytes) =
+    (let there : content ≡ whole = cc in
+    let cut : whole ≡ first_two = subst (λ x. whole ≡ take 2 x) there bytes in
+    cc)
+
+fetches-not_a_name_that_is_not_there : (bytes : List ℕ) → Fetches (Some files) (3 ∷ []) 2 bytes → ⊥
+fetches-not_a_name_that_is_not_there bytes (content, found, cut) = cc
+
+-- ---- legal pasts: a core that answers how many pairs came before
+
+abbrev counted : List (Pair ℕ ℕ) → Entry ℕ → ℕ
+counted past e = length past
+
+abbrev Any : ℕ → Type 0
+Any ask = Unit {0}
+
+abbrev drawn : List Word
+drawn = front ∷ back ∷ front ∷ back ∷ []
+
+abbrev pair : ℕ → ℕ → Pair ℕ ℕ
+pair at reply = record { entry = record { at = at; fresh = drawn; ask = 0 }; reply = reply }
+
+legal-two_pairs : IsLegalBy Any counted (pair 7 1 ∷ pair 7 0 ∷ [])
+legal-two_pairs = ((tt, record { words = refl; ask = tt }, omega arith, refl), record { words = refl; ask = tt }, omega arith, refl)
+
+legal-not_with_a_wrong_reply : IsLegalBy Any counted (pair 7 2 ∷ pair 7 0 ∷ []) → ⊥
+legal-not_with_a_wrong_reply (before, entry, order, reply) = (let wrong : ◌≡◌ {A = ℕ} 2 1 = reply in omega arith)
+
+legal-not_where_time_goes_back : IsLegalBy Any counted (pair 6 1 ∷ pair 7 0 ∷ []) → ⊥
+legal-not_where_time_goes_back (before, entry, order, reply) = (let back : 7 ≤ 6 = order in omega arith)
+
+entry-not_with_three_words : IsEntry Any (record { at = 7; fresh = front ∷ back ∷ front ∷ []; ask = 0 }) → ⊥
+entry-not_with_three_words e = (let three : ◌≡◌ {A = ℕ} 3 4 = e.words in omega arith)
+
+last_moment-of_the_newest_pair : last_moment (pair 8 1 ∷ pair 7 0 ∷ []) ≡ 8
+last_moment-of_the_newest_pair = refl

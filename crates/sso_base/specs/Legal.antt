@@ -1,0 +1,21 @@
+-- Legal pasts: each reply is the answer to its entry after its own past, and time never goes back.
+-- A past is a history with the newest pair first.
+use Rattle.std.specs.Prelude.{◌≡◌, ◌≤◌, ℕ, List, [], ◌∷◌, length}
+use Rattle.sso_base.specs.declared.history.Entry.{Entry}
+use Rattle.sso_base.specs.declared.history.Pair.{Pair}
+
+-- the moment of the last pair, 0 where there is none
+abbrev pub last_moment : {A R : Type 0} → List (Pair A R) → ℕ
+last_moment [] = 0
+last_moment (p ∷ past) = p.entry.at
+
+-- An entry has four fresh words and an ask that a request can make; which asks these are is said by the role.
+pub record IsEntry {A : Type 0} (IsAsk : A → Type 0) (e : Entry A) : Type 0 where
+  pub words : length e.fresh ≡ 4
+  pub ask : IsAsk e.ask
+
+-- a past whose replies are the answers of a core
+abbrev pub IsLegalBy : {A R : Type 0} → (A → Type 0) → (List (Pair A R) → Entry A → R) → List (Pair A R) → Type 0
+IsLegalBy IsAsk answer [] = Unit {0}
+IsLegalBy IsAsk answer (p ∷ past) =
+    IsLegalBy IsAsk answer past × IsEntry IsAsk p.entry × (last_moment past ≤ p.entry.at) × (p.reply ≡ answer past p.entry)

@@ -1,0 +1,38 @@
+//! What every crate of the sign-on system stands on: texts, words and moments, histories with their named rows,
+//! and the outside, as traits that tell what they hold and how often they failed.
+//!
+//! | Module | What it has |
+//! |---|---|
+//! | `memory` | `NoMemory`, the one answer for want of memory |
+//! | `text` | `Text`, `Blob`, `Texts` |
+//! | `word` | `Word`, 32 random bytes |
+//! | `moment` | `Moment`, a number of seconds |
+//! | `history` | `Entry` and `Pair`: what a core was asked, and what it replied |
+//! | `rows` | rows with names, found, put and removed |
+//! | `sink`, `sink_memory` | where bytes are written to |
+//! | `shelf`, `shelf_memory` | where contents are fetched from |
+#![tactic(auto)]
+
+mod history;
+mod memory;
+mod moment;
+mod rows;
+mod shelf;
+mod shelf_memory;
+mod sink;
+mod sink_memory;
+#[cfg(test)]
+mod tests;
+mod text;
+mod word;
+
+pub use history::{Entry, Pair};
+pub use memory::NoMemory;
+pub use moment::Moment;
+pub use rows::{Named, find_row, is_live, put_row, remove_row};
+pub use shelf::{Shelf, ShelfNo};
+pub use shelf_memory::{FaultyShelf, File, MemoryShelf};
+pub use sink::{Sink, SinkFault, write_whole};
+pub use sink_memory::{FaultySink, MemorySink};
+pub use text::{Blob, Text, Texts};
+pub use word::Word;

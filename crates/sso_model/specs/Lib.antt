@@ -1,0 +1,4 @@
+pub mod Founded
+pub mod Lists
+pub mod Machine
+pub mod Rows

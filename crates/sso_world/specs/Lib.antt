@@ -1,0 +1,13 @@
+pub mod Agreement
+pub mod Configuration
+pub mod Party
+pub mod PartyAnswer
+pub mod Play
+pub mod Playing
+pub mod Premises
+pub mod Provider
+pub mod ProviderAnswer
+pub mod Reading
+pub mod Text
+pub mod Token
+pub mod World

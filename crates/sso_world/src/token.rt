@@ -1,0 +1,102 @@
+//! ID Tokens, as the rows of their claims.
+
+ghost use Rattle.std.specs.Prelude.{◌≡◌, IfOk};
+ghost use Rattle.std.specs.Str.{bytes_eq};
+ghost use Rattle.sso_world.specs.Token.{is_only, judgement};
+
+use crate::configuration::{only_client, provider_issuer};
+use sso_base::{Moment, NoMemory, Text, Texts, Word};
+use std::alloc::Global;
+
+/// The claims of an ID Token (OpenID Connect Core 1.0, 2). Times are seconds since the epoch. The nonce and the session
+/// identifier are the words themselves.
+#[derive(Debug, Drop)]
+pub struct Claims {
+    pub iss: Text,
+    pub sub: Text,
+    pub aud: Texts,
+    pub exp: u64,
+    pub iat: u64,
+    pub auth_time: u64,
+    pub nonce: Word,
+    pub sid: Word,
+}
+
+impl Claims {
+    /// Equal claims.
+    pub fn copy(&self, alloc: Global) -> Result<Claims, NoMemory>
+        ensures { IfOk result (λ claims. claims ≡ self.now) }
+    {
+        Ok(Claims {
+            iss: self.iss.copy(alloc)?,
+            sub: self.sub.copy(alloc)?,
+            aud: self.aud.copy(alloc)?,
+            exp: self.exp,
+            iat: self.iat,
+            auth_time: self.auth_time,
+            nonce: self.nonce,
+            sid: self.sid,
+        })
+    }
+}
+
+/// Why an ID Token is not a good one for a login (OpenID Connect Core 1.0, 3.1.3.7). The number is the claim's.
+#[derive(Clone, Copy, Debug, PartialEq, Eq)]
+pub enum IdNo {
+    /// `iss` is not the provider's issuer.
+    Issuer,
+    /// The client is not in `aud`, or anybody else is.
+    Audience,
+    /// 60 seconds or more have passed since `exp`.
+    Expired(u64),
+    /// More than 600 seconds have passed since `iat`.
+    TooOld(u64),
+    /// `iat` is more than 60 seconds ahead.
+    FromFuture(u64),
+    /// `nonce` is not the login's.
+    Nonce,
+}
+
+fn is_text(text: &Text, other: &str) -> bool
+    ensures { result ≡ bytes_eq text.now other.now }
+{
+    text.as_str() == other
+}
+
+#[tactic(auto, using(crate::proofs::AudienceSteps::all_step, crate::proofs::AudienceSteps::all_stop))]
+fn is_for(audience: &Texts, client: &str) -> bool
+    ensures { result ≡ is_only client.now audience.now }
+{
+    for i in 0..audience.count() {
+        if !is_text(audience.at(i), client) {
+            return false;
+        }
+    }
+    audience.count() != 0
+}
+
+/// Judges the claims of an ID Token for the login of this nonce. It answers the first refusal that fits.
+pub fn judge_id(claims: &Claims, nonce: &Word, at: Moment) -> Result<(), IdNo>
+    ensures { result ≡ judgement claims.now nonce.now at }
+{
+    let now = at.seconds();
+    if !is_text(&claims.iss, provider_issuer()) {
+        return Err(IdNo::Issuer);
+    }
+    if !is_for(&claims.aud, only_client()) {
+        return Err(IdNo::Audience);
+    }
+    if claims.exp.saturating_add(60) <= now {
+        return Err(IdNo::Expired(claims.exp));
+    }
+    if claims.iat.saturating_add(600) < now {
+        return Err(IdNo::TooOld(claims.iat));
+    }
+    if now + 60 < claims.iat {
+        return Err(IdNo::FromFuture(claims.iat));
+    }
+    if claims.nonce != *nonce {
+        return Err(IdNo::Nonce);
+    }
+    Ok(())
+}
