@@ -1,23 +1,26 @@
 -- What is fetched of contents answers as the whole contents do.
-use Rattle.std.proofs.Common.{◌≡◌, ℕ, ◌<◌, ◌≤◌, nat_le, nat_eq, Bool, false, cond, List, [], ◌∷◌, length, take, Option, Some, None, Result, Ok, Err, inl, inr, arith, refl, ap, ◌∙◌, sym}
+use Rattle.std.proofs.Common.{◌≡◌, ℕ, ◌<◌, ◌≤◌, ◌+◌, ◌-◌, nat_lt, nat_le, nat_eq, Bool, true, false, cond, List, [], ◌∷◌, length, take, drop, codes, Option, Some, None, Result, Ok, Err, inl, inr, arith, refl, ap, ◌∙◌, sym, subst}
 use Rattle.std.proofs.lemmas.List.{take_all, length-take-le}
 use Rattle.std.proofs.lemmas.Bool.{and_right}
 use Rattle.std.proofs.lemmas.Bool.Decides.{leb_tells}
 use Rattle.std.specs.Result.{IfOk}
 use Rattle.std.specs.Str.{bytes_eq}
 use Rattle.sso_base.specs.Words.{Text}
-use Rattle.sso_base.specs.Outside.{Content, Fetches}
+use Rattle.sso_base.specs.Outside.{Content}
+use Rattle.sso_base.proofs.RowLaws.{bool_cases}
+use Rattle.jws_compact.specs.declared.no.JwsNo.TheVariants.{TooLong}
+use Rattle.jws_compact.specs.Jws.{verdict}
 use Rattle.oidc_replay.specs.declared.trace.TraceNo.TheVariants as no
 use Rattle.oidc_replay.specs.Trace.{trace_of, told_of, lines_of}
-use Rattle.sso.specs.Answer.{Answer, answer_to, trace_answer, configuration_text}
+use Rattle.sso.specs.Answer.{Answer, answer_to, trace_answer, configuration_text, without_feed, is_secret, token_refusal, verdict_answer, token_answer}
 use Rattle.sso.specs.Ends.{IsContent}
-use Rattle.sso.specs.Outcomes.{AnswersContents, PlaysWell}
+use Rattle.sso.specs.Outcomes.{IsFetched, AnswersReplay, AnswersToken, PlaysWell}
 
 -- ---- One content
 
-from_fetch : (contents : Option (List Content)) (name : Text) (most : ℕ) (bytes : List ℕ) → Fetches contents name most bytes → length bytes ≤ most → (content : List ℕ) × IsContent contents name content × (bytes ≡ take most content)
-from_fetch None name most bytes fetched few = (bytes, tt, sym (take_all most bytes few))
-from_fetch (Some contents) name most bytes fetched few = fetched
+from_fetch : (contents : Option (List Content)) (name : Text) (most : ℕ) (bytes : List ℕ) → IsFetched contents name most bytes → (content : List ℕ) × IsContent contents name content × (bytes ≡ take most content)
+from_fetch None name most bytes fetched = (bytes, tt, sym (take_all most bytes fetched.1))
+from_fetch (Some contents) name most bytes fetched = fetched.0
 
 -- ---- The configuration
 
@@ -41,8 +44,8 @@ too_long : (b : List ℕ) → nat_le (length b) 65536 ≡ false → trace_of b �
 unfolding trace_of
 too_long b long = ap (λ (x : Bool). cond x (told_of (lines_of b)) (Err no.Size)) long
 
-is_above : (n : ℕ) → 65536 < n → nat_le n 65536 ≡ false
-is_above n above = elim (leb_tells n 65536) [ inl p ↦ absurd (omega arith) | inr p ↦ p.0 ]
+is_above : (most n : ℕ) → most < n → nat_le n most ≡ false
+is_above most n above = elim (leb_tells n most) [ inl p ↦ absurd (omega arith) | inr p ↦ p.0 ]
 
 trace_cut : (trace : List ℕ) → trace_of (take 65537 trace) ≡ trace_of trace
 trace_cut trace =
@@ -50,10 +53,10 @@ trace_cut trace =
       | inl p ↦ ap trace_of (take_all 65537 trace p.1)
       | inr p ↦
           let e : length (take 65537 trace) ≡ 65537 = length-take-le 65537 trace (omega arith) in
-          too_long (take 65537 trace) (is_above (length (take 65537 trace)) (omega arith)) ∙ sym (too_long trace (is_above (length trace) (omega arith)))
+          too_long (take 65537 trace) (is_above 65536 (length (take 65537 trace)) (omega arith)) ∙ sym (too_long trace (is_above 65536 (length trace) (omega arith)))
     ]
 
--- ---- Both
+-- ---- The configuration and the trace
 
 answer_cut : (small config trace : List ℕ) → length small < 1048577 → answer_to small (take 1048577 config) (take 65537 trace) ≡ answer_to small config trace
 unfolding answer_to
@@ -63,13 +66,13 @@ answer_cut small config trace fits =
     ∙ ap (λ x. cond (bytes_eq config small) (trace_answer x) other) (trace_cut trace)
 
 -- The answer to what was fetched is the answer to the contents that stand there.
-pub answers_fetched : (small : List ℕ) (contents : Option (List Content)) (config_at trace_at : Text) (config trace : List ℕ) (answer : Answer) → length small < 1048577
-    → Fetches contents config_at 1048577 config → length config ≤ 1048577 → Fetches contents trace_at 65537 trace → length trace ≤ 65537
-    → answer ≡ answer_to small config trace → (answer.status ≡ 0 → PlaysWell trace) → AnswersContents small contents config_at trace_at answer
+pub replay_fetched : (small : List ℕ) (contents : Option (List Content)) (config_at trace_at : Text) (config trace : List ℕ) (answer : Answer) → length small < 1048577
+    → IsFetched contents config_at 1048577 config → IsFetched contents trace_at 65537 trace
+    → answer ≡ answer_to small config trace → (answer.status ≡ 0 → PlaysWell trace) → AnswersReplay small contents config_at trace_at answer
 unfolding PlaysWell
-answers_fetched small contents config_at trace_at config trace answer fits config_from config_few trace_from trace_few e well =
-    let c = from_fetch contents config_at 1048577 config config_from config_few in
-    let t = from_fetch contents trace_at 65537 trace trace_from trace_few in
+replay_fetched small contents config_at trace_at config trace answer fits config_from trace_from e well =
+    let c = from_fetch contents config_at 1048577 config config_from in
+    let t = from_fetch contents trace_at 65537 trace trace_from in
     record {
       config = c.0;
       trace = t.0;
@@ -78,6 +81,81 @@ answers_fetched small contents config_at trace_at config trace answer fits confi
       answers = e ∙ ap (λ (v : List ℕ). answer_to small v trace) c.2 ∙ ap (λ (v : List ℕ). answer_to small (take 1048577 c.0) v) t.2 ∙ answer_cut small c.0 t.0 fits;
       well = λ z told is. well z told (ap trace_of t.2 ∙ trace_cut t.0 ∙ is);
     }
+
+-- ---- The secret
+
+few_dropped : (bytes : List ℕ) → length bytes ≤ length (without_feed bytes) + 1
+few_dropped bytes =
+    let Few : Bool → Type 0 = λ b. length bytes ≤ length (cond b (take (length bytes - 1) bytes) bytes) + 1 in
+    elim (bool_cases (bytes_eq (drop (length bytes - 1) bytes) (codes "\n"))) [
+      | inl ends ↦
+          let e : length (take (length bytes - 1) bytes) ≡ length bytes - 1 = length-take-le (length bytes - 1) bytes (omega arith) in
+          subst Few (sym ends) (omega arith)
+      | inr other ↦ subst Few (sym other) (omega arith)
+    ]
+
+long_secret : (bytes : List ℕ) → 129 < length bytes → is_secret (without_feed bytes) ≡ false
+long_secret bytes long =
+    let few : length bytes ≤ length (without_feed bytes) + 1 = few_dropped bytes in
+    and_right (nat_lt 0 (length (without_feed bytes))) (nat_le (length (without_feed bytes)) 128)
+    (is_above 128 (length (without_feed bytes)) (omega arith))
+
+secret_refused : (secret token : List ℕ) → is_secret (without_feed secret) ≡ false → token_answer secret token ≡ token_refusal (codes "Secret")
+unfolding token_answer
+secret_refused secret token is_not =
+    ap (λ (b : Bool). cond b (verdict_answer (verdict (without_feed secret) (without_feed token))) (token_refusal (codes "Secret"))) is_not
+
+secret_cut : (secret token : List ℕ) → token_answer (take 130 secret) token ≡ token_answer secret token
+secret_cut secret token =
+    elim (leb_tells (length secret) 130) [
+      | inl p ↦ ap (λ (v : List ℕ). token_answer v token) (take_all 130 secret p.1)
+      | inr p ↦
+          let e : length (take 130 secret) ≡ 130 = length-take-le 130 secret (omega arith) in
+          secret_refused (take 130 secret) token (long_secret (take 130 secret) (omega arith))
+          ∙ sym (secret_refused secret token (long_secret secret (omega arith)))
+    ]
+
+-- ---- The token
+
+too_long_token : (key text : List ℕ) → nat_lt 8192 (length text) ≡ true → verdict key text ≡ Err TooLong
+unfolding verdict
+too_long_token key text long = rw long
+
+long_token : (key token : List ℕ) → 8193 < length token → verdict key (without_feed token) ≡ Err TooLong
+long_token key token long =
+    let few : length token ≤ length (without_feed token) + 1 = few_dropped token in
+    too_long_token key (without_feed token)
+    (elim (leb_tells 8193 (length (without_feed token))) [ inl p ↦ p.0 | inr p ↦ absurd (omega arith) ])
+
+verdict_cut : (key token : List ℕ) → verdict key (without_feed (take 8194 token)) ≡ verdict key (without_feed token)
+verdict_cut key token =
+    elim (leb_tells (length token) 8194) [
+      | inl p ↦ ap (λ (v : List ℕ). verdict key (without_feed v)) (take_all 8194 token p.1)
+      | inr p ↦
+          let e : length (take 8194 token) ≡ 8194 = length-take-le 8194 token (omega arith) in
+          long_token key (take 8194 token) (omega arith) ∙ sym (long_token key token (omega arith))
+    ]
+
+token_cut : (secret token : List ℕ) → token_answer secret (take 8194 token) ≡ token_answer secret token
+unfolding token_answer
+token_cut secret token =
+    ap (λ x. cond (is_secret (without_feed secret)) (verdict_answer x) (token_refusal (codes "Secret"))) (verdict_cut (without_feed secret) token)
+
+pub token_fetched : (contents : Option (List Content)) (secret_at token_at : Text) (secret token : List ℕ) (answer : Answer)
+    → IsFetched contents secret_at 130 secret → IsFetched contents token_at 8194 token
+    → answer ≡ token_answer secret token → AnswersToken contents secret_at token_at answer
+token_fetched contents secret_at token_at secret token answer secret_from token_from e =
+    let s = from_fetch contents secret_at 130 secret secret_from in
+    let t = from_fetch contents token_at 8194 token token_from in
+    record {
+      secret = s.0;
+      token = t.0;
+      secret_there = s.1;
+      token_there = t.1;
+      answers = e ∙ ap (λ (v : List ℕ). token_answer v token) s.2 ∙ ap (λ (v : List ℕ). token_answer (take 130 s.0) v) t.2 ∙ secret_cut s.0 (take 8194 t.0) ∙ token_cut s.0 t.0;
+    }
+
+-- ---- Two clauses at once
 
 pub if_ok_both : {X E : Type 0} (r : Result X E) (P Q R : X → Type 0) → ((x : X) → P x → Q x → R x) → IfOk r P → IfOk r Q → IfOk r R
 if_ok_both (Ok x) P Q R f p q = f x p q

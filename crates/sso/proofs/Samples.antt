@@ -1,18 +1,23 @@
 -- How calls end, computed over the definitions on small contents: for each status a call that ends so, and one that does not.
-use Rattle.std.proofs.Common.{◌≡◌, ℕ, Bool, true, false, List, [], ◌∷◌, codes, Some, None, Ok, refl, sym, subst, arith}
+use Rattle.std.proofs.Common.{◌≡◌, ℕ, Bool, true, false, List, [], ◌∷◌, ◌++◌, codes, Some, None, Result, Ok, Err, inl, inr, refl, sym, ◌∙◌, subst, arith}
 use Rattle.std.proofs.lemmas.Option.{same_Some}
 use Rattle.std.specs.Fmt.{digits}
 use Rattle.std.specs.Str.{bytes_eq}
 use Rattle.hex.specs.Hex.{decode_pairs}
 use Rattle.sso_base.specs.Words.{Text}
 use Rattle.sso_base.specs.Outside.{Content}
+use Rattle.jws_compact.specs.declared.no.JwsNo.{JwsNo}
+use Rattle.jws_compact.specs.declared.no.JwsNo.TheVariants.{NotThreeParts}
+use Rattle.jws_compact.specs.declared.unsealing.Unsealed.{Unsealed}
+use Rattle.jws_compact.specs.Jws.{verdict}
+use Rattle.jws_compact.proofs.OnLiterals.{jws_on_literals}
 use Rattle.oidc_replay.specs.declared.trace.TraceNo.TheVariants as no
 use Rattle.oidc_replay.specs.Trace.{Told, trace_of}
 use Rattle.oidc_replay.specs.Replay.{play_of, text_of}
 use Rattle.oidc_replay.proofs.Order.{told_read}
 use Rattle.oidc_replay.proofs.Plays.{play_meets, play_signs}
-use Rattle.sso.specs.Answer.{answer_to, usage_text, refused_text}
-use Rattle.sso.specs.Ends.{ShowsUsage, ReportsShelf, RefusesConfiguration, RefusesTrace, Replays, status_for}
+use Rattle.sso.specs.Answer.{answer_to, usage_text, refused_text, without_feed, jws_name, token_text, token_answer}
+use Rattle.sso.specs.Ends.{ShowsUsage, ReportsShelf, RefusesConfiguration, RefusesTrace, RefusesToken, Replays, OpensToken, IsTokenNo, status_for}
 
 -- a configuration that stands for the small one
 abbrev small : List ℕ
@@ -30,6 +35,40 @@ seed = 16 ∷ 16 ∷ 16 ∷ 16 ∷ 16 ∷ 16 ∷ 16 ∷ 16 ∷ 16 ∷ 16 ∷ 16 
 -- a shelf with this configuration and this trace
 abbrev with : List ℕ → List ℕ → List Content
 with config trace = (codes "config", config) ∷ (codes "trace", trace) ∷ []
+
+abbrev token_words : List Text
+token_words = codes "token" ∷ codes "secret" ∷ codes "token" ∷ []
+
+abbrev key : List ℕ
+key = codes "key"
+
+-- the payload {} under this key
+abbrev sealed : List ℕ
+sealed = codes "eyJhbGciOiJIUzI1NiIsInR5cCI6IkpXVCJ9.e30.9EmJDfAi6fqc_FoO3yD77spdi7QZX-s9VzN89vOaOp0"
+
+abbrev unsealed : Unsealed
+unsealed = record { typ = Some (codes "JWT"); payload = codes "{}" }
+
+-- a shelf with this secret and this token
+abbrev holding : List ℕ → List ℕ → List Content
+holding secret token = (codes "secret", secret) ∷ (codes "token", token) ∷ []
+
+-- ---- Line feeds
+
+feed-is_dropped : without_feed (codes "key\n") ≡ codes "key"
+feed-is_dropped = refl
+
+feed-alone_is_dropped : without_feed (codes "\n") ≡ []
+feed-alone_is_dropped = refl
+
+feed-one_of_two_is_dropped : without_feed (codes "key\n\n") ≡ codes "key\n"
+feed-one_of_two_is_dropped = refl
+
+feed-not_before_the_end : without_feed (codes "\nkey") ≡ codes "\nkey"
+feed-not_before_the_end = refl
+
+feed-none_in_nothing : without_feed [] ≡ []
+feed-none_in_nothing = refl
 
 -- ---- Statuses by the contents
 
@@ -52,6 +91,22 @@ refused-is_4 = refl
 absent-is_5 : status_for small ((codes "config", small) ∷ []) words ≡ 5
 unfolding status_for
 absent-is_5 = refl
+
+opened-is_0 : status_for small (holding (codes "key\n") (sealed ++ 10 ∷ [])) token_words ≡ 0
+unfolding status_for token_answer jws_on_literals
+opened-is_0 = refl
+
+no_secret-is_10 : status_for small (holding (codes "\n") sealed) token_words ≡ 10
+unfolding status_for token_answer
+no_secret-is_10 = refl
+
+other_secret-is_10 : status_for small (holding (codes "kez") sealed) token_words ≡ 10
+unfolding status_for token_answer jws_on_literals
+other_secret-is_10 = refl
+
+absent_token-is_5 : status_for small ((codes "secret", key) ∷ []) token_words ≡ 5
+unfolding status_for
+absent_token-is_5 = refl
 
 -- ---- Ends
 
@@ -100,3 +155,53 @@ replayed =
       premises = play_meets nothing_told (told_read header nothing_told nothing_accepted);
       signs = play_signs nothing_told (told_read header nothing_told nothing_accepted);
     }
+
+token_opened : OpensToken (Some (holding (codes "key\n") sealed)) token_words (Some []) (Some (codes "{}\n"))
+unfolding jws_on_literals
+token_opened =
+    record {
+      words_are = refl;
+      secret = codes "key\n";
+      secret_there = refl;
+      secret_fits = refl;
+      token = sealed;
+      token_there = refl;
+      unsealed = unsealed;
+      opened = refl;
+      wrote = refl;
+    }
+
+secret_refused : RefusesToken (Some (holding (codes "\n") sealed)) token_words (Some []) (Some (codes "token Secret\n"))
+unfolding token_text
+secret_refused =
+    record { words_are = refl; secret = codes "\n"; secret_there = refl; token = sealed; token_there = refl; name = codes "Secret"; why = inl (refl, refl); wrote = refl }
+
+token_refused : RefusesToken (Some (holding key (codes "e30.e30"))) token_words (Some []) (Some (codes "token NotThreeParts\n"))
+unfolding jws_on_literals jws_name token_text
+token_refused =
+    record {
+      words_are = refl;
+      secret = key;
+      secret_there = refl;
+      token = codes "e30.e30";
+      token_there = refl;
+      name = codes "NotThreeParts";
+      why = inr (refl, (NotThreeParts, refl, refl));
+      wrote = refl;
+    }
+
+sealed_opens : verdict key sealed ≡ Ok unsealed
+unfolding jws_on_literals
+sealed_opens = refl
+
+sealed_is_no_refusal : (name : Text) → IsTokenNo key sealed name → ⊥
+sealed_is_no_refusal name (inl other) = (let never : ◌≡◌ {A = Bool} true false = other.0 in cc)
+sealed_is_no_refusal name (inr refused) = (let never : ◌≡◌ {A = Result Unsealed JwsNo} (Ok unsealed) (Err refused.1.0) = sym sealed_opens ∙ refused.1.1 in cc)
+
+token_not_refused : RefusesToken (Some (holding key sealed)) token_words None None → ⊥
+token_not_refused refuses =
+    let OfSecret : List ℕ → Type 0 = λ v. IsTokenNo (without_feed v) (without_feed refuses.token) refuses.name in
+    let OfToken : List ℕ → Type 0 = λ v. IsTokenNo key (without_feed v) refuses.name in
+    sealed_is_no_refusal refuses.name
+    (subst OfToken (sym (same_Some sealed refuses.token refuses.token_there))
+    (subst OfSecret (sym (same_Some key refuses.secret refuses.secret_there)) refuses.why))

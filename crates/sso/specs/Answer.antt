@@ -1,8 +1,12 @@
 -- What the program answers to its words and to the contents that it fetched: a status and a text.
-use Rattle.std.specs.Prelude.{ℕ, Bool, ◌&&◌, ◌==◌, List, [], ◌∷◌, ◌++◌, length, slice_index_or, codes, Result, Ok, Err, if◌then◌else◌}
+use Rattle.std.specs.Prelude.{ℕ, ◌-◌, Bool, ◌&&◌, ◌||◌, ◌==◌, nat_lt, nat_le, List, [], ◌∷◌, ◌++◌, length, take, drop, slice_index_or, codes, Result, Ok, Err, if◌then◌else◌}
 use Rattle.std.specs.Fmt.{decimal}
 use Rattle.std.specs.Str.{bytes_eq}
 use Rattle.sso_base.specs.Words.{Text}
+use Rattle.jws_compact.specs.declared.no.JwsNo.{JwsNo}
+use Rattle.jws_compact.specs.declared.no.JwsNo.TheVariants as jws
+use Rattle.jws_compact.specs.declared.unsealing.Unsealed.{Unsealed}
+use Rattle.jws_compact.specs.Jws.{verdict}
 use Rattle.oidc_replay.specs.declared.trace.TraceNo.{TraceNo}
 use Rattle.oidc_replay.specs.declared.trace.TraceNo.TheVariants as no
 use Rattle.oidc_replay.specs.Trace.{Told, trace_of}
@@ -20,11 +24,24 @@ word_at words place = slice_index_or words place []
 abbrev pub is_replay : List Text → Bool
 is_replay words = length words == 3 && bytes_eq (word_at words 0) (codes "replay")
 
+-- the words are `token SECRETFILE TOKENFILE`
+abbrev pub is_token : List Text → Bool
+is_token words = length words == 3 && bytes_eq (word_at words 0) (codes "token")
+
+abbrev pub is_command : List Text → Bool
+is_command words = is_replay words || is_token words
+
 abbrev pub config_name : List Text → Text
 config_name words = word_at words 1
 
 abbrev pub trace_name : List Text → Text
 trace_name words = word_at words 2
+
+abbrev pub secret_name : List Text → Text
+secret_name words = word_at words 1
+
+abbrev pub token_name : List Text → Text
+token_name words = word_at words 2
 
 unfoldable pub usage_text : Text
 usage_text = codes "usage: sso replay CONFIG TRACE, op CONFIG, rp CONFIG NAME [DISCOVERY], storm NUMBER COUNT, token SECRETFILE TOKENFILE\n"
@@ -50,3 +67,49 @@ trace_answer (Err why) = record { status = 4; text = refused_text why }
 unfoldable pub answer_to : List ℕ → List ℕ → List ℕ → Answer
 answer_to small config trace =
     if bytes_eq config small then trace_answer (trace_of trace) else record { status = 3; text = configuration_text }
+
+-- bytes without their last, where that is a line feed
+abbrev pub without_feed : List ℕ → List ℕ
+without_feed bytes =
+    if bytes_eq (drop (length bytes - 1) bytes) (codes "\n") then take (length bytes - 1) bytes else bytes
+
+-- a secret has 1 to 128 bytes
+abbrev pub is_secret : List ℕ → Bool
+is_secret bytes = nat_lt 0 (length bytes) && nat_le (length bytes) 128
+
+-- the name of a refusal
+unfoldable pub jws_name : JwsNo → Text
+jws_name jws.NoMemory = []
+jws_name jws.TooLong = codes "TooLong"
+jws_name jws.NotThreeParts = codes "NotThreeParts"
+jws_name jws.HeaderSpelling = codes "HeaderSpelling"
+jws_name jws.PayloadSpelling = codes "PayloadSpelling"
+jws_name jws.MacSpelling = codes "MacSpelling"
+jws_name jws.HeaderNotObject = codes "HeaderNotObject"
+jws_name jws.AlgNotHs256 = codes "AlgNotHs256"
+jws_name jws.Crit = codes "Crit"
+jws_name jws.BadMac = codes "BadMac"
+
+-- the text of a token that is refused, by the name of the refusal
+unfoldable pub token_text : Text → Text
+token_text name = codes "token " ++ name ++ 10 ∷ []
+
+-- the answer to a token that holds this payload
+abbrev pub payload_answer : List ℕ → Answer
+payload_answer payload = record { status = 0; text = payload ++ 10 ∷ [] }
+
+-- the answer to a token that is refused
+abbrev pub token_refusal : Text → Answer
+token_refusal name = record { status = 10; text = token_text name }
+
+-- the answer to a token, by what it holds under the secret
+abbrev pub verdict_answer : Result Unsealed JwsNo → Answer
+verdict_answer (Ok unsealed) = payload_answer unsealed.payload
+verdict_answer (Err why) = token_refusal (jws_name why)
+
+-- the answer to the contents of a secret's file and a token's file
+unfoldable pub token_answer : List ℕ → List ℕ → Answer
+token_answer secret token =
+    if is_secret (without_feed secret)
+    then verdict_answer (verdict (without_feed secret) (without_feed token))
+    else token_refusal (codes "Secret")

@@ -1,9 +1,12 @@
-//! The program `sso`: the replay of a trace of sign-ons, with files for the shelf and standard output for the sink.
+//! The program `sso`: the replay of a trace of sign-ons and the reading of a token, with files for the shelf and standard
+//! output for the sink.
 //!
 //! | Module | What it has | Its definitions, in `specs/` |
 //! |---|---|---|
 //! | `top` | the top call, over any shelf and sink | `Ends` |
-//! | `outcome` | the answer to the contents that were fetched | `Answer`, `Outcomes` |
+//! | `command` | what the words ask for, with contents fetched for it | `Outcomes` |
+//! | `outcome` | the answers of `replay`, and those of no command | `Answer`, `Outcomes` |
+//! | `token` | the answers of `token` | `Answer` |
 //! | `mini` | the small configuration | |
 //! | `words`, `shelf`, `sink` | the machine's words, files and output | |
 #![tactic(auto)]
@@ -14,12 +17,14 @@ use crate::top::sso;
 use crate::words::read_words;
 use std::process::ExitCode;
 
+mod command;
 mod mini;
 mod outcome;
 mod shelf;
 mod sink;
 #[cfg(test)]
 mod tests;
+mod token;
 mod top;
 mod words;
 

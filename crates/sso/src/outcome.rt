@@ -1,4 +1,4 @@
-//! What is answered to the contents that were fetched.
+//! What is answered to words that are no command, where the shelf failed, and to a configuration and a trace.
 
 ghost use Rattle.std.specs.Prelude.{◌≡◌, ◌++◌, [], ◌∷◌, IfOk, codes};
 ghost use Rattle.std.specs.Fmt.{decimal};

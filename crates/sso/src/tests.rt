@@ -1,4 +1,4 @@
-//! The top call over contents in memory, and the words of the program.
+//! The top call over contents in memory, and the words of the program. The command `token` has its tests in `token`.
 
 use crate::mini::MINI;
 use crate::sink::WriterSink;
@@ -10,6 +10,8 @@ use std::env::{Env, FillError};
 use std::io;
 use std::io::{ErrorKind, Write};
 use std::test::Fail;
+
+mod token;
 
 const HEADER: &str = "sso-trace 1 000000000000000000000000000000000000000000000000\n";
 
@@ -31,18 +33,18 @@ fn texts(alloc: Global, words: &[&str]) -> Result<Vec<Text>, Fail> {
     Ok(texts)
 }
 
-fn file(alloc: Global, name: &str, content: &str) -> Result<File, Fail> {
+fn file(alloc: Global, name: &str, content: &[u8]) -> Result<File, Fail> {
     Ok(File {
         name: Text::new(alloc, name)?,
-        content: Blob::new(alloc, content.as_bytes())?,
+        content: Blob::new(alloc, content)?,
     })
 }
 
 /// A shelf with this configuration as `config` and this trace as `trace`.
 fn shelf(alloc: Global, config: &str, trace: &str) -> Result<MemoryShelf, Fail> {
     let mut files = Vec::new(alloc);
-    files.push(file(alloc, "config", config)?)?;
-    files.push(file(alloc, "trace", trace)?)?;
+    files.push(file(alloc, "config", config.as_bytes())?)?;
+    files.push(file(alloc, "trace", trace.as_bytes())?)?;
     Ok(MemoryShelf::new(files))
 }
 

@@ -1,9 +1,12 @@
 -- The definitions computed on small cases: what each accepts, and what it refuses.
-use Rattle.std.proofs.Common.{◌≡◌, ℕ, ◌-◌, ◌^◌, ◌≤◌, true, false, List, [], ◌∷◌, length, take, Option, Some, None, Ok, Err, refl, ap, subst, suc, zero, arith, if◌then◌else◌}
+use Rattle.std.proofs.Common.{◌≡◌, ℕ, codes, replicate, ◌++◌, ◌-◌, ◌^◌, ◌<◌, ◌≤◌, true, false, List, [], ◌∷◌, length, take, Option, Some, None, Ok, Err, refl, ap, subst, suc, zero, arith, if◌then◌else◌}
 use Rattle.std.specs.Str.{bytes_eq}
 use Rattle.sso_base.specs.declared.history.Entry.{Entry}
 use Rattle.sso_base.specs.declared.history.Pair.{Pair}
-use Rattle.sso_base.specs.Words.{Word, is_word, fresh_word}
+use Rattle.sso_base.specs.Base64Url.{b64u, unb64u}
+use Rattle.sso_base.specs.Words.{Word, IsWord, is_word, fresh_word, word_text, word_of_text}
+use Rattle.sso_base.proofs.OnLiterals.{base64url_on_literals}
+use Rattle.sso_base.proofs.Spelling.{IsBytes-from_all_bytes}
 use Rattle.sso_base.specs.Faults.{Rose, HasCause}
 use Rattle.sso_base.specs.Outside.{Content, Takes, TakesFront, content_of, Fetches}
 use Rattle.sso_base.specs.Rows.{without, put, row_of, rows_by, lives, if_lives, live_rows}
@@ -150,6 +153,57 @@ is_word-none = refl
 
 fresh_word-the_second : fresh_word (front ∷ back ∷ []) 1 ≡ back
 fresh_word-the_second = refl
+
+word-of_32_bytes : IsWord (replicate 32 255)
+word-of_32_bytes = record { long = refl; bytes = IsBytes-from_all_bytes (replicate 32 255) refl }
+
+word-not_of_31_bytes : IsWord (replicate 31 255) → ⊥
+word-not_of_31_bytes w = (let long : ◌≡◌ {A = ℕ} 31 32 = w.long in omega arith)
+
+word-not_of_256 : IsWord (replicate 32 256) → ⊥
+word-not_of_256 w = (let first : 256 < 256 = w.bytes 0 in omega arith)
+
+word_text-of_word_one : word_text (replicate 31 0 ++ 1 ∷ []) ≡ codes "AAAAAAAAAAAAAAAAAAAAAAAAAAAAAAAAAAAAAAAAAAE"
+unfolding base64url_on_literals
+word_text-of_word_one = refl
+
+word_of_text-of_word_one : word_of_text (codes "AAAAAAAAAAAAAAAAAAAAAAAAAAAAAAAAAAAAAAAAAAE") ≡ Some (replicate 31 0 ++ 1 ∷ [])
+unfolding base64url_on_literals
+word_of_text-of_word_one = refl
+
+word_of_text-not_with_a_bit_after_the_last_byte : word_of_text (codes "AAAAAAAAAAAAAAAAAAAAAAAAAAAAAAAAAAAAAAAAAAF") ≡ None
+unfolding base64url_on_literals
+word_of_text-not_with_a_bit_after_the_last_byte = refl
+
+word_of_text-not_of_33_bytes : word_of_text (codes "AAAAAAAAAAAAAAAAAAAAAAAAAAAAAAAAAAAAAAAAAAAA") ≡ None
+unfolding base64url_on_literals
+word_of_text-not_of_33_bytes = refl
+
+word_of_text-not_of_the_empty_text : word_of_text [] ≡ None
+unfolding base64url_on_literals
+word_of_text-not_of_the_empty_text = refl
+
+-- ---- base64url
+
+b64u-of_three_bytes : b64u (251 ∷ 255 ∷ 190 ∷ []) ≡ codes "-_--"
+unfolding base64url_on_literals
+b64u-of_three_bytes = refl
+
+unb64u-of_one_byte : unb64u (codes "_w") ≡ Some (255 ∷ [])
+unfolding base64url_on_literals
+unb64u-of_one_byte = refl
+
+unb64u-not_with_padding : unb64u (codes "_w==") ≡ None
+unfolding base64url_on_literals
+unb64u-not_with_padding = refl
+
+unb64u-not_with_a_bit_after_the_last_byte : unb64u (codes "_x") ≡ None
+unfolding base64url_on_literals
+unb64u-not_with_a_bit_after_the_last_byte = refl
+
+unb64u-not_in_the_other_alphabet : unb64u (codes "/w") ≡ None
+unfolding base64url_on_literals
+unb64u-not_in_the_other_alphabet = refl
 
 -- ---- counts of faults
 

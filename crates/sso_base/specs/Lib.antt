@@ -1,3 +1,4 @@
+pub mod Base64Url
 pub mod Faults
 pub mod Legal
 pub mod Outside

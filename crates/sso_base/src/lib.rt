@@ -5,15 +5,17 @@
 //! |---|---|
 //! | `memory` | `NoMemory`, the one answer for want of memory |
 //! | `text` | `Text`, `Blob`, `Texts` |
-//! | `word` | `Word`, 32 random bytes |
+//! | `word` | `Word`, 32 random bytes, and its text |
 //! | `moment` | `Moment`, a number of seconds |
 //! | `history` | `Entry` and `Pair`: what a core was asked, and what it replied |
 //! | `rows` | rows with names, found, put and removed |
 //! | `sink`, `sink_memory` | where bytes are written to |
 //! | `shelf`, `shelf_memory` | where contents are fetched from |
+//! | `law` | laws of the definitions, for the crates above |
 #![tactic(auto)]
 
 mod history;
+mod law;
 mod memory;
 mod moment;
 mod rows;
@@ -27,6 +29,7 @@ mod text;
 mod word;
 
 pub use history::{Entry, Pair};
+pub use law::words_have_one_text;
 pub use memory::NoMemory;
 pub use moment::Moment;
 pub use rows::{Named, find_row, is_live, put_row, remove_row};

@@ -14,6 +14,8 @@ fn texts_are_copied(rt: HostRuntime) -> Result<(), Fail> {
     let text = Text::new(rt.alloc(), "Zoë")?;
     assert_eq!(rt; text.as_str(), "Zoë");
     assert_eq!(rt; text.copy(rt.alloc())?.as_str(), "Zoë");
+    let taken = Text::from_string(String::from_str(rt.alloc(), "Zoë")?);
+    assert_eq!(rt; taken.as_str(), "Zoë");
     let mut texts = Texts::new(rt.alloc());
     assert_eq!(rt; texts.count(), 0);
     texts.push(text)?;
@@ -60,6 +62,48 @@ fn what_lives_600_seconds_from_1000_ends_at_1600(rt: HostRuntime) -> Result<(), 
         let at = Moment::new(seconds).ok_or("a moment")?;
         assert_eq!(rt; is_live(600, begun, at), live, "at {seconds}");
     }
+    Ok(())
+}
+
+#[test]
+fn a_word_has_one_text_of_43_characters(rt: HostRuntime) -> Result<(), Fail> {
+    let mut bytes = [0; 32];
+    bytes[31] = 1;
+    let word = Word::new(bytes);
+    let text = b"AAAAAAAAAAAAAAAAAAAAAAAAAAAAAAAAAAAAAAAAAAE".as_slice();
+    assert_eq!(rt; word.text().as_slice(), text);
+    for (text, want) in [
+        (text, Some(word)),
+        (b"".as_slice(), None),
+        (
+            b"AAAAAAAAAAAAAAAAAAAAAAAAAAAAAAAAAAAAAAAAAA".as_slice(),
+            None,
+        ),
+        (
+            b"AAAAAAAAAAAAAAAAAAAAAAAAAAAAAAAAAAAAAAAAAAEA".as_slice(),
+            None,
+        ),
+        (
+            b"AAAAAAAAAAAAAAAAAAAAAAAAAAAAAAAAAAAAAAAAAAE=".as_slice(),
+            None,
+        ),
+        (
+            b"AAAAAAAAAAAAAAAAAAAAAAAAAAAAAAAAAAAAAAAAAAF".as_slice(),
+            None,
+        ),
+        (
+            b"AAAAAAAAAAAAAAAAAAAAAAAAAAAAAAAAAAAAAAAAA+E".as_slice(),
+            None,
+        ),
+    ] {
+        assert_eq!(rt; Word::read(text), want, "{text:?}");
+    }
+    let other = Word::new([251; 32]);
+    assert_eq!(rt;
+        other.text().as_slice(),
+        b"-_v7-_v7-_v7-_v7-_v7-_v7-_v7-_v7-_v7-_v7-_s".as_slice()
+    );
+    assert_eq!(rt; Word::read(other.text().as_slice()), Some(other));
     Ok(())
 }
 

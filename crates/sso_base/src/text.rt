@@ -29,6 +29,13 @@ impl Text {
         })
     }
 
+    /// The text of this string, taken over.
+    pub fn from_string(text: String) -> Text
+        ensures { result ≡ string_bytes text }
+    {
+        Text { text }
+    }
+
     /// The text itself.
     pub fn as_str(&self) -> &str
         ensures value { result.now ≡ self.now }

@@ -1,6 +1,14 @@
 ghost use Rattle.std.specs.Prelude.{◌≡◌, length};
+ghost use Rattle.sso_base.specs.Words.{IsWord, word_text, word_of_text};
 
+use base64::engine::general_purpose::URL_SAFE_NO_PAD;
 use std::marker::Model;
+
+// The length of a word's text, in characters.
+const TEXT_LEN: usize = 43;
+
+// The room, in bytes, that decoding so many characters asks for.
+const DECODED_LEN: usize = 33;
 
 /// A random word of 32 bytes, seen as the list of them.
 #[derive(Clone, Copy, Debug, PartialEq, Eq)]
@@ -32,4 +40,40 @@ impl Word {
     {
         self.bytes
     }
+
+    /// Its text: 43 characters of base64url without padding (RFC 4648, 5).
+    #[tactic(auto, unfolding(crate::specs::Base64Url::b64u))]
+    pub fn text(&self) -> [u8; 43]
+        ensures { result ≡ word_text self.now }
+    {
+        let mut text = [0; 43];
+        let _ = URL_SAFE_NO_PAD.encode_slice(&self.bytes, &mut text);
+        text
+    }
+
+    /// The word that has this text. None exactly where the text is not strict base64url without padding
+    /// (RFC 4648, 5) or spells another number of bytes than 32: a word has one text.
+    pub fn read(text: &[u8]) -> Option<Word>
+        ensures { result ≡ word_of_text text.now }
+    {
+        if text.len() != TEXT_LEN {
+            return None;
+        }
+        let mut decoded = [0; DECODED_LEN];
+        let Ok(count) = URL_SAFE_NO_PAD.decode_slice_unchecked(text, &mut decoded) else {
+            return None;
+        };
+        prove!(count == 32);
+        let mut bytes = [0; 32];
+        bytes.copy_from_slice(&decoded[..32]);
+        Some(word_of(bytes))
+    }
+}
+
+// The word of these bytes. That each is below 256 is said for the proof of `read`.
+fn word_of(bytes: [u8; 32]) -> Word
+    ensures value { result ≡ bytes }
+    ensures word { IsWord bytes }
+{
+    Word::new(bytes)
 }

@@ -1,5 +1,5 @@
 use Rattle.sso.specs.declared.mini.TheConstants.{MINI}
-use Rattle.sso.proofs.Endings.{call_ends}
+use Rattle.sso.proofs.Answering.{call_ends}
 use Rattle.sso.proofs.top.sso.Goals as goal
 
 pub returns-in-Ok-clause-replayed : goal.returns-in-Ok-clause-replayed
@@ -31,3 +31,12 @@ returns-in-Ok-clause-words g c = (call_ends (record { small = MINI.now; contents
 
 pub returns-in-Ok-clause-contents : goal.returns-in-Ok-clause-contents
 returns-in-Ok-clause-contents g c = (call_ends (record { small = MINI.now; contents = g.H.Shelf.contents c.args.shelf.now; shelf_before = g.H.Shelf.faults c.args.shelf.now; shelf_after = g.H.Shelf.faults c.answer_words.new.shelf; words = c.args.words.now; before = g.K.Sink.faults c.args.out.now; after = g.K.Sink.faults c.write_outcome.new.out; old = g.K.Sink.taken c.args.out.now }) (g.K.Sink.taken c.write_outcome.new.out) c.in-Ok.outcome c.write_outcome.result c.in-Ok.ensures.may c.write_outcome.ensures.written).by_contents
+
+pub returns-in-Ok-clause-opened : goal.returns-in-Ok-clause-opened
+returns-in-Ok-clause-opened g c = (call_ends (record { small = MINI.now; contents = g.H.Shelf.contents c.args.shelf.now; shelf_before = g.H.Shelf.faults c.args.shelf.now; shelf_after = g.H.Shelf.faults c.answer_words.new.shelf; words = c.args.words.now; before = g.K.Sink.faults c.args.out.now; after = g.K.Sink.faults c.write_outcome.new.out; old = g.K.Sink.taken c.args.out.now }) (g.K.Sink.taken c.write_outcome.new.out) c.in-Ok.outcome c.write_outcome.result c.in-Ok.ensures.may c.write_outcome.ensures.written).opened
+
+pub returns-in-Ok-clause-command : goal.returns-in-Ok-clause-command
+returns-in-Ok-clause-command g c = (call_ends (record { small = MINI.now; contents = g.H.Shelf.contents c.args.shelf.now; shelf_before = g.H.Shelf.faults c.args.shelf.now; shelf_after = g.H.Shelf.faults c.answer_words.new.shelf; words = c.args.words.now; before = g.K.Sink.faults c.args.out.now; after = g.K.Sink.faults c.write_outcome.new.out; old = g.K.Sink.taken c.args.out.now }) (g.K.Sink.taken c.write_outcome.new.out) c.in-Ok.outcome c.write_outcome.result c.in-Ok.ensures.may c.write_outcome.ensures.written).command
+
+pub returns-in-Ok-clause-refused_token : goal.returns-in-Ok-clause-refused_token
+returns-in-Ok-clause-refused_token g c = (call_ends (record { small = MINI.now; contents = g.H.Shelf.contents c.args.shelf.now; shelf_before = g.H.Shelf.faults c.args.shelf.now; shelf_after = g.H.Shelf.faults c.answer_words.new.shelf; words = c.args.words.now; before = g.K.Sink.faults c.args.out.now; after = g.K.Sink.faults c.write_outcome.new.out; old = g.K.Sink.taken c.args.out.now }) (g.K.Sink.taken c.write_outcome.new.out) c.in-Ok.outcome c.write_outcome.result c.in-Ok.ensures.may c.write_outcome.ensures.written).refused_token

@@ -1,0 +1,7 @@
+pub mod Answering
+pub mod Cut
+pub mod Objects
+pub mod Opening
+pub mod Written
+pub mod OnLiterals
+mod Samples

@@ -1,0 +1,136 @@
+-- Sealed texts: the compact form of a JSON Web Signature (RFC 7515, 3.1 and 7.1) with HMAC-SHA-256 and no other
+-- algorithm (RFC 7518, 3.2). Keys, headers, payloads and texts are lists of bytes.
+use Rattle.std.specs.Prelude.{◌≡◌, ◌≤◌, ℕ, ◌+◌, ◌==◌, Bool, true, false, not, List, [], ◌∷◌, ◌++◌, length, nat_lt, Option, Some, None, option_map, option_and_then, is_some, unwrap_or, Result, Ok, Err, codes, if◌then◌else◌}
+use Rattle.std.specs.Str.{is_utf8, bytes_eq}
+use Rattle.base64.specs.GeneralPurpose.{IsBytes}
+use Rattle.serde_json.specs.Data.{Data}
+use Rattle.serde_json.specs.Read.{read}
+use Rattle.serde_json.specs.Find.{get, as_object, as_str}
+use Rattle.hmac256.specs.Hmac.{hmac_of}
+use Rattle.sso_base.specs.Base64Url.{b64u, unb64u, unb64u_32}
+use Rattle.jws_compact.specs.declared.sealing.Typ.{Typ}
+use Rattle.jws_compact.specs.declared.sealing.Typ.TheVariants.{Jwt, LogoutJwt}
+use Rattle.jws_compact.specs.declared.unsealing.Unsealed.{Unsealed}
+use Rattle.jws_compact.specs.declared.no.JwsNo.{JwsNo}
+use Rattle.jws_compact.specs.declared.no.JwsNo.TheVariants.{TooLong, NotThreeParts, HeaderSpelling, PayloadSpelling, MacSpelling, HeaderNotObject, AlgNotHs256, Crit, BadMac}
+
+-- ---- headers
+
+abbrev pub if_object : Data → Option Data
+if_object d = if is_some (as_object d) then Some d else None
+
+-- the JSON object of which the bytes are the text
+unfoldable pub read_object : List ℕ → Option Data
+read_object h = if is_utf8 h then option_and_then if_object (read h) else None
+
+-- a member of an object, where it is a string
+abbrev pub text_member : List ℕ → Data → Option (List ℕ)
+text_member name d = option_and_then as_str (get name d)
+
+-- a header that accepts HMAC-SHA-256: its `alg` is HS256 (RFC 7515, 4.1.1), and it has no `crit`, which would name
+-- members that have to be understood (RFC 7515, 4.1.11)
+pub record IsHeader (h : List ℕ) : Type 0 where
+  pub value : Data
+  pub is : read_object h ≡ Some value
+  pub alg : text_member (codes "alg") value ≡ Some (codes "HS256")
+  pub no_crit : get (codes "crit") value ≡ None
+
+-- a header's `typ` (RFC 7515, 4.1.9), where it is a string
+unfoldable pub typ_of : List ℕ → Option (List ℕ)
+typ_of h = option_and_then (text_member (codes "typ")) (read_object h)
+
+-- the header that is written for a kind of text
+unfoldable pub header_bytes : Typ → List ℕ
+header_bytes Jwt = codes "{\"alg\":\"HS256\",\"typ\":\"JWT\"}"
+header_bytes LogoutJwt = codes "{\"alg\":\"HS256\",\"typ\":\"logout+jwt\"}"
+
+-- its `typ`
+abbrev pub typ_text : Typ → List ℕ
+typ_text Jwt = codes "JWT"
+typ_text LogoutJwt = codes "logout+jwt"
+
+-- ---- sealed texts
+
+-- what is signed: the header and the payload, spelled, with a dot between (RFC 7515, 5.1, step 5)
+abbrev pub signing_input : List ℕ → List ℕ → List ℕ
+signing_input h p = b64u h ++ 46 ∷ b64u p
+
+-- the compact form: what is signed, a dot, and its MAC under the key, spelled (RFC 7515, 7.1)
+abbrev pub compact_form : List ℕ → List ℕ → List ℕ → List ℕ
+compact_form k h p = signing_input h p ++ 46 ∷ b64u (hmac_of k (signing_input h p))
+
+-- t is the sealed text of the header h and the payload p under the key k
+pub record Sealed (k h p t : List ℕ) : Type 0 where
+  pub text : t ≡ compact_form k h p
+  pub short : length t ≤ 8192
+  pub header_bytes : IsBytes h
+  pub payload_bytes : IsBytes p
+  pub header : IsHeader h
+
+-- the text that is written for a payload of a kind
+unfoldable pub seal_text : List ℕ → Typ → List ℕ → List ℕ
+seal_text k typ p = compact_form k (header_bytes typ) p
+
+-- what stands in a sealed text with this header and payload
+abbrev pub opened : List ℕ → List ℕ → Unsealed
+opened h p = record { typ = typ_of h; payload = p }
+
+-- what stands in the text that is written for a payload of a kind
+abbrev pub written : Typ → List ℕ → Unsealed
+written typ p = record { typ = Some (typ_text typ); payload = p }
+
+-- u stands in the text t, which is sealed under the key k
+abbrev pub Opens : List ℕ → List ℕ → Unsealed → Type 0
+Opens k t u = (h : List ℕ) × Sealed k h u.payload t × (u.typ ≡ typ_of h)
+
+-- ---- the refusals, in order: the first that fits is answered
+
+-- the number of dots
+abbrev pub dots : List ℕ → ℕ
+dots [] = 0
+dots (x ∷ xs) = if x == 46 then 1 + dots xs else dots xs
+
+-- what stands before and after the first dot
+abbrev pub cut : List ℕ → Option (List ℕ × List ℕ)
+cut [] = None
+cut (x ∷ xs) = if x == 46 then Some ([], xs) else option_map (λ p. (x ∷ p.0, p.1)) (cut xs)
+
+abbrev pub no_dot : List ℕ → List ℕ → List ℕ → Option (List ℕ × List ℕ × List ℕ)
+no_dot a b c = if is_some (cut c) then None else Some (a, b, c)
+
+abbrev pub second_cut : List ℕ → List ℕ → Option (List ℕ × List ℕ × List ℕ)
+second_cut a rest = option_and_then (λ p. no_dot a p.0 p.1) (cut rest)
+
+-- the three parts of a text with two dots
+unfoldable pub three_parts : List ℕ → Option (List ℕ × List ℕ × List ℕ)
+three_parts t = option_and_then (λ p. second_cut p.0 p.1) (cut t)
+
+unfoldable pub is_hs256 : Data → Bool
+is_hs256 d = unwrap_or (option_map (λ s. bytes_eq s (codes "HS256")) (text_member (codes "alg") d)) false
+
+unfoldable pub has_crit : Data → Bool
+has_crit d = is_some (get (codes "crit") d)
+
+-- what is there is handed on; where nothing is, that is the refusal
+abbrev pub demand : {A R : Type 0} → JwsNo → Option A → (A → Result R JwsNo) → Result R JwsNo
+demand e None f = Err e
+demand e (Some a) f = f a
+
+-- where the test is met, that is the refusal
+abbrev pub forbid : {R : Type 0} → JwsNo → Bool → Result R JwsNo → Result R JwsNo
+forbid e true r = Err e
+forbid e false r = r
+
+-- what a text holds under a key, or why it is refused
+unfoldable pub verdict : List ℕ → List ℕ → Result Unsealed JwsNo
+verdict k t =
+    forbid TooLong (nat_lt 8192 (length t))
+    (demand NotThreeParts (three_parts t) (λ s.
+    demand HeaderSpelling (unb64u s.0) (λ h.
+    demand PayloadSpelling (unb64u s.1) (λ p.
+    demand MacSpelling (unb64u_32 s.2) (λ m.
+    demand HeaderNotObject (read_object h) (λ d.
+    forbid AlgNotHs256 (not (is_hs256 d))
+    (forbid Crit (has_crit d)
+    (forbid BadMac (not (bytes_eq m (hmac_of k (s.0 ++ 46 ∷ s.1))))
+    (Ok (opened h p))))))))))

@@ -1,0 +1,40 @@
+// Why a text is refused.
+
+use sso_base::NoMemory;
+
+/// Why a text is no sealed text under the key, or memory ran out. Where several fit, the first in this order is
+/// answered.
+#[derive(Clone, Copy, Debug, PartialEq, Eq)]
+pub enum JwsNo {
+    /// Memory ran out.
+    NoMemory,
+    /// The text has more than 8,192 bytes.
+    TooLong,
+    /// The number of its dots is not two (RFC 7515, 7.1).
+    NotThreeParts,
+    /// The first part is not strict base64url without padding (RFC 7515, 2).
+    HeaderSpelling,
+    /// The second part is not.
+    PayloadSpelling,
+    /// The third part is not, or it spells another number of bytes than 32.
+    MacSpelling,
+    /// The header is not the text of a JSON object in UTF-8 (RFC 7515, 4).
+    HeaderNotObject,
+    /// The header's `alg` is absent, or not the string `HS256` (RFC 7515, 4.1.1).
+    AlgNotHs256,
+    /// The header has `crit`, whatever it is: no extension is understood here (RFC 7515, 4.1.11).
+    Crit,
+    /// The MAC is not that of the first two parts under the key (RFC 7515, 5.2).
+    BadMac,
+}
+
+impl From<NoMemory> for JwsNo {
+    ghost use Rattle.std.specs.Prelude.{◌≡◌};
+    ghost use Rattle.jws_compact.specs.declared.no.JwsNo.TheVariants as no;
+
+    ghost from_gives = { λ _ e. e ≡ no.NoMemory };
+
+    fn from(_error: NoMemory) -> JwsNo {
+        JwsNo::NoMemory
+    }
+}

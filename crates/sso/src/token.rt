@@ -1,0 +1,78 @@
+//! What is answered to a secret and a token.
+
+ghost use Rattle.std.specs.Prelude.{◌≡◌, ◌∷◌, ◌++◌, [], IfOk, codes};
+ghost use Rattle.sso.specs.Answer.{without_feed, jws_name, token_text, payload_answer, token_refusal, token_answer};
+
+use crate::outcome::Outcome;
+use jws_compact::{JwsNo, unseal};
+use sso_base::{Blob, NoMemory};
+use std::alloc::Global;
+
+/// The most bytes of a secret.
+const MOST_SECRET: usize = 128;
+
+/// The bytes without their last, where that is a line feed.
+fn without_feed(bytes: &[u8]) -> &[u8]
+    ensures { result.now ≡ without_feed bytes.now }
+{
+    bytes.strip_suffix(b"\n").unwrap_or(bytes)
+}
+
+/// The name of a refusal, as it is printed.
+#[tactic(auto, unfolding(crate::specs::Answer::jws_name))]
+fn name_of(why: JwsNo) -> &'static str
+    ensures { result.now ≡ jws_name why }
+{
+    match why {
+        JwsNo::NoMemory => "",
+        JwsNo::TooLong => "TooLong",
+        JwsNo::NotThreeParts => "NotThreeParts",
+        JwsNo::HeaderSpelling => "HeaderSpelling",
+        JwsNo::PayloadSpelling => "PayloadSpelling",
+        JwsNo::MacSpelling => "MacSpelling",
+        JwsNo::HeaderNotObject => "HeaderNotObject",
+        JwsNo::AlgNotHs256 => "AlgNotHs256",
+        JwsNo::Crit => "Crit",
+        JwsNo::BadMac => "BadMac",
+    }
+}
+
+/// The answer to a token that is refused, by the name of the refusal.
+#[tactic(auto, unfolding(crate::specs::Answer::token_text))]
+fn refusal(alloc: Global, name: &str) -> Result<Outcome, NoMemory>
+    ensures { IfOk result (λ outcome. outcome ≡ token_refusal name.now) }
+{
+    let text = format!(in alloc; "token {name}\n")?;
+    Ok(Outcome {
+        status: 10,
+        text: Blob::new(alloc, text.as_bytes())?,
+    })
+}
+
+/// The answer to a token that holds this payload.
+fn opening(alloc: Global, payload: &[u8]) -> Result<Outcome, NoMemory>
+    ensures { IfOk result (λ outcome. outcome ≡ payload_answer payload.now) }
+{
+    let mut text = payload.to_vec(alloc)?;
+    text.push(b'\n')?;
+    Ok(Outcome {
+        status: 0,
+        text: Blob::from_vec(text),
+    })
+}
+
+/// The answer to the contents of a secret's file and a token's file.
+#[tactic(auto, unfolding(crate::specs::Answer::token_answer))]
+pub fn answer_token(alloc: Global, secret: &[u8], token: &[u8]) -> Result<Outcome, NoMemory>
+    ensures { IfOk result (λ outcome. outcome ≡ token_answer secret.now token.now) }
+{
+    let secret = without_feed(secret);
+    if secret.is_empty() || secret.len() > MOST_SECRET {
+        return refusal(alloc, "Secret");
+    }
+    match unseal(alloc, secret, without_feed(token)) {
+        Ok(unsealed) => opening(alloc, unsealed.payload.as_bytes()),
+        Err(JwsNo::NoMemory) => Err(NoMemory),
+        Err(why) => refusal(alloc, name_of(why)),
+    }
+}

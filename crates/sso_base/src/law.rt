@@ -1,0 +1,12 @@
+//! Laws of the definitions, for what is proved above this crate.
+
+ghost use Rattle.std.specs.Prelude.{◌≡◌, Some};
+ghost use Rattle.sso_base.specs.Words.{Word, Text, IsWord, word_text, word_of_text};
+
+/// A word has one text, and no other word has it.
+pub fn words_have_one_text()
+    ensures read_back { (w : Word) → IsWord w → word_of_text (word_text w) ≡ Some w }
+    ensures spelled { (t : Text) (w : Word) → word_of_text t ≡ Some w → (t ≡ word_text w) × IsWord w }
+    ensures word_is_determined { (v w : Word) → IsWord v → IsWord w → word_text v ≡ word_text w → v ≡ w }
+    ensures text_is_determined { (s t : Text) (w : Word) → word_of_text s ≡ Some w → word_of_text t ≡ Some w → s ≡ t }
+{}
