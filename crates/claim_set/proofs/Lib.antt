@@ -1,0 +1,13 @@
+pub mod Parsing
+pub mod Puts
+pub mod Texts
+pub mod Lookups
+pub mod Fitting
+pub mod Order
+pub mod PutClaims
+pub mod Building
+pub mod Sizes
+pub mod Written
+pub mod Utf8Bytes
+pub mod OnLiterals
+mod Samples

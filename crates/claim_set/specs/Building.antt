@@ -1,0 +1,50 @@
+-- Claim sets that are made of others by setting names, and their parts.
+use Rattle.std.specs.Prelude.{◌≡◌, ℕ, List, [], ◌∷◌, Bool, true, not, ◌&&◌, Option, Some, None, if◌then◌else◌}
+use Rattle.std.specs.Str.{bytes_eq}
+use Rattle.serde_json.specs.Data.{Data, Members, put}
+use Rattle.serde_json.specs.Find.{get_member}
+use Rattle.claim_set.specs.Claims.{without}
+
+-- a name, and its value where there is one
+abbrev pub Entry : Type 0
+Entry = List ℕ × Option Data
+
+abbrev pub put_if : List ℕ → Option Data → Members → Members
+put_if k None ms = ms
+put_if k (Some d) ms = put k d ms
+
+-- the names set one after another
+abbrev pub put_all : List Entry → Members → Members
+put_all [] ms = ms
+put_all (e ∷ es) ms = put_all es (put_if e.0 e.1 ms)
+
+abbrev pub without_all : List (List ℕ) → Members → Members
+without_all [] ms = ms
+without_all (k ∷ ks) ms = without k (without_all ks ms)
+
+-- none of the names is there
+abbrev pub HasNone : List (List ℕ) → Members → Type 0
+HasNone [] ms = Unit {0}
+HasNone (k ∷ ks) ms = (get_member k ms ≡ None) × HasNone ks ms
+
+abbrev pub or_else : Option Data → Option Data → Option Data
+or_else None o = o
+or_else (Some d) o = Some d
+
+-- what the entries leave at a name, where o stood before
+abbrev pub found : List ℕ → List Entry → Option Data → Option Data
+found q [] o = o
+found q (e ∷ es) o = found q es (if bytes_eq q e.0 then or_else e.1 o else o)
+
+abbrev pub names : List Entry → List (List ℕ)
+names [] = []
+names (e ∷ es) = e.0 ∷ names es
+
+-- no entry has the name; no name stands twice
+abbrev pub is_apart : List ℕ → List Entry → Bool
+is_apart k [] = true
+is_apart k (e ∷ es) = not (bytes_eq e.0 k) && is_apart k es
+
+abbrev pub is_distinct : List Entry → Bool
+is_distinct [] = true
+is_distinct (e ∷ es) = is_apart e.0 es && is_distinct es

@@ -1,0 +1,6 @@
+pub mod MembersCode
+pub mod Claims
+pub mod Kinds
+pub mod Reading
+pub mod Fitting
+pub mod Building

@@ -1,0 +1,156 @@
+// The claim set, and how names are set and taken out.
+
+ghost use Rattle.std.specs.Prelude.{◌≡◌, ◌≤◌, IfOk, OnOk, OnErr, is_some, false};
+ghost use Rattle.serde_json.specs.Data.{no_members, put as with_member, object, string, number, unsigned, boolean, array, depth};
+ghost use Rattle.serde_json.specs.Find.{get_member};
+ghost use Rattle.serde_json.specs.View.{view};
+ghost use Rattle.serde_json.specs.Written.{has_float};
+ghost use Rattle.claim_set.specs.Claims.{claims_depth, without, text_items, IsClaims, members_in};
+
+use crate::walks::{depth_of, items_of_texts};
+use serde_json::{Map, Value};
+use sso_base::{NoMemory, Texts};
+use std::alloc::Global;
+use std::marker::Model;
+
+/// A claim set: a finite map from names to JSON values (RFC 7519, 4).
+///
+/// Its numbers are whole, from -2^63 to 2^64 - 1, and its depth is at most 127.
+#[derive(Debug, Drop)]
+pub struct ClaimSet {
+    pub(crate) alloc: Global,
+    // An object, so that it can be lent to be written.
+    pub(crate) value: Value,
+}
+
+impl Model for ClaimSet {
+    ghost use Rattle.serde_json.specs.Data.{Members};
+    ghost use Rattle.serde_json.specs.View.{view as view_of};
+    ghost use Rattle.claim_set.specs.MembersCode.{members_code};
+    ghost use Rattle.claim_set.specs.Claims.{members_in, IsClaims};
+
+    ghost Value = { Members };
+
+    ghost coded = { members_code };
+
+    ghost view = { λ c. members_in (view_of c.value) };
+
+    ghost invariant = { λ c. IsClaims (view_of c.value) };
+}
+
+impl ClaimSet {
+    /// The claim set with no names, which takes no memory.
+    pub fn new(alloc: Global) -> ClaimSet
+        ensures { result ≡ no_members }
+    {
+        ClaimSet {
+            alloc,
+            value: Value::Object(Map::new(alloc)),
+        }
+    }
+
+    /// How deep the set nests, from 1 to 127: 1, and one more for each level of objects and arrays inside it.
+    pub fn depth(&self) -> u32
+        ensures value { result ≡ claims_depth self.now }
+        ensures most { result ≤ 127 }
+    {
+        depth_of(&self.value)
+    }
+
+    /// The same set, in memory of its own.
+    pub fn copy(&self) -> Result<ClaimSet, NoMemory>
+        ensures { IfOk result (λ c. c ≡ self.now) }
+    {
+        copied(self.alloc, &self.value)
+    }
+
+    /// Whether the name is there, whatever its value.
+    pub fn has(&self, name: &str) -> bool
+        ensures { result ≡ is_some (get_member name.now self.now) }
+    {
+        self.value.get(name).is_some()
+    }
+
+    /// Takes the name out. Where it is not there, nothing changes.
+    pub fn remove(&mut self, name: &str)
+        ensures { self.new ≡ without name.now self.old }
+    {
+        let Some(map) = self.value.as_object_mut() else {
+            unreachable!()
+        };
+        let _ = map.remove(name);
+    }
+
+    // Sets the name to a value.
+    fn put(&mut self, name: &str, value: Value) -> Result<(), NoMemory>
+        requires whole { has_float (view value) ≡ false }
+        requires nests { depth (view value) ≤ 126 }
+        ensures ok { OnOk result (self.new ≡ with_member name.now (view value) self.old) }
+        ensures err { OnErr result (self.new ≡ self.old) }
+    {
+        let alloc = self.alloc;
+        let Some(map) = self.value.as_object_mut() else {
+            unreachable!()
+        };
+        serde_json::put(map, alloc, name, value)?;
+        Ok(())
+    }
+
+    /// Sets the name to a text, in place of what it had. The other names keep their values.
+    pub fn put_text(&mut self, name: &str, value: &str) -> Result<(), NoMemory>
+        ensures ok { OnOk result (self.new ≡ with_member name.now (string value.now) self.old) }
+        ensures err { OnErr result (self.new ≡ self.old) }
+    {
+        let text = Value::try_from_str(self.alloc, value)?;
+        self.put(name, text)
+    }
+
+    /// Sets the name to a whole number, in place of what it had. The other names keep their values.
+    pub fn put_number(&mut self, name: &str, value: u64) -> Result<(), NoMemory>
+        ensures ok { OnOk result (self.new ≡ with_member name.now (number (unsigned value)) self.old) }
+        ensures err { OnErr result (self.new ≡ self.old) }
+    {
+        let number = Value::from(value);
+        self.put(name, number)
+    }
+
+    /// Sets the name to true or false, in place of what it had. The other names keep their values.
+    pub fn put_flag(&mut self, name: &str, value: bool) -> Result<(), NoMemory>
+        ensures ok { OnOk result (self.new ≡ with_member name.now (boolean value) self.old) }
+        ensures err { OnErr result (self.new ≡ self.old) }
+    {
+        let flag = Value::from(value);
+        self.put(name, flag)
+    }
+
+    /// Sets the name to an array of texts, also where there is one or none, in place of what it had. The other names
+    /// keep their values.
+    pub fn put_texts(&mut self, name: &str, value: &Texts) -> Result<(), NoMemory>
+        ensures ok { OnOk result (self.new ≡ with_member name.now (array (text_items value.now)) self.old) }
+        ensures err { OnErr result (self.new ≡ self.old) }
+    {
+        let items = items_of_texts(self.alloc, value)?;
+        self.put(name, Value::Array(items))
+    }
+
+    /// Sets the name to a claim set, in place of what it had. The other names keep their values. [`ClaimSet::depth`]
+    /// is the test of the condition.
+    pub fn put_set(&mut self, name: &str, value: ClaimSet) -> Result<(), NoMemory>
+        requires { claims_depth value ≤ 126 }
+        ensures ok { OnOk result (self.new ≡ with_member name.now (object value) self.old) }
+        ensures err { OnErr result (self.new ≡ self.old) }
+    {
+        self.put(name, value.value)
+    }
+}
+
+// A claim set in memory of its own, from a value that holds one.
+pub(crate) fn copied(alloc: Global, value: &Value) -> Result<ClaimSet, NoMemory>
+    requires { IsClaims (view value.now) }
+    ensures { IfOk result (λ c. c ≡ members_in (view value.now)) }
+{
+    Ok(ClaimSet {
+        alloc,
+        value: value.clone()?,
+    })
+}
