@@ -1,15 +1,17 @@
 -- Claims that fit still do when a name is set or taken out, and a name that was taken out is absent.
-use Rattle.std.proofs.Common.{◌≡◌, ◌≤◌, List, ℕ, Bool, true, false, cond, Option, Some, None, Ordering, Less, Equal, Greater, is_eq, refl, sym, ap, ◌∙◌, arith, true≢false}
+use Rattle.std.proofs.Common.{◌≡◌, ◌≤◌, ◌<◌, ◌^◌, List, [], ◌∷◌, option_map, ℕ, Bool, true, false, cond, Option, Some, None, Ordering, Less, Equal, Greater, is_eq, refl, sym, ap, ◌∙◌, arith, true≢false}
+use Rattle.std.specs.Prelude.{IfSome}
 use Rattle.std.specs.Ordering.{nat_cmp, ordering_reverse, match_ordering}
 use Rattle.std.specs.Cmp.Lexicographic.{slice_cmp}
 use Rattle.std.specs.Str.{IsUtf8, bytes_eq}
 use Rattle.std.proofs.lemmas.Cmp.{nat_list_cmp_total}
 use Rattle.std.proofs.lemmas.Map.Text.{is_eq-slice_cmp}
 use Rattle.std.proofs.lemmas.Slice.Eq.{bytes_eq-Decides}
-use Rattle.serde_json.specs.Data.{Data, Members, no_members, member, put, depth}
+use Rattle.serde_json.specs.Data.{Data, string, Members, no_members, member, put, depth, items_depth}
 use Rattle.serde_json.specs.Find.{get_member}
-use Rattle.claim_set.specs.Claims.{without}
-use Rattle.claim_set.specs.Fitting.{IsBefore, Fits, MembersFit, ClaimsFit}
+use Rattle.claim_set.specs.Building.{Entry, put_if, put_all, number_value, audience}
+use Rattle.claim_set.specs.Claims.{without, text_items}
+use Rattle.claim_set.specs.Fitting.{IsBefore, Fits, ItemsFit, MembersFit, ClaimsFit, EntriesFit, AreUtf8}
 use Rattle.claim_set.proofs.Puts.{members_depth-put}
 use Rattle.claim_set.proofs.Lookups.{members_depth-without}
 
@@ -108,3 +110,39 @@ other_at q k l e ms rest false is other h = ap (λ r. match_ordering (slice_cmp 
 pub get_member-without_other : (q k : List ℕ) (ms : Members) → (q ≡ k → ⊥) → get_member q (without k ms) ≡ get_member q ms
 get_member-without_other q k no_members other = refl
 get_member-without_other q k (member l e ms) other = other_at q k l e ms (without k ms) (bytes_eq k l) refl other (get_member-without_other q k ms other)
+
+-- ---- several names set one after another
+
+ClaimsFit-put_if : (k : List ℕ) (o : Option Data) (ms : Members) → IsUtf8 k → IfSome o (λ d. Fits d × (depth d ≤ 126)) → ClaimsFit ms → ClaimsFit (put_if k o ms)
+ClaimsFit-put_if k None ms u h fit = fit
+ClaimsFit-put_if k (Some d) ms u h fit = ClaimsFit-put k d ms u h.0 h.1 fit
+
+pub ClaimsFit-put_all : (es : List Entry) (ms : Members) → EntriesFit es → ClaimsFit ms → ClaimsFit (put_all es ms)
+ClaimsFit-put_all [] ms h fit = fit
+ClaimsFit-put_all (e ∷ es) ms h fit = ClaimsFit-put_all es (put_if e.0 e.1 ms) h.2 (ClaimsFit-put_if e.0 e.1 ms h.0 h.1 fit)
+
+-- ---- the values that tokens have
+
+pub text_fits : (o : Option (List ℕ)) → IfSome o IsUtf8 → IfSome (option_map string o) (λ d. Fits d × (depth d ≤ 126))
+text_fits None h = tt
+text_fits (Some s) h = (h, omega arith)
+
+below_64 : (n : ℕ) → n < 2 ^ 40 → n < 2 ^ 64
+below_64 n h = omega arith
+
+pub number_fits : (o : Option ℕ) → IfSome o (λ n. n < 2 ^ 40) → IfSome (option_map number_value o) (λ d. Fits d × (depth d ≤ 126))
+number_fits None h = tt
+number_fits (Some n) h = (below_64 n h, omega arith)
+
+items_fit : (ts : List (List ℕ)) → AreUtf8 ts → ItemsFit (text_items ts)
+items_fit [] h = tt
+items_fit (t ∷ ts) h = (h.0, items_fit ts h.1)
+
+items_are_flat : (ts : List (List ℕ)) → items_depth (text_items ts) ≡ 0
+items_are_flat [] = refl
+items_are_flat (t ∷ ts) = rw (items_are_flat ts) refl
+
+pub audience_fits : (ts : List (List ℕ)) → AreUtf8 ts → Fits (audience ts) × (depth (audience ts) ≤ 126)
+audience_fits [] h = (tt, omega arith)
+audience_fits (t ∷ []) h = (h.0, omega arith)
+audience_fits (t ∷ s ∷ ts) h = (items_fit (t ∷ s ∷ ts) h, rw (items_are_flat (t ∷ s ∷ ts)) (omega arith))

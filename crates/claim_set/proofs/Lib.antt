@@ -1,6 +1,7 @@
 pub mod Parsing
 pub mod Puts
 pub mod Texts
+pub mod KindLaws
 pub mod Lookups
 pub mod Fitting
 pub mod Order

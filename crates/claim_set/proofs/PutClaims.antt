@@ -4,7 +4,8 @@ use Rattle.std.proofs.lemmas.Grind.{common_steps}
 use Rattle.serde_json.specs.Data.{Members, put, string, number, unsigned, boolean, array, object}
 use Rattle.serde_json.proofs.Views.{get_member-put}
 use Rattle.claim_set.specs.Claims.{text_items}
-use Rattle.claim_set.specs.Kinds.{text_claim, number_claim, flag_claim, texts_claim, member_claim, item_texts}
+use Rattle.claim_set.specs.Kinds.{text_claim, number_claim, flag_claim, texts_claim, member_claim, item_texts, data_texts}
+use Rattle.claim_set.specs.Building.{audience}
 
 pub text-put : (k t : List ℕ) (ms : Members) → text_claim k (put k (string t) ms) ≡ Ok (Some t)
 text-put k t ms = rw (get_member-put k (string t) ms)
@@ -27,6 +28,14 @@ item_texts-text_items (t ∷ ts) = ap (option_map (λ rest. t ∷ rest)) (item_t
 
 pub texts-put : (k : List ℕ) (ts : List (List ℕ)) (ms : Members) → texts_claim k (put k (array (text_items ts)) ms) ≡ Ok (Some ts)
 texts-put k ts ms = rw (get_member-put k (array (text_items ts)) ms, item_texts-text_items ts)
+
+pub data_texts-audience : (ts : List (List ℕ)) → data_texts (audience ts) ≡ Some ts
+data_texts-audience [] = refl
+data_texts-audience (t ∷ []) = refl
+data_texts-audience (t ∷ s ∷ ts) = item_texts-text_items (t ∷ s ∷ ts)
+
+pub audience-put : (k : List ℕ) (ts : List (List ℕ)) (ms : Members) → texts_claim k (put k (audience ts) ms) ≡ Ok (Some ts)
+audience-put k ts ms = rw (get_member-put k (audience ts) ms, data_texts-audience ts)
 
 pub member-put : (k : List ℕ) (ns ms : Members) → member_claim k (put k (object ns) ms) ≡ Ok (Some ns)
 member-put k ns ms = rw (get_member-put k (object ns) ms)

@@ -1,6 +1,8 @@
 -- The definitions computed on small cases: what each accepts, and what it refuses.
-use Rattle.std.proofs.Common.{◌≡◌, ℕ, [], ◌∷◌, codes, true, false, negsuc, Some, None, Ordering, Less, Greater, Result, Ok, Err, refl, sym, ◌∙◌, arith}
+use Rattle.std.proofs.Common.{◌≡◌, ℕ, [], ◌∷◌, codes, true, false, negsuc, Some, None, Ordering, Less, Greater, Result, Ok, Err, refl, true≢false, sym, ◌∙◌, arith}
 use Rattle.std.specs.Ordering.{nat_cmp}
+use Rattle.std.specs.Str.{is_utf8}
+use Rattle.std.proofs.lemmas.Str.{is_utf8-from_IsUtf8}
 use Rattle.std.specs.Cmp.Lexicographic.{slice_cmp}
 use Rattle.json.proofs.Printed.Utf8.{IsUtf8-are_ascii}
 use Rattle.serde_json.specs.Data.{Members, no_members, member, Data, null, number, unsigned, negative, string, array, object, no_items, item, put}
@@ -8,10 +10,11 @@ use Rattle.serde_json.specs.Read.{read}
 use Rattle.claim_set.specs.declared.no.ClaimNo.{ClaimNo}
 use Rattle.claim_set.specs.declared.no.ClaimNo.TheVariants.{NotJson, NotObject, WrongKind}
 use Rattle.claim_set.specs.Claims.{claims_depth, without}
-use Rattle.claim_set.specs.Kinds.{text_claim, number_claim, flag_claim, texts_claim, member_claim}
+use Rattle.serde_json.specs.Find.{as_str, get_member}
+use Rattle.claim_set.specs.Kinds.{is_wrong, text_claim, number_claim, flag_claim, texts_claim, member_claim}
 use Rattle.claim_set.specs.Reading.{claims_read, claims_text, Reads, IsFirstWrong}
-use Rattle.claim_set.specs.Fitting.{Fits, MembersFit, ClaimsFit}
-use Rattle.claim_set.specs.Building.{put_all, without_all, is_distinct}
+use Rattle.claim_set.specs.Fitting.{Fits, MembersFit, ClaimsFit, EntriesFit, AreUtf8}
+use Rattle.claim_set.specs.Building.{put_all, audience, without_all, is_distinct}
 use Rattle.claim_set.proofs.Building.{without_all-put_all}
 use Rattle.claim_set.proofs.Parsing.{read_reads, reads_read}
 use Rattle.claim_set.proofs.Order.{refused_for_the_first}
@@ -208,3 +211,38 @@ reads-nothing_with_a_fraction ms h = (let read : refused (WrongKind (codes "a"))
 
 the_first_wrong_name : (ms : Members) × (read (codes "{\"c\":1.5,\"b\":2.5,\"a\":3}") ≡ Some (object ms)) × IsFirstWrong (codes "b") ms
 the_first_wrong_name = refused_for_the_first (codes "{\"c\":1.5,\"b\":2.5,\"a\":3}") (codes "b") refused-with_the_first_name
+
+-- ---- kinds, and audiences
+
+wrong-a_number_as_a_text : is_wrong as_str (get_member (codes "exp") alice) ≡ true
+wrong-a_number_as_a_text = refl
+
+not_wrong-a_text : is_wrong as_str (get_member (codes "sub") alice) ≡ false
+not_wrong-a_text = refl
+
+not_wrong-absent : is_wrong as_str (get_member (codes "iss") alice) ≡ false
+not_wrong-absent = refl
+
+audience-of_one : audience (codes "c" ∷ []) ≡ string (codes "c")
+audience-of_one = refl
+
+audience-of_two : audience (codes "c" ∷ codes "d" ∷ []) ≡ array (item (string (codes "c")) (item (string (codes "d")) no_items))
+audience-of_two = refl
+
+-- ---- what is put fits
+
+entries_fit : EntriesFit ((codes "exp", Some (whole 300)) ∷ (codes "sub", None) ∷ [])
+entries_fit = (IsUtf8-are_ascii (codes "exp") refl, (omega arith, omega arith), (IsUtf8-are_ascii (codes "sub") refl, tt, tt))
+
+entries-not_with_two_to_64 : EntriesFit ((codes "exp", Some (whole 18446744073709551616)) ∷ []) → ⊥
+entries-not_with_two_to_64 h = fits-not_two_to_64 h.1.0
+
+texts_are_utf8 : AreUtf8 (codes "c" ∷ codes "d" ∷ [])
+texts_are_utf8 = (IsUtf8-are_ascii (codes "c") refl, (IsUtf8-are_ascii (codes "d") refl, tt))
+
+no_text : is_utf8 (255 ∷ []) ≡ false
+unfolding claims_on_literals
+no_text = refl
+
+texts-not_of_other_bytes : AreUtf8 ((255 ∷ []) ∷ []) → ⊥
+texts-not_of_other_bytes h = true≢false (sym (is_utf8-from_IsUtf8 (255 ∷ []) h.0) ∙ no_text)

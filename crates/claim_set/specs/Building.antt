@@ -1,9 +1,19 @@
 -- Claim sets that are made of others by setting names, and their parts.
 use Rattle.std.specs.Prelude.{◌≡◌, ℕ, List, [], ◌∷◌, Bool, true, not, ◌&&◌, Option, Some, None, if◌then◌else◌}
 use Rattle.std.specs.Str.{bytes_eq}
-use Rattle.serde_json.specs.Data.{Data, Members, put}
+use Rattle.serde_json.specs.Data.{Data, string, number, unsigned, array, Members, put}
 use Rattle.serde_json.specs.Find.{get_member}
-use Rattle.claim_set.specs.Claims.{without}
+use Rattle.claim_set.specs.Claims.{without, text_items}
+
+-- a whole number from 0
+abbrev pub number_value : ℕ → Data
+number_value n = number (unsigned n)
+
+-- an audience: a lone text is a string, none or more are an array (RFC 7519, 4.1.3)
+abbrev pub audience : List (List ℕ) → Data
+audience [] = array (text_items [])
+audience (a ∷ []) = string a
+audience (a ∷ b ∷ rest) = array (text_items (a ∷ b ∷ rest))
 
 -- a name, and its value where there is one
 abbrev pub Entry : Type 0

@@ -1,11 +1,12 @@
 -- Values that JSON text gives back: whole numbers of 64 bits, texts in UTF-8, and each name once, in order.
-use Rattle.std.specs.Prelude.{◌≡◌, ◌<◌, ◌≤◌, ◌^◌, ℕ, pos, negsuc, List, ⊤}
+use Rattle.std.specs.Prelude.{◌≡◌, ◌<◌, ◌≤◌, ◌^◌, ℕ, pos, negsuc, List, [], ◌∷◌, IfSome, ⊤}
 use Rattle.std.specs.Str.{IsUtf8}
 use Rattle.std.specs.Ordering.{nat_cmp}
 use Rattle.std.specs.declared.cmp.Ordering.TheVariants.{Less}
 use Rattle.std.specs.Cmp.Lexicographic.{slice_cmp}
+use Rattle.claim_set.specs.Building.{Entry}
 use Rattle.claim_set.specs.Claims.{claims_depth}
-use Rattle.serde_json.specs.Data.{Num, unsigned, negative, float, Data, null, boolean, number, string, array, object, Items, no_items, item, Members, no_members, member}
+use Rattle.serde_json.specs.Data.{Num, unsigned, negative, float, Data, null, boolean, number, string, array, object, Items, no_items, item, Members, no_members, member, depth}
 
 -- a whole number that has 64 bits
 abbrev pub NumFits : Num → Type 0
@@ -45,3 +46,13 @@ abbrev mutual
 pub record ClaimsFit (ms : Members) : Type 0 where
   pub members : MembersFit ms
   pub nests : claims_depth ms ≤ 127
+
+-- entries whose names are in UTF-8 and whose values fit, nested at most 126 deep
+abbrev pub EntriesFit : List Entry → Type 0
+EntriesFit [] = ⊤
+EntriesFit (e ∷ es) = IsUtf8 e.0 × IfSome e.1 (λ d. Fits d × (depth d ≤ 126)) × EntriesFit es
+
+-- each text is in UTF-8
+abbrev pub AreUtf8 : List (List ℕ) → Type 0
+AreUtf8 [] = ⊤
+AreUtf8 (t ∷ ts) = IsUtf8 t × AreUtf8 ts

@@ -1,5 +1,5 @@
 -- Claims by name, each of the kind that is asked for.
-use Rattle.std.specs.Prelude.{ℕ, ◌^◌, List, [], ◌∷◌, Bool, nat_lt, Option, Some, None, option_map, option_and_then, Result, Ok, Err, if◌then◌else◌}
+use Rattle.std.specs.Prelude.{ℕ, ◌^◌, List, [], ◌∷◌, Bool, false, nat_lt, is_none, Option, Some, None, option_map, option_and_then, Result, Ok, Err, if◌then◌else◌}
 use Rattle.serde_json.specs.Data.{Data, null, boolean, number, string, array, object, Items, no_items, item, Members}
 use Rattle.serde_json.specs.Find.{get_member, as_object, as_str, as_bool, as_number, as_u64}
 use Rattle.claim_set.specs.declared.no.ClaimNo.{ClaimNo}
@@ -13,6 +13,18 @@ kind_found name (Some a) = Ok (Some a)
 abbrev pub of_kind : {A : Type 0} → List ℕ → Option Data → (Data → Option A) → Result (Option A) ClaimNo
 of_kind name None kind = Ok None
 of_kind name (Some d) kind = kind_found name (kind d)
+
+-- the claim is there, and is not of the kind
+abbrev pub is_wrong : {A : Type 0} → (Data → Option A) → Option Data → Bool
+is_wrong kind None = false
+is_wrong kind (Some d) = is_none (kind d)
+
+-- the refusals of a claim that is of another kind, and of one that is absent, each by its name
+abbrev pub another_kind : {A N : Type 0} → (ClaimNo → N) → List ℕ → (Data → Option A) → Members → Bool × N
+another_kind refusal name kind ms = (is_wrong kind (get_member name ms), refusal (WrongKind name))
+
+abbrev pub absent : {N : Type 0} → (List ℕ → N) → List ℕ → Members → Bool × N
+absent refusal name ms = (is_none (get_member name ms), refusal name)
 
 -- a string
 abbrev pub text_claim : List ℕ → Members → Result (Option (List ℕ)) ClaimNo

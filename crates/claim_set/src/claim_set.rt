@@ -1,15 +1,16 @@
 // The claim set, and how names are set and taken out.
 
-ghost use Rattle.std.specs.Prelude.{◌≡◌, ◌≤◌, IfOk, OnOk, OnErr, is_some, false};
+ghost use Rattle.std.specs.Prelude.{◌≡◌, ◌≤◌, IfOk, OnOk, OnErr, is_some, false, option_map, codes};
 ghost use Rattle.serde_json.specs.Data.{no_members, put as with_member, object, string, number, unsigned, boolean, array, depth};
 ghost use Rattle.serde_json.specs.Find.{get_member};
 ghost use Rattle.serde_json.specs.View.{view};
 ghost use Rattle.serde_json.specs.Written.{has_float};
+ghost use Rattle.claim_set.specs.Building.{put_if, number_value, audience};
 ghost use Rattle.claim_set.specs.Claims.{claims_depth, without, text_items, IsClaims, members_in};
 
 use crate::walks::{depth_of, items_of_texts};
 use serde_json::{Map, Value};
-use sso_base::{NoMemory, Texts};
+use sso_base::{NoMemory, Text, Texts};
 use std::alloc::Global;
 use std::marker::Model;
 
@@ -131,6 +132,40 @@ impl ClaimSet {
     {
         let items = items_of_texts(self.alloc, value)?;
         self.put(name, Value::Array(items))
+    }
+
+    /// Sets the name to a text, where there is one. Where there is none, nothing changes.
+    pub fn put_text_if(&mut self, name: &str, value: &Option<Text>) -> Result<(), NoMemory>
+        ensures ok { OnOk result (self.new ≡ put_if name.now (option_map string value.now) self.old) }
+        ensures err { OnErr result (self.new ≡ self.old) }
+    {
+        match value {
+            Some(text) => self.put_text(name, text.as_str()),
+            None => Ok(()),
+        }
+    }
+
+    /// Sets the name to a whole number, where there is one. Where there is none, nothing changes.
+    pub fn put_number_if(&mut self, name: &str, value: Option<u64>) -> Result<(), NoMemory>
+        ensures ok { OnOk result (self.new ≡ put_if name.now (option_map number_value value) self.old) }
+        ensures err { OnErr result (self.new ≡ self.old) }
+    {
+        match value {
+            Some(number) => self.put_number(name, number),
+            None => Ok(()),
+        }
+    }
+
+    /// Sets `aud`, the audience: a lone text is written as a string, none or more as an array (RFC 7519, 4.1.3).
+    pub fn put_audience(&mut self, value: &Texts) -> Result<(), NoMemory>
+        ensures ok { OnOk result (self.new ≡ with_member (codes "aud") (audience value.now) self.old) }
+        ensures err { OnErr result (self.new ≡ self.old) }
+    {
+        if value.count() == 1 {
+            self.put_text("aud", value.at(0).as_str())
+        } else {
+            self.put_texts("aud", value)
+        }
     }
 
     /// Sets the name to a claim set, in place of what it had. The other names keep their values. [`ClaimSet::depth`]

@@ -12,8 +12,8 @@ ghost use Rattle.claim_set.specs.declared.no.ClaimNo.TheVariants as no;
 ghost use Rattle.claim_set.specs.Claims.{claims_depth, without, text_items};
 ghost use Rattle.claim_set.specs.Kinds.{text_claim, number_claim, flag_claim, texts_claim, member_claim};
 ghost use Rattle.claim_set.specs.Reading.{claims_text, claims_read, Reads, IsFirstWrong};
-ghost use Rattle.claim_set.specs.Fitting.{Fits, InOrder, ClaimsFit};
-ghost use Rattle.claim_set.specs.Building.{Entry, put_all, without_all, names, found, is_distinct, HasNone};
+ghost use Rattle.claim_set.specs.Fitting.{Fits, InOrder, ClaimsFit, EntriesFit};
+ghost use Rattle.claim_set.specs.Building.{Entry, audience, put_all, without_all, names, found, is_distinct, HasNone};
 
 /// A text is read as claims exactly where they are what stands in it. Their names stand in order, each once, and they
 /// nest at most 127 deep.
@@ -45,10 +45,11 @@ pub fn written_claims_have_lengths()
     ensures text { (t : List ℕ) → length (quoted t) ≤ 6 * length t + 2 }
 {}
 
-/// Claims that fit still do when a name is set to a value that fits, and when a name is taken out.
+/// Claims that fit still do when a name is set to a value that fits, when several are, and when a name is taken out.
 pub fn fitting_claims_stay_fit()
     ensures none { ClaimsFit no_members }
     ensures put { (k : List ℕ) (d : Data) (ms : Members) → IsUtf8 k → Fits d → depth d ≤ 126 → ClaimsFit ms → ClaimsFit (put k d ms) }
+    ensures put_all { (es : List Entry) (ms : Members) → EntriesFit es → ClaimsFit ms → ClaimsFit (put_all es ms) }
     ensures taken_out { (k : List ℕ) (ms : Members) → ClaimsFit ms → ClaimsFit (without k ms) }
 {}
 
@@ -70,12 +71,14 @@ pub fn names_are_put_and_taken_out()
     ensures taken_out { (es : List Entry) (ms : Members) → is_distinct es ≡ true → HasNone (names es) ms → without_all (names es) (put_all es ms) ≡ ms }
 {}
 
-/// A claim that was put is read by its name as what was put, and a lone text also as a list of one.
+/// A claim that was put is read by its name as what was put, a lone text also as a list of one, and an audience as the
+/// texts of it.
 pub fn put_claims_are_read()
     ensures text { (k t : List ℕ) (ms : Members) → text_claim k (put k (string t) ms) ≡ Ok (Some t) }
     ensures number { (k : List ℕ) (n : ℕ) (ms : Members) → n < 2 ^ 40 → number_claim k (put k (number (unsigned n)) ms) ≡ Ok (Some n) }
     ensures flag { (k : List ℕ) (b : Bool) (ms : Members) → flag_claim k (put k (boolean b) ms) ≡ Ok (Some b) }
     ensures lone_text { (k t : List ℕ) (ms : Members) → texts_claim k (put k (string t) ms) ≡ Ok (Some (t ∷ [])) }
     ensures texts { (k : List ℕ) (ts : List (List ℕ)) (ms : Members) → texts_claim k (put k (array (text_items ts)) ms) ≡ Ok (Some ts) }
+    ensures audience { (k : List ℕ) (ts : List (List ℕ)) (ms : Members) → texts_claim k (put k (audience ts) ms) ≡ Ok (Some ts) }
     ensures member { (k : List ℕ) (ns ms : Members) → member_claim k (put k (object ns) ms) ≡ Ok (Some ns) }
 {}

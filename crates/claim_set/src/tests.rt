@@ -272,3 +272,25 @@ fn names_are_taken_out_of_a_copy(rt: HostRuntime) -> Result<(), Fail> {
     );
     Ok(())
 }
+
+#[test]
+fn claims_that_are_there_are_put(rt: HostRuntime) -> Result<(), Fail> {
+    let mut claims = ClaimSet::new(rt.alloc());
+    claims.put_text_if("nonce", &Some(Text::new(rt.alloc(), "n")?))?;
+    claims.put_text_if("azp", &None)?;
+    claims.put_number_if("exp", Some(300))?;
+    claims.put_number_if("auth_time", None)?;
+    for (count, text) in [
+        (0, "{\"aud\":[],\"exp\":300,\"nonce\":\"n\"}"),
+        (1, "{\"aud\":\"c\",\"exp\":300,\"nonce\":\"n\"}"),
+        (2, "{\"aud\":[\"c\",\"c\"],\"exp\":300,\"nonce\":\"n\"}"),
+    ] {
+        let mut aud = Texts::new(rt.alloc());
+        for _ in 0..count {
+            aud.push(Text::new(rt.alloc(), "c")?)?;
+        }
+        claims.put_audience(&aud)?;
+        assert_eq!(rt; write_claims(&claims)?.as_bytes(), text.as_bytes());
+    }
+    Ok(())
+}

@@ -13,18 +13,11 @@ use Rattle.sso_base.specs.Base64Url.{b64u, unb64u_32}
 use Rattle.sso_base.proofs.Spelling.{unb64u_some, unb64u-b64u, unb64u_32_some, unb64u_32-b64u, b64u_inj, b64u_no_dot, is_no_dot, both_true, IsBytes-from_all_bytes}
 use Rattle.jws_compact.specs.declared.no.JwsNo.{JwsNo}
 use Rattle.jws_compact.specs.declared.unsealing.Unsealed.{Unsealed}
-use Rattle.jws_compact.specs.Jws.{cut, three_parts, text_member, is_hs256, has_crit, Sealed, signing_input, opened, Opens, demand, forbid, verdict}
+use Rattle.jws_compact.specs.Jws.{cut, three_parts, text_member, is_hs256, has_crit, Sealed, signing_input, opened, Opens, verdict}
+use Rattle.sso_base.proofs.Refusals.{demand_ok, forbid_ok}
 use Rattle.jws_compact.proofs.Cut.{three_parts_join}
 
 -- ---- one step back
-
-demand_ok : {A R : Type 0} (e : JwsNo) (o : Option A) (f : A → Result R JwsNo) (v : R) → demand e o f ≡ Ok v → (a : A) × (o ≡ Some a) × (f a ≡ Ok v)
-demand_ok e None f v h = absurd (cc)
-demand_ok e (Some a) f v h = (a, refl, h)
-
-forbid_ok : {R : Type 0} (e : JwsNo) (b : Bool) (r : Result R JwsNo) (v : R) → forbid e b r ≡ Ok v → (b ≡ false) × (r ≡ Ok v)
-forbid_ok e true r v h = absurd (cc)
-forbid_ok e false r v h = (refl, h)
 
 not_false : (b : Bool) → not b ≡ false → b ≡ true
 not_false true h = refl

@@ -1,12 +1,13 @@
 -- Sealed texts: the compact form of a JSON Web Signature (RFC 7515, 3.1 and 7.1) with HMAC-SHA-256 and no other
 -- algorithm (RFC 7518, 3.2). Keys, headers, payloads and texts are lists of bytes.
-use Rattle.std.specs.Prelude.{◌≡◌, ◌≤◌, ℕ, ◌+◌, ◌==◌, Bool, true, false, not, List, [], ◌∷◌, ◌++◌, length, nat_lt, Option, Some, None, option_map, option_and_then, is_some, unwrap_or, Result, Ok, Err, codes, if◌then◌else◌}
+use Rattle.std.specs.Prelude.{◌≡◌, ◌≤◌, ℕ, ◌+◌, ◌==◌, Bool, false, not, List, [], ◌∷◌, ◌++◌, length, nat_lt, Option, Some, None, option_map, option_and_then, is_some, unwrap_or, Result, Ok, codes, if◌then◌else◌}
 use Rattle.std.specs.Str.{is_utf8, bytes_eq}
 use Rattle.base64.specs.GeneralPurpose.{IsBytes}
 use Rattle.serde_json.specs.Data.{Data}
 use Rattle.serde_json.specs.Read.{read}
 use Rattle.serde_json.specs.Find.{get, as_object, as_str}
 use Rattle.hmac256.specs.Hmac.{hmac_of}
+use Rattle.sso_base.specs.Refusals.{demand, forbid}
 use Rattle.sso_base.specs.Base64Url.{b64u, unb64u, unb64u_32}
 use Rattle.jws_compact.specs.declared.sealing.Typ.{Typ}
 use Rattle.jws_compact.specs.declared.sealing.Typ.TheVariants.{Jwt, LogoutJwt}
@@ -110,16 +111,6 @@ is_hs256 d = unwrap_or (option_map (λ s. bytes_eq s (codes "HS256")) (text_memb
 
 unfoldable pub has_crit : Data → Bool
 has_crit d = is_some (get (codes "crit") d)
-
--- what is there is handed on; where nothing is, that is the refusal
-abbrev pub demand : {A R : Type 0} → JwsNo → Option A → (A → Result R JwsNo) → Result R JwsNo
-demand e None f = Err e
-demand e (Some a) f = f a
-
--- where the test is met, that is the refusal
-abbrev pub forbid : {R : Type 0} → JwsNo → Bool → Result R JwsNo → Result R JwsNo
-forbid e true r = Err e
-forbid e false r = r
 
 -- what a text holds under a key, or why it is refused
 unfoldable pub verdict : List ℕ → List ℕ → Result Unsealed JwsNo

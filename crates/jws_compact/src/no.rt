@@ -2,8 +2,8 @@
 
 use sso_base::NoMemory;
 
-/// Why a text is no sealed text under the key, or memory ran out. Where several fit, the first in this order is
-/// answered.
+/// Why a text is no sealed text under the key, or memory ran out. Where several of the former fit, the first in this
+/// order is answered.
 #[derive(Clone, Copy, Debug, PartialEq, Eq)]
 pub enum JwsNo {
     /// Memory ran out.

@@ -4,6 +4,9 @@ pub mod RowLaws
 pub mod Literal
 pub mod Lives
 pub mod OnLiterals
+pub mod Refusals
 pub mod Spelling
+pub mod Decided
+pub mod ListSteps
 pub mod WordTexts
 mod Samples

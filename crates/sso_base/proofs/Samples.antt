@@ -1,5 +1,5 @@
 -- The definitions computed on small cases: what each accepts, and what it refuses.
-use Rattle.std.proofs.Common.{◌≡◌, ℕ, codes, replicate, ◌++◌, ◌-◌, ◌^◌, ◌<◌, ◌≤◌, true, false, List, [], ◌∷◌, length, take, Option, Some, None, Ok, Err, refl, ap, subst, suc, zero, arith, if◌then◌else◌}
+use Rattle.std.proofs.Common.{◌≡◌, ◌==◌, nat_lt, Result, ℕ, codes, replicate, ◌++◌, ◌-◌, ◌^◌, ◌<◌, ◌≤◌, true, false, List, [], ◌∷◌, length, take, Option, Some, None, Ok, Err, refl, ap, subst, suc, zero, arith, if◌then◌else◌}
 use Rattle.std.specs.Str.{bytes_eq}
 use Rattle.sso_base.specs.declared.history.Entry.{Entry}
 use Rattle.sso_base.specs.declared.history.Pair.{Pair}
@@ -9,6 +9,8 @@ use Rattle.sso_base.proofs.OnLiterals.{base64url_on_literals}
 use Rattle.sso_base.proofs.Spelling.{IsBytes-from_all_bytes}
 use Rattle.sso_base.specs.Faults.{Rose, HasCause}
 use Rattle.sso_base.specs.Outside.{Content, Takes, TakesFront, content_of, Fetches}
+use Rattle.sso_base.specs.OnlyText.{is_only}
+use Rattle.sso_base.specs.Refusals.{first_refusal, and_then}
 use Rattle.sso_base.specs.Rows.{without, put, row_of, rows_by, lives, if_lives, live_rows}
 use Rattle.sso_base.specs.Stands.{is_named, carried, NoneMakes, Stands, KeepsNames, IsDistinct}
 use Rattle.sso_base.specs.Legal.{last_moment, IsEntry, IsLegalBy}
@@ -301,3 +303,29 @@ entry-not_with_three_words e = (let three : ◌≡◌ {A = ℕ} 3 4 = e.words in
 
 last_moment-of_the_newest_pair : last_moment (pair 8 1 ∷ pair 7 0 ∷ []) ≡ 8
 last_moment-of_the_newest_pair = refl
+
+-- ---- refusals in order, and lists of one text
+
+abbrev tested : ℕ → Result (Unit {0}) (List ℕ)
+tested n = first_refusal ((n == 0, codes "none") ∷ (nat_lt 9 n, codes "many") ∷ [])
+
+nothing-is_refused : tested 9 ≡ Ok tt
+nothing-is_refused = refl
+
+the_second-is_refused : tested 10 ≡ Err (codes "many")
+the_second-is_refused = refl
+
+what_is_found-is_handed_on : and_then (tested 9) (λ _. tested 0) ≡ Err (codes "none")
+what_is_found-is_handed_on = refl
+
+a_refusal-stays : and_then (tested 10) (λ _. tested 9) ≡ Err (codes "many")
+a_refusal-stays = refl
+
+only-the_client : is_only (codes "c") (codes "c" ∷ codes "c" ∷ []) ≡ true
+only-the_client = refl
+
+not_only-with_another : is_only (codes "c") (codes "c" ∷ codes "d" ∷ []) ≡ false
+not_only-with_another = refl
+
+not_only-with_none : is_only (codes "c") [] ≡ false
+not_only-with_none = refl

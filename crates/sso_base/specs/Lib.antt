@@ -1,7 +1,9 @@
 pub mod Base64Url
 pub mod Faults
 pub mod Legal
+pub mod OnlyText
 pub mod Outside
+pub mod Refusals
 pub mod Rows
 pub mod Stands
 pub mod Words

@@ -28,6 +28,19 @@ fn texts_are_copied(rt: HostRuntime) -> Result<(), Fail> {
 }
 
 #[test]
+fn texts_are_compared(rt: HostRuntime) -> Result<(), Fail> {
+    let text = Text::new(rt.alloc(), "Zoë")?;
+    assert!(rt; text.equals("Zoë") && !text.equals("Zo"));
+    let mut texts = Texts::new(rt.alloc());
+    assert!(rt; !texts.is_only("Zoë"));
+    texts.push(text)?;
+    assert!(rt; texts.is_only("Zoë") && !texts.is_only("Zo"));
+    texts.push(Text::new(rt.alloc(), "")?)?;
+    assert!(rt; !texts.is_only("Zoë"));
+    Ok(())
+}
+
+#[test]
 fn bytes_are_copied(rt: HostRuntime) -> Result<(), Fail> {
     let bytes = [0, 255, 10];
     let blob = Blob::new(rt.alloc(), bytes.as_slice())?;

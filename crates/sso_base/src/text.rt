@@ -1,5 +1,6 @@
 ghost use Rattle.std.specs.Prelude.{◌≡◌, ◌<◌, List, [], ◌∷◌, ◌++◌, length, IfOk, OnOk, OnErr, slice_get, Some, string_bytes};
-ghost use Rattle.std.specs.Str.{IsUtf8};
+ghost use Rattle.std.specs.Str.{IsUtf8, bytes_eq};
+ghost use Rattle.sso_base.specs.OnlyText.{is_only as is_only_of};
 
 use crate::memory::NoMemory;
 use std::alloc::Global;
@@ -42,6 +43,13 @@ impl Text {
         ensures utf8 { IsUtf8 self.now }
     {
         self.text.as_str()
+    }
+
+    /// Whether it is this text. It takes no memory.
+    pub fn equals(&self, text: &str) -> bool
+        ensures { result ≡ bytes_eq self.now text.now }
+    {
+        self.as_str() == text
     }
 
     /// An equal text.
@@ -144,6 +152,19 @@ impl Texts {
         ensures { slice_get self.now place ≡ Some result.now }
     {
         &self.items[place]
+    }
+
+    /// Whether there is a text, and each is this one. It takes no memory.
+    #[tactic(auto, using(crate::proofs::ListSteps::all_step, crate::proofs::ListSteps::all_stop))]
+    pub fn is_only(&self, text: &str) -> bool
+        ensures { result ≡ is_only_of text.now self.now }
+    {
+        for i in 0..self.count() {
+            if !self.at(i).equals(text) {
+                return false;
+            }
+        }
+        self.count() != 0
     }
 
     /// An equal list of texts.

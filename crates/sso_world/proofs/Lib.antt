@@ -1,5 +1,4 @@
 pub mod Agreeing
-pub mod AudienceSteps
 pub mod BrokenPremises
 pub mod Ending
 pub mod FirstLogin

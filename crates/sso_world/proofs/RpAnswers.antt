@@ -1,8 +1,7 @@
 -- What the relying party's answers say: the inversion of `rp_answer`.
-use Rattle.std.proofs.Common.{◌≡◌, ℕ, not, Bool, true, false, cond, List, [], ◌∷◌, Option, Some, None, ◌⊎◌, inl, inr, refl, sym, ap, ◌∙◌}
+use Rattle.std.proofs.Common.{◌≡◌, ℕ, not, Bool, true, false, cond, Option, Some, None, ◌⊎◌, inl, inr, refl, ap, ◌∙◌}
 use Rattle.std.specs.Prelude.{Result, Ok, Err}
 use Rattle.std.specs.Str.{bytes_eq}
-use Rattle.std.specs.List.{AllByRecursion}
 use Rattle.sso_base.specs.declared.history.Entry.{Entry}
 use Rattle.sso_base.specs.Words.{Word, Text, is_word, fresh_word}
 use Rattle.sso_base.proofs.RowLaws.{bool_cases, bytes_same}
@@ -16,7 +15,8 @@ use Rattle.sso_world.specs.declared.party.RpAsk.TheVariants as ask
 use Rattle.sso_world.specs.declared.party.RpReply.{RpReply}
 use Rattle.sso_world.specs.declared.party.RpReply.TheVariants.{Ask, Entered, Refused}
 use Rattle.sso_world.specs.declared.party_rows.Login.{Login}
-use Rattle.sso_world.specs.Token.{first_refusal, conditions, judgement}
+use Rattle.sso_base.proofs.Refusals.{none_holds}
+use Rattle.sso_world.specs.Token.{conditions, judgement}
 use Rattle.sso_world.specs.Party.{RpPast, login_name, login_begun, login_life, logins, login_of, live_login}
 use Rattle.sso_world.specs.PartyAnswer.{login_browser, enter, call_back, rp_reply, rp_answer}
 use Rattle.sso_model.specs.Lists.{Has}
@@ -28,16 +28,6 @@ presented_same (Some v) word is = ap Some (bytes_same v word is)
 
 -- ---- The judgement
 
--- where nothing was refused, no condition held
-none_held : {E : Type 0} (tests : List (Bool × E)) → first_refusal tests ≡ Ok tt → AllByRecursion (λ (c : Bool × E). c.0 ≡ false) tests
-none_held [] good = tt
-none_held {E} (c ∷ cs) good =
-    let F : Bool → Result (Unit {0}) E = λ b. cond b (Err c.1) (first_refusal cs) in
-    elim (bool_cases c.0) [
-      | inl e ↦ (let never : Err c.1 ≡ Ok tt = sym (ap F e) ∙ good in cc)
-      | inr e ↦ (e, none_held cs (sym (ap F e) ∙ good))
-    ]
-
 not_false : (b : Bool) → not b ≡ false → b ≡ true
 not_false true e = refl
 not_false false e = cc
@@ -45,7 +35,7 @@ not_false false e = cc
 -- a good ID Token has the nonce of its login
 judged_nonce : (id : Claims) (nonce : Word) (at : ℕ) → judgement id nonce at ≡ Ok tt → id.nonce ≡ nonce
 judged_nonce id nonce at good =
-    let all : AllByRecursion (λ (c : Bool × IdNo). c.0 ≡ false) (conditions id nonce at) = none_held (conditions id nonce at) good in
+    let all = none_holds (conditions id nonce at) good in
     bytes_same id.nonce nonce (not_false (bytes_eq id.nonce nonce) all.1.1.1.1.1.0)
 
 result_cases : (r : Result (Unit {0}) IdNo) → (r ≡ Ok tt) ⊎ ((why : IdNo) × (r ≡ Err why))

@@ -1,16 +1,13 @@
 -- The judgement of an ID Token at a callback (OpenID Connect Core 1.0, 3.2.2.11 and 3.1.3.7).
-use Rattle.std.specs.Prelude.{ℕ, ◌+◌, Bool, not, ◌&&◌, nat_lt, nat_le, ◌==◌, List, [], ◌∷◌, length, Result, Ok, Err, if◌then◌else◌}
-use Rattle.std.specs.List.{list_all}
+use Rattle.std.specs.Prelude.{ℕ, ◌+◌, Bool, not, nat_lt, nat_le, List, [], ◌∷◌, Result}
 use Rattle.std.specs.Str.{bytes_eq}
-use Rattle.sso_base.specs.Words.{Text, Word}
+use Rattle.sso_base.specs.OnlyText.{is_only}
+use Rattle.sso_base.specs.Refusals.{first_refusal}
+use Rattle.sso_base.specs.Words.{Word}
 use Rattle.sso_world.specs.declared.token.Claims.{Claims}
 use Rattle.sso_world.specs.declared.token.IdNo.{IdNo}
 use Rattle.sso_world.specs.declared.token.IdNo.TheVariants.{Issuer, Audience, Expired, TooOld, FromFuture, Nonce}
 use Rattle.sso_world.specs.Configuration.{issuer, client_id}
-
--- the list is not empty, and each of it is the client
-abbrev pub is_only : Text → List Text → Bool
-is_only client audience = not (length audience == 0) && list_all (λ x. bytes_eq x client) audience
 
 -- the conditions under which a token is refused, in order, each with its refusal
 abbrev pub conditions : Claims → Word → ℕ → List (Bool × IdNo)
@@ -22,11 +19,6 @@ conditions claims nonce at =
     ∷ (nat_lt (at + 60) claims.iat, FromFuture claims.iat)
     ∷ (not (bytes_eq claims.nonce nonce), Nonce)
     ∷ []
-
--- the refusal of the first condition that holds
-abbrev pub first_refusal : {E : Type 0} → List (Bool × E) → Result (Unit {0}) E
-first_refusal [] = Ok tt
-first_refusal (c ∷ cs) = if c.0 then Err c.1 else first_refusal cs
 
 -- the judgement of claims for the login of this nonce
 abbrev pub judgement : Claims → Word → ℕ → Result (Unit {0}) IdNo

@@ -1,8 +1,7 @@
 //! ID Tokens, as the rows of their claims.
 
 ghost use Rattle.std.specs.Prelude.{◌≡◌, IfOk};
-ghost use Rattle.std.specs.Str.{bytes_eq};
-ghost use Rattle.sso_world.specs.Token.{is_only, judgement};
+ghost use Rattle.sso_world.specs.Token.{judgement};
 
 use crate::configuration::{only_client, provider_issuer};
 use sso_base::{Moment, NoMemory, Text, Texts, Word};
@@ -57,33 +56,15 @@ pub enum IdNo {
     Nonce,
 }
 
-fn is_text(text: &Text, other: &str) -> bool
-    ensures { result ≡ bytes_eq text.now other.now }
-{
-    text.as_str() == other
-}
-
-#[tactic(auto, using(crate::proofs::AudienceSteps::all_step, crate::proofs::AudienceSteps::all_stop))]
-fn is_for(audience: &Texts, client: &str) -> bool
-    ensures { result ≡ is_only client.now audience.now }
-{
-    for i in 0..audience.count() {
-        if !is_text(audience.at(i), client) {
-            return false;
-        }
-    }
-    audience.count() != 0
-}
-
 /// Judges the claims of an ID Token for the login of this nonce. It answers the first refusal that fits.
 pub fn judge_id(claims: &Claims, nonce: &Word, at: Moment) -> Result<(), IdNo>
     ensures { result ≡ judgement claims.now nonce.now at }
 {
     let now = at.seconds();
-    if !is_text(&claims.iss, provider_issuer()) {
+    if !claims.iss.equals(provider_issuer()) {
         return Err(IdNo::Issuer);
     }
-    if !is_for(&claims.aud, only_client()) {
+    if !claims.aud.is_only(only_client()) {
         return Err(IdNo::Audience);
     }
     if claims.exp.saturating_add(60) <= now {

@@ -1,0 +1,8 @@
+pub mod Fitting
+pub mod Good
+pub mod Standing
+pub mod Refused
+pub mod RoundTrip
+pub mod Written
+pub mod Tokens
+mod Samples

@@ -1,0 +1,84 @@
+-- A text is read exactly where it is an ID Token, and one that is none is refused for the first reason.
+use Rattle.std.proofs.Common.{◌≡◌, ℕ, List, Result, Ok, Err, IsOk, IfOk, IfErr, ◌⊎◌, inl, inr, refl, ◌∙◌}
+use Rattle.serde_json.specs.Data.{Members}
+use Rattle.sso_base.specs.Refusals.{first_refusal, and_then}
+use Rattle.claim_set.specs.Reading.{Reads, claims_read}
+use Rattle.claim_set.specs.declared.no.ClaimNo.{ClaimNo}
+use Rattle.claim_set.proofs.Parsing.{read_reads, reads_read}
+use Rattle.jws_compact.specs.declared.no.JwsNo.{JwsNo}
+use Rattle.jws_compact.specs.declared.unsealing.Unsealed.{Unsealed}
+use Rattle.jws_compact.specs.Jws.{Sealed, verdict}
+use Rattle.jws_compact.proofs.Opening.{verdict_sealed, sealed_verdict}
+use Rattle.id_token.specs.declared.claims.IdClaims.{IdClaims}
+use Rattle.id_token.specs.declared.no.IdNo.{IdNo}
+use Rattle.id_token.specs.declared.no.IdNo.TheVariants.{NoMemory, Jws, Claims}
+use Rattle.id_token.specs.Reading.{id_of, id_read, if_claims, if_opened}
+use Rattle.id_token.specs.Token.{IsIdToken, id_refusals}
+use Rattle.id_token.specs.declared.rules.IdRules.{IdRules}
+use Rattle.id_token.specs.Judging.{IsGoodIdToken, id_judged}
+use Rattle.id_token.proofs.Good.{good_passes}
+use Rattle.id_token.proofs.Standing.{id_of-has, has-id_of}
+use Rattle.id_token.proofs.Refused.{id_of-refused, id_of-accepted}
+
+opened_claims : (k t : List ℕ) (x : IdClaims) (u : Unsealed) → verdict k t ≡ Ok u → (r : Result Members ClaimNo) → claims_read u.payload ≡ r → if_claims r ≡ Ok x → IsIdToken k t x
+opened_claims k t x u is (Err e) reads h = absurd (cc)
+opened_claims k t x u is (Ok ms) reads h =
+    let opens = verdict_sealed k t u is in
+    record { header = opens.0; payload = u.payload; claims = ms; sealed = opens.1; reads = read_reads u.payload ms reads; has = has-id_of ms x h }
+
+read_at : (k t : List ℕ) (x : IdClaims) (r : Result Unsealed JwsNo) → verdict k t ≡ r → if_opened r ≡ Ok x → IsIdToken k t x
+read_at k t x (Ok u) is h = opened_claims k t x u is (claims_read u.payload) refl h
+read_at k t x (Err e) is h = absurd (cc)
+
+pub id_read-token : (k t : List ℕ) (x : IdClaims) → id_read k t ≡ Ok x → IsIdToken k t x
+unfolding id_read
+id_read-token k t x h = read_at k t x (verdict k t) refl h
+
+-- what is read of a sealed text, and of the claims in it
+sealed_read : (k h p t : List ℕ) → Sealed k h p t → id_read k t ≡ if_claims (claims_read p)
+unfolding id_read
+sealed_read k h p t s = rw (sealed_verdict k h p t s)
+
+sealed_claims : (k h p t : List ℕ) (ms : Members) → Sealed k h p t → Reads p ms → id_read k t ≡ id_of ms
+sealed_claims k h p t ms s r = sealed_read k h p t s ∙ rw (reads_read p ms r)
+
+pub token-id_read : (k t : List ℕ) (x : IdClaims) → IsIdToken k t x → id_read k t ≡ Ok x
+token-id_read k t x i = sealed_claims k i.header i.payload t i.claims i.sealed i.reads ∙ id_of-has i.claims x i.has
+
+pub unopened : (k t : List ℕ) (e : JwsNo) → verdict k t ≡ Err e → id_read k t ≡ Err (Jws e)
+unfolding id_read
+unopened k t e h = rw (h)
+
+pub unread : (k h p t : List ℕ) (e : ClaimNo) → Sealed k h p t → claims_read p ≡ Err e → id_read k t ≡ Err (Claims e)
+unread k h p t e s r = sealed_read k h p t s ∙ rw (r)
+
+pub refused : (k h p t : List ℕ) (ms : Members) (e : IdNo) → Sealed k h p t → Reads p ms → first_refusal (id_refusals ms) ≡ Err e → id_read k t ≡ Err e
+refused k h p t ms e s r f = sealed_claims k h p t ms s r ∙ id_of-refused ms e f
+
+pub accepted : (k h p t : List ℕ) (ms : Members) → Sealed k h p t → Reads p ms → first_refusal (id_refusals ms) ≡ Ok tt → IsOk (id_read k t)
+accepted k h p t ms s r f = rw (sealed_claims k h p t ms s r) (id_of-accepted ms f)
+
+-- ---- what the calls answer
+
+pub answered_token : (k t : List ℕ) (r : Result IdClaims IdNo) → IfOk r (λ x. id_read k t ≡ Ok x) → IfOk r (λ x. IsIdToken k t x)
+answered_token k t (Ok x) h = id_read-token k t x h
+answered_token k t (Err e) h = tt
+
+no_cause : (e : IdNo) (r : Result (Unit {0}) IdNo) → r ≡ Ok tt → (e ≡ NoMemory) ⊎ (r ≡ Err e) → e ≡ NoMemory
+no_cause e r is (inl h) = h
+no_cause e r is (inr h) = absurd (cc)
+
+no_refusal : (e : IdNo) (r : Result IdClaims IdNo) (x : IdClaims) → r ≡ Ok x → (e ≡ NoMemory) ⊎ (r ≡ Err e) → e ≡ NoMemory
+no_refusal e r x is (inl h) = h
+no_refusal e r x is (inr h) = absurd (cc)
+
+pub accepts_token : (k t : List ℕ) (r : Result IdClaims IdNo) → IfErr r (λ e. (e ≡ NoMemory) ⊎ (id_read k t ≡ Err e)) → (x : IdClaims) → IsIdToken k t x → IfErr r (λ e. e ≡ NoMemory)
+accepts_token k t (Ok y) h x token = tt
+accepts_token k t (Err e) h x token = no_refusal e (id_read k t) x (token-id_read k t x token) h
+
+pub accepts_good : (k t : List ℕ) (rules : IdRules) (at : ℕ) (r : Result IdClaims IdNo) → IfErr r (λ e. (e ≡ NoMemory) ⊎ (and_then (id_read k t) (λ x. id_judged rules x at) ≡ Err e))
+    → (x : IdClaims) → IsIdToken k t x → IsGoodIdToken rules x at → IfErr r (λ e. e ≡ NoMemory)
+accepts_good k t rules at (Ok y) h x token good = tt
+accepts_good k t rules at (Err e) h x token good =
+    let passes : and_then (id_read k t) (λ y. id_judged rules y at) ≡ Ok tt = rw (token-id_read k t x token) (good_passes rules x at good) in
+    no_cause e _ passes h

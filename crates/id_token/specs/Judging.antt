@@ -1,0 +1,80 @@
+-- The judgement of an ID Token (OpenID Connect Core 1.0, 3.1.3.7, 3.2.2.9, 3.3.2.10). Sums have no bound.
+use Rattle.std.specs.Prelude.{◌≡◌, ◌<◌, ◌≤◌, ℕ, ◌+◌, List, [], ◌∷◌, Bool, true, false, not, nat_lt, nat_le, Option, Some, None, Result, IfSome, IsTrue, ⊤}
+use Rattle.std.specs.Str.{bytes_eq}
+use Rattle.sso_base.specs.OnlyText.{is_only}
+use Rattle.sso_base.specs.Refusals.{first_refusal}
+use Rattle.id_token.specs.declared.claims.IdClaims.{IdClaims}
+use Rattle.id_token.specs.declared.rules.IdRules.{IdRules}
+use Rattle.id_token.specs.declared.rules.Half.{Half}
+use Rattle.id_token.specs.declared.rules.Half.TheVariants.{Free, IfThere, Must}
+use Rattle.id_token.specs.declared.no.IdNo.{IdNo}
+use Rattle.id_token.specs.declared.no.IdNo.TheVariants.{Issuer, Audience, Azp, Expired, TooOld, FromFuture, Nonce, AuthTime, TokenHash, CodeHash}
+
+-- ---- a good ID Token
+
+-- what is asked of a half digest holds (3.1.3.8, 3.2.2.9, 3.3.2.10)
+abbrev pub Meets : Half → Option (List ℕ) → Type 0
+Meets Free claim = ⊤
+Meets (IfThere h) claim = IfSome claim (λ s. s ≡ h)
+Meets (Must h) claim = claim ≡ Some h
+
+-- where an age is asked for, the user logged in no longer than that before the login was begun, give or take 60 seconds
+abbrev pub IsInAge : Option ℕ → Option ℕ → ℕ → Type 0
+IsInAge None auth_time begun = ⊤
+IsInAge (Some age) None begun = ⊥
+IsInAge (Some age) (Some auth_time) begun = begun ≤ auth_time + age + 60
+
+-- the claims x are those of a good ID Token at a moment, for a relying party with these rules
+pub record IsGoodIdToken (rules : IdRules) (x : IdClaims) (at : ℕ) : Type 0 where
+  pub from_issuer : x.iss ≡ rules.issuer
+  pub for_client : IsTrue (is_only rules.client x.aud)
+  pub issued_to_client : IfSome x.azp (λ azp. azp ≡ rules.client)
+  pub unexpired : at < x.exp + 60
+  pub recent : at ≤ x.iat + 600
+  pub issued : x.iat ≤ at + 60
+  pub nonce : x.nonce ≡ Some rules.nonce
+  pub in_age : IsInAge rules.max_age x.auth_time rules.begun
+  pub token : Meets rules.token x.at_hash
+  pub code : Meets rules.code x.c_hash
+
+-- ---- the refusals, in order
+
+-- the claim is there, and is the text
+abbrev pub is_given : List ℕ → Option (List ℕ) → Bool
+is_given t None = false
+is_given t (Some s) = bytes_eq s t
+
+-- the claim is there, and is another text
+abbrev pub is_other : List ℕ → Option (List ℕ) → Bool
+is_other t None = false
+is_other t (Some s) = not (bytes_eq s t)
+
+-- what is asked of a half digest does not hold
+abbrev pub breaks : Half → Option (List ℕ) → Bool
+breaks Free claim = false
+breaks (IfThere h) claim = is_other h claim
+breaks (Must h) claim = not (is_given h claim)
+
+-- an age was asked for, and the user is not known to have logged in within it, give or take 60 seconds (3.1.3.7, 13)
+abbrev pub is_late : Option ℕ → Option ℕ → ℕ → Bool
+is_late None auth_time begun = false
+is_late (Some age) None begun = true
+is_late (Some age) (Some auth_time) begun = nat_lt (auth_time + age + 60) begun
+
+-- the conditions in order, each with its refusal
+abbrev pub conditions : IdRules → IdClaims → ℕ → List (Bool × IdNo)
+conditions rules x at =
+    (not (bytes_eq x.iss rules.issuer), Issuer)
+    ∷ (not (is_only rules.client x.aud), Audience)
+    ∷ (is_other rules.client x.azp, Azp)
+    ∷ (nat_le (x.exp + 60) at, Expired x.exp)
+    ∷ (nat_lt (x.iat + 600) at, TooOld x.iat)
+    ∷ (nat_lt (at + 60) x.iat, FromFuture x.iat)
+    ∷ (not (is_given rules.nonce x.nonce), Nonce)
+    ∷ (is_late rules.max_age x.auth_time rules.begun, AuthTime)
+    ∷ (breaks rules.token x.at_hash, TokenHash)
+    ∷ (breaks rules.code x.c_hash, CodeHash) ∷ []
+
+-- what a relying party answers to the claims of an ID Token at a moment
+abbrev pub id_judged : IdRules → IdClaims → ℕ → Result (Unit {0}) IdNo
+id_judged rules x at = first_refusal (conditions rules x at)

@@ -1,0 +1,85 @@
+-- The ID Token that a sealed text is, or why it is refused (OpenID Connect Core 1.0, 2; RFC 7519, 7.2).
+use Rattle.std.specs.Prelude.{ℕ, Bool, true, false, List, Option, Some, None, Result, Ok, Err, codes, if◌then◌else◌}
+use Rattle.serde_json.specs.Data.{Members}
+use Rattle.sso_base.specs.Refusals.{and_then, demand}
+use Rattle.claim_set.specs.Kinds.{text_claim, texts_claim, number_claim}
+use Rattle.claim_set.specs.Reading.{claims_read}
+use Rattle.claim_set.specs.Building.{without_all}
+use Rattle.claim_set.specs.declared.no.ClaimNo.{ClaimNo}
+use Rattle.claim_set.specs.declared.no.ClaimNo.TheVariants.{WrongKind}
+use Rattle.jws_compact.specs.declared.no.JwsNo.{JwsNo}
+use Rattle.jws_compact.specs.declared.no.JwsNo.TheVariants as jws
+use Rattle.claim_set.specs.declared.no.ClaimNo.TheVariants as claims
+use Rattle.jws_compact.specs.declared.unsealing.Unsealed.{Unsealed}
+use Rattle.jws_compact.specs.Jws.{verdict}
+use Rattle.id_token.specs.declared.claims.IdClaims.{IdClaims}
+use Rattle.id_token.specs.declared.claims.RawClaims.{RawClaims}
+use Rattle.id_token.specs.declared.no.IdNo.{IdNo}
+use Rattle.id_token.specs.declared.no.IdNo.TheVariants.{NoMemory, Jws, Claims, Missing}
+use Rattle.id_token.specs.Claims.{is_subject, id_names}
+
+abbrev pub if_subject : Option (List ℕ) → Result (Option (List ℕ)) ClaimNo
+if_subject None = Ok None
+if_subject (Some s) = if is_subject s then Ok (Some s) else Err (WrongKind (codes "sub"))
+
+-- the claims, as far as they are there; the first of a wrong kind, by name, is refused
+unfoldable pub raw_in : Members → Result RawClaims ClaimNo
+raw_in ms =
+    and_then (text_claim (codes "at_hash") ms) (λ at_hash.
+    and_then (texts_claim (codes "aud") ms) (λ aud.
+    and_then (number_claim (codes "auth_time") ms) (λ auth_time.
+    and_then (text_claim (codes "azp") ms) (λ azp.
+    and_then (text_claim (codes "c_hash") ms) (λ c_hash.
+    and_then (number_claim (codes "exp") ms) (λ exp.
+    and_then (number_claim (codes "iat") ms) (λ iat.
+    and_then (text_claim (codes "iss") ms) (λ iss.
+    and_then (text_claim (codes "nonce") ms) (λ nonce.
+    and_then (text_claim (codes "sid") ms) (λ sid.
+    and_then (text_claim (codes "sub") ms) (λ given.
+    and_then (if_subject given) (λ sub.
+    Ok (record { at_hash = at_hash; aud = aud; auth_time = auth_time; azp = azp; c_hash = c_hash; exp = exp; iat = iat; iss = iss; nonce = nonce; sid = sid; sub = sub })))))))))))))
+
+-- the claims that must be there
+unfoldable pub whole : RawClaims → Members → Result IdClaims IdNo
+whole r more =
+    demand (Missing (codes "iss")) r.iss (λ iss.
+    demand (Missing (codes "sub")) r.sub (λ sub.
+    demand (Missing (codes "aud")) r.aud (λ aud.
+    demand (Missing (codes "exp")) r.exp (λ exp.
+    demand (Missing (codes "iat")) r.iat (λ iat.
+    Ok (record { iss = iss; sub = sub; aud = aud; azp = r.azp; exp = exp; iat = iat; auth_time = r.auth_time; nonce = r.nonce; sid = r.sid; at_hash = r.at_hash; c_hash = r.c_hash; more = more }))))))
+
+abbrev pub if_raw : Members → Result RawClaims ClaimNo → Result IdClaims IdNo
+if_raw ms (Ok r) = whole r (without_all id_names ms)
+if_raw ms (Err e) = Err (Claims e)
+
+-- the ID Token that a claim set is
+unfoldable pub id_of : Members → Result IdClaims IdNo
+id_of ms = if_raw ms (raw_in ms)
+
+abbrev pub if_claims : Result Members ClaimNo → Result IdClaims IdNo
+if_claims (Ok ms) = id_of ms
+if_claims (Err e) = Err (Claims e)
+
+abbrev pub if_opened : Result Unsealed JwsNo → Result IdClaims IdNo
+if_opened (Ok o) = if_claims (claims_read o.payload)
+if_opened (Err e) = Err (Jws e)
+
+-- the ID Token that a sealed text is, or the first refusal that fits
+unfoldable pub id_read : List ℕ → List ℕ → Result IdClaims IdNo
+id_read k t = if_opened (verdict k t)
+
+-- want of memory stands inside another refusal
+abbrev pub hides_memory : IdNo → Bool
+hides_memory (Jws jws.NoMemory) = true
+hides_memory (Claims claims.NoMemory) = true
+hides_memory e = false
+
+-- a refusal of a sealed text or of claims, as that of a token; want of memory is the token's own
+abbrev pub as_jws : JwsNo → IdNo
+as_jws jws.NoMemory = NoMemory
+as_jws e = Jws e
+
+abbrev pub as_claims : ClaimNo → IdNo
+as_claims claims.NoMemory = NoMemory
+as_claims e = Claims e

@@ -1,0 +1,270 @@
+// Reading: a sealed text is opened as an ID Token, or refused for the first reason that fits.
+
+ghost use Rattle.std.specs.Prelude.{◌≡◌, ◌⊎◌, Ok, Err, IfOk, IfErr, IsFalse, nat_lt};
+ghost use Rattle.std.specs.List.{list_all};
+ghost use Rattle.sso_base.specs.Refusals.{and_then};
+ghost use Rattle.claim_set.specs.Building.{without_all};
+ghost use Rattle.id_token.specs.Claims.{is_subject as is_subject_text, id_names};
+ghost use Rattle.id_token.specs.Reading.{raw_in, if_subject, whole, id_of, id_read, hides_memory, as_claims, as_jws};
+ghost use Rattle.id_token.specs.Token.{IsIdToken};
+ghost use Rattle.id_token.specs.Judging.{IsGoodIdToken, id_judged};
+
+use crate::claims::{IdClaims, RawClaims};
+use crate::judging::judge_id;
+use crate::no::IdNo;
+use crate::rules::IdRules;
+use claim_set::{ClaimNo, ClaimSet, read_claims};
+use jws_compact::{JwsNo, unseal};
+use sso_base::{Moment, NoMemory, Text};
+use std::alloc::Global;
+
+/// Whether a text may be a subject: it has 1 to 255 bytes and is ASCII (OpenID Connect Core 1.0, 2). It is the test of a
+/// condition of [`crate::seal_id`].
+pub fn is_subject(text: &Text) -> bool
+    ensures { result ≡ is_subject_text text.now }
+{
+    let length = text.as_str().len();
+    1 <= length && length <= 255 && is_ascii(text)
+}
+
+// Whether a text is ASCII.
+fn is_ascii(text: &Text) -> bool
+    ensures { result ≡ list_all (λ b. nat_lt b 128) text.now }
+{
+    text.as_str().as_bytes().iter().all(|byte| *byte < 128)
+}
+
+// A subject where it is there, refused as of another kind where no subject is like it.
+fn subject_in(alloc: Global, given: Option<Text>) -> Result<Option<Text>, ClaimNo>
+    ensures ok { IfOk result (λ o. if_subject given ≡ Ok o) }
+    ensures err { IfErr result (λ e. (e ≡ ClaimNo.NoMemory) ⊎ (if_subject given ≡ Err e)) }
+{
+    match given {
+        None => Ok(None),
+        Some(text) => {
+            if is_subject(&text) {
+                Ok(Some(text))
+            } else {
+                Err(ClaimNo::WrongKind(Text::new(alloc, "sub")?))
+            }
+        }
+    }
+}
+
+// The claims that are fields, as far as they are there. They are asked for in the order of their names, so that the
+// first of another kind is the one that is refused.
+#[tactic(auto, unfolding(crate::specs::Reading::raw_in))]
+fn raw_claims(alloc: Global, claims: &ClaimSet) -> Result<RawClaims, ClaimNo>
+    ensures ok { IfOk result (λ r. raw_in claims.now ≡ Ok r) }
+    ensures err { IfErr result (λ e. (e ≡ ClaimNo.NoMemory) ⊎ (raw_in claims.now ≡ Err e)) }
+{
+    let at_hash = claims.text("at_hash")?;
+    let aud = claims.texts("aud")?;
+    let auth_time = claims.number("auth_time")?;
+    let azp = claims.text("azp")?;
+    let c_hash = claims.text("c_hash")?;
+    let exp = claims.number("exp")?;
+    let iat = claims.number("iat")?;
+    let iss = claims.text("iss")?;
+    let nonce = claims.text("nonce")?;
+    let sid = claims.text("sid")?;
+    let given = claims.text("sub")?;
+    let sub = subject_in(alloc, given)?;
+    Ok(RawClaims {
+        at_hash,
+        aud,
+        auth_time,
+        azp,
+        c_hash,
+        exp,
+        iat,
+        iss,
+        nonce,
+        sid,
+        sub,
+    })
+}
+
+// The claims that are no fields. The names are taken out in the order in which `without_all` does, from the last.
+fn others(claims: ClaimSet) -> ClaimSet
+    ensures { result ≡ without_all id_names claims }
+{
+    let mut others = claims;
+    others.remove("sub");
+    others.remove("sid");
+    others.remove("nonce");
+    others.remove("iss");
+    others.remove("iat");
+    others.remove("exp");
+    others.remove("c_hash");
+    others.remove("azp");
+    others.remove("auth_time");
+    others.remove("aud");
+    others.remove("at_hash");
+    others
+}
+
+// The refusal for want of a claim.
+fn missing(alloc: Global, name: &str) -> IdNo
+    ensures missing { (result ≡ IdNo.NoMemory) ⊎ (result ≡ IdNo.Missing name.now) }
+    ensures memory_is_outermost { IsFalse (hides_memory result) }
+{
+    match Text::new(alloc, name) {
+        Ok(name) => IdNo::Missing(name),
+        Err(NoMemory) => IdNo::NoMemory,
+    }
+}
+
+// The claims, where those that must be there are.
+#[tactic(auto, unfolding(crate::specs::Reading::whole))]
+fn whole_claims(alloc: Global, raw: RawClaims, more: ClaimSet) -> Result<IdClaims, IdNo>
+    ensures ok { IfOk result (λ x. whole raw more ≡ Ok x) }
+    ensures err { IfErr result (λ e. (e ≡ IdNo.NoMemory) ⊎ (whole raw more ≡ Err e)) }
+    ensures memory_is_outermost { IfErr result (λ e. IsFalse (hides_memory e)) }
+{
+    let RawClaims {
+        at_hash,
+        aud,
+        auth_time,
+        azp,
+        c_hash,
+        exp,
+        iat,
+        iss,
+        nonce,
+        sid,
+        sub,
+    } = raw;
+    let Some(iss) = iss else {
+        return Err(missing(alloc, "iss"));
+    };
+    let Some(sub) = sub else {
+        return Err(missing(alloc, "sub"));
+    };
+    let Some(aud) = aud else {
+        return Err(missing(alloc, "aud"));
+    };
+    let Some(exp) = exp else {
+        return Err(missing(alloc, "exp"));
+    };
+    let Some(iat) = iat else {
+        return Err(missing(alloc, "iat"));
+    };
+    Ok(IdClaims {
+        iss,
+        sub,
+        aud,
+        azp,
+        exp,
+        iat,
+        auth_time,
+        nonce,
+        sid,
+        at_hash,
+        c_hash,
+        more,
+    })
+}
+
+// The refusal of claims, as that of a token.
+fn claims_refused(error: ClaimNo) -> IdNo
+    ensures refused { result ≡ as_claims error }
+    ensures memory_is_outermost { IsFalse (hides_memory result) }
+{
+    match error {
+        ClaimNo::NoMemory => IdNo::NoMemory,
+        error => IdNo::Claims(error),
+    }
+}
+
+// The ID Token that a claim set is.
+#[tactic(auto, unfolding(crate::specs::Reading::id_of))]
+fn id_in(alloc: Global, claims: ClaimSet) -> Result<IdClaims, IdNo>
+    ensures ok { IfOk result (λ x. id_of claims ≡ Ok x) }
+    ensures err { IfErr result (λ e. (e ≡ IdNo.NoMemory) ⊎ (id_of claims ≡ Err e)) }
+    ensures memory_is_outermost { IfErr result (λ e. IsFalse (hides_memory e)) }
+{
+    let raw = match raw_claims(alloc, &claims) {
+        Ok(raw) => raw,
+        Err(error) => return Err(claims_refused(error)),
+    };
+    whole_claims(alloc, raw, others(claims))
+}
+
+// The refusal of a sealed text, as that of a token.
+fn jws_refused(error: JwsNo) -> IdNo
+    ensures refused { result ≡ as_jws error }
+    ensures memory_is_outermost { IsFalse (hides_memory result) }
+{
+    match error {
+        JwsNo::NoMemory => IdNo::NoMemory,
+        error => IdNo::Jws(error),
+    }
+}
+
+// The claims of the ID Token that a text is under a key, or the first refusal that fits.
+#[tactic(auto, unfolding(crate::specs::Reading::id_read))]
+fn opened(alloc: Global, key: &[u8], text: &[u8]) -> Result<IdClaims, IdNo>
+    ensures answers { IfOk result (λ x. id_read key.now text.now ≡ Ok x) }
+    ensures refuses { IfErr result (λ e. (e ≡ IdNo.NoMemory) ⊎ (id_read key.now text.now ≡ Err e)) }
+    ensures memory_is_outermost { IfErr result (λ e. IsFalse (hides_memory e)) }
+{
+    let opened = match unseal(alloc, key, text) {
+        Ok(opened) => opened,
+        Err(error) => return Err(jws_refused(error)),
+    };
+    let claims = match read_claims(alloc, opened.payload.as_bytes()) {
+        Ok(claims) => claims,
+        Err(error) => return Err(claims_refused(error)),
+    };
+    id_in(alloc, claims)
+}
+
+/// The claims of the ID Token that `text` is under `key`, which has any length (OpenID Connect Core 1.0, 2).
+///
+/// The refusals are `Jws`, `Claims` and `Missing`, the first that fits. A refusal has no want of memory inside.
+pub fn read_id(alloc: Global, key: &[u8], text: &[u8]) -> Result<IdClaims, IdNo>
+    ensures token { IfOk result (λ x. IsIdToken key.now text.now x) }
+    ensures accepts { (x : IdClaims) → IsIdToken key.now text.now x → IfErr result (λ e. e ≡ IdNo.NoMemory) }
+    ensures answers { IfOk result (λ x. id_read key.now text.now ≡ Ok x) }
+    ensures refuses { IfErr result (λ e. (e ≡ IdNo.NoMemory) ⊎ (id_read key.now text.now ≡ Err e)) }
+    ensures memory_is_outermost { IfErr result (λ e. IsFalse (hides_memory e)) }
+{
+    opened(alloc, key, text)
+}
+
+// Opens an ID Token, and judges it.
+fn checked(
+    alloc: Global,
+    rules: &IdRules,
+    key: &[u8],
+    text: &[u8],
+    at: Moment,
+) -> Result<IdClaims, IdNo>
+    ensures answers { IfOk result (λ x. id_read key.now text.now ≡ Ok x) }
+    ensures good { IfOk result (λ x. IsGoodIdToken rules.now x at) }
+    ensures refuses { IfErr result (λ e. (e ≡ IdNo.NoMemory) ⊎ (and_then (id_read key.now text.now) (λ x. id_judged rules.now x at) ≡ Err e)) }
+    ensures memory_is_outermost { IfErr result (λ e. IsFalse (hides_memory e)) }
+{
+    let claims = read_id(alloc, key, text)?;
+    judge_id(rules, &claims, at)?;
+    Ok(claims)
+}
+
+/// Opens an ID Token as [`read_id`] does, and judges it as [`judge_id`] does (OpenID Connect Core 1.0, 3.1.3.7).
+pub fn check_id(
+    alloc: Global,
+    rules: &IdRules,
+    key: &[u8],
+    text: &[u8],
+    at: Moment,
+) -> Result<IdClaims, IdNo>
+    ensures token { IfOk result (λ x. IsIdToken key.now text.now x) }
+    ensures good { IfOk result (λ x. IsGoodIdToken rules.now x at) }
+    ensures accepts { (x : IdClaims) → IsIdToken key.now text.now x → IsGoodIdToken rules.now x at → IfErr result (λ e. e ≡ IdNo.NoMemory) }
+    ensures answers { IfOk result (λ x. id_read key.now text.now ≡ Ok x) }
+    ensures refuses { IfErr result (λ e. (e ≡ IdNo.NoMemory) ⊎ (and_then (id_read key.now text.now) (λ x. id_judged rules.now x at) ≡ Err e)) }
+    ensures memory_is_outermost { IfErr result (λ e. IsFalse (hides_memory e)) }
+{
+    checked(alloc, rules, key, text, at)
+}

@@ -1,0 +1,8 @@
+pub mod Good
+pub mod Fitting
+pub mod Standing
+pub mod Refused
+pub mod Tokens
+pub mod RoundTrip
+pub mod Written
+mod Samples

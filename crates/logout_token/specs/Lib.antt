@@ -1,0 +1,4 @@
+pub mod LogoutToken
+pub mod Token
+pub mod Judging
+pub mod Fitting

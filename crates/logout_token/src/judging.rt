@@ -1,0 +1,55 @@
+// The judgement of a logout token's claims.
+
+ghost use Rattle.std.specs.Prelude.{◌≡◌, Ok};
+ghost use Rattle.logout_token.specs.Judging.{logout_judged, IsGoodLogoutToken};
+
+use crate::claims::LogoutClaims;
+use crate::no::LogoutNo;
+use sso_base::{Moment, Text};
+
+// How many seconds clocks may differ, and how many seconds old a token may be.
+const LEEWAY: u64 = 60;
+
+const OLDEST: u64 = 600;
+
+// The first refusal that fits.
+fn judged(issuer: &Text, client: &Text, claims: &LogoutClaims, at: Moment) -> Result<(), LogoutNo>
+    ensures { result ≡ logout_judged issuer.now client.now claims.now at }
+{
+    let now = at.seconds();
+    if !claims.iss.equals(issuer.as_str()) {
+        return Err(LogoutNo::Issuer);
+    }
+    if !claims.aud.is_only(client.as_str()) {
+        return Err(LogoutNo::Audience);
+    }
+    // Where a sum does not fit, the greatest number stands for it, which no moment exceeds.
+    if claims.exp.saturating_add(LEEWAY) <= now {
+        return Err(LogoutNo::Expired(claims.exp));
+    }
+    if claims.iat.saturating_add(OLDEST) < now {
+        return Err(LogoutNo::TooOld(claims.iat));
+    }
+    if now + LEEWAY < claims.iat {
+        return Err(LogoutNo::FromFuture(claims.iat));
+    }
+    Ok(())
+}
+
+/// Judges the claims of a logout token, which the client of this issuer received, at a moment (OpenID Connect
+/// Back-Channel Logout 1.0, 2.6, which sends to OpenID Connect Core 1.0, 3.1.3.7).
+///
+/// The refusals are [`LogoutNo::Issuer`], [`LogoutNo::Audience`], [`LogoutNo::Expired`], [`LogoutNo::TooOld`] and
+/// [`LogoutNo::FromFuture`]; the first that fits is answered. It takes no memory. The numbers of the claims may be any.
+pub fn judge_logout(
+    issuer: &Text,
+    client: &Text,
+    claims: &LogoutClaims,
+    at: Moment,
+) -> Result<(), LogoutNo>
+    ensures answers { result ≡ logout_judged issuer.now client.now claims.now at }
+    ensures accepts { IsGoodLogoutToken issuer.now client.now claims.now at → result ≡ Ok tt }
+    ensures good { result ≡ Ok tt → IsGoodLogoutToken issuer.now client.now claims.now at }
+{
+    judged(issuer, client, claims, at)
+}

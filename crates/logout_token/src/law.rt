@@ -1,0 +1,49 @@
+// What holds of logout tokens, for the crates above.
+
+ghost use Rattle.std.specs.Prelude.{◌≡◌, ◌<◌, ◌^◌, ℕ, List, Ok, Err, IsOk};
+ghost use Rattle.serde_json.specs.Data.{Members};
+ghost use Rattle.sso_base.specs.Refusals.{first_refusal};
+ghost use Rattle.claim_set.specs.Fitting.{ClaimsFit};
+ghost use Rattle.claim_set.specs.Reading.{Reads, claims_read};
+ghost use Rattle.claim_set.specs.declared.no.ClaimNo.{ClaimNo};
+ghost use Rattle.jws_compact.specs.declared.no.JwsNo.{JwsNo};
+ghost use Rattle.jws_compact.specs.Jws.{Sealed, typ_of, verdict};
+ghost use Rattle.logout_token.specs.declared.claims.LogoutClaims.{LogoutClaims};
+ghost use Rattle.logout_token.specs.declared.no.LogoutNo.{LogoutNo};
+ghost use Rattle.logout_token.specs.declared.no.LogoutNo.TheVariants as no;
+ghost use Rattle.logout_token.specs.LogoutToken.{logout_members, logout_text, logout_read};
+ghost use Rattle.logout_token.specs.Judging.{logout_judged, IsGoodLogoutToken};
+ghost use Rattle.logout_token.specs.Token.{IsLogoutToken, logout_refusals};
+ghost use Rattle.logout_token.specs.Fitting.{HasTexts, IsSealable};
+
+/// A text is read exactly where it is a logout token under the key: a sealed claim set in which the claims stand, the
+/// logout event among them and no nonce (OpenID Connect Back-Channel Logout 1.0, 2.4).
+pub fn read_tokens_are_sealed_claims()
+    ensures token { (k t : List ℕ) (x : LogoutClaims) → logout_read k t ≡ Ok x → IsLogoutToken k t x }
+    ensures read { (k t : List ℕ) (x : LogoutClaims) → IsLogoutToken k t x → logout_read k t ≡ Ok x }
+{}
+
+/// A text that is no logout token is refused for the first reason: it is not sealed under the key, its payload is no
+/// claim set, or its claims and its `typ` meet a condition of [`logout_refusals`], of which the first counts.
+pub fn refused_tokens_have_the_first_reason()
+    ensures unopened { (k t : List ℕ) (e : JwsNo) → verdict k t ≡ Err e → logout_read k t ≡ Err (no.Jws e) }
+    ensures unread { (k h p t : List ℕ) (e : ClaimNo) → Sealed k h p t → claims_read p ≡ Err e → logout_read k t ≡ Err (no.Claims e) }
+    ensures refused { (k h p t : List ℕ) (ms : Members) (e : LogoutNo) → Sealed k h p t → Reads p ms → first_refusal (logout_refusals (typ_of h) ms) ≡ Err e → logout_read k t ≡ Err e }
+    ensures accepted { (k h p t : List ℕ) (ms : Members) → Sealed k h p t → Reads p ms → first_refusal (logout_refusals (typ_of h) ms) ≡ Ok tt → IsOk (logout_read k t) }
+{}
+
+/// The claim set of a logout token fits where the claims are values of their types.
+pub fn claims_of_their_types_fit()
+    ensures { (x : LogoutClaims) → HasTexts x → x.exp < 2 ^ 40 → x.iat < 2 ^ 40 → ClaimsFit (logout_members x) }
+{}
+
+/// The text that is written for the claims of a logout token is read, under the same key, as these claims.
+pub fn sealed_claims_are_read()
+    ensures { (k : List ℕ) (x : LogoutClaims) → IsSealable x → logout_read k (logout_text k x) ≡ Ok x }
+{}
+
+/// The claims that are not refused are exactly those of a good logout token.
+pub fn good_tokens_pass()
+    ensures passes { (issuer client : List ℕ) (x : LogoutClaims) (at : ℕ) → IsGoodLogoutToken issuer client x at → logout_judged issuer client x at ≡ Ok tt }
+    ensures good { (issuer client : List ℕ) (x : LogoutClaims) (at : ℕ) → logout_judged issuer client x at ≡ Ok tt → IsGoodLogoutToken issuer client x at }
+{}

@@ -1,0 +1,21 @@
+-- What an answer that is no refusal says: no condition holds, and what was looked for was found.
+use Rattle.std.proofs.Common.{◌≡◌, List, [], ◌∷◌, Bool, true, false, Option, Some, None, Result, Ok, Err, refl}
+use Rattle.sso_base.specs.Refusals.{first_refusal, NoneHolds, and_then, demand, forbid}
+
+pub none_holds : {E : Type 0} (cs : List (Bool × E)) → first_refusal cs ≡ Ok tt → NoneHolds cs
+none_holds [] h = tt
+none_holds ((true, e) ∷ cs) h = absurd cc
+none_holds ((false, e) ∷ cs) h = (refl, none_holds cs h)
+
+-- what was handed on was found
+pub and_then_ok : {A B E : Type 0} (r : Result A E) (f : A → Result B E) (v : B) → and_then r f ≡ Ok v → (a : A) × (r ≡ Ok a) × (f a ≡ Ok v)
+and_then_ok (Ok a) f v h = (a, refl, h)
+and_then_ok (Err e) f v h = absurd (cc)
+
+pub demand_ok : {A B E : Type 0} (e : E) (o : Option A) (f : A → Result B E) (v : B) → demand e o f ≡ Ok v → (a : A) × (o ≡ Some a) × (f a ≡ Ok v)
+demand_ok e None f v h = absurd (cc)
+demand_ok e (Some a) f v h = (a, refl, h)
+
+pub forbid_ok : {B E : Type 0} (e : E) (b : Bool) (r : Result B E) (v : B) → forbid e b r ≡ Ok v → (b ≡ false) × (r ≡ Ok v)
+forbid_ok e true r v h = absurd (cc)
+forbid_ok e false r v h = (refl, h)

@@ -1,0 +1,2 @@
+pub mod Apart
+mod Samples
