@@ -1,7 +1,11 @@
 -- How a call ends, from what was answered and how that was written.
-use Rattle.std.proofs.Common.{◌≡◌, ◌⊎◌, ℕ, MatchBool, Bool, true, false, ◌==◌, cond, List, length, codes, Option, Some, Result, Ok, Err, inl, inr, refl, ap, ◌∙◌, sym, subst}
+use Rattle.std.proofs.Common.{◌≡◌, ◌⊎◌, ℕ, MatchBool, Bool, true, false, ◌==◌, cond, List, length, codes, Option, Some, None, Result, Ok, Err, inl, inr, refl, ap, ◌∙◌, sym, subst}
 use Rattle.std.proofs.lemmas.Bool.{or_from, or_left, or_right, and_parts, and_right}
+use Rattle.std.proofs.lemmas.Option.{same_Some}
 use Rattle.std.specs.Str.{bytes_eq}
+use Rattle.configuration_rows.specs.declared.no.RegNo.{RegNo}
+use Rattle.client_registry.specs.Configuration.{Configuration}
+use Rattle.client_registry.specs.Reading.{registry_read}
 use Rattle.sso_base.specs.Words.{Text}
 use Rattle.sso_base.specs.Faults.{Rose}
 use Rattle.sso_base.specs.Outside.{Content, content_of, Takes}
@@ -11,8 +15,8 @@ use Rattle.jws_compact.specs.declared.unsealing.Unsealed.{Unsealed}
 use Rattle.jws_compact.specs.Jws.{verdict}
 use Rattle.oidc_replay.specs.declared.trace.TraceNo.{TraceNo}
 use Rattle.oidc_replay.specs.Trace.{Told, trace_of}
-use Rattle.sso.specs.Answer.{Answer, word_at, is_replay, is_token, is_command, config_name, trace_name, secret_name, token_name, configuration_text, trace_answer, answer_to, without_feed, is_secret, jws_name, token_refusal, verdict_answer, token_answer}
-use Rattle.sso.specs.Ends.{IsContent, IsTokenNo, IsTextOf, status_of_both, status_for}
+use Rattle.sso.specs.Answer.{Answer, word_at, is_replay, is_token, is_command, config_name, trace_name, secret_name, token_name, registry_name, configuration_refusal, configuration_no, not_taken, unless_refused, trace_answer, answer_to, without_feed, is_secret, jws_name, token_refusal, verdict_answer, token_answer}
+use Rattle.sso.specs.Ends.{IsContent, IsConfigurationNo, IsTokenNo, IsTextOf, status_of_both, status_for}
 use Rattle.sso.specs.Outcomes.{PlaysWell, AnswersReplay, AnswersToken, MayReplay, MayOpen, MayAnswer, IsWritten, usage_answer, shelf_answer}
 use Rattle.sso.proofs.Endings.{Call, Ending, IsAnswered, usage_ends, shelf_ends, configuration_ends, trace_ends, token_ends, replay_ends, opening_ends, sink_ends}
 
@@ -78,28 +82,47 @@ token_answered call answer status is_not is_so a status_is_so =
 
 -- ---- The answer to a configuration and a trace, which was written
 
--- the configuration is another
+-- why a configuration is not taken
+no_of : (small config : List ℕ) (read : Result Configuration RegNo) (same : Bool) → registry_read config ≡ read → bytes_eq config small ≡ same
+    → (name : Text) → not_taken read same ≡ Some name → IsConfigurationNo small config name
+no_of small config (Err why) same is e name h = inl (why, is, sym (same_Some (registry_name why) name h))
+no_of small config (Ok configuration) true is e name h = absurd (cc)
+no_of small config (Ok configuration) false is e name h = inr (configuration, is, e, sym (same_Some (codes "NotYet") name h))
+
+-- that it is taken
+taken_of : (small config : List ℕ) (read : Result Configuration RegNo) (same : Bool) → registry_read config ≡ read → bytes_eq config small ≡ same
+    → not_taken read same ≡ None → (bytes_eq config small ≡ true) × ((configuration : Configuration) × (registry_read config ≡ Ok configuration))
+taken_of small config (Err why) same is e h = absurd (cc)
+taken_of small config (Ok configuration) true is e h = (e, (configuration, is))
+taken_of small config (Ok configuration) false is e h = absurd (cc)
+
+refused_configuration : (small config : List ℕ) (name : Text) → configuration_no small config ≡ Some name → IsConfigurationNo small config name
+unfolding configuration_no
+refused_configuration small config name h = no_of small config (registry_read config) (bytes_eq config small) refl refl name h
+
+taken_configuration : (small config : List ℕ) → configuration_no small config ≡ None → (bytes_eq config small ≡ true) × ((configuration : Configuration) × (registry_read config ≡ Ok configuration))
+unfolding configuration_no
+taken_configuration small config h = taken_of small config (registry_read config) (bytes_eq config small) refl refl h
+
+-- the configuration is not taken
 other_ends : (call : Call) (new : Option (List ℕ)) (answer : Answer) → is_replay call.words ≡ true
-    → (a : AnswersReplay call.small call.contents (config_name call.words) (trace_name call.words) answer)
-    → bytes_eq a.config call.small ≡ false → Takes call.old new answer.text → Ending call new answer.status
-unfolding answer_to
-other_ends call new answer is_so a other wrote =
-    let refusal : Answer = record { status = 3; text = configuration_text } in
-    let is : answer ≡ refusal = a.answers ∙ ap (λ (b : Bool). cond b (trace_answer (trace_of a.trace)) refusal) other in
+    → (a : AnswersReplay call.small call.contents (config_name call.words) (trace_name call.words) answer) → (name : Text)
+    → IsConfigurationNo call.small a.config name → answer ≡ configuration_refusal name → Takes call.old new answer.text → Ending call new answer.status
+other_ends call new answer is_so a name why is wrote =
     let status_is_3 : answer.status ≡ 3 = ap (λ (v : Answer). v.status) is in
     let W : Answer → Type 0 = λ v. Takes call.old new v.text in
     let E : ℕ → Type 0 = λ n. Ending call new n in
     subst E (sym status_is_3)
     (configuration_ends call new (replay_answered call answer 3 is_so a status_is_3)
-    (record { words_are = is_so; config = a.config; there = a.config_there; other = other; wrote = subst W is wrote }))
+    (record { words_are = is_so; config = a.config; there = a.config_there; name = name; why = why; wrote = subst W is wrote }))
 
--- the configuration is the small one
+-- the configuration is taken
 traced_ends : (call : Call) (new : Option (List ℕ)) (answer : Answer) → is_replay call.words ≡ true
     → (a : AnswersReplay call.small call.contents (config_name call.words) (trace_name call.words) answer)
-    → IsContent call.contents (config_name call.words) call.small → Takes call.old new answer.text
+    → IsContent call.contents (config_name call.words) call.small → (configuration : Configuration) → registry_read call.small ≡ Ok configuration → Takes call.old new answer.text
     → (told : Result Told TraceNo) → trace_of a.trace ≡ told → answer ≡ trace_answer told → Ending call new answer.status
 unfolding PlaysWell
-traced_ends call new answer is_so a config_there wrote (Ok told) accepted is =
+traced_ends call new answer is_so a config_there configuration read wrote (Ok told) accepted is =
     let status_is_0 : answer.status ≡ 0 = ap (λ (v : Answer). v.status) is in
     let W : Answer → Type 0 = λ v. Takes call.old new v.text in
     let E : ℕ → Type 0 = λ n. Ending call new n in
@@ -109,6 +132,8 @@ traced_ends call new answer is_so a config_there wrote (Ok told) accepted is =
     (record {
       words_are = is_so;
       config_there = config_there;
+      configuration = configuration;
+      read = read;
       trace = a.trace;
       trace_there = a.trace_there;
       told = told;
@@ -117,7 +142,7 @@ traced_ends call new answer is_so a config_there wrote (Ok told) accepted is =
       premises = well.0;
       signs = well.1;
     }))
-traced_ends call new answer is_so a config_there wrote (Err why) refused is =
+traced_ends call new answer is_so a config_there configuration read wrote (Err why) refused is =
     let status_is_4 : answer.status ≡ 4 = ap (λ (v : Answer). v.status) is in
     let W : Answer → Type 0 = λ v. Takes call.old new v.text in
     let E : ℕ → Type 0 = λ n. Ending call new n in
@@ -126,6 +151,8 @@ traced_ends call new answer is_so a config_there wrote (Err why) refused is =
     (record {
       words_are = is_so;
       config_there = config_there;
+      configuration = configuration;
+      read = read;
       trace = a.trace;
       trace_there = a.trace_there;
       why = why;
@@ -133,19 +160,22 @@ traced_ends call new answer is_so a config_there wrote (Err why) refused is =
       wrote = subst W is wrote;
     }))
 
+replay_by : (call : Call) (new : Option (List ℕ)) (answer : Answer) → is_replay call.words ≡ true
+    → (a : AnswersReplay call.small call.contents (config_name call.words) (trace_name call.words) answer) → Takes call.old new answer.text
+    → (why : Option Text) → configuration_no call.small a.config ≡ why → answer ≡ unless_refused why (trace_answer (trace_of a.trace)) → Ending call new answer.status
+replay_by call new answer is_so a wrote (Some name) found is = other_ends call new answer is_so a name (refused_configuration call.small a.config name found) is wrote
+replay_by call new answer is_so a wrote None found is =
+    let taken = taken_configuration call.small a.config found in
+    let same : a.config ≡ call.small = bytes_same a.config call.small taken.0 in
+    let C : List ℕ → Type 0 = λ v. IsContent call.contents (config_name call.words) v in
+    let R : List ℕ → Type 0 = λ v. registry_read v ≡ Ok taken.1.0 in
+    traced_ends call new answer is_so a (subst C same a.config_there) taken.1.0 (subst R same taken.1.1) wrote (trace_of a.trace) refl is
+
 replay_text_ends : (call : Call) (new : Option (List ℕ)) (answer : Answer) → is_replay call.words ≡ true
     → AnswersReplay call.small call.contents (config_name call.words) (trace_name call.words) answer
     → Takes call.old new answer.text → Ending call new answer.status
 unfolding answer_to
-replay_text_ends call new answer is_so a wrote =
-    elim (bool_cases (bytes_eq a.config call.small)) [
-      | inl same ↦
-          let refusal : Answer = record { status = 3; text = configuration_text } in
-          let C : List ℕ → Type 0 = λ v. IsContent call.contents (config_name call.words) v in
-          traced_ends call new answer is_so a (subst C (bytes_same a.config call.small same) a.config_there) wrote (trace_of a.trace) refl
-          (a.answers ∙ ap (λ (b : Bool). cond b (trace_answer (trace_of a.trace)) refusal) same)
-      | inr other ↦ other_ends call new answer is_so a other wrote
-    ]
+replay_text_ends call new answer is_so a wrote = replay_by call new answer is_so a wrote (configuration_no call.small a.config) refl a.answers
 
 -- ---- The answer to a secret and a token, which was written
 

@@ -10,9 +10,12 @@ use Rattle.sso_base.specs.Outside.{Content}
 use Rattle.sso_base.proofs.RowLaws.{bool_cases}
 use Rattle.jws_compact.specs.declared.no.JwsNo.TheVariants.{TooLong}
 use Rattle.jws_compact.specs.Jws.{verdict}
+use Rattle.configuration_rows.specs.declared.no.RegNo.TheVariants as reg
+use Rattle.client_registry.specs.Reading.{registry_read, document_read, document_in}
+use Rattle.std.proofs.lemmas.Grind.{common_steps}
 use Rattle.oidc_replay.specs.declared.trace.TraceNo.TheVariants as no
 use Rattle.oidc_replay.specs.Trace.{trace_of, told_of, lines_of}
-use Rattle.sso.specs.Answer.{Answer, answer_to, trace_answer, configuration_text, without_feed, is_secret, token_refusal, verdict_answer, token_answer}
+use Rattle.sso.specs.Answer.{Answer, answer_to, trace_answer, registry_name, not_taken, configuration_no, unless_refused, without_feed, is_secret, token_refusal, verdict_answer, token_answer}
 use Rattle.sso.specs.Ends.{IsContent}
 use Rattle.sso.specs.Outcomes.{IsFetched, AnswersReplay, AnswersToken, PlaysWell}
 
@@ -24,18 +27,24 @@ from_fetch (Some contents) name most bytes fetched = fetched.0
 
 -- ---- The configuration
 
-longer_differs : (a b : List ℕ) → length b < length a → bytes_eq a b ≡ false
-longer_differs [] b longer = absurd (omega arith)
-longer_differs (x ∷ xs) [] longer = refl
-longer_differs (x ∷ xs) (y ∷ ys) longer = and_right (nat_eq x y) (bytes_eq xs ys) (longer_differs xs ys (omega arith))
+is_longer : (most n : ℕ) → most < n → nat_lt most n ≡ true
+is_longer most n above = grind (arith, common_steps)
 
-config_cut : (small config : List ℕ) (most : ℕ) → length small < most → bytes_eq (take most config) small ≡ bytes_eq config small
-config_cut small config most fits =
-    elim (leb_tells (length config) most) [
-      | inl p ↦ ap (λ (x : List ℕ). bytes_eq x small) (take_all most config p.1)
+too_long_configuration : (config : List ℕ) → nat_lt 1048576 (length config) ≡ true → registry_read config ≡ Err reg.TooLong
+too_long_configuration config long = ap (λ (b : Bool). cond b (Err reg.TooLong) (document_read (document_in config))) long
+
+not_taken_long : (small config : List ℕ) → nat_lt 1048576 (length config) ≡ true → configuration_no small config ≡ Some (registry_name reg.TooLong)
+unfolding configuration_no
+not_taken_long small config long = ap (λ r. not_taken r (bytes_eq config small)) (too_long_configuration config long)
+
+configuration_cut : (small config : List ℕ) → configuration_no small (take 1048577 config) ≡ configuration_no small config
+configuration_cut small config =
+    elim (leb_tells (length config) 1048577) [
+      | inl p ↦ ap (configuration_no small) (take_all 1048577 config p.1)
       | inr p ↦
-          let e : length (take most config) ≡ most = length-take-le most config (omega arith) in
-          longer_differs (take most config) small (omega arith) ∙ sym (longer_differs config small (omega arith))
+          let e : length (take 1048577 config) ≡ 1048577 = length-take-le 1048577 config (omega arith) in
+          not_taken_long small (take 1048577 config) (is_longer 1048576 (length (take 1048577 config)) (omega arith))
+          ∙ sym (not_taken_long small config (is_longer 1048576 (length config) (omega arith)))
     ]
 
 -- ---- The trace
@@ -58,19 +67,18 @@ trace_cut trace =
 
 -- ---- The configuration and the trace
 
-answer_cut : (small config trace : List ℕ) → length small < 1048577 → answer_to small (take 1048577 config) (take 65537 trace) ≡ answer_to small config trace
+answer_cut : (small config trace : List ℕ) → answer_to small (take 1048577 config) (take 65537 trace) ≡ answer_to small config trace
 unfolding answer_to
-answer_cut small config trace fits =
-    let other : Answer = record { status = 3; text = configuration_text } in
-    ap (λ (b : Bool). cond b (trace_answer (trace_of (take 65537 trace))) other) (config_cut small config 1048577 fits)
-    ∙ ap (λ x. cond (bytes_eq config small) (trace_answer x) other) (trace_cut trace)
+answer_cut small config trace =
+    ap (λ (why : Option Text). unless_refused why (trace_answer (trace_of (take 65537 trace)))) (configuration_cut small config)
+    ∙ ap (λ x. unless_refused (configuration_no small config) (trace_answer x)) (trace_cut trace)
 
 -- The answer to what was fetched is the answer to the contents that stand there.
-pub replay_fetched : (small : List ℕ) (contents : Option (List Content)) (config_at trace_at : Text) (config trace : List ℕ) (answer : Answer) → length small < 1048577
+pub replay_fetched : (small : List ℕ) (contents : Option (List Content)) (config_at trace_at : Text) (config trace : List ℕ) (answer : Answer)
     → IsFetched contents config_at 1048577 config → IsFetched contents trace_at 65537 trace
     → answer ≡ answer_to small config trace → (answer.status ≡ 0 → PlaysWell trace) → AnswersReplay small contents config_at trace_at answer
 unfolding PlaysWell
-replay_fetched small contents config_at trace_at config trace answer fits config_from trace_from e well =
+replay_fetched small contents config_at trace_at config trace answer config_from trace_from e well =
     let c = from_fetch contents config_at 1048577 config config_from in
     let t = from_fetch contents trace_at 65537 trace trace_from in
     record {
@@ -78,7 +86,7 @@ replay_fetched small contents config_at trace_at config trace answer fits config
       trace = t.0;
       config_there = c.1;
       trace_there = t.1;
-      answers = e ∙ ap (λ (v : List ℕ). answer_to small v trace) c.2 ∙ ap (λ (v : List ℕ). answer_to small (take 1048577 c.0) v) t.2 ∙ answer_cut small c.0 t.0 fits;
+      answers = e ∙ ap (λ (v : List ℕ). answer_to small v trace) c.2 ∙ ap (λ (v : List ℕ). answer_to small (take 1048577 c.0) v) t.2 ∙ answer_cut small c.0 t.0;
       well = λ z told is. well z told (ap trace_of t.2 ∙ trace_cut t.0 ∙ is);
     }
 

@@ -1,5 +1,5 @@
 -- What the program answers to its words and to the contents that it fetched: a status and a text.
-use Rattle.std.specs.Prelude.{ℕ, ◌-◌, Bool, ◌&&◌, ◌||◌, ◌==◌, nat_lt, nat_le, List, [], ◌∷◌, ◌++◌, length, take, drop, slice_index_or, codes, Result, Ok, Err, if◌then◌else◌}
+use Rattle.std.specs.Prelude.{ℕ, ◌-◌, Bool, true, false, Option, Some, None, ◌&&◌, ◌||◌, ◌==◌, nat_lt, nat_le, List, [], ◌∷◌, ◌++◌, length, take, drop, slice_index_or, codes, Result, Ok, Err, if◌then◌else◌}
 use Rattle.std.specs.Fmt.{decimal}
 use Rattle.std.specs.Str.{bytes_eq}
 use Rattle.sso_base.specs.Words.{Text}
@@ -7,6 +7,10 @@ use Rattle.jws_compact.specs.declared.no.JwsNo.{JwsNo}
 use Rattle.jws_compact.specs.declared.no.JwsNo.TheVariants as jws
 use Rattle.jws_compact.specs.declared.unsealing.Unsealed.{Unsealed}
 use Rattle.jws_compact.specs.Jws.{verdict}
+use Rattle.configuration_rows.specs.declared.no.RegNo.{RegNo}
+use Rattle.configuration_rows.specs.declared.no.RegNo.TheVariants as reg
+use Rattle.client_registry.specs.Configuration.{Configuration}
+use Rattle.client_registry.specs.Reading.{registry_read}
 use Rattle.oidc_replay.specs.declared.trace.TraceNo.{TraceNo}
 use Rattle.oidc_replay.specs.declared.trace.TraceNo.TheVariants as no
 use Rattle.oidc_replay.specs.Trace.{Told, trace_of}
@@ -49,8 +53,34 @@ usage_text = codes "usage: sso replay CONFIG TRACE, op CONFIG, rp CONFIG NAME [D
 unfoldable pub shelf_text : Text
 shelf_text = codes "shelf\n"
 
-unfoldable pub configuration_text : Text
-configuration_text = codes "configuration NotYet\n"
+-- the name of a refusal of a configuration, and its values
+unfoldable pub registry_name : RegNo → Text
+registry_name reg.NoMemory = []
+registry_name reg.TooLong = codes "TooLong"
+registry_name reg.NotToml = codes "NotToml"
+registry_name reg.Version = codes "Version"
+registry_name (reg.Missing path) = codes "Missing " ++ path
+registry_name (reg.WrongKind path) = codes "WrongKind " ++ path
+registry_name (reg.BadUrl path) = codes "BadUrl " ++ path
+registry_name (reg.Twice name) = codes "Twice " ++ name
+registry_name (reg.ShortSecret client) = codes "ShortSecret " ++ client
+registry_name (reg.TooMany kind) = codes "TooMany " ++ kind
+registry_name (reg.MixedHosts client) = codes "MixedHosts " ++ client
+registry_name (reg.UnknownClient party) = codes "UnknownClient " ++ party
+registry_name (reg.SubjectClash client user other) = codes "SubjectClash " ++ client ++ 32 ∷ user ++ 32 ∷ other
+
+-- the text of a configuration that is not taken, by the reason's name
+unfoldable pub configuration_text : Text → Text
+configuration_text name = codes "configuration " ++ name ++ 10 ∷ []
+
+-- why a configuration is not taken, if it is not: it is refused, or is another than the small one
+abbrev pub not_taken : Result Configuration RegNo → Bool → Option Text
+not_taken (Err why) is_small = Some (registry_name why)
+not_taken (Ok configuration) true = None
+not_taken (Ok configuration) false = Some (codes "NotYet")
+
+unfoldable pub configuration_no : List ℕ → List ℕ → Option Text
+configuration_no small config = not_taken (registry_read config) (bytes_eq config small)
 
 -- the text of a trace that is refused
 unfoldable pub refused_text : TraceNo → Text
@@ -63,10 +93,17 @@ abbrev pub trace_answer : Result Told TraceNo → Answer
 trace_answer (Ok told) = record { status = 0; text = text_of told }
 trace_answer (Err why) = record { status = 4; text = refused_text why }
 
--- the answer to a configuration and a trace, where this is the small configuration
+-- the answer to a configuration that is not taken, by the reason's name
+abbrev pub configuration_refusal : Text → Answer
+configuration_refusal name = record { status = 3; text = configuration_text name }
+
+abbrev pub unless_refused : Option Text → Answer → Answer
+unless_refused (Some name) answer = configuration_refusal name
+unless_refused None answer = answer
+
+-- the answer to a configuration and a trace
 unfoldable pub answer_to : List ℕ → List ℕ → List ℕ → Answer
-answer_to small config trace =
-    if bytes_eq config small then trace_answer (trace_of trace) else record { status = 3; text = configuration_text }
+answer_to small config trace = unless_refused (configuration_no small config) (trace_answer (trace_of trace))
 
 -- bytes without their last, where that is a line feed
 abbrev pub without_feed : List ℕ → List ℕ

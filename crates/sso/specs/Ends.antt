@@ -8,12 +8,15 @@ use Rattle.sso_base.specs.Outside.{Content, content_of, Takes, TakesFront}
 use Rattle.jws_compact.specs.declared.no.JwsNo.{JwsNo}
 use Rattle.jws_compact.specs.declared.unsealing.Unsealed.{Unsealed}
 use Rattle.jws_compact.specs.Jws.{verdict}
+use Rattle.configuration_rows.specs.declared.no.RegNo.{RegNo}
+use Rattle.client_registry.specs.Configuration.{Configuration}
+use Rattle.client_registry.specs.Reading.{registry_read}
 use Rattle.oidc_replay.specs.declared.trace.TraceNo.{TraceNo}
 use Rattle.oidc_replay.specs.Trace.{Told, trace_of}
 use Rattle.oidc_replay.specs.Replay.{play_of, text_of}
 use Rattle.sso_world.specs.Premises.{MeetsPremises}
 use Rattle.sso_world.specs.Agreement.{SignsOn}
-use Rattle.sso.specs.Answer.{Answer, is_replay, is_token, is_command, config_name, trace_name, secret_name, token_name, usage_text, shelf_text, configuration_text, refused_text, answer_to, without_feed, is_secret, jws_name, token_text, token_answer}
+use Rattle.sso.specs.Answer.{Answer, is_replay, is_token, is_command, config_name, trace_name, secret_name, token_name, usage_text, shelf_text, registry_name, configuration_text, refused_text, answer_to, without_feed, is_secret, jws_name, token_text, token_answer}
 
 -- this content stands under this name, where the shelf tells
 abbrev pub IsContent : Option (List Content) → Text → List ℕ → Type 0
@@ -31,29 +34,40 @@ pub record ReportsShelf (before after : ℕ) (words : List Text) (old new : Opti
   pub rose : Rose before after
   pub wrote : Takes old new shelf_text
 
--- The configuration is not the small one, and that was written.
+-- why a configuration is not taken, by the reason's name: it is refused, or else it is not the small one
+abbrev pub IsConfigurationNo : List ℕ → List ℕ → Text → Type 0
+IsConfigurationNo small config name =
+    ((why : RegNo) × (registry_read config ≡ Err why) × (name ≡ registry_name why))
+    ⊎ ((configuration : Configuration) × (registry_read config ≡ Ok configuration) × (bytes_eq config small ≡ false) × (name ≡ codes "NotYet"))
+
+-- The configuration is refused or is not the small one, and why was written.
 pub record RefusesConfiguration (small : List ℕ) (contents : Option (List Content)) (words : List Text) (old new : Option (List ℕ)) : Type 0 where
   pub words_are : is_replay words ≡ true
   pub config : List ℕ
   pub there : IsContent contents (config_name words) config
-  pub other : bytes_eq config small ≡ false
-  pub wrote : Takes old new configuration_text
+  pub name : Text
+  pub why : IsConfigurationNo small config name
+  pub wrote : Takes old new (configuration_text name)
 
--- The trace is not accepted, and why was written.
+-- The configuration is taken, the trace is not accepted, and why was written.
 pub record RefusesTrace (small : List ℕ) (contents : Option (List Content)) (words : List Text) (old new : Option (List ℕ)) : Type 0 where
   pub words_are : is_replay words ≡ true
   pub config_there : IsContent contents (config_name words) small
+  pub configuration : Configuration
+  pub read : registry_read small ≡ Ok configuration
   pub trace : List ℕ
   pub trace_there : IsContent contents (trace_name words) trace
   pub why : TraceNo
   pub refused : trace_of trace ≡ Err why
   pub wrote : Takes old new (refused_text why)
 
--- The trace is accepted and the text of its play was written. The reading of that same play is a run of the sign-on
+-- The configuration is taken, the trace is accepted, and the text of its play was written. The reading of that same play is a run of the sign-on
 -- machine at every prefix, and after each prefix the live rows are the sessions that the relying party's history calls live.
 pub record Replays (small : List ℕ) (contents : Option (List Content)) (words : List Text) (old new : Option (List ℕ)) : Type 0 where
   pub words_are : is_replay words ≡ true
   pub config_there : IsContent contents (config_name words) small
+  pub configuration : Configuration
+  pub read : registry_read small ≡ Ok configuration
   pub trace : List ℕ
   pub trace_there : IsContent contents (trace_name words) trace
   pub told : Told

@@ -18,6 +18,7 @@ use crate::words::read_words;
 use std::process::ExitCode;
 
 mod command;
+mod configuration;
 mod mini;
 mod outcome;
 mod shelf;

@@ -3,9 +3,10 @@
 ghost use Rattle.std.specs.Prelude.{◌≡◌, ◌++◌, [], ◌∷◌, IfOk, codes};
 ghost use Rattle.std.specs.Fmt.{decimal};
 ghost use Rattle.oidc_replay.specs.Trace.{trace_of};
-ghost use Rattle.sso.specs.Answer.{trace_answer, answer_to, configuration_text, refused_text, shelf_text, usage_text};
+ghost use Rattle.sso.specs.Answer.{trace_answer, answer_to, refused_text, shelf_text, usage_text};
 ghost use Rattle.sso.specs.Outcomes.{PlaysWell, shelf_answer, usage_answer};
 
+use crate::configuration::answer_configuration;
 use crate::mini::MINI;
 use oidc_replay::{TraceNo, read_first, replay_first};
 use sso_base::{Blob, NoMemory};
@@ -84,16 +85,13 @@ pub fn answer_trace(alloc: Global, trace: &[u8]) -> Result<Outcome, NoMemory>
 }
 
 /// The answer to a configuration and a trace. No configuration but the small one is taken.
-#[tactic(auto, unfolding(crate::specs::Answer::configuration_text, crate::specs::Answer::answer_to))]
+#[tactic(auto, unfolding(crate::specs::Answer::answer_to))]
 pub fn answer_contents(alloc: Global, config: &[u8], trace: &[u8]) -> Result<Outcome, NoMemory>
     ensures answer { IfOk result (λ outcome. outcome ≡ answer_to MINI.now config.now trace.now) }
     ensures well { IfOk result (λ outcome. outcome.status ≡ 0 → PlaysWell trace.now) }
 {
-    if config != MINI.as_bytes() {
-        return Ok(Outcome {
-            status: 3,
-            text: Blob::new(alloc, b"configuration NotYet\n")?,
-        });
+    match answer_configuration(alloc, config)? {
+        Some(refusal) => Ok(refusal),
+        None => answer_trace(alloc, trace),
     }
-    answer_trace(alloc, trace)
 }

@@ -1,4 +1,5 @@
-//! The top call over contents in memory, and the words of the program. The command `token` has its tests in `token`.
+//! The top call over contents in memory, and the words of the program. The command `token` has its tests in
+//! `token`, and configurations that are refused have theirs in `configuration`.
 
 use crate::mini::MINI;
 use crate::sink::WriterSink;
@@ -11,6 +12,7 @@ use std::io;
 use std::io::{ErrorKind, Write};
 use std::test::Fail;
 
+mod configuration;
 mod token;
 
 const HEADER: &str = "sso-trace 1 000000000000000000000000000000000000000000000000\n";
@@ -104,14 +106,14 @@ fn traces_are_replayed(rt: HostRuntime) -> Result<(), Fail> {
 fn no_other_configuration_is_taken(rt: HostRuntime) -> Result<(), Fail> {
     let alloc = rt.alloc();
     let longer = format!(in alloc; "{MINI}\n")?;
-    for config in ["", "version = 1\n", longer.as_str()] {
+    for (config, text) in [
+        ("", "configuration Version\n"),
+        ("version = 1\n", "configuration Missing provider.issuer\n"),
+        (longer.as_str(), "configuration NotYet\n"),
+    ] {
         let (answered, written) = replayed(alloc, config, HEADER)?;
         assert_eq!(rt; answered, 3, "{config}");
-        assert_eq!(rt;
-            written.as_bytes(),
-            b"configuration NotYet\n".as_slice(),
-            "{config}"
-        );
+        assert_eq!(rt; written.as_bytes(), text.as_bytes(), "{config}");
     }
     Ok(())
 }
@@ -176,7 +178,7 @@ fn words_are_answered(rt: HostRuntime) -> Result<(), Fail> {
         (
             ["replay", "trace", "trace"].as_slice(),
             3,
-            "configuration NotYet\n",
+            "configuration NotToml\n",
         ),
         (
             ["replay", "config", "config"].as_slice(),

@@ -32,7 +32,7 @@ fn write_outcome<K: Sink>(out: &mut K, outcome: &Outcome) -> u8
 /// | | `token`: the token is sealed under the secret, and all was written | its payload and a line feed |
 /// | 1 | memory ran out | none |
 /// | 2 | the words are no command | the usage |
-/// | 3 | CONFIG is not the small configuration | `configuration NotYet` |
+/// | 3 | CONFIG is refused, or else is not the small one | `configuration`, the refusal's name and its values, or `configuration NotYet` |
 /// | 4 | TRACE is not an accepted trace | `trace Size`, or `trace NotYet` and the line |
 /// | 5 | (only where) the shelf's faults rose | `shelf` |
 /// | 6 | (only where) the sink's faults rose | a front of one of these texts |

@@ -1,0 +1,13 @@
+pub mod Slashes
+pub mod TwiceRules
+pub mod Documents
+pub mod Guiltless
+pub mod HeldClaims
+pub mod RowFacts
+pub mod RowRules
+pub mod SubjectFacts
+pub mod PartyFacts
+pub mod Registering
+pub mod Numbers
+pub mod Causes
+mod Samples

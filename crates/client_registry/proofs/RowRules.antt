@@ -1,0 +1,253 @@
+-- The records of rows that are guilty of nothing keep the rules of their rows.
+use Rattle.std.proofs.Common.{◌≡◌, ◌≤◌, ◌==◌, ◌&&◌, ℕ, Bool, true, false, cond, List, [], ◌∷◌, ◌++◌, length, map, replicate, nat_le, nat_lt, codes, Option, Some, None, option_and_then, unwrap_or, ◌||◌, ◌⊎◌, inl, inr, refl, sym, ap, ◌∙◌, arith, true≢false}
+use Rattle.std.specs.List.{AllByRecursion}
+use Rattle.std.proofs.lemmas.Bool.{ltb-false}
+use Rattle.std.proofs.lemmas.Bool.Decides.{nat_tests}
+use Rattle.toml.specs.Data.{Data, get, as_str}
+use Rattle.registered_url.specs.Rule.{url_of}
+use Rattle.configuration_rows.specs.declared.no.RegNo.{RegNo}
+use Rattle.configuration_rows.specs.declared.no.RegNo.TheVariants as no
+use Rattle.configuration_rows.specs.declared.row.Row.TheVariants as row
+use Rattle.configuration_rows.specs.declared.kind.Kind.TheVariants as kind
+use Rattle.configuration_rows.specs.declared.kind.TextRule.TheVariants as text
+use Rattle.configuration_rows.specs.declared.kind.Alphabet.TheVariants.{UserId, ClientId, PartyName, Visible}
+use Rattle.configuration_rows.specs.Refusals.{each}
+use Rattle.configuration_rows.specs.Paths.{path_text}
+use Rattle.configuration_rows.specs.Values.{text_at, natural_at, hex_at, texts_at, url_at, rows_at, table_at}
+use Rattle.configuration_rows.specs.Kinds.{is_within, is_name, are_urls, has_text}
+use Rattle.registered_url.specs.declared.web_url.WebUrl.{WebUrl}
+use Rattle.configuration_rows.specs.Version1 as version
+use Rattle.configuration_rows.specs.Version1.{rows_refusals}
+use Rattle.client_registry.specs.declared.records.User.{User}
+use Rattle.client_registry.specs.declared.records.Client.{Client}
+use Rattle.client_registry.specs.Records.{no_url, rounds_of, user_of, client_of_row, party_of, urls_of}
+use Rattle.client_registry.specs.Rules as rule
+use Rattle.client_registry.specs.Registered.{IsUser, IsClient, IsParty, is_url_or_none}
+use Rattle.client_registry.proofs.Guiltless.{front_nil, back_nil, unmet, either_false, each_nil, all_weaker, all_rows}
+use Rattle.client_registry.proofs.RowFacts.{Passing, Kept, KeptUrl, UrlAt, url_found, optional_text_kept, text_kept, hex_kept, number_kept, urls_kept, url_kept, url_there, optional_url_at}
+
+second_true : (a b : Bool) → (a && b) ≡ true → b ≡ true
+second_true true b h = h
+second_true false b h = absurd (true≢false (sym h))
+
+-- ---- users
+
+rounds_at : (b : Bool) (n : ℕ) → nat_le n 1000000 ≡ b → is_within 1 1000000 n ≡ true → is_within 1 1000000 (cond b n 0) ≡ true
+rounds_at true n is h = h
+rounds_at false n is h = absurd (true≢false (sym (second_true (nat_le 1 n) (nat_le n 1000000) h) ∙ is))
+
+rounds_within : (o : Option ℕ) → Passing (is_within 1 1000000) o → is_within 1 1000000 (rounds_of o) ≡ true
+rounds_within o p = ap (λ q. is_within 1 1000000 (rounds_of q)) p.there ∙ rounds_at (nat_le p.value 1000000) p.value refl p.passed
+
+proof_at : (b : Bool) (bytes : List ℕ) → (length bytes == 32) ≡ b → length (cond b bytes (replicate 32 0)) ≡ 32
+proof_at true bytes is = grind (arith, nat_tests, is)
+proof_at false bytes is = refl
+
+record UserRow (u : User) : Type 0 where
+  pub id : is_name UserId 1 64 u.id ≡ true
+  pub salt : is_within 1 64 (length u.salt) ≡ true
+  pub rounds : is_within 1 1000000 u.rounds ≡ true
+  pub proof : length u.proof ≡ 32
+
+user_row : (i : ℕ) (d : Data) → version.user_row i d ≡ [] → UserRow (user_of d)
+user_row i d h =
+    let a : List RegNo = version.required (row.User i) d (codes "id") (kind.Text (text.Name UserId 1 64)) in
+    let b : List RegNo = version.required (row.User i) d (codes "salt") (kind.Text (text.Hex 1 64)) in
+    let c : List RegNo = version.required (row.User i) d (codes "rounds") (kind.Number 1 1000000) in
+    let e : List RegNo = version.required (row.User i) d (codes "proof") (kind.Text (text.Hex 32 32)) in
+    let f : List RegNo = version.optional (row.User i) d (codes "claims") kind.Claims in
+    let abc : (a ++ b) ++ c ≡ [] = front_nil ((a ++ b) ++ c) e (front_nil (((a ++ b) ++ c) ++ e) f h) in
+    let ab : a ++ b ≡ [] = front_nil (a ++ b) c abc in
+    record {
+      id = text_kept (row.User i) d (codes "id") (text.Name UserId 1 64) (front_nil a b ab);
+      salt = hex_kept (row.User i) d (codes "salt") 1 64 (back_nil a b ab);
+      rounds = rounds_within (natural_at (codes "rounds") d) (number_kept (row.User i) d (codes "rounds") 1 1000000 (back_nil (a ++ b) c abc));
+      proof = proof_at (length (hex_at (codes "proof") d) == 32) (hex_at (codes "proof") d) refl;
+    }
+
+-- ---- clients
+
+record ClientRow (k : Client) : Type 0 where
+  pub id : is_name ClientId 1 64 k.id ≡ true
+  pub secret : is_name Visible 0 128 k.secret ≡ true
+  pub redirects : is_within 1 16 (length k.redirects) ≡ true
+  pub urls : are_urls k.redirects ≡ true
+  pub kept : k.redirect_urls ≡ urls_of k.redirects
+  pub logout : is_url_or_none k.logout ≡ true
+  pub logout_kept : k.logout_url ≡ option_and_then url_of k.logout
+
+logout_at : (o : Option Data) → (o ≡ None) ⊎ Kept kind.Url o → is_url_or_none (option_and_then as_str o) ≡ true
+logout_at o (inl none) = ap (λ q. is_url_or_none (option_and_then as_str q)) none
+logout_at o (inr k) =
+    let u : KeptUrl (as_str k.value) = url_there (as_str k.value) k.kept in
+    ap (λ q. is_url_or_none (option_and_then as_str q)) k.there ∙ ap is_url_or_none u.there ∙ u.url
+
+client_row : (parties : List Data) (i : ℕ) (d : Data) → version.client_row parties i d ≡ [] → ClientRow (client_of_row d)
+client_row parties i d h =
+    let r = row.Client i in
+    let a : List RegNo = version.required r d (codes "id") (kind.Text (text.Name ClientId 1 64)) in
+    let b : List RegNo = version.required r d (codes "secret") (kind.Text (text.Name Visible 0 128)) in
+    let c : List RegNo = version.required r d (codes "redirect_uris") kind.Urls in
+    let e : List RegNo = version.optional r d (codes "response_types") kind.ResponseTypes in
+    let s : List RegNo = version.optional r d (codes "subject") (kind.Text text.Subject) in
+    let t : List RegNo = version.optional r d (codes "consent") (kind.Text text.Consent) in
+    let l : List RegNo = version.optional r d (codes "logout_uri") kind.Url in
+    let m : List RegNo = version.logout_rule parties r d in
+    let n : List RegNo = version.optional r d (codes "logout_session") kind.Flag in
+    let names : ((a ++ b) ++ c) ++ e ≡ [] = front_nil (((a ++ b) ++ c) ++ e) ((((s ++ t) ++ l) ++ m) ++ n) h in
+    let settings : (((s ++ t) ++ l) ++ m) ++ n ≡ [] = back_nil (((a ++ b) ++ c) ++ e) ((((s ++ t) ++ l) ++ m) ++ n) h in
+    let abc : (a ++ b) ++ c ≡ [] = front_nil ((a ++ b) ++ c) e names in
+    let ab : a ++ b ≡ [] = front_nil (a ++ b) c abc in
+    let stl : (s ++ t) ++ l ≡ [] = front_nil ((s ++ t) ++ l) m (front_nil (((s ++ t) ++ l) ++ m) n settings) in
+    let uris : (is_within 1 16 (length (texts_at (codes "redirect_uris") d)) ≡ true) × (are_urls (texts_at (codes "redirect_uris") d) ≡ true) = urls_kept r d (codes "redirect_uris") (back_nil (a ++ b) c abc) in
+    record {
+      id = text_kept r d (codes "id") (text.Name ClientId 1 64) (front_nil a b ab);
+      secret = text_kept r d (codes "secret") (text.Name Visible 0 128) (back_nil a b ab);
+      redirects = uris.0;
+      urls = uris.1;
+      kept = refl;
+      logout = logout_at (get (codes "logout_uri") d) (optional_url_at (path_text r (codes "logout_uri")) (get (codes "logout_uri") d) (back_nil (s ++ t) l stl));
+      logout_kept = refl;
+    }
+
+-- ---- parties
+
+-- a redirection URI that its rule allows
+pub record Directs (client : Option Data) (t : List ℕ) (u : WebUrl) : Type 0 where
+  pub names : version.has_answer_name u ≡ false
+  pub path : has_text u.path version.own_paths ≡ false
+  pub known : version.is_not_of client t u ≡ false
+
+directs : (client : Option Data) (t : List ℕ) (u : WebUrl) → version.misdirects client (Some t) (Some u) ≡ false → Directs client t u
+directs client t u h =
+    let a : (version.has_answer_name u ≡ false) × ((has_text u.path version.own_paths || version.is_not_of client t u) ≡ false) = either_false (version.has_answer_name u) (has_text u.path version.own_paths || version.is_not_of client t u) h in
+    let b : (has_text u.path version.own_paths ≡ false) × (version.is_not_of client t u ≡ false) = either_false (has_text u.path version.own_paths) (version.is_not_of client t u) a.1 in
+    record { names = a.0; path = b.0; known = b.1 }
+
+-- the same, from what stands at the key
+pub directs_at : (client : Option Data) (o : Option (List ℕ)) (v : Option WebUrl) (t : List ℕ) (u : WebUrl) → o ≡ Some t → v ≡ Some u → version.misdirects client o v ≡ false → Directs client t u
+directs_at client o v t u text url h =
+    directs client t u (ap (λ w. version.misdirects client (Some t) w) (sym url) ∙ ap (λ q. version.misdirects client q v) (sym text) ∙ h)
+
+-- what the row of a party says, where nothing is noted of it
+pub record PartyLists (clients : List Data) (i : ℕ) (d : Data) : Type 0 where
+  pub name : version.required (row.Party i) d (codes "name") (kind.Text (text.Name PartyName 1 16)) ≡ []
+  pub client : version.required (row.Party i) d (codes "client") (kind.Text text.Any) ≡ []
+  pub redirect : version.required (row.Party i) d (codes "redirect_uri") kind.Url ≡ []
+  pub directs : version.redirect_rule clients (row.Party i) d ≡ []
+  pub listen : version.required (row.Party i) d (codes "listen") (kind.Text (text.Name Visible 1 64)) ≡ []
+  pub type : version.optional (row.Party i) d (codes "response_type") (kind.Text text.ResponseType) ≡ []
+  pub has_type : version.type_rule clients (row.Party i) d ≡ []
+  pub scope : version.optional (row.Party i) d (codes "scope") (kind.Text text.Scope) ≡ []
+
+pub party_lists : (clients : List Data) (i : ℕ) (d : Data) → version.party_row clients i d ≡ [] → PartyLists clients i d
+party_lists clients i d h =
+    let r = row.Party i in
+    let a : List RegNo = version.required r d (codes "name") (kind.Text (text.Name PartyName 1 16)) in
+    let b : List RegNo = version.required r d (codes "client") (kind.Text text.Any) in
+    let c : List RegNo = version.required r d (codes "redirect_uri") kind.Url in
+    let e : List RegNo = version.redirect_rule clients r d in
+    let f : List RegNo = version.required r d (codes "listen") (kind.Text (text.Name Visible 1 64)) in
+    let t : List RegNo = version.optional r d (codes "response_type") (kind.Text text.ResponseType) in
+    let l : List RegNo = version.type_rule clients r d in
+    let s : List RegNo = version.optional r d (codes "scope") (kind.Text text.Scope) in
+    let m : List RegNo = version.optional r d (codes "prompt") (kind.Text text.Prompt) in
+    let n : List RegNo = version.optional r d (codes "max_age") (kind.Number 0 999999999) in
+    let settings : List RegNo = version.party_settings r d in
+    let rest : ((((a ++ b) ++ c) ++ e) ++ f) ++ ((((t ++ l) ++ s) ++ m) ++ n) ≡ [] = front_nil (((((a ++ b) ++ c) ++ e) ++ f) ++ ((((t ++ l) ++ s) ++ m) ++ n)) settings h in
+    let names : (((a ++ b) ++ c) ++ e) ++ f ≡ [] = front_nil ((((a ++ b) ++ c) ++ e) ++ f) ((((t ++ l) ++ s) ++ m) ++ n) rest in
+    let requests : (((t ++ l) ++ s) ++ m) ++ n ≡ [] = back_nil ((((a ++ b) ++ c) ++ e) ++ f) ((((t ++ l) ++ s) ++ m) ++ n) rest in
+    let abce : ((a ++ b) ++ c) ++ e ≡ [] = front_nil (((a ++ b) ++ c) ++ e) f names in
+    let abc : (a ++ b) ++ c ≡ [] = front_nil ((a ++ b) ++ c) e abce in
+    let tls : (t ++ l) ++ s ≡ [] = front_nil ((t ++ l) ++ s) m (front_nil (((t ++ l) ++ s) ++ m) n requests) in
+    let tl : t ++ l ≡ [] = front_nil (t ++ l) s tls in
+    record {
+      name = front_nil a b (front_nil (a ++ b) c abc);
+      client = back_nil a b (front_nil (a ++ b) c abc);
+      redirect = back_nil (a ++ b) c abc;
+      directs = back_nil ((a ++ b) ++ c) e abce;
+      listen = back_nil (((a ++ b) ++ c) ++ e) f names;
+      type = front_nil t l tl;
+      has_type = back_nil t l tl;
+      scope = back_nil (t ++ l) s tls;
+    }
+
+party_row : (known : List Client) (clients : List Data) (i : ℕ) (d : Data) → version.party_row clients i d ≡ [] → IsParty (party_of known d)
+unfolding party_of
+party_row known clients i d h =
+    let r = row.Party i in
+    let l : PartyLists clients i d = party_lists clients i d h in
+    let u : UrlAt (codes "redirect_uri") d = url_found r d (codes "redirect_uri") no_url l.redirect in
+    let w : Directs (version.client_of clients d) u.text u.url =
+    directs_at (version.client_of clients d) (text_at (codes "redirect_uri") d) (url_at (codes "redirect_uri") d) u.text u.url u.text_there u.url_there (unmet _ (no.BadUrl (path_text r (codes "redirect_uri"))) l.directs) in
+    record {
+      name = text_kept r d (codes "name") (text.Name PartyName 1 16) l.name;
+      listen = text_kept r d (codes "listen") (text.Name Visible 1 64) l.listen;
+      redirect = url_kept r d (codes "redirect_uri") no_url l.redirect;
+      path = ap (λ (o : Option WebUrl). has_text (unwrap_or o no_url).path version.own_paths) u.url_there ∙ w.path;
+      names = ap (λ (o : Option WebUrl). version.has_answer_name (unwrap_or o no_url)) u.url_there ∙ w.names;
+      scope = optional_text_kept r d (codes "scope") (codes "openid") text.Scope refl l.scope;
+    }
+
+-- ---- all rows
+
+mapped : {A B : Type 0} (P : B → Type 0) (f : A → B) (xs : List A) → AllByRecursion (λ x. P (f x)) xs → AllByRecursion P (map f xs)
+mapped P f [] h = tt
+mapped P f (x ∷ xs) h = (h.0, mapped P f xs h.1)
+
+joined : {A : Type 0} (P Q R : A → Type 0) (xs : List A) → ((x : A) → P x → Q x → R x) → AllByRecursion P xs → AllByRecursion Q xs → AllByRecursion R xs
+joined P Q R [] f p q = tt
+joined P Q R (x ∷ xs) f p q = (f x p.0 q.0, joined P Q R xs f p.1 q.1)
+
+rows_keep : {B : Type 0} (f : ℕ → Data → List RegNo) (g : Data → B) (P : B → Type 0) (rows : List Data) → ((i : ℕ) (d : Data) → f i d ≡ [] → P (g d)) → each f rows ≡ [] → AllByRecursion P (map g rows)
+rows_keep f g P rows keep h =
+    mapped P g rows (all_rows (λ d. P (g d)) 0 rows (all_weaker (λ i d. f i d ≡ []) (λ i d. P (g d)) 0 rows (λ i d le e. keep i d e) (each_nil f 0 rows h)))
+
+records_keep : {A : Type 0} (f : ℕ → A → List RegNo) (P : A → Type 0) (xs : List A) → ((i : ℕ) (x : A) → f i x ≡ [] → P x) → each f xs ≡ [] → AllByRecursion P xs
+records_keep f P xs keep h = all_rows P 0 xs (all_weaker (λ i x. f i x ≡ []) (λ i x. P x) 0 xs (λ i x le e. keep i x e) (each_nil f 0 xs h))
+
+pub users_keep : (rows : List Data) → each version.user_row rows ≡ [] → each rule.long_claims (map user_of rows) ≡ [] → AllByRecursion IsUser (map user_of rows)
+users_keep rows h c =
+    joined UserRow (λ u. length u.claims ≤ 2048) IsUser (map user_of rows)
+    (λ u r s. record { id = r.id; salt = r.salt; rounds = r.rounds; proof = r.proof; claims = s })
+    (rows_keep version.user_row user_of UserRow rows user_row h)
+    (records_keep rule.long_claims (λ u. length u.claims ≤ 2048) (map user_of rows) (λ i u e. ltb-false 2048 (length u.claims) (unmet (nat_lt 2048 (length u.claims)) (no.TooMany (codes "claims")) e)) c)
+
+record ClientRules (k : Client) : Type 0 where
+  pub long_secret : 32 ≤ length k.secret
+  pub one_host : (k.pairwise && rule.has_two_hosts k.redirect_urls) ≡ false
+
+pub clients_keep : (parties rows : List Data) → each (version.client_row parties) rows ≡ [] → each rule.short_secret (map client_of_row rows) ≡ [] → each rule.mixed_hosts (map client_of_row rows) ≡ [] → AllByRecursion IsClient (map client_of_row rows)
+clients_keep parties rows h s m =
+    joined ClientRow ClientRules IsClient (map client_of_row rows)
+    (λ k r q. record { id = r.id; secret = r.secret; long_secret = q.long_secret; redirects = r.redirects; urls = r.urls; kept = r.kept; logout = r.logout; logout_kept = r.logout_kept; one_host = q.one_host })
+    (rows_keep (version.client_row parties) client_of_row ClientRow rows (client_row parties) h)
+    (joined (λ k. 32 ≤ length k.secret) (λ k. (k.pairwise && rule.has_two_hosts k.redirect_urls) ≡ false) ClientRules (map client_of_row rows) (λ k p q. record { long_secret = p; one_host = q })
+    (records_keep rule.short_secret (λ k. 32 ≤ length k.secret) (map client_of_row rows) (λ i k e. ltb-false (length k.secret) 32 (unmet (nat_lt (length k.secret) 32) (no.ShortSecret k.id) e)) s)
+    (records_keep rule.mixed_hosts (λ k. (k.pairwise && rule.has_two_hosts k.redirect_urls) ≡ false) (map client_of_row rows) (λ i k e. unmet (k.pairwise && rule.has_two_hosts k.redirect_urls) (no.MixedHosts k.id) e) m))
+
+pub parties_keep : (known : List Client) (clients rows : List Data) → each (version.party_row clients) rows ≡ [] → AllByRecursion IsParty (map (party_of known) rows)
+parties_keep known clients rows h = rows_keep (version.party_row clients) (party_of known) IsParty rows (party_row known clients) h
+
+-- what the rows say, where nothing is noted of them
+pub record RowsKeep (root : Data) : Type 0 where
+  pub provider : version.provider_row (table_at (codes "provider") root) ≡ []
+  pub users : each version.user_row (rows_at (codes "user") root) ≡ []
+  pub clients : each (version.client_row (rows_at (codes "party") root)) (rows_at (codes "client") root) ≡ []
+  pub parties : each (version.party_row (rows_at (codes "client") root)) (rows_at (codes "party") root) ≡ []
+
+pub rows_keep_rules : (root : Data) → rows_refusals root ≡ [] → RowsKeep root
+unfolding rows_refusals
+rows_keep_rules root h =
+    let p : List RegNo = version.provider_row (table_at (codes "provider") root) in
+    let u : List RegNo = version.users_rows root in
+    let k : List RegNo = version.clients_rows root in
+    let q : List RegNo = version.parties_rows root in
+    let puk : (p ++ u) ++ k ≡ [] = front_nil ((p ++ u) ++ k) q h in
+    let pu : p ++ u ≡ [] = front_nil (p ++ u) k puk in
+    record {
+      provider = front_nil p u pu;
+      users = back_nil (version.array_rule (codes "user") root) _ (back_nil p u pu);
+      clients = back_nil (version.array_rule (codes "client") root) _ (back_nil (p ++ u) k puk);
+      parties = back_nil (version.array_rule (codes "party") root) _ (back_nil ((p ++ u) ++ k) q h);
+    }

@@ -1,0 +1,348 @@
+-- The definitions computed on small cases: what each accepts, and what it refuses.
+use Rattle.std.proofs.Common.{◌≡◌, ◌<◌, ℕ, Bool, [], ◌∷◌, ◌++◌, List, replicate, codes, true, false, pos, Some, None, Result, Ok, Err, refl, sym, ap, ◌∙◌, arith, true≢false}
+use Rattle.std.specs.Str.{is_utf8, chars}
+use Rattle.toml.specs.Data.{Data, string, integer, array, table, no_items, item, no_members, member}
+use Rattle.toml.proofs.OnLiterals.{toml_on_literals}
+use Rattle.hex.proofs.OnLiterals.{hex_on_literals}
+use Rattle.url.proofs.OnLiterals.{url_on_literals}
+use Rattle.std.proofs.lemmas.List.{length-replicate}
+use Rattle.sha2.specs.Sha256.{sha256, first_words, schedule, rounds, compress, hash_after, digest_bytes}
+use Rattle.sso_base.proofs.OnLiterals.{base64url_on_literals}
+use Rattle.serde_json.specs.Data as json
+use Rattle.claim_set.proofs.OnLiterals.{claims_on_literals}
+use Rattle.claim_set.proofs.Fitting.{ClaimsFit-none}
+use Rattle.registered_url.specs.declared.web_url.WebUrl.{WebUrl}
+use Rattle.registered_url.specs.Rule.{parts_of}
+use Rattle.configuration_rows.specs.declared.no.RegNo.{RegNo}
+use Rattle.configuration_rows.specs.declared.no.RegNo.TheVariants as no
+use Rattle.configuration_rows.specs.Refusals.{least, IsLeast, each}
+use Rattle.configuration_rows.specs.Kinds.{spellings}
+use Rattle.configuration_rows.specs.Version1.{rows_refusals, lacks_type}
+use Rattle.configuration_rows.proofs.Order.{least_is}
+use Rattle.client_registry.specs.declared.records.User.{User}
+use Rattle.client_registry.specs.declared.records.Client.{Client}
+use Rattle.client_registry.specs.declared.records.Party.{Party}
+use Rattle.client_registry.specs.Records.{without_slash, endpoint, provider_of, rounds_of, proof_of, user_of, types_of, client_of_row, types_of_number, client_place, client_number, party_of, users_of, clients_of, parties_of}
+use Rattle.client_registry.specs.Rules.{is_again, user_twice, client_twice, party_twice, short_secret, long_claims, mixed_hosts, unknown_client, has_two_hosts, sector_of, text_place, records_refusals, pairwise_subject, subject_of, clashes, subjects_refusals}
+use Rattle.client_registry.specs.Registered.{AreApart, NumbersAreApart, HasNoneOf, AreDisjoint, IsUser, HoldsClaims, AllHoldClaims, IsClient, IsParty, FitsClient, IsSubject, IsRegistry}
+use Rattle.client_registry.specs.Configuration.{Configuration, subject_at, configuration_of, issuer_of, salt_of}
+use Rattle.client_registry.specs.Reading.{document_in, unless_refused, subjects_read, records_read, version1_read, registry_read, refusals_of, IsAccepted, IsOtherVersion}
+use Rattle.client_registry.proofs.Guiltless.{front_nil, back_nil}
+use Rattle.client_registry.proofs.HeldClaims.{holds}
+use Rattle.client_registry.proofs.Registering.{registered}
+use Rattle.client_registry.proofs.SubjectFacts.{user_id_is_subject}
+use Rattle.client_registry.proofs.Causes.{version1_answer, too_long, accepted_only, version_only}
+
+abbrev at_host : List ℕ → WebUrl
+at_host host = record { secure = true; host = host; port = 443; path = codes "/"; query = None }
+
+slash-is_gone : without_slash (codes "/a/") ≡ codes "/a"
+slash-is_gone = refl
+
+slash-of_a_path_without_one : without_slash (codes "/a") ≡ codes "/a"
+slash-of_a_path_without_one = refl
+
+endpoint-below_an_issuer : endpoint (codes "https://a.b/") (codes "/token") ≡ codes "https://a.b/token"
+endpoint-below_an_issuer = refl
+
+rounds-at_the_bound : rounds_of (Some 1000000) ≡ 1000000
+rounds-at_the_bound = refl
+
+place-of_the_second : text_place (codes "b") (codes "a" ∷ codes "b" ∷ codes "b" ∷ []) ≡ Some 1
+place-of_the_second = refl
+
+again-at_a_later_place : is_again 2 (Some 1) ≡ true
+again-at_a_later_place = refl
+
+again-not_at_the_first : is_again 1 (Some 1) ≡ false
+again-not_at_the_first = refl
+
+hosts-that_are_one : has_two_hosts (at_host (codes "a") ∷ at_host (codes "a") ∷ []) ≡ false
+hosts-that_are_one = refl
+
+hosts-that_are_two : has_two_hosts (at_host (codes "a") ∷ at_host (codes "a") ∷ at_host (codes "b") ∷ []) ≡ true
+hosts-that_are_two = refl
+
+sector-of_the_first : sector_of (at_host (codes "a") ∷ []) ≡ codes "a"
+sector-of_the_first = refl
+
+apart-of_two_names : AreApart (codes "a" ∷ codes "b" ∷ [])
+apart-of_two_names = (refl, (refl, tt))
+
+apart-not_of_one_twice : AreApart (codes "a" ∷ codes "a" ∷ []) → ⊥
+apart-not_of_one_twice h = absurd (true≢false h.0)
+
+disjoint-of_two_lists : AreDisjoint ((codes "a" ∷ []) ∷ (codes "b" ∷ []) ∷ [])
+disjoint-of_two_lists = (((refl, tt), tt), (tt, tt))
+
+disjoint-not_of_a_shared_text : AreDisjoint ((codes "a" ∷ []) ∷ (codes "a" ∷ []) ∷ []) → ⊥
+disjoint-not_of_a_shared_text h = absurd (true≢false h.0.0.0)
+
+numbers-that_are_apart : NumbersAreApart (0 ∷ 2 ∷ [])
+numbers-that_are_apart = (refl, (refl, tt))
+
+numbers-not_one_twice : NumbersAreApart (2 ∷ 0 ∷ 2 ∷ []) → ⊥
+numbers-not_one_twice h = true≢false h.0
+
+none_of-other_texts : HasNoneOf (codes "a" ∷ []) (codes "b" ∷ [])
+none_of-other_texts = (refl, tt)
+
+none_of-not_a_shared_text : HasNoneOf (codes "c" ∷ codes "b" ∷ []) (codes "b" ∷ []) → ⊥
+none_of-not_a_shared_text h = true≢false h.1.0
+
+-- ---- records
+
+proof-of_32_bytes : proof_of (replicate 32 7) ≡ replicate 32 7
+proof-of_32_bytes = refl
+
+proof-not_of_31_bytes : proof_of (replicate 31 7) ≡ replicate 32 0
+proof-not_of_31_bytes = refl
+
+rounds-past_the_bound : rounds_of (Some 1000001) ≡ 0
+rounds-past_the_bound = refl
+
+types-of_two_texts : types_of (codes "code" ∷ codes "token id_token" ∷ []) ≡ true ∷ false ∷ true ∷ false ∷ false ∷ false ∷ []
+unfolding spellings
+types-of_two_texts = refl
+
+types-of_a_number : types_of_number (Some 5) ≡ record { code = true; id_token = true; token = true }
+types-of_a_number = refl
+
+types-of_no_number : types_of_number None ≡ record { code = false; id_token = false; token = false }
+types-of_no_number = refl
+
+abbrev alice_of : List ℕ → User
+alice_of claims = record { id = codes "alice"; salt = codes "salt"; rounds = 1; proof = replicate 32 0; claims = claims }
+
+abbrev alice : User
+alice = alice_of (codes "{}")
+
+-- a client with this id, this secret and URIs at these hosts
+abbrev client : Bool → List ℕ → List ℕ → List WebUrl → Client
+client pairwise id secret urls = record { id = id; secret = secret; redirects = codes "https://a.b/cb" ∷ []; types = true ∷ false ∷ false ∷ false ∷ false ∷ false ∷ []; pairwise = pairwise; asks_consent = true; logout = None; logout_session = false; redirect_urls = urls; logout_url = None }
+
+abbrev long : List ℕ
+long = codes "01234567890123456789012345678901"
+
+abbrev shop : Client
+shop = client false (codes "shop") long (at_host (codes "a.b") ∷ [])
+
+-- the party of this name, at a client and a path
+abbrev party : List ℕ → ℕ → List ℕ → Party
+party name number path = record { name = name; client = number; redirect = codes "https://a.b/cb"; listen = codes "a.b:80"; types = types_of_number (Some 0); scope = codes "openid"; prompt = None; max_age = None; userinfo = false; signed = false; redirect_url = record { secure = true; host = codes "a.b"; port = 443; path = path; query = None } }
+
+place-of_a_client : client_place (codes "shop") (shop ∷ []) ≡ Some 0
+place-of_a_client = refl
+
+place-of_no_client : client_number (codes "news") (shop ∷ []) ≡ 1
+place-of_no_client = refl
+
+-- ---- what stands twice, and what is too short or too much
+
+twice-a_user : each (user_twice (alice ∷ alice ∷ [])) (alice ∷ alice ∷ []) ≡ no.Twice (codes "alice") ∷ []
+twice-a_user = refl
+
+twice-a_secret : client_twice [] (shop ∷ client false (codes "news") long [] ∷ []) 1 (client false (codes "news") long []) ≡ no.Twice (codes "news") ∷ no.Twice (codes "https://a.b/cb") ∷ []
+twice-a_secret = refl
+
+twice-not_one_client : client_twice (codes "https://a.b") (shop ∷ []) 0 shop ≡ []
+twice-not_one_client = refl
+
+twice-the_issuer : client_twice (codes "shop") (shop ∷ []) 0 shop ≡ no.Twice (codes "shop") ∷ []
+twice-the_issuer = refl
+
+twice-a_client_of_two_parties : each (party_twice (shop ∷ []) (party (codes "a") 0 [] ∷ party (codes "b") 0 [] ∷ [])) (party (codes "a") 0 [] ∷ party (codes "b") 0 [] ∷ []) ≡ no.Twice (codes "shop") ∷ []
+twice-a_client_of_two_parties = refl
+
+twice-a_party_named_op : party_twice (shop ∷ []) (party (codes "op") 0 [] ∷ []) 0 (party (codes "op") 0 []) ≡ no.Twice (codes "op") ∷ []
+twice-a_party_named_op = refl
+
+short-of_31 : short_secret 0 (client false (codes "shop") (replicate 31 65) []) ≡ no.ShortSecret (codes "shop") ∷ []
+short-of_31 = refl
+
+short-not_of_32 : short_secret 0 shop ≡ []
+short-not_of_32 = refl
+
+long-claims : long_claims 0 (alice_of (replicate 2049 32)) ≡ no.TooMany (codes "claims") ∷ []
+long-claims = refl
+
+long-not_at_the_bound : long_claims 0 (alice_of (replicate 2048 32)) ≡ []
+long-not_at_the_bound = refl
+
+mixed-hosts_of_a_pairwise_client : mixed_hosts 0 (client true (codes "shop") long (at_host (codes "a") ∷ at_host (codes "b") ∷ [])) ≡ no.MixedHosts (codes "shop") ∷ []
+mixed-hosts_of_a_pairwise_client = refl
+
+mixed-not_of_a_public_client : mixed_hosts 0 (client false (codes "shop") long (at_host (codes "a") ∷ at_host (codes "b") ∷ [])) ≡ []
+mixed-not_of_a_public_client = refl
+
+unknown-client : unknown_client 1 0 (party (codes "a") 1 []) ≡ no.UnknownClient (codes "a") ∷ []
+unknown-client = refl
+
+unknown-not_the_first : unknown_client 1 0 (party (codes "a") 0 []) ≡ []
+unknown-not_the_first = refl
+
+-- ---- subjects: the pairwise one is made with Python's hashlib and base64
+
+subject-at_a_public_client : subject_of (codes "salt") shop alice ≡ codes "alice"
+subject-at_a_public_client = refl
+
+subject-at_a_pairwise_client : subject_of (codes "salt") (client true (codes "shop") long (at_host (codes "a.b") ∷ [])) alice ≡ codes "QX-lyWes_Fm5a1d9OjRmAk135DvWfomkjy0WLk2JK5k"
+unfolding pairwise_subject base64url_on_literals first_words schedule rounds compress hash_after digest_bytes sha256
+subject-at_a_pairwise_client = refl
+
+clash-of_two_users : clashes shop (alice ∷ alice ∷ []) (codes "s" ∷ codes "s" ∷ []) ≡ no.SubjectClash (codes "shop") (codes "alice") (codes "alice") ∷ []
+clash-of_two_users = refl
+
+clash-not_of_two_subjects : clashes shop (alice ∷ alice ∷ []) (codes "s" ∷ codes "t" ∷ []) ≡ []
+clash-not_of_two_subjects = refl
+
+is_subject-of_a_name : IsSubject (codes "alice")
+is_subject-of_a_name = user_id_is_subject (codes "alice") refl
+
+is_subject-not_of_nothing : IsSubject [] → ⊥
+is_subject-not_of_nothing h = true≢false (sym h.within)
+
+-- ---- rows that break their rules
+
+not_a_user-of_no_rounds : IsUser (record { id = codes "alice"; salt = codes "salt"; rounds = 0; proof = replicate 32 0; claims = [] }) → ⊥
+not_a_user-of_no_rounds h = true≢false (sym h.rounds)
+
+not_a_client-of_a_short_secret : IsClient (client false (codes "shop") (codes "short") []) → ⊥
+not_a_client-of_a_short_secret h = absurd (omega (arith, h.long_secret))
+
+not_a_party-at_its_own_path : IsParty (party (codes "shop") 0 (codes "/leave")) → ⊥
+not_a_party-at_its_own_path h = true≢false h.path
+
+fits-shop : FitsClient (party (codes "shop") 0 (codes "/cb")) shop
+fits-shop = record { redirect = refl; logout = refl; number = 0; types = refl; has_type = refl }
+
+not_fitting-another_redirection_uri : FitsClient (party (codes "shop") 0 (codes "/cb")) (record { id = codes "shop"; secret = long; redirects = []; types = []; pairwise = false; asks_consent = true; logout = None; logout_session = false; redirect_urls = []; logout_url = None }) → ⊥
+not_fitting-another_redirection_uri h = true≢false (sym h.redirect)
+
+-- ---- a whole configuration
+
+abbrev refused : RegNo → Result Configuration RegNo
+refused e = Err e
+
+abbrev provider : Data
+provider = table (member (codes "issuer") (string (codes "https://a.b")) (member (codes "listen") (string (codes "a.b:443")) (member (codes "salt") (string (codes "00112233445566778899aabbccddeeff")) no_members)))
+
+abbrev user_row : Data
+user_row = table (member (codes "id") (string (codes "alice")) (member (codes "salt") (string (codes "73616c74")) (member (codes "rounds") (integer (pos 1)) (member (codes "proof") (string (codes "120fb6cffcf8b32c43e7225256c4f837a86548c92ccc35480805987cb70be17b")) no_members))))
+
+abbrev client_row : List ℕ → Data
+client_row secret = table (member (codes "id") (string (codes "shop")) (member (codes "secret") (string secret) (member (codes "redirect_uris") (array (item (string (codes "https://a.b/cb")) no_items)) no_members)))
+
+abbrev party_row : List ℕ → Data
+party_row client = table (member (codes "name") (string (codes "shop")) (member (codes "client") (string client) (member (codes "redirect_uri") (string (codes "https://a.b/cb")) (member (codes "listen") (string (codes "a.b:80")) no_members))))
+
+-- a provider with a user, a client with this secret, and a party that names this client
+abbrev small : List ℕ → List ℕ → Data
+small secret client = table (member (codes "version") (integer (pos 1)) (member (codes "provider") provider (member (codes "user") (array (item user_row no_items)) (member (codes "client") (array (item (client_row secret) no_items)) (member (codes "party") (array (item (party_row client) no_items)) no_members)))))
+
+abbrev good : Data
+good = small long (codes "shop")
+
+guiltless : refusals_of good ≡ []
+unfolding rows_refusals records_refusals subjects_refusals party_of lacks_type spellings url_on_literals parts_of hex_on_literals claims_on_literals
+guiltless = refl
+
+guilty-of_two : refusals_of (small (codes "short") (codes "news")) ≡ no.ShortSecret (codes "shop") ∷ no.UnknownClient (codes "shop") ∷ []
+unfolding rows_refusals records_refusals subjects_refusals party_of lacks_type spellings url_on_literals parts_of hex_on_literals claims_on_literals
+guilty-of_two = refl
+
+taken-by_the_definition : version1_read good ≡ Ok (configuration_of good)
+taken-by_the_definition = version1_answer good ∙ ap (λ es. unless_refused (least es) (Ok (configuration_of good))) guiltless
+
+no_claims_held : AllHoldClaims (users_of good)
+unfolding AllHoldClaims
+no_claims_held = (holds (user_of user_row).claims json.no_members refl ClaimsFit-none, tt)
+
+good_registry : IsRegistry (configuration_of good)
+good_registry =
+    let rows : List RegNo = rows_refusals good in
+    let records : List RegNo = records_refusals (issuer_of good) (users_of good) (clients_of good) (parties_of good) in
+    let subjects : List RegNo = subjects_refusals (salt_of good) (users_of good) (clients_of good) in
+    registered good no_claims_held (front_nil rows records (front_nil (rows ++ records) subjects guiltless)) (back_nil rows records (front_nil (rows ++ records) subjects guiltless)) (back_nil (rows ++ records) subjects guiltless)
+
+is_user-alice : IsUser (user_of user_row)
+unfolding configuration_of
+is_user-alice = good_registry.user_rules.0
+
+is_client-shop : IsClient (client_of_row (client_row long))
+unfolding configuration_of
+is_client-shop = good_registry.client_rules.0
+
+is_party-shop : IsParty (party_of (clients_of good) (party_row (codes "shop")))
+unfolding configuration_of
+is_party-shop = good_registry.party_rules.0
+
+holds-not_in_nothing : HoldsClaims [] → ⊥
+holds-not_in_nothing h = cc h.text
+
+abbrev twins : Configuration
+twins = record { provider = provider_of []; prefix = []; listen = []; secure = true; users = alice ∷ alice ∷ []; clients = shop ∷ []; parties = []; subjects = (codes "s" ∷ codes "t" ∷ []) ∷ [] }
+
+not_a_registry-of_one_id_twice : IsRegistry twins → ⊥
+not_a_registry-of_one_id_twice h = true≢false h.user_ids.0
+
+subject-of_the_second_user : subject_at twins 0 1 ≡ codes "t"
+subject-of_the_second_user = refl
+
+subject-of_no_client : subject_at twins 1 0 ≡ []
+subject-of_no_client = refl
+
+least-of_two_refusals : IsLeast (no.ShortSecret (codes "shop")) (refusals_of (small (codes "short") (codes "news")))
+least-of_two_refusals = least_is (no.ShortSecret (codes "shop")) _ (ap least guilty-of_two)
+
+refused-for_the_least : version1_read (small (codes "short") (codes "news")) ≡ refused (no.ShortSecret (codes "shop"))
+refused-for_the_least = version1_answer (small (codes "short") (codes "news")) ∙ ap (λ es. unless_refused (least es) (Ok (configuration_of (small (codes "short") (codes "news"))))) guilty-of_two
+
+-- ---- whole texts
+
+abbrev short_text : List ℕ
+short_text = codes "version = 1\n[provider]\nissuer = \"https://a.b\"\nlisten = \"a.b:443\"\nsalt = \"00112233445566778899aabbccddeeff\"\n"
+
+abbrev nobody : Configuration
+nobody = record { provider = provider_of (codes "https://a.b"); prefix = []; listen = codes "a.b:443"; secure = true; users = []; clients = []; parties = []; subjects = [] }
+
+document-of_one_key : document_in (codes "a = 1") ≡ Some (table (member (codes "a") (integer (pos 1)) no_members))
+unfolding document_in toml_on_literals is_utf8 chars
+document-of_one_key = refl
+
+document-not_of_a_key_alone : document_in (codes "a") ≡ None
+unfolding document_in toml_on_literals is_utf8 chars
+document-not_of_a_key_alone = refl
+
+read-a_short_text : registry_read short_text ≡ Ok nobody
+unfolding document_in toml_on_literals version1_read records_read subjects_read rows_refusals records_refusals subjects_refusals configuration_of url_on_literals parts_of hex_on_literals is_utf8 chars
+read-a_short_text = refl
+
+accepted-a_short_text : IsAccepted short_text nobody
+accepted-a_short_text = accepted_only short_text nobody read-a_short_text
+
+refused-another_version : registry_read (codes "version = 2") ≡ refused no.Version
+unfolding document_in toml_on_literals is_utf8 chars
+refused-another_version = refl
+
+is_other-version_2 : IsOtherVersion (codes "version = 2")
+is_other-version_2 = version_only (codes "version = 2") refused-another_version
+
+refused-no_toml : registry_read (codes "version =") ≡ refused no.NotToml
+unfolding document_in toml_on_literals is_utf8 chars
+refused-no_toml = refl
+
+refused-no_utf8 : registry_read (255 ∷ []) ≡ refused no.NotToml
+unfolding document_in toml_on_literals is_utf8 chars
+refused-no_utf8 = refl
+
+refused-an_empty_text : registry_read [] ≡ refused no.Version
+unfolding document_in toml_on_literals is_utf8 chars
+refused-an_empty_text = refl
+
+refused-where_the_issuer_is_missing : registry_read (codes "version = 1") ≡ refused (no.Missing (codes "provider.issuer"))
+unfolding document_in toml_on_literals version1_read rows_refusals is_utf8 chars
+refused-where_the_issuer_is_missing = refl
+
+refused-a_long_text : (n : ℕ) → 1048576 < n → registry_read (replicate n 32) ≡ refused no.TooLong
+refused-a_long_text n long = too_long (replicate n 32) (omega (arith, length-replicate {A = ℕ} n 32, long))

@@ -1,0 +1,7 @@
+use Rattle.std.proofs.Common.{◌≡◌, ◌++◌, drop}
+use Rattle.configuration_rows.specs.Refusals.{each_from, each}
+use Rattle.client_registry.specs.Rules as spec
+use Rattle.client_registry.proofs.rules.short_secrets.Given as goal
+
+abbrev pub invariant-loop-client : goal.invariant-loop-client
+invariant-loop-client l = l.refusals ++ each_from spec.short_secret l.client-index (drop l.client-index l.clients) ≡ l.fn.refusals ++ each spec.short_secret l.clients

@@ -1,0 +1,50 @@
+-- What a configuration says of the provider, its users, its clients and their relying parties.
+use Rattle.std.specs.Prelude.{ℕ, Bool, List, [], map, slice_index_or, codes}
+use Rattle.toml.specs.Data.{Data}
+use Rattle.client_registry.specs.declared.records.Provider.{Provider}
+use Rattle.client_registry.specs.declared.records.User.{User}
+use Rattle.client_registry.specs.declared.records.Client.{Client}
+use Rattle.client_registry.specs.declared.records.Party.{Party}
+use Rattle.configuration_rows.specs.Values.{text_or, hex_at, table_at}
+use Rattle.client_registry.specs.Records.{provider_of, without_slash, url_or_none, users_of, clients_of, parties_of}
+use Rattle.client_registry.specs.Rules.{subjects_at}
+
+-- What a registry holds. `prefix` is the path of the issuer without a last slash, `secure` says that the issuer is
+-- https, and `subjects` has one list for each client, with one subject for each user (OpenID Connect Core 1.0, 8).
+pub record Configuration : Type 0 where
+  pub provider : Provider
+  pub prefix : List ℕ
+  pub listen : List ℕ
+  pub secure : Bool
+  pub users : List User
+  pub clients : List Client
+  pub parties : List Party
+  pub subjects : List (List (List ℕ))
+
+-- the subject of a user at a client, by their places
+abbrev pub subject_at : Configuration → ℕ → ℕ → List ℕ
+subject_at c client user = slice_index_or (slice_index_or c.subjects client []) user []
+
+-- ---- what stands at the paths of a configuration
+
+abbrev pub provider_table : Data → Data
+provider_table root = table_at (codes "provider") root
+
+abbrev pub issuer_of : Data → List ℕ
+issuer_of root = text_or (codes "issuer") [] (provider_table root)
+
+-- the salt of pairwise subjects
+abbrev pub salt_of : Data → List ℕ
+salt_of root = hex_at (codes "salt") (provider_table root)
+
+unfoldable pub configuration_of : Data → Configuration
+configuration_of root = record {
+  provider = provider_of (issuer_of root);
+  prefix = without_slash (url_or_none (codes "issuer") (provider_table root)).path;
+  listen = text_or (codes "listen") [] (provider_table root);
+  secure = (url_or_none (codes "issuer") (provider_table root)).secure;
+  users = users_of root;
+  clients = clients_of root;
+  parties = parties_of root;
+  subjects = map (subjects_at (salt_of root) (users_of root)) (clients_of root);
+}

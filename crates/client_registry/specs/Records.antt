@@ -1,0 +1,134 @@
+-- What stands at the paths of a configuration, as records. Where a path has no value that keeps its rule, an empty one
+-- stands in its place; such a configuration is refused.
+use Rattle.std.specs.Prelude.{ℕ, ◌==◌, ◌||◌, Bool, false, not, List, [], ◌∷◌, ◌++◌, length, nat_le, codes, replicate, map, Option, Some, None, option_and_then, unwrap_or, if◌then◌else◌}
+use Rattle.std.specs.List.{position_from}
+use Rattle.std.specs.Str.{bytes_eq}
+use Rattle.serde_json.specs.Data as json
+use Rattle.toml.specs.Data.{Data, get}
+use Rattle.claim_set.specs.Reading.{claims_text}
+use Rattle.registered_url.specs.declared.web_url.WebUrl.{WebUrl}
+use Rattle.registered_url.specs.Rule.{url_of}
+use Rattle.client_registry.specs.declared.records.Provider.{Provider}
+use Rattle.client_registry.specs.declared.records.User.{User}
+use Rattle.client_registry.specs.declared.records.Client.{Client}
+use Rattle.client_registry.specs.declared.records.Party.{Party}
+use Rattle.client_registry.specs.declared.records.Types.{Types}
+use Rattle.configuration_rows.specs.Values.{text_at, text_or, natural_at, flag_at, hex_at, texts_at, url_at, rows_at}
+use Rattle.configuration_rows.specs.Claims.{claims_in}
+use Rattle.configuration_rows.specs.Kinds.{type_number}
+use Rattle.configuration_rows.specs.Version1.{response_texts, has_type}
+
+-- ---- the provider
+
+-- a text without its last slash
+abbrev pub without_slash : List ℕ → List ℕ
+without_slash [] = []
+without_slash (x ∷ []) = if x == 47 then [] else x ∷ []
+without_slash (x ∷ y ∷ t) = x ∷ without_slash (y ∷ t)
+
+-- the endpoint at a path below an issuer (own)
+abbrev pub endpoint : List ℕ → List ℕ → List ℕ
+endpoint issuer path = without_slash issuer ++ path
+
+-- the provider with this issuer
+abbrev pub provider_of : List ℕ → Provider
+provider_of issuer = record {
+  issuer = issuer;
+  authorize = endpoint issuer (codes "/authorize");
+  token = endpoint issuer (codes "/token");
+  userinfo = Some (endpoint issuer (codes "/userinfo"));
+}
+
+abbrev pub no_url : WebUrl
+no_url = record { secure = false; host = []; port = 0; path = []; query = None }
+
+-- the URL at a key, or else an empty one
+abbrev pub url_or_none : List ℕ → Data → WebUrl
+url_or_none key d = unwrap_or (url_at key d) no_url
+
+-- ---- users
+
+abbrev pub user_claims : Data → json.Members
+user_claims d = unwrap_or (option_and_then claims_in (get (codes "claims") d)) json.no_members
+
+abbrev pub rounds_of : Option ℕ → ℕ
+rounds_of None = 0
+rounds_of (Some n) = if nat_le n 1000000 then n else 0
+
+abbrev pub proof_of : List ℕ → List ℕ
+proof_of bytes = if length bytes == 32 then bytes else replicate 32 0
+
+abbrev pub user_of : Data → User
+user_of d = record {
+  id = text_or (codes "id") [] d;
+  salt = hex_at (codes "salt") d;
+  rounds = rounds_of (natural_at (codes "rounds") d);
+  proof = proof_of (hex_at (codes "proof") d);
+  claims = claims_text (user_claims d);
+}
+
+-- ---- clients
+
+abbrev pub types_of : List (List ℕ) → List Bool
+types_of ts = has_type 0 ts ∷ has_type 1 ts ∷ has_type 2 ts ∷ has_type 3 ts ∷ has_type 4 ts ∷ has_type 5 ts ∷ []
+
+abbrev pub urls_of : List (List ℕ) → List WebUrl
+urls_of ts = map (λ t. unwrap_or (url_of t) no_url) ts
+
+abbrev pub client_of_row : Data → Client
+client_of_row d = record {
+  id = text_or (codes "id") [] d;
+  secret = text_or (codes "secret") [] d;
+  redirects = texts_at (codes "redirect_uris") d;
+  types = types_of (response_texts d);
+  pairwise = bytes_eq (text_or (codes "subject") [] d) (codes "pairwise");
+  asks_consent = not (bytes_eq (text_or (codes "consent") [] d) (codes "given"));
+  logout = text_at (codes "logout_uri") d;
+  logout_session = flag_at (codes "logout_session") d;
+  redirect_urls = urls_of (texts_at (codes "redirect_uris") d);
+  logout_url = url_at (codes "logout_uri") d;
+}
+
+-- ---- parties
+
+abbrev pub types_of_number : Option ℕ → Types
+types_of_number None = record { code = false; id_token = false; token = false }
+types_of_number (Some n) = record {
+  code = n == 0 || n == 3 || n == 4 || n == 5;
+  id_token = n == 1 || n == 2 || n == 3 || n == 5;
+  token = n == 2 || n == 4 || n == 5;
+}
+
+-- the place of the client of this id, from 0
+abbrev pub client_place : List ℕ → List Client → Option ℕ
+client_place id clients = position_from (λ (k : Client). bytes_eq k.id id) 0 clients
+
+-- the same, or else the number of clients
+abbrev pub client_number : List ℕ → List Client → ℕ
+client_number id clients = unwrap_or (client_place id clients) (length clients)
+
+unfoldable pub party_of : List Client → Data → Party
+party_of clients d = record {
+  name = text_or (codes "name") [] d;
+  client = client_number (text_or (codes "client") [] d) clients;
+  redirect = text_or (codes "redirect_uri") [] d;
+  listen = text_or (codes "listen") [] d;
+  types = types_of_number (type_number (text_or (codes "response_type") (codes "code") d));
+  scope = text_or (codes "scope") (codes "openid") d;
+  prompt = text_at (codes "prompt") d;
+  max_age = natural_at (codes "max_age") d;
+  userinfo = flag_at (codes "userinfo") d;
+  signed = flag_at (codes "signed") d;
+  redirect_url = url_or_none (codes "redirect_uri") d;
+}
+
+-- ---- all rows
+
+abbrev pub users_of : Data → List User
+users_of root = map user_of (rows_at (codes "user") root)
+
+abbrev pub clients_of : Data → List Client
+clients_of root = map client_of_row (rows_at (codes "client") root)
+
+abbrev pub parties_of : Data → List Party
+parties_of root = map (party_of (clients_of root)) (rows_at (codes "party") root)

@@ -1,0 +1,130 @@
+-- What every registry keeps.
+use Rattle.std.specs.Prelude.{◌≡◌, ◌≤◌, ◌<◌, ℕ, ◌==◌, ◌&&◌, Bool, true, false, List, [], ◌∷◌, length, map, codes, Option, Some, None, is_some, option_and_then, slice_get, IfSome}
+use Rattle.std.specs.List.{AllByRecursion, list_any}
+use Rattle.std.specs.Str.{bytes_eq, IsAscii}
+use Rattle.serde_json.specs.Data.{Members}
+use Rattle.claim_set.specs.Fitting.{ClaimsFit}
+use Rattle.claim_set.specs.Reading.{claims_text}
+use Rattle.registered_url.specs.Rule.{url_of}
+use Rattle.client_registry.specs.declared.records.User.{User}
+use Rattle.client_registry.specs.declared.records.Client.{Client}
+use Rattle.client_registry.specs.declared.records.Party.{Party}
+use Rattle.configuration_rows.specs.declared.kind.Alphabet.TheVariants.{UserId, ClientId, PartyName, Visible}
+use Rattle.configuration_rows.specs.Kinds.{has_text, is_name, is_within, is_scope, are_urls}
+use Rattle.configuration_rows.specs.Version1.{own_paths, has_path, has_answer_name}
+use Rattle.client_registry.specs.Records.{urls_of, types_of_number}
+use Rattle.client_registry.specs.Rules.{has_two_hosts}
+use Rattle.client_registry.specs.Configuration.{Configuration}
+
+-- ---- things that differ
+
+-- no text stands twice
+abbrev pub AreApart : List (List ℕ) → Type 0
+AreApart [] = Unit {0}
+AreApart (t ∷ ts) = (has_text t ts ≡ false) × AreApart ts
+
+abbrev pub has_number : ℕ → List ℕ → Bool
+has_number n ns = list_any (λ m. n == m) ns
+
+-- no number stands twice
+abbrev pub NumbersAreApart : List ℕ → Type 0
+NumbersAreApart [] = Unit {0}
+NumbersAreApart (n ∷ ns) = (has_number n ns ≡ false) × NumbersAreApart ns
+
+-- none of these texts is in the list
+abbrev pub HasNoneOf : List (List ℕ) → List (List ℕ) → Type 0
+HasNoneOf us ts = AllByRecursion (λ u. has_text u ts ≡ false) us
+
+-- no text stands in two of the lists
+abbrev pub AreDisjoint : List (List (List ℕ)) → Type 0
+AreDisjoint [] = Unit {0}
+AreDisjoint (ts ∷ rest) = AllByRecursion (λ us. HasNoneOf us ts) rest × AreDisjoint rest
+
+-- ---- rows
+
+-- a user keeps the rules of its row (its subject at a public client is its id: 1 to 64 characters of ASCII)
+pub record IsUser (u : User) : Type 0 where
+  pub id : is_name UserId 1 64 u.id ≡ true
+  pub salt : is_within 1 64 (length u.salt) ≡ true
+  pub rounds : is_within 1 1000000 u.rounds ≡ true
+  pub proof : length u.proof ≡ 32
+  pub claims : length u.claims ≤ 2048
+
+-- the bytes are the JSON text of claims that fit, so they are read as these claims
+pub record HoldsClaims (b : List ℕ) : Type 0 where
+  pub claims : Members
+  pub fits : ClaimsFit claims
+  pub text : b ≡ claims_text claims
+
+unfoldable pub AllHoldClaims : List User → Type 0
+AllHoldClaims users = AllByRecursion (λ (u : User). HoldsClaims u.claims) users
+
+-- a text, where there is one, keeps the rule for URLs
+abbrev pub is_url_or_none : Option (List ℕ) → Bool
+is_url_or_none None = true
+is_url_or_none (Some t) = is_some (url_of t)
+
+-- a client keeps the rules of its row: its redirection URIs and its logout URI keep the rule for URLs, and what is kept
+-- of them is of these URLs
+pub record IsClient (k : Client) : Type 0 where
+  pub id : is_name ClientId 1 64 k.id ≡ true
+  pub secret : is_name Visible 0 128 k.secret ≡ true
+  pub long_secret : 32 ≤ length k.secret
+  pub redirects : is_within 1 16 (length k.redirects) ≡ true
+  pub urls : are_urls k.redirects ≡ true
+  pub kept : k.redirect_urls ≡ urls_of k.redirects
+  pub logout : is_url_or_none k.logout ≡ true
+  pub logout_kept : k.logout_url ≡ option_and_then url_of k.logout
+  pub one_host : (k.pairwise && has_two_hosts k.redirect_urls) ≡ false
+
+-- a party keeps the rules of its row: the path of its redirection URI is none that it serves itself, its query has none
+-- of the names of an answer, and its scope has the word `openid`
+pub record IsParty (p : Party) : Type 0 where
+  pub name : is_name PartyName 1 16 p.name ≡ true
+  pub listen : is_name Visible 1 64 p.listen ≡ true
+  pub redirect : url_of p.redirect ≡ Some p.redirect_url
+  pub path : has_text p.redirect_url.path own_paths ≡ false
+  pub names : has_answer_name p.redirect_url ≡ false
+  pub scope : is_scope p.scope ≡ true
+
+-- a party fits its client: its redirection URI is one of the client's, at another path than the client's logout URI, and
+-- its response type is one that the client has
+pub record FitsClient (p : Party) (k : Client) : Type 0 where
+  pub redirect : has_text p.redirect k.redirects ≡ true
+  pub logout : has_path p.redirect_url.path k.logout_url ≡ false
+  pub number : ℕ
+  pub types : p.types ≡ types_of_number (Some number)
+  pub has_type : slice_get k.types number ≡ Some true
+
+-- a subject: ASCII of 1 to 255 bytes (OpenID Connect Core 1.0, 2)
+pub record IsSubject (t : List ℕ) : Type 0 where
+  pub within : is_within 1 255 (length t) ≡ true
+  pub ascii : IsAscii t
+
+-- ---- the registry
+
+-- a registry's sizes, and what differs in it: names, secrets, redirection URIs, the clients of the parties, and the
+-- subjects of the users at one client (OpenID Connect Core 1.0, 8)
+pub record IsRegistry (c : Configuration) : Type 0 where
+  pub users : length c.users ≤ 512
+  pub clients : length c.clients ≤ 128
+  pub parties : length c.parties ≤ 64
+  pub user_ids : AreApart (map (λ (u : User). u.id) c.users)
+  pub client_ids : AreApart (map (λ (k : Client). k.id) c.clients)
+  pub secrets : AreApart (map (λ (k : Client). k.secret) c.clients)
+  pub redirects : AreDisjoint (map (λ (k : Client). k.redirects) c.clients)
+  pub issuer_apart : AllByRecursion (λ (k : Client). bytes_eq k.id c.provider.issuer ≡ false) c.clients
+  pub party_names : AreApart (map (λ (p : Party). p.name) c.parties)
+  pub not_op : AllByRecursion (λ (p : Party). bytes_eq p.name (codes "op") ≡ false) c.parties
+  pub known : AllByRecursion (λ (p : Party). p.client < length c.clients) c.parties
+  pub fitting : AllByRecursion (λ (p : Party). IfSome (slice_get c.clients p.client) (FitsClient p)) c.parties
+  pub one_party : NumbersAreApart (map (λ (p : Party). p.client) c.parties)
+  pub rows : length c.subjects ≡ length c.clients
+  pub subjects : AllByRecursion (λ row. (length row ≡ length c.users) × AreApart row) c.subjects
+  pub subject_rules : AllByRecursion (AllByRecursion IsSubject) c.subjects
+  pub issuer : is_some (url_of c.provider.issuer) ≡ true
+  pub short_issuer : length c.provider.issuer ≤ 200
+  pub user_claims : AllHoldClaims c.users
+  pub user_rules : AllByRecursion IsUser c.users
+  pub client_rules : AllByRecursion IsClient c.clients
+  pub party_rules : AllByRecursion IsParty c.parties

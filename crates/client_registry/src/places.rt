@@ -1,0 +1,90 @@
+// The first places, from 0, at which names and values stand.
+
+ghost use Rattle.std.specs.Prelude.{◌≡◌, ◌<◌, length, IfSome};
+ghost use Rattle.configuration_rows.specs.Kinds.{has_text};
+ghost use Rattle.client_registry.specs.Rules as spec;
+
+use crate::records::{Client, Party, User};
+use sso_base::Texts;
+
+pub(crate) fn user_place(users: &[User], id: &[u8]) -> Option<usize>
+    ensures value { result ≡ spec.user_place id.now users.now }
+    ensures within { IfSome result (λ place. place < length users.now) }
+{
+    for (place, user) in users.iter().enumerate() {
+        if user.id.as_str().as_bytes() == id {
+            return Some(place);
+        }
+    }
+    None
+}
+
+pub(crate) fn secret_place(clients: &[Client], secret: &str) -> Option<usize>
+    ensures { result ≡ spec.secret_place secret.now clients.now }
+{
+    for (place, client) in clients.iter().enumerate() {
+        if client.secret.as_str() == secret {
+            return Some(place);
+        }
+    }
+    None
+}
+
+// Whether the text is in the list.
+#[tactic(auto, using(configuration_rows::proofs::Lists::drop_at))]
+fn has(texts: &Texts, text: &str) -> bool
+    ensures { result ≡ has_text text.now texts.now }
+{
+    for place in 0..texts.count() {
+        if text == texts.at(place).as_str() {
+            return true;
+        }
+    }
+    false
+}
+
+// The first client that has the redirection URI.
+pub(crate) fn redirect_place(clients: &[Client], uri: &str) -> Option<usize>
+    ensures { result ≡ spec.redirect_place uri.now clients.now }
+{
+    for (place, client) in clients.iter().enumerate() {
+        if has(&client.redirects, uri) {
+            return Some(place);
+        }
+    }
+    None
+}
+
+pub(crate) fn party_place(parties: &[Party], name: &[u8]) -> Option<usize>
+    ensures value { result ≡ spec.party_place name.now parties.now }
+    ensures within { IfSome result (λ place. place < length parties.now) }
+{
+    for (place, party) in parties.iter().enumerate() {
+        if party.name.as_str().as_bytes() == name {
+            return Some(place);
+        }
+    }
+    None
+}
+
+// The first party that uses the client of this number.
+pub(crate) fn use_place(parties: &[Party], client: u32) -> Option<usize>
+    ensures { result ≡ spec.use_place client parties.now }
+{
+    for (place, party) in parties.iter().enumerate() {
+        if party.client == client {
+            return Some(place);
+        }
+    }
+    None
+}
+
+// Whether what stands at a place stands at an earlier one, the first.
+pub(crate) fn is_again(place: usize, first: Option<usize>) -> bool
+    ensures { result ≡ spec.is_again place first }
+{
+    match first {
+        Some(first) => first != place,
+        None => true,
+    }
+}

@@ -1,0 +1,193 @@
+// What a configuration says of the provider, its users, its clients and their relying parties.
+
+ghost use Rattle.std.specs.Prelude.{◌≡◌, IfOk};
+
+use registered_url::{WebUrl, WebUrls};
+use sso_base::{Blob, NoMemory, Text, Texts};
+use std::alloc::Global;
+
+/// The endpoints of an OpenID provider (OpenID Connect Discovery 1.0, 3).
+#[derive(Debug, Drop)]
+pub struct Provider {
+    pub issuer: Text,
+    /// The authorization endpoint.
+    pub authorize: Text,
+    /// The token endpoint.
+    pub token: Text,
+    /// The UserInfo endpoint.
+    pub userinfo: Option<Text>,
+}
+
+/// A user. A password is proved by PBKDF2 over the salt (RFC 8018).
+#[derive(Debug, Drop)]
+pub struct User {
+    /// From 1 to 64 of `a-z 0-9 . _ @ -`.
+    pub id: Text,
+    /// From 1 to 64 bytes.
+    pub salt: Blob,
+    /// From 1 to 1,000,000.
+    pub rounds: u32,
+    pub proof: [u8; 32],
+    /// The JSON text of the user's claims, of at most 2,048 bytes (OpenID Connect Core 1.0, 5.1).
+    pub claims: Blob,
+}
+
+/// The words of a response type (OAuth 2.0 Multiple Response Type Encoding Practices, 3 and 5).
+#[derive(Clone, Copy, Debug, PartialEq, Eq)]
+pub struct Types {
+    pub code: bool,
+    pub id_token: bool,
+    pub token: bool,
+}
+
+/// The scope words (OpenID Connect Core 1.0, 3.1.2.1 and 5.4).
+#[derive(Clone, Copy, Debug, PartialEq, Eq)]
+pub struct Scopes {
+    pub openid: bool,
+    pub profile: bool,
+    pub email: bool,
+    pub address: bool,
+    pub phone: bool,
+}
+
+/// A client (OpenID Connect Core 1.0, 3.1.2.1; RFC 6749, 2).
+#[derive(Debug, Drop)]
+pub struct Client {
+    /// From 1 to 64 of `A-Z a-z 0-9 . _ ~ -`.
+    pub id: Text,
+    /// From 32 to 128 characters of visible ASCII.
+    pub secret: Text,
+    /// From 1 to 16 redirection URIs.
+    pub redirects: Texts,
+    /// Which response types it has, in the order `code`, `id_token`, `id_token token`, `code id_token`, `code token`,
+    /// `code id_token token`.
+    pub types: [bool; 6],
+    /// Whether its subjects are pairwise (OpenID Connect Core 1.0, 8.1).
+    pub pairwise: bool,
+    /// Whether the user is asked for consent.
+    pub asks_consent: bool,
+    /// The logout URI (OpenID Connect Back-Channel Logout 1.0, 2.2).
+    pub logout: Option<Text>,
+    /// Whether logout tokens for it have a `sid`.
+    pub logout_session: bool,
+    /// What is kept of the redirection URIs, in their order.
+    pub redirect_urls: WebUrls,
+    /// What is kept of the logout URI.
+    pub logout_url: Option<WebUrl>,
+}
+
+/// A relying party.
+#[derive(Debug, Drop)]
+pub struct Party {
+    /// From 1 to 16 of `a-z 0-9`.
+    pub name: Text,
+    /// The number of the client that it is, from 0.
+    pub client: u32,
+    /// The redirection URI that it asks with: one of its client's.
+    pub redirect: Text,
+    /// Where it listens, as `HOST:PORT`.
+    pub listen: Text,
+    /// The response type that it asks for.
+    pub types: Types,
+    /// The scope that it asks for.
+    pub scope: Text,
+    pub prompt: Option<Text>,
+    /// In seconds.
+    pub max_age: Option<u64>,
+    /// Whether it asks for UserInfo.
+    pub userinfo: bool,
+    /// Whether its requests are signed (OpenID Connect Core 1.0, 6.1).
+    pub signed: bool,
+    /// What is kept of the redirection URI.
+    pub redirect_url: WebUrl,
+}
+
+// An equal text, where there is one.
+fn copied_text(alloc: Global, text: &Option<Text>) -> Result<Option<Text>, NoMemory>
+    ensures { IfOk result (λ o. o ≡ text.now) }
+{
+    match text {
+        Some(text) => Ok(Some(text.copy(alloc)?)),
+        None => Ok(None),
+    }
+}
+
+// An equal URL, where there is one.
+fn copied_url(alloc: Global, url: &Option<WebUrl>) -> Result<Option<WebUrl>, NoMemory>
+    ensures { IfOk result (λ o. o ≡ url.now) }
+{
+    match url {
+        Some(url) => Ok(Some(url.copy(alloc)?)),
+        None => Ok(None),
+    }
+}
+
+impl Provider {
+    /// An equal provider.
+    pub fn copy(&self, alloc: Global) -> Result<Provider, NoMemory>
+        ensures { IfOk result (λ p. p ≡ self.now) }
+    {
+        Ok(Provider {
+            issuer: self.issuer.copy(alloc)?,
+            authorize: self.authorize.copy(alloc)?,
+            token: self.token.copy(alloc)?,
+            userinfo: copied_text(alloc, &self.userinfo)?,
+        })
+    }
+}
+
+impl User {
+    /// An equal user.
+    pub fn copy(&self, alloc: Global) -> Result<User, NoMemory>
+        ensures { IfOk result (λ u. u ≡ self.now) }
+    {
+        Ok(User {
+            id: self.id.copy(alloc)?,
+            salt: self.salt.copy(alloc)?,
+            rounds: self.rounds,
+            proof: self.proof,
+            claims: self.claims.copy(alloc)?,
+        })
+    }
+}
+
+impl Client {
+    /// An equal client.
+    pub fn copy(&self, alloc: Global) -> Result<Client, NoMemory>
+        ensures { IfOk result (λ c. c ≡ self.now) }
+    {
+        Ok(Client {
+            id: self.id.copy(alloc)?,
+            secret: self.secret.copy(alloc)?,
+            redirects: self.redirects.copy(alloc)?,
+            types: self.types,
+            pairwise: self.pairwise,
+            asks_consent: self.asks_consent,
+            logout: copied_text(alloc, &self.logout)?,
+            logout_session: self.logout_session,
+            redirect_urls: self.redirect_urls.copy(alloc)?,
+            logout_url: copied_url(alloc, &self.logout_url)?,
+        })
+    }
+}
+
+impl Party {
+    /// An equal party.
+    pub fn copy(&self, alloc: Global) -> Result<Party, NoMemory>
+        ensures { IfOk result (λ p. p ≡ self.now) }
+    {
+        Ok(Party {
+            name: self.name.copy(alloc)?,
+            client: self.client,
+            redirect: self.redirect.copy(alloc)?,
+            listen: self.listen.copy(alloc)?,
+            types: self.types,
+            scope: self.scope.copy(alloc)?,
+            prompt: copied_text(alloc, &self.prompt)?,
+            max_age: self.max_age,
+            userinfo: self.userinfo,
+            signed: self.signed,
+            redirect_url: self.redirect_url.copy(alloc)?,
+        })
+    }
+}

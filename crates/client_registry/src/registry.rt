@@ -1,0 +1,206 @@
+// The registry: an accepted configuration.
+
+ghost use Rattle.std.specs.Prelude.{◌≡◌, ◌<◌, length, slice_get, Some, IfOk};
+ghost use Rattle.client_registry.specs.Configuration.{subject_at};
+ghost use Rattle.client_registry.specs.Registered.{IsRegistry};
+ghost use Rattle.client_registry.specs.Records.{client_place};
+ghost use Rattle.client_registry.specs.Rules.{user_place, party_place};
+
+use crate::places::{party_place, user_place};
+use crate::records::{Client, Party, Provider, User};
+use crate::rows::client_place;
+use sso_base::{NoMemory, Text, Texts};
+use std::alloc::Global;
+use std::marker::Model;
+
+/// An accepted configuration: the provider, its users, its clients and their relying parties, seen as the record of
+/// them. Rows have numbers, from 0, in the order of the file.
+#[derive(Debug, Drop)]
+pub struct Registry {
+    pub(crate) provider: Provider,
+    pub(crate) prefix: Text,
+    pub(crate) listen: Text,
+    pub(crate) secure: bool,
+    pub(crate) users: Vec<User>,
+    pub(crate) clients: Vec<Client>,
+    pub(crate) parties: Vec<Party>,
+    pub(crate) subjects: Vec<Texts>,
+}
+
+impl Model for Registry {
+    ghost use Rattle.client_registry.specs.Configuration.{Configuration};
+    ghost use Rattle.client_registry.specs.Registered.{IsRegistry};
+
+    ghost Value = { Configuration };
+
+    ghost view = { λ r. record { provider = r.provider; prefix = r.prefix; listen = r.listen; secure = r.secure; users = r.users.items; clients = r.clients.items; parties = r.parties.items; subjects = r.subjects.items } };
+
+    ghost invariant = { λ r. IsRegistry (record { provider = r.provider; prefix = r.prefix; listen = r.listen; secure = r.secure; users = r.users.items; clients = r.clients.items; parties = r.parties.items; subjects = r.subjects.items }) };
+}
+
+impl Registry {
+    /// The provider's endpoints.
+    pub fn provider(&self) -> &Provider
+        ensures { result.now ≡ self.now.provider }
+    {
+        &self.provider
+    }
+
+    /// The path of the issuer without a last `/`.
+    pub fn prefix(&self) -> &Text
+        ensures { result.now ≡ self.now.prefix }
+    {
+        &self.prefix
+    }
+
+    /// Where the provider listens, as `HOST:PORT`.
+    pub fn listen(&self) -> &Text
+        ensures { result.now ≡ self.now.listen }
+    {
+        &self.listen
+    }
+
+    /// Whether the issuer is https.
+    pub fn secure(&self) -> bool
+        ensures { result ≡ self.now.secure }
+    {
+        self.secure
+    }
+
+    /// How many users there are, at most 512.
+    pub fn users(&self) -> u32
+        ensures count { result ≡ length self.now.users }
+        ensures registry { IsRegistry self.now }
+    {
+        self.users.len() as u32
+    }
+
+    /// How many clients there are, at most 128.
+    pub fn clients(&self) -> u32
+        ensures count { result ≡ length self.now.clients }
+        ensures registry { IsRegistry self.now }
+    {
+        self.clients.len() as u32
+    }
+
+    /// How many parties there are, at most 64.
+    pub fn parties(&self) -> u32
+        ensures count { result ≡ length self.now.parties }
+        ensures registry { IsRegistry self.now }
+    {
+        self.parties.len() as u32
+    }
+
+    /// The user of this number.
+    pub fn user(&self, index: u32) -> &User
+        requires { index < length self.now.users }
+        ensures { slice_get self.now.users index ≡ Some result.now }
+    {
+        &self.users[index as usize]
+    }
+
+    /// The client of this number.
+    pub fn client(&self, index: u32) -> &Client
+        requires { index < length self.now.clients }
+        ensures { slice_get self.now.clients index ≡ Some result.now }
+    {
+        &self.clients[index as usize]
+    }
+
+    /// The party of this number.
+    pub fn party(&self, index: u32) -> &Party
+        requires { index < length self.now.parties }
+        ensures { slice_get self.now.parties index ≡ Some result.now }
+    {
+        &self.parties[index as usize]
+    }
+
+    /// The number of the user of this id. None exactly where no user has it.
+    pub fn find_user(&self, id: &[u8]) -> Option<u32>
+        ensures { result ≡ user_place id.now self.now.users }
+    {
+        let place = user_place(&self.users, id)?;
+        Some(place as u32)
+    }
+
+    /// The number of the client of this id. None exactly where no client has it.
+    pub fn find_client(&self, id: &[u8]) -> Option<u32>
+        ensures { result ≡ client_place id.now self.now.clients }
+    {
+        let place = client_place(&self.clients, id)?;
+        Some(place as u32)
+    }
+
+    /// The number of the party of this name. None exactly where no party has it.
+    pub fn find_party(&self, name: &[u8]) -> Option<u32>
+        ensures { result ≡ party_place name.now self.now.parties }
+    {
+        let place = party_place(&self.parties, name)?;
+        Some(place as u32)
+    }
+
+    /// The subject of a user at a client, by their numbers (OpenID Connect Core 1.0, 8).
+    pub fn subject(&self, client: u32, user: u32) -> &Text
+        requires client { client < length self.now.clients }
+        requires user { user < length self.now.users }
+        ensures { result.now ≡ subject_at self.now client user }
+    {
+        self.subjects[client as usize].at(user as usize)
+    }
+
+    /// An equal registry.
+    pub fn copy(&self, alloc: Global) -> Result<Registry, NoMemory>
+        ensures { IfOk result (λ r. r ≡ self.now) }
+    {
+        Ok(Registry {
+            provider: self.provider.copy(alloc)?,
+            prefix: self.prefix.copy(alloc)?,
+            listen: self.listen.copy(alloc)?,
+            secure: self.secure,
+            users: copied_users(alloc, &self.users)?,
+            clients: copied_clients(alloc, &self.clients)?,
+            parties: copied_parties(alloc, &self.parties)?,
+            subjects: copied_subjects(alloc, &self.subjects)?,
+        })
+    }
+}
+
+fn copied_users(alloc: Global, users: &[User]) -> Result<Vec<User>, NoMemory>
+    ensures { IfOk result (λ v. v.items ≡ users.now) }
+{
+    let mut copied = Vec::new(alloc);
+    for user in users {
+        copied.push(user.copy(alloc)?)?;
+    }
+    Ok(copied)
+}
+
+fn copied_clients(alloc: Global, clients: &[Client]) -> Result<Vec<Client>, NoMemory>
+    ensures { IfOk result (λ v. v.items ≡ clients.now) }
+{
+    let mut copied = Vec::new(alloc);
+    for client in clients {
+        copied.push(client.copy(alloc)?)?;
+    }
+    Ok(copied)
+}
+
+fn copied_parties(alloc: Global, parties: &[Party]) -> Result<Vec<Party>, NoMemory>
+    ensures { IfOk result (λ v. v.items ≡ parties.now) }
+{
+    let mut copied = Vec::new(alloc);
+    for party in parties {
+        copied.push(party.copy(alloc)?)?;
+    }
+    Ok(copied)
+}
+
+fn copied_subjects(alloc: Global, subjects: &[Texts]) -> Result<Vec<Texts>, NoMemory>
+    ensures { IfOk result (λ v. v.items ≡ subjects.now) }
+{
+    let mut copied = Vec::new(alloc);
+    for row in subjects {
+        copied.push(row.copy(alloc)?)?;
+    }
+    Ok(copied)
+}

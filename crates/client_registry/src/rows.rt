@@ -1,0 +1,297 @@
+// The records of a configuration's rows.
+
+ghost use Rattle.std.specs.Prelude.{◌≡◌, ◌<◌, ◌^◌, map, length, unwrap_or, option_copied, IfOk, IfSome};
+ghost use Rattle.toml.specs.View.{view};
+ghost use Rattle.claim_set.specs.Fitting.{ClaimsFit};
+ghost use Rattle.client_registry.specs.Registered.{HoldsClaims, AllHoldClaims};
+ghost use Rattle.client_registry.specs.Records as spec;
+
+use crate::records::{Client, Party, Provider, Types, User};
+use claim_set::{ClaimSet, write_claims};
+use configuration_rows::claims::claims_of;
+use configuration_rows::party_rules::{has_type, response_texts};
+use configuration_rows::values::{
+    flag_at, hex_at, natural_at, text_at, text_or, texts_at, url_at, url_of,
+};
+use configuration_rows::words::number_of_type;
+use registered_url::{WebUrl, WebUrls};
+use sso_base::{Blob, NoMemory, Text, Texts};
+use std::alloc::Global;
+use toml::Value;
+
+// The text without its last slash.
+pub(crate) fn without_slash(text: &str) -> &str
+    ensures { result.now ≡ spec.without_slash text.now }
+{
+    match text.strip_suffix('/') {
+        Some(front) => front,
+        None => text,
+    }
+}
+
+/// The endpoint at a path below an issuer, which is written without its last slash.
+pub fn endpoint(alloc: Global, issuer: &str, path: &str) -> Result<Text, NoMemory>
+    ensures { IfOk result (λ t. t ≡ spec.endpoint issuer.now path.now) }
+{
+    let mut text = String::from_str(alloc, without_slash(issuer))?;
+    text.push_str(path)?;
+    Ok(Text::from_string(text))
+}
+
+// The provider with this issuer.
+pub(crate) fn provider_of(alloc: Global, issuer: &str) -> Result<Provider, NoMemory>
+    ensures { IfOk result (λ p. p ≡ spec.provider_of issuer.now) }
+{
+    Ok(Provider {
+        issuer: Text::new(alloc, issuer)?,
+        authorize: endpoint(alloc, issuer, "/authorize")?,
+        token: endpoint(alloc, issuer, "/token")?,
+        userinfo: Some(endpoint(alloc, issuer, "/userinfo")?),
+    })
+}
+
+fn no_url(alloc: Global) -> Result<WebUrl, NoMemory>
+    ensures { IfOk result (λ u. u ≡ spec.no_url) }
+{
+    Ok(WebUrl {
+        secure: false,
+        host: Text::new(alloc, "")?,
+        port: 0,
+        path: Text::new(alloc, "")?,
+        query: None,
+    })
+}
+
+// The URL, or else an empty one.
+fn url_or_none(alloc: Global, url: Option<WebUrl>) -> Result<WebUrl, NoMemory>
+    ensures { IfOk result (λ u. u ≡ unwrap_or url spec.no_url) }
+{
+    match url {
+        Some(url) => Ok(url),
+        None => no_url(alloc),
+    }
+}
+
+// The URL at a key, or else an empty one.
+pub(crate) fn url_in(alloc: Global, row: &Value, key: &str) -> Result<WebUrl, NoMemory>
+    ensures { IfOk result (λ u. u ≡ spec.url_or_none key.now (view row.now)) }
+{
+    let url = url_at(alloc, row, key)?;
+    url_or_none(alloc, url)
+}
+
+fn rounds_of(number: Option<u64>) -> u32
+    ensures { result ≡ spec.rounds_of number }
+{
+    match number {
+        Some(number) if number <= 1_000_000 => number as u32,
+        _ => 0,
+    }
+}
+
+fn proof_of(bytes: &[u8]) -> [u8; 32]
+    ensures { result ≡ spec.proof_of bytes.now }
+{
+    let mut proof = [0; 32];
+    if bytes.len() == 32 {
+        proof.copy_from_slice(bytes);
+    }
+    proof
+}
+
+// The claims of a user, or else none.
+#[tactic(auto, using(configuration_rows::proofs::FittingClaims::none_fits))]
+fn user_claims(alloc: Global, row: &Value) -> Result<ClaimSet, NoMemory>
+    ensures value { IfOk result (λ c. c ≡ spec.user_claims (view row.now)) }
+    ensures fits { IfOk result (λ c. ClaimsFit c) }
+{
+    let Some(value) = row.get("claims") else {
+        return Ok(ClaimSet::new(alloc));
+    };
+    match claims_of(alloc, value)? {
+        Some(claims) => Ok(claims),
+        None => Ok(ClaimSet::new(alloc)),
+    }
+}
+
+#[tactic(auto, using(crate::proofs::HeldClaims::holds))]
+fn user_of(alloc: Global, row: &Value) -> Result<User, NoMemory>
+    ensures value { IfOk result (λ u. u ≡ spec.user_of (view row.now)) }
+    ensures claims { IfOk result (λ u. HoldsClaims u.claims) }
+{
+    let claims = user_claims(alloc, row)?;
+    let proof = hex_at(alloc, row, "proof")?;
+    Ok(User {
+        id: Text::new(alloc, text_or(row, "id", ""))?,
+        salt: Blob::from_vec(hex_at(alloc, row, "salt")?),
+        rounds: rounds_of(natural_at(row, "rounds")),
+        proof: proof_of(&proof),
+        claims: write_claims(&claims)?,
+    })
+}
+
+// A text of its own, where there is one.
+fn text_of(alloc: Global, text: Option<&str>) -> Result<Option<Text>, NoMemory>
+    ensures { IfOk result (λ o. o ≡ option_copied text.entry) }
+{
+    match text {
+        Some(text) => Ok(Some(Text::new(alloc, text)?)),
+        None => Ok(None),
+    }
+}
+
+// The texts, in a list of texts.
+fn list_of(alloc: Global, texts: &[Text]) -> Result<Texts, NoMemory>
+    ensures { IfOk result (λ t. t ≡ texts.now) }
+{
+    let mut list = Texts::new(alloc);
+    for text in texts {
+        list.push(text.copy(alloc)?)?;
+    }
+    Ok(list)
+}
+
+fn urls_of(alloc: Global, texts: &[Text]) -> Result<WebUrls, NoMemory>
+    ensures { IfOk result (λ u. u ≡ spec.urls_of texts.now) }
+{
+    let mut urls = WebUrls::new(alloc);
+    for text in texts {
+        let url = url_of(alloc, text.as_str())?;
+        urls.push(url_or_none(alloc, url)?)?;
+    }
+    Ok(urls)
+}
+
+fn types_of(texts: &[Text]) -> [bool; 6]
+    ensures { result ≡ spec.types_of texts.now }
+{
+    [
+        has_type(0, texts),
+        has_type(1, texts),
+        has_type(2, texts),
+        has_type(3, texts),
+        has_type(4, texts),
+        has_type(5, texts),
+    ]
+}
+
+fn client_of(alloc: Global, row: &Value) -> Result<Client, NoMemory>
+    ensures { IfOk result (λ c. c ≡ spec.client_of_row (view row.now)) }
+{
+    let redirects = texts_at(alloc, row, "redirect_uris")?;
+    let types = response_texts(alloc, row)?;
+    Ok(Client {
+        id: Text::new(alloc, text_or(row, "id", ""))?,
+        secret: Text::new(alloc, text_or(row, "secret", ""))?,
+        redirects: list_of(alloc, &redirects)?,
+        types: types_of(&types),
+        pairwise: text_or(row, "subject", "") == "pairwise",
+        asks_consent: text_or(row, "consent", "") != "given",
+        logout: text_of(alloc, text_at(row, "logout_uri"))?,
+        logout_session: flag_at(row, "logout_session"),
+        redirect_urls: urls_of(alloc, &redirects)?,
+        logout_url: url_at(alloc, row, "logout_uri")?,
+    })
+}
+
+fn types_of_number(number: Option<usize>) -> Types
+    ensures { result ≡ spec.types_of_number number }
+{
+    match number {
+        None => Types {
+            code: false,
+            id_token: false,
+            token: false,
+        },
+        Some(n) => Types {
+            code: n == 0 || n == 3 || n == 4 || n == 5,
+            id_token: n == 1 || n == 2 || n == 3 || n == 5,
+            token: n == 2 || n == 4 || n == 5,
+        },
+    }
+}
+
+// The place of the client of this id, from 0.
+pub(crate) fn client_place(clients: &[Client], id: &[u8]) -> Option<usize>
+    ensures value { result ≡ spec.client_place id.now clients.now }
+    ensures within { IfSome result (λ place. place < length clients.now) }
+{
+    for (place, client) in clients.iter().enumerate() {
+        if client.id.as_str().as_bytes() == id {
+            return Some(place);
+        }
+    }
+    None
+}
+
+// The number of the client of this id, or else that of clients.
+fn client_number(clients: &[Client], id: &[u8]) -> u32
+    requires { length clients.now < 2 ^ 32 }
+    ensures { result ≡ spec.client_number id.now clients.now }
+{
+    match client_place(clients, id) {
+        Some(place) => place as u32,
+        None => clients.len() as u32,
+    }
+}
+
+#[tactic(auto, unfolding(crate::specs::Records::party_of))]
+fn party_of(alloc: Global, clients: &[Client], row: &Value) -> Result<Party, NoMemory>
+    requires { length clients.now < 2 ^ 32 }
+    ensures { IfOk result (λ p. p ≡ spec.party_of clients.now (view row.now)) }
+{
+    let number = number_of_type(text_or(row, "response_type", "code"));
+    Ok(Party {
+        name: Text::new(alloc, text_or(row, "name", ""))?,
+        client: client_number(clients, text_or(row, "client", "").as_bytes()),
+        redirect: Text::new(alloc, text_or(row, "redirect_uri", ""))?,
+        listen: Text::new(alloc, text_or(row, "listen", ""))?,
+        types: types_of_number(number),
+        scope: Text::new(alloc, text_or(row, "scope", "openid"))?,
+        prompt: text_of(alloc, text_at(row, "prompt"))?,
+        max_age: natural_at(row, "max_age"),
+        userinfo: flag_at(row, "userinfo"),
+        signed: flag_at(row, "signed"),
+        redirect_url: url_in(alloc, row, "redirect_uri")?,
+    })
+}
+
+#[tactic(auto, using(crate::proofs::HeldClaims::none_hold))]
+pub(crate) fn users_of(alloc: Global, rows: &[Value]) -> Result<Vec<User>, NoMemory>
+    ensures value { IfOk result (λ v. v.items ≡ map spec.user_of (map view rows.now)) }
+    ensures claims { IfOk result (λ v. AllHoldClaims v.items) }
+{
+    let mut users = Vec::new(alloc);
+    for row in rows {
+        users.push(user_of(alloc, row)?)?;
+    }
+    Ok(users)
+}
+
+pub(crate) fn clients_of(alloc: Global, rows: &[Value]) -> Result<Vec<Client>, NoMemory>
+    ensures { IfOk result (λ v. v.items ≡ map spec.client_of_row (map view rows.now)) }
+{
+    let mut clients = Vec::new(alloc);
+    for row in rows {
+        clients.push(client_of(alloc, row)?)?;
+    }
+    Ok(clients)
+}
+
+// The parties. That there are 2^32 clients, which no memory holds, is want of memory.
+pub(crate) fn parties_of(
+    alloc: Global,
+    clients: &[Client],
+    rows: &[Value],
+) -> Result<Vec<Party>, NoMemory>
+    ensures { IfOk result (λ v. v.items ≡ map (spec.party_of clients.now) (map view rows.now)) }
+{
+    let mut parties = Vec::new(alloc);
+    if clients.len() > u32::MAX as usize {
+        return Err(NoMemory);
+    }
+    for row in rows {
+        parties.push(party_of(alloc, clients, row)?)?;
+    }
+    Ok(parties)
+}

@@ -1,0 +1,63 @@
+-- A user's claims: what a table of the configuration says of them (OpenID Connect Core 1.0, 5.1 and 5.4).
+use Rattle.std.specs.Prelude.{ℕ, ◌^◌, Bool, true, false, ◌≡◌, List, [], ◌∷◌, nat_lt, codes, Option, Some, None, option_map, option_and_then, if◌then◌else◌}
+use Rattle.std.specs.List.{list_any}
+use Rattle.std.specs.Str.{bytes_eq}
+use Rattle.toml.specs.Data.{Data, Members, no_members, member, as_str, as_bool, as_table}
+use Rattle.serde_json.specs.Data as json
+use Rattle.configuration_rows.specs.Values.{as_natural}
+
+-- claims whose value is a text
+unfoldable pub text_claims : List (List ℕ)
+text_claims = codes "name" ∷ codes "family_name" ∷ codes "given_name" ∷ codes "middle_name" ∷ codes "nickname" ∷ codes "preferred_username" ∷ codes "profile" ∷ codes "picture" ∷ codes "website" ∷ codes "gender" ∷ codes "birthdate" ∷ codes "zoneinfo" ∷ codes "locale" ∷ codes "email" ∷ codes "phone_number" ∷ []
+
+-- claims whose value is true or false
+unfoldable pub flag_claims : List (List ℕ)
+flag_claims = codes "email_verified" ∷ codes "phone_number_verified" ∷ []
+
+abbrev pub is_one_of : List (List ℕ) → List ℕ → Bool
+is_one_of names name = list_any (bytes_eq name) names
+
+abbrev pub if_small : ℕ → Option ℕ
+if_small n = if nat_lt n (2 ^ 40) then Some n else None
+
+abbrev pub text_value : Data → Option json.Data
+text_value d = option_map json.string (as_str d)
+
+abbrev pub flag_value : Data → Option json.Data
+flag_value d = option_map json.boolean (as_bool d)
+
+-- a number of seconds below 2^40
+abbrev pub seconds_value : Data → Option json.Data
+seconds_value d = option_map (λ n. json.number (json.unsigned n)) (option_and_then if_small (as_natural d))
+
+-- the members of a table of texts, set one after another
+abbrev pub texts_onto : Members → json.Members → Option json.Members
+texts_onto no_members claims = Some claims
+texts_onto (member k d ms) claims = option_and_then (λ v. texts_onto ms (json.put k v claims)) (text_value d)
+
+-- a table of texts, as an address is (OpenID Connect Core 1.0, 5.1.1)
+abbrev pub address_value : Data → Option json.Data
+address_value d = option_map json.object (option_and_then (λ ms. texts_onto ms json.no_members) (as_table d))
+
+-- the value of a claim, where the name is known and the value is of its kind
+abbrev pub claim_value : List ℕ → Data → Option json.Data
+claim_value k d =
+    if is_one_of text_claims k then text_value d
+    else if is_one_of flag_claims k then flag_value d
+    else if bytes_eq k (codes "updated_at") then seconds_value d
+    else if bytes_eq k (codes "address") then address_value d
+    else None
+
+-- the claims of a table, set one after another
+abbrev pub claims_onto : Members → json.Members → Option json.Members
+claims_onto no_members claims = Some claims
+claims_onto (member k d ms) claims = option_and_then (λ v. claims_onto ms (json.put k v claims)) (claim_value k d)
+
+-- the claims that a value holds, where it is a table of them
+abbrev pub claims_in : Data → Option json.Members
+claims_in d = option_and_then (λ ms. claims_onto ms json.no_members) (as_table d)
+
+-- how a claim set changes where a name is set to a value, and where there is no such value
+abbrev pub Puts : List ℕ → Option json.Data → json.Members → json.Members → Bool → Type 0
+Puts k None old new taken = taken ≡ false
+Puts k (Some v) old new taken = (taken ≡ true) × (new ≡ json.put k v old)

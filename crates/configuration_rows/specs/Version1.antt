@@ -1,0 +1,214 @@
+-- The first version of the configuration: its keys, each with its rule, row by row, in the order of its table.
+use Rattle.std.specs.Prelude.{ℕ, ◌==◌, Bool, false, not, ◌&&◌, ◌||◌, List, [], ◌∷◌, ◌++◌, codes, Option, Some, None, is_some, if◌then◌else◌}
+use Rattle.std.specs.List.{list_any}
+use Rattle.std.specs.Str.{bytes_eq}
+use Rattle.toml.specs.Data.{Data, get, as_array}
+use Rattle.registered_url.specs.declared.web_url.WebUrl.{WebUrl}
+use Rattle.registered_url.specs.Rule.{is_same_server}
+use Rattle.registered_url.specs.Query.{query_names}
+use Rattle.configuration_rows.specs.declared.no.RegNo.{RegNo}
+use Rattle.configuration_rows.specs.declared.no.RegNo.TheVariants as no
+use Rattle.configuration_rows.specs.declared.row.Row.{Row}
+use Rattle.configuration_rows.specs.declared.row.Row.TheVariants.{Provider, User, Client, Party}
+use Rattle.configuration_rows.specs.declared.kind.Alphabet.TheVariants.{UserId, ClientId, PartyName, Visible}
+use Rattle.configuration_rows.specs.declared.kind.TextRule.TheVariants.{Any, Name, Hex, ResponseType, Subject, Consent, Scope, Prompt}
+use Rattle.configuration_rows.specs.declared.kind.Kind.{Kind}
+use Rattle.configuration_rows.specs.declared.kind.Kind.TheVariants.{Text, Number, Flag, Issuer, Url, Urls, ResponseTypes, Claims}
+use Rattle.configuration_rows.specs.declared.kind.Breach.{Breach}
+use Rattle.configuration_rows.specs.declared.kind.Breach.TheVariants.{WrongKind, BadUrl}
+use Rattle.configuration_rows.specs.Refusals.{note_if, each}
+use Rattle.configuration_rows.specs.Paths.{path_text}
+use Rattle.configuration_rows.specs.Values.{text_at, text_or, texts_at, url_at, rows_at, table_at}
+use Rattle.configuration_rows.specs.Kinds.{breach, passes, has_text, type_number}
+
+-- ---- keys
+
+abbrev pub breached : List ℕ → Option Breach → List RegNo
+breached path None = []
+breached path (Some WrongKind) = no.WrongKind path ∷ []
+breached path (Some BadUrl) = no.BadUrl path ∷ []
+
+abbrev pub required_value : List ℕ → Kind → Option Data → List RegNo
+required_value path kind None = no.Missing path ∷ []
+required_value path kind (Some d) = breached path (breach kind d)
+
+abbrev pub optional_value : List ℕ → Kind → Option Data → List RegNo
+optional_value path kind None = []
+optional_value path kind (Some d) = breached path (breach kind d)
+
+-- what a row is guilty of at a key that is needed
+abbrev pub required : Row → Data → List ℕ → Kind → List RegNo
+required row d key kind = required_value (path_text row key) kind (get key d)
+
+-- the same at a key that is optional or has a default
+abbrev pub optional : Row → Data → List ℕ → Kind → List RegNo
+optional row d key kind = optional_value (path_text row key) kind (get key d)
+
+-- ---- rules over several rows
+
+-- the party of this row uses the client of this id
+abbrev pub uses : List ℕ → Data → Bool
+uses id party = passes (bytes_eq id) (text_at (codes "client") party)
+
+abbrev pub is_elsewhere : WebUrl → Option WebUrl → Bool
+is_elsewhere u None = false
+is_elsewhere u (Some v) = not (is_same_server u v)
+
+-- the logout URI of a client does not fit the party, which uses the client: it has the path of the party's own sign-out,
+-- or another scheme, host or port than the party's redirection URI
+abbrev pub is_apart : List ℕ → WebUrl → Data → Bool
+is_apart id u party = uses id party && (bytes_eq u.path (codes "/leave") || is_elsewhere u (url_at (codes "redirect_uri") party))
+
+abbrev pub misplaced : List Data → Option (List ℕ) → Option WebUrl → Bool
+misplaced parties None u = false
+misplaced parties (Some id) None = false
+misplaced parties (Some id) (Some u) = list_any (is_apart id u) parties
+
+abbrev pub logout_rule : List Data → Row → Data → List RegNo
+logout_rule parties row client = note_if (misplaced parties (text_at (codes "id") client) (url_at (codes "logout_uri") client)) (no.WrongKind (path_text row (codes "logout_uri")))
+
+-- the first client of this id
+abbrev pub client_with : List ℕ → List Data → Option Data
+client_with id [] = None
+client_with id (k ∷ ks) = if passes (bytes_eq id) (text_at (codes "id") k) then Some k else client_with id ks
+
+abbrev pub client_named : List Data → Option (List ℕ) → Option Data
+client_named clients None = None
+client_named clients (Some id) = client_with id clients
+
+-- the client of a party, where it is known
+abbrev pub client_of : List Data → Data → Option Data
+client_of clients party = client_named clients (text_at (codes "client") party)
+
+-- the names by which a redirection URI is answered (OpenID Connect Core 1.0, 3.1.2.5, 3.1.2.6 and 3.2.2.5)
+abbrev pub answer_names : List (List ℕ)
+answer_names = codes "state" ∷ codes "error" ∷ codes "code" ∷ codes "access_token" ∷ codes "id_token" ∷ []
+
+-- the paths that a party serves itself
+abbrev pub own_paths : List (List ℕ)
+own_paths = codes "/" ∷ codes "/login" ∷ codes "/leave" ∷ []
+
+abbrev pub has_answer_name : WebUrl → Bool
+has_answer_name u = list_any (λ name. has_text name answer_names) (query_names u)
+
+abbrev pub has_path : List ℕ → Option WebUrl → Bool
+has_path path u = passes (λ (v : WebUrl). bytes_eq path v.path) u
+
+-- the redirection URI t is not the client's, or has the path of its logout URI
+abbrev pub is_not_of : Option Data → List ℕ → WebUrl → Bool
+is_not_of None t u = false
+is_not_of (Some client) t u = not (has_text t (texts_at (codes "redirect_uris") client)) || has_path u.path (url_at (codes "logout_uri") client)
+
+abbrev pub misdirects : Option Data → Option (List ℕ) → Option WebUrl → Bool
+misdirects client None u = false
+misdirects client (Some t) None = false
+misdirects client (Some t) (Some u) = has_answer_name u || (has_text u.path own_paths || is_not_of client t u)
+
+abbrev pub redirect_rule : List Data → Row → Data → List RegNo
+redirect_rule clients row party = note_if (misdirects (client_of clients party) (text_at (codes "redirect_uri") party) (url_at (codes "redirect_uri") party)) (no.BadUrl (path_text row (codes "redirect_uri")))
+
+-- the response types of a client, or else `code`
+abbrev pub response_texts : Data → List (List ℕ)
+response_texts client = if is_some (get (codes "response_types") client) then texts_at (codes "response_types") client else codes "code" ∷ []
+
+abbrev pub is_number : ℕ → Option ℕ → Bool
+is_number n m = passes (λ k. n == k) m
+
+-- one of the texts is the response type of this number
+abbrev pub has_type : ℕ → List (List ℕ) → Bool
+has_type n ts = list_any (λ t. is_number n (type_number t)) ts
+
+abbrev pub lacks_number : List (List ℕ) → Option ℕ → Bool
+lacks_number ts None = false
+lacks_number ts (Some n) = not (has_type n ts)
+
+unfoldable pub lacks_type : Option Data → List ℕ → Bool
+lacks_type None t = false
+lacks_type (Some client) t = lacks_number (response_texts client) (type_number t)
+
+abbrev pub type_rule : List Data → Row → Data → List RegNo
+type_rule clients row party = note_if (lacks_type (client_of clients party) (text_or (codes "response_type") (codes "code") party)) (no.WrongKind (path_text row (codes "response_type")))
+
+-- ---- the rows of the table
+
+abbrev pub provider_row : Data → List RegNo
+provider_row d =
+    required Provider d (codes "issuer") Issuer
+    ++ required Provider d (codes "listen") (Text (Name Visible 1 64))
+    ++ required Provider d (codes "salt") (Text (Hex 16 64))
+
+abbrev pub user_row : ℕ → Data → List RegNo
+user_row i d =
+    required (User i) d (codes "id") (Text (Name UserId 1 64))
+    ++ required (User i) d (codes "salt") (Text (Hex 1 64))
+    ++ required (User i) d (codes "rounds") (Number 1 1000000)
+    ++ required (User i) d (codes "proof") (Text (Hex 32 32))
+    ++ optional (User i) d (codes "claims") Claims
+
+abbrev pub client_names : Row → Data → List RegNo
+client_names row d =
+    required row d (codes "id") (Text (Name ClientId 1 64))
+    ++ required row d (codes "secret") (Text (Name Visible 0 128))
+    ++ required row d (codes "redirect_uris") Urls
+    ++ optional row d (codes "response_types") ResponseTypes
+
+abbrev pub client_settings : List Data → Row → Data → List RegNo
+client_settings parties row d =
+    optional row d (codes "subject") (Text Subject)
+    ++ optional row d (codes "consent") (Text Consent)
+    ++ optional row d (codes "logout_uri") Url
+    ++ logout_rule parties row d
+    ++ optional row d (codes "logout_session") Flag
+
+abbrev pub client_row : List Data → ℕ → Data → List RegNo
+client_row parties i d = client_names (Client i) d ++ client_settings parties (Client i) d
+
+abbrev pub party_names : List Data → Row → Data → List RegNo
+party_names clients row d =
+    required row d (codes "name") (Text (Name PartyName 1 16))
+    ++ required row d (codes "client") (Text Any)
+    ++ required row d (codes "redirect_uri") Url
+    ++ redirect_rule clients row d
+    ++ required row d (codes "listen") (Text (Name Visible 1 64))
+
+abbrev pub party_request : List Data → Row → Data → List RegNo
+party_request clients row d =
+    optional row d (codes "response_type") (Text ResponseType)
+    ++ type_rule clients row d
+    ++ optional row d (codes "scope") (Text Scope)
+    ++ optional row d (codes "prompt") (Text Prompt)
+    ++ optional row d (codes "max_age") (Number 0 999999999)
+
+abbrev pub party_settings : Row → Data → List RegNo
+party_settings row d =
+    optional row d (codes "userinfo") Flag
+    ++ optional row d (codes "signed") Flag
+
+abbrev pub party_row : List Data → ℕ → Data → List RegNo
+party_row clients i d = party_names clients (Party i) d ++ party_request clients (Party i) d ++ party_settings (Party i) d
+
+abbrev pub array_value : List ℕ → Option Data → List RegNo
+array_value key None = []
+array_value key (Some d) = note_if (not (is_some (as_array d))) (no.WrongKind key)
+
+-- rows stand in an array, where there are any
+abbrev pub array_rule : List ℕ → Data → List RegNo
+array_rule key root = array_value key (get key root)
+
+abbrev pub users_rows : Data → List RegNo
+users_rows root = array_rule (codes "user") root ++ each user_row (rows_at (codes "user") root)
+
+abbrev pub clients_rows : Data → List RegNo
+clients_rows root = array_rule (codes "client") root ++ each (client_row (rows_at (codes "party") root)) (rows_at (codes "client") root)
+
+abbrev pub parties_rows : Data → List RegNo
+parties_rows root = array_rule (codes "party") root ++ each (party_row (rows_at (codes "client") root)) (rows_at (codes "party") root)
+
+-- what the rows of a configuration are guilty of, in order: keys that are missing, values of another kind or outside
+-- their rules, and URLs that break theirs
+unfoldable pub rows_refusals : Data → List RegNo
+rows_refusals root =
+    provider_row (table_at (codes "provider") root)
+    ++ users_rows root
+    ++ clients_rows root
+    ++ parties_rows root

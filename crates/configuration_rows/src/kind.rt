@@ -1,0 +1,240 @@
+// The kinds of values that may stand at keys, and how a value breaks the rule of its key.
+
+ghost use Rattle.std.specs.Prelude.{◌≡◌, ◌≤◌, IfOk, is_some};
+ghost use Rattle.std.specs.List.{list_all};
+ghost use Rattle.toml.specs.View.{view};
+ghost use Rattle.registered_url.specs.Rule.{url_of as url_in};
+ghost use Rattle.configuration_rows.specs.Values.{hex_bytes, as_natural};
+ghost use Rattle.configuration_rows.specs.Kinds.{allows, is_name, is_within, has_length, is_response_type, text_keeps, passes, unless, are_urls, issuer_breach, breach as breach_in};
+
+use crate::claims::claims_of;
+use crate::values::{hex_of, natural_of, texts_of, url_of};
+use crate::words::{is_one_of, is_prompt_text, is_scope_text, number_of_type};
+use sso_base::{NoMemory, Text};
+use std::alloc::Global;
+use toml::Value;
+
+/// The characters of a kind of name.
+#[derive(Clone, Copy, Debug)]
+pub enum Alphabet {
+    UserId,
+    ClientId,
+    PartyName,
+    /// Visible ASCII.
+    Visible,
+}
+
+/// What a text has to be. Bounds are of characters, and for hexadecimal digits of the bytes that they spell.
+#[derive(Clone, Copy, Debug)]
+pub enum TextRule {
+    Any,
+    Name {
+        alphabet: Alphabet,
+        least: usize,
+        most: usize,
+    },
+    Hex {
+        least: usize,
+        most: usize,
+    },
+    ResponseType,
+    Subject,
+    Consent,
+    Scope,
+    Prompt,
+}
+
+/// What may stand at a key.
+#[derive(Clone, Copy, Debug)]
+pub enum Kind {
+    Text(TextRule),
+    Number { least: u64, most: u64 },
+    Flag,
+    Issuer,
+    Url,
+    /// From 1 to 16 URLs.
+    Urls,
+    ResponseTypes,
+    Claims,
+}
+
+/// How a value breaks the rule of its key.
+#[derive(Clone, Copy, Debug)]
+pub enum Breach {
+    WrongKind,
+    BadUrl,
+}
+
+fn is_allowed(alphabet: Alphabet, byte: u8) -> bool
+    ensures { result ≡ allows alphabet byte }
+{
+    match alphabet {
+        Alphabet::UserId => {
+            matches!(byte, b'a'..=b'z' | b'0'..=b'9' | b'.' | b'_' | b'@' | b'-')
+        }
+        Alphabet::ClientId => {
+            matches!(byte, b'A'..=b'Z' | b'a'..=b'z' | b'0'..=b'9' | b'.' | b'_' | b'~' | b'-')
+        }
+        Alphabet::PartyName => matches!(byte, b'a'..=b'z' | b'0'..=b'9'),
+        Alphabet::Visible => 32 < byte && byte < 127,
+    }
+}
+
+fn is_between(least: usize, most: usize, count: usize) -> bool
+    ensures { result ≡ is_within least most count }
+{
+    least <= count && count <= most
+}
+
+fn are_allowed(alphabet: Alphabet, bytes: &[u8]) -> bool
+    ensures { result ≡ list_all (allows alphabet) bytes.now }
+{
+    for &byte in bytes {
+        if !is_allowed(alphabet, byte) {
+            return false;
+        }
+    }
+    true
+}
+
+// Whether the text has these characters alone, within these bounds.
+fn is_name_of(alphabet: Alphabet, least: usize, most: usize, text: &str) -> bool
+    ensures { result ≡ is_name alphabet least most text.now }
+{
+    let bytes = text.as_bytes();
+    is_between(least, most, bytes.len()) && are_allowed(alphabet, bytes)
+}
+
+fn is_hex_of(alloc: Global, least: usize, most: usize, text: &str) -> Result<bool, NoMemory>
+    ensures { IfOk result (λ b. b ≡ has_length least most (hex_bytes text.now)) }
+{
+    match hex_of(alloc, text)? {
+        Some(bytes) => Ok(is_between(least, most, bytes.len())),
+        None => Ok(false),
+    }
+}
+
+fn keeps(alloc: Global, rule: TextRule, text: &str) -> Result<bool, NoMemory>
+    ensures { IfOk result (λ b. b ≡ text_keeps rule text.now) }
+{
+    match rule {
+        TextRule::Any => Ok(true),
+        TextRule::Name {
+            alphabet,
+            least,
+            most,
+        } => Ok(is_name_of(alphabet, least, most, text)),
+        TextRule::Hex { least, most } => is_hex_of(alloc, least, most, text),
+        TextRule::ResponseType => Ok(number_of_type(text).is_some()),
+        TextRule::Subject => Ok(is_one_of(text, &["public", "pairwise"])),
+        TextRule::Consent => Ok(is_one_of(text, &["ask", "given"])),
+        TextRule::Scope => is_scope_text(alloc, text),
+        TextRule::Prompt => is_prompt_text(alloc, text),
+    }
+}
+
+fn unless_met(met: bool, why: Breach) -> Option<Breach>
+    ensures { result ≡ unless met why }
+{
+    if met { None } else { Some(why) }
+}
+
+// An issuer has at most 200 bytes and no query (OpenID Connect Discovery 1.0, 3).
+fn breach_of_issuer(alloc: Global, text: &str) -> Result<Option<Breach>, NoMemory>
+    ensures { IfOk result (λ o. o ≡ issuer_breach text.now (url_in text.now)) }
+{
+    match url_of(alloc, text)? {
+        Some(url) => Ok(unless_met(text.len() <= 200 && url.query.is_none(), Breach::WrongKind)),
+        None => Ok(Some(Breach::BadUrl)),
+    }
+}
+
+fn are_all_urls(alloc: Global, texts: &[Text]) -> Result<bool, NoMemory>
+    ensures { IfOk result (λ b. b ≡ are_urls texts.now) }
+{
+    for text in texts {
+        if url_of(alloc, text.as_str())?.is_none() {
+            return Ok(false);
+        }
+    }
+    Ok(true)
+}
+
+fn are_response_types(texts: &[Text]) -> bool
+    ensures { result ≡ list_all is_response_type texts.now }
+{
+    texts
+        .iter()
+        .all(|text| number_of_type(text.as_str()).is_some())
+}
+
+fn breach_of_urls(alloc: Global, value: &Value) -> Result<Option<Breach>, NoMemory>
+    ensures { IfOk result (λ o. o ≡ breach_in Kind.Urls (view value.now)) }
+{
+    match texts_of(alloc, value)? {
+        Some(texts) if is_between(1, 16, texts.len()) => {
+            Ok(unless_met(are_all_urls(alloc, &texts)?, Breach::BadUrl))
+        }
+        _ => Ok(Some(Breach::WrongKind)),
+    }
+}
+
+// The breach of a text, or the wrong kind where there is none.
+fn breach_of_text(alloc: Global, rule: TextRule, value: &Value) -> Result<Option<Breach>, NoMemory>
+    ensures { IfOk result (λ o. o ≡ breach_in (Kind.Text rule) (view value.now)) }
+{
+    match value.as_str() {
+        Some(text) => Ok(unless_met(keeps(alloc, rule, text)?, Breach::WrongKind)),
+        None => Ok(Some(Breach::WrongKind)),
+    }
+}
+
+fn breach_of_types(alloc: Global, value: &Value) -> Result<Option<Breach>, NoMemory>
+    ensures { IfOk result (λ o. o ≡ breach_in Kind.ResponseTypes (view value.now)) }
+{
+    match texts_of(alloc, value)? {
+        Some(texts) => Ok(unless_met(are_response_types(&texts), Breach::WrongKind)),
+        None => Ok(Some(Breach::WrongKind)),
+    }
+}
+
+fn is_number(least: u64, most: u64, value: &Value) -> bool
+    ensures { result ≡ passes (is_within least most) (as_natural (view value.now)) }
+{
+    match natural_of(value) {
+        Some(number) => least <= number && number <= most,
+        None => false,
+    }
+}
+
+// How the value breaks the rule of its key, where it does.
+pub(crate) fn breach_of(
+    alloc: Global,
+    kind: Kind,
+    value: &Value,
+) -> Result<Option<Breach>, NoMemory>
+    ensures { IfOk result (λ o. o ≡ breach_in kind (view value.now)) }
+{
+    match kind {
+        Kind::Text(rule) => breach_of_text(alloc, rule, value),
+        Kind::Number { least, most } => Ok(unless_met(
+            is_number(least, most, value),
+            Breach::WrongKind,
+        )),
+        Kind::Flag => Ok(unless_met(value.as_bool().is_some(), Breach::WrongKind)),
+        Kind::Issuer => match value.as_str() {
+            Some(text) => breach_of_issuer(alloc, text),
+            None => Ok(Some(Breach::WrongKind)),
+        },
+        Kind::Url => match value.as_str() {
+            Some(text) => Ok(unless_met(url_of(alloc, text)?.is_some(), Breach::BadUrl)),
+            None => Ok(Some(Breach::WrongKind)),
+        },
+        Kind::Urls => breach_of_urls(alloc, value),
+        Kind::ResponseTypes => breach_of_types(alloc, value),
+        Kind::Claims => {
+            let claims = claims_of(alloc, value)?;
+            Ok(unless_met(claims.is_some(), Breach::WrongKind))
+        }
+    }
+}

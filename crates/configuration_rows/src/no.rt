@@ -1,0 +1,76 @@
+// Why a configuration is refused.
+
+ghost use Rattle.std.specs.Prelude.{◌≡◌};
+ghost use Rattle.configuration_rows.specs.Refusals.{number};
+
+use sso_base::{NoMemory, Text};
+
+/// Why a configuration is refused, or memory ran out. Where several fit, the first in this order is answered, and of
+/// one kind the first in the order of the file's table.
+///
+/// A path is written as `client[0].secret`: a row's place counts from 0, and a value inside an array has no place.
+#[derive(Debug, Drop)]
+pub enum RegNo {
+    /// Memory ran out.
+    NoMemory,
+    /// The file has more than 1,048,576 bytes.
+    TooLong,
+    /// The bytes are not TOML in UTF-8.
+    NotToml,
+    /// `version` is not the integer 1.
+    Version,
+    /// The key at this path is absent, and it is neither optional nor has a default.
+    Missing(Text),
+    /// The value at this path is of another kind, or outside its rule.
+    WrongKind(Text),
+    /// The text at this path breaks the rule for URLs, or a party's redirection URI breaks its own.
+    BadUrl(Text),
+    /// This user id, client id, party name or redirection URI stands twice; or the client of this id has the secret of
+    /// an earlier one, or is used by two parties; or a party has the name `op`.
+    Twice(Text),
+    /// The secret of the client of this id has fewer than 32 characters.
+    ShortSecret(Text),
+    /// There are more than 512 of `user`, 128 of `client` or 64 of `party`, or the `claims` of a user have more than
+    /// 2,048 bytes as JSON.
+    TooMany(Text),
+    /// The client of this id is pairwise, and its redirection URIs have two hosts (OpenID Connect Core 1.0, 8.1).
+    MixedHosts(Text),
+    /// The party of this name uses a client that is not there.
+    UnknownClient(Text),
+    /// At the client of the first id the users of the other two have one subject.
+    SubjectClash(Text, Text, Text),
+}
+
+impl From<NoMemory> for RegNo {
+    ghost use Rattle.std.specs.Prelude.{◌≡◌};
+    ghost use Rattle.configuration_rows.specs.declared.no.RegNo.TheVariants as no;
+
+    ghost from_gives = { λ _ e. e ≡ no.NoMemory };
+
+    fn from(_error: NoMemory) -> RegNo {
+        RegNo::NoMemory
+    }
+}
+
+impl RegNo {
+    /// The number of this kind of refusal, in the order in which they are answered.
+    pub fn number(&self) -> u8
+        ensures { result ≡ number self.now }
+    {
+        match self {
+            RegNo::NoMemory => 0,
+            RegNo::TooLong => 1,
+            RegNo::NotToml => 2,
+            RegNo::Version => 3,
+            RegNo::Missing(_) => 4,
+            RegNo::WrongKind(_) => 5,
+            RegNo::BadUrl(_) => 6,
+            RegNo::Twice(_) => 7,
+            RegNo::ShortSecret(_) => 8,
+            RegNo::TooMany(_) => 9,
+            RegNo::MixedHosts(_) => 10,
+            RegNo::UnknownClient(_) => 11,
+            RegNo::SubjectClash(_, _, _) => 12,
+        }
+    }
+}

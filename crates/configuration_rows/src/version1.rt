@@ -1,0 +1,259 @@
+// The first version of the configuration: its keys, each with its rule, row by row, in the order of its table.
+
+ghost use Rattle.std.specs.Prelude.{◌≡◌, ◌++◌, map, OnOk};
+ghost use Rattle.toml.specs.Data.{table, no_members};
+ghost use Rattle.toml.specs.View.{view};
+ghost use Rattle.configuration_rows.specs.declared.kind.Kind.TheVariants as kind;
+ghost use Rattle.configuration_rows.specs.declared.kind.TextRule.TheVariants as rule;
+ghost use Rattle.configuration_rows.specs.Refusals.{each};
+ghost use Rattle.configuration_rows.specs.Version1 as spec;
+
+use crate::keys::{array, optional, required};
+use crate::kind::{Alphabet, Kind, TextRule};
+use crate::logout_rule::logout_rule;
+use crate::party_rules::{redirect_rule, type_rule};
+use crate::refusals::Refusals;
+use crate::row::Row;
+use crate::values::{rows_at, table_at};
+use sso_base::NoMemory;
+use toml::Value;
+
+// A text of these characters alone, within these bounds.
+fn name_of(alphabet: Alphabet, least: usize, most: usize) -> Kind
+    ensures { result ≡ kind.Text (rule.Name alphabet least most) }
+{
+    Kind::Text(TextRule::Name {
+        alphabet,
+        least,
+        most,
+    })
+}
+
+// A text of hexadecimal digits that spells so many bytes.
+fn hex_of(least: usize, most: usize) -> Kind
+    ensures { result ≡ kind.Text (rule.Hex least most) }
+{
+    Kind::Text(TextRule::Hex { least, most })
+}
+
+fn provider_row(refusals: &mut Refusals, values: &Value) -> Result<(), NoMemory>
+    ensures { OnOk result (refusals.new ≡ refusals.old ++ spec.provider_row (view values.now)) }
+{
+    let row = Row::Provider;
+    required(refusals, row, values, "issuer", Kind::Issuer)?;
+    required(
+        refusals,
+        row,
+        values,
+        "listen",
+        name_of(Alphabet::Visible, 1, 64),
+    )?;
+    required(refusals, row, values, "salt", hex_of(16, 64))
+}
+
+fn user_row(refusals: &mut Refusals, place: usize, values: &Value) -> Result<(), NoMemory>
+    ensures { OnOk result (refusals.new ≡ refusals.old ++ spec.user_row place (view values.now)) }
+{
+    let row = Row::User(place);
+    let rounds = Kind::Number {
+        least: 1,
+        most: 1_000_000,
+    };
+    required(
+        refusals,
+        row,
+        values,
+        "id",
+        name_of(Alphabet::UserId, 1, 64),
+    )?;
+    required(refusals, row, values, "salt", hex_of(1, 64))?;
+    required(refusals, row, values, "rounds", rounds)?;
+    required(refusals, row, values, "proof", hex_of(32, 32))?;
+    optional(refusals, row, values, "claims", Kind::Claims)
+}
+
+fn client_names(refusals: &mut Refusals, row: Row, values: &Value) -> Result<(), NoMemory>
+    ensures { OnOk result (refusals.new ≡ refusals.old ++ spec.client_names row (view values.now)) }
+{
+    required(
+        refusals,
+        row,
+        values,
+        "id",
+        name_of(Alphabet::ClientId, 1, 64),
+    )?;
+    required(
+        refusals,
+        row,
+        values,
+        "secret",
+        name_of(Alphabet::Visible, 0, 128),
+    )?;
+    required(refusals, row, values, "redirect_uris", Kind::Urls)?;
+    optional(refusals, row, values, "response_types", Kind::ResponseTypes)
+}
+
+fn client_settings(
+    refusals: &mut Refusals,
+    parties: &[Value],
+    row: Row,
+    values: &Value,
+) -> Result<(), NoMemory>
+    ensures { OnOk result (refusals.new ≡ refusals.old ++ spec.client_settings (map view parties.now) row (view values.now)) }
+{
+    optional(
+        refusals,
+        row,
+        values,
+        "subject",
+        Kind::Text(TextRule::Subject),
+    )?;
+    optional(
+        refusals,
+        row,
+        values,
+        "consent",
+        Kind::Text(TextRule::Consent),
+    )?;
+    optional(refusals, row, values, "logout_uri", Kind::Url)?;
+    logout_rule(refusals, parties, row, values)?;
+    optional(refusals, row, values, "logout_session", Kind::Flag)
+}
+
+fn client_row(
+    refusals: &mut Refusals,
+    parties: &[Value],
+    place: usize,
+    values: &Value,
+) -> Result<(), NoMemory>
+    ensures { OnOk result (refusals.new ≡ refusals.old ++ spec.client_row (map view parties.now) place (view values.now)) }
+{
+    client_names(refusals, Row::Client(place), values)?;
+    client_settings(refusals, parties, Row::Client(place), values)
+}
+
+fn party_names(
+    refusals: &mut Refusals,
+    clients: &[Value],
+    row: Row,
+    values: &Value,
+) -> Result<(), NoMemory>
+    ensures { OnOk result (refusals.new ≡ refusals.old ++ spec.party_names (map view clients.now) row (view values.now)) }
+{
+    required(
+        refusals,
+        row,
+        values,
+        "name",
+        name_of(Alphabet::PartyName, 1, 16),
+    )?;
+    required(refusals, row, values, "client", Kind::Text(TextRule::Any))?;
+    required(refusals, row, values, "redirect_uri", Kind::Url)?;
+    redirect_rule(refusals, clients, row, values)?;
+    required(
+        refusals,
+        row,
+        values,
+        "listen",
+        name_of(Alphabet::Visible, 1, 64),
+    )
+}
+
+fn party_request(
+    refusals: &mut Refusals,
+    clients: &[Value],
+    row: Row,
+    values: &Value,
+) -> Result<(), NoMemory>
+    ensures { OnOk result (refusals.new ≡ refusals.old ++ spec.party_request (map view clients.now) row (view values.now)) }
+{
+    let max_age = Kind::Number {
+        least: 0,
+        most: 999_999_999,
+    };
+    optional(
+        refusals,
+        row,
+        values,
+        "response_type",
+        Kind::Text(TextRule::ResponseType),
+    )?;
+    type_rule(refusals, clients, row, values)?;
+    optional(refusals, row, values, "scope", Kind::Text(TextRule::Scope))?;
+    optional(
+        refusals,
+        row,
+        values,
+        "prompt",
+        Kind::Text(TextRule::Prompt),
+    )?;
+    optional(refusals, row, values, "max_age", max_age)
+}
+
+fn party_settings(refusals: &mut Refusals, row: Row, values: &Value) -> Result<(), NoMemory>
+    ensures { OnOk result (refusals.new ≡ refusals.old ++ spec.party_settings row (view values.now)) }
+{
+    optional(refusals, row, values, "userinfo", Kind::Flag)?;
+    optional(refusals, row, values, "signed", Kind::Flag)
+}
+
+fn party_row(
+    refusals: &mut Refusals,
+    clients: &[Value],
+    place: usize,
+    values: &Value,
+) -> Result<(), NoMemory>
+    ensures { OnOk result (refusals.new ≡ refusals.old ++ spec.party_row (map view clients.now) place (view values.now)) }
+{
+    party_names(refusals, clients, Row::Party(place), values)?;
+    party_request(refusals, clients, Row::Party(place), values)?;
+    party_settings(refusals, Row::Party(place), values)
+}
+
+fn user_rows(refusals: &mut Refusals, users: &[Value]) -> Result<(), NoMemory>
+    ensures { OnOk result (refusals.new ≡ refusals.old ++ each spec.user_row (map view users.now)) }
+{
+    for (place, user) in users.iter().enumerate() {
+        user_row(refusals, place, user)?;
+    }
+    Ok(())
+}
+
+fn client_rows(
+    refusals: &mut Refusals,
+    parties: &[Value],
+    clients: &[Value],
+) -> Result<(), NoMemory>
+    ensures { OnOk result (refusals.new ≡ refusals.old ++ each (spec.client_row (map view parties.now)) (map view clients.now)) }
+{
+    for (place, client) in clients.iter().enumerate() {
+        client_row(refusals, parties, place, client)?;
+    }
+    Ok(())
+}
+
+fn party_rows(refusals: &mut Refusals, clients: &[Value], parties: &[Value]) -> Result<(), NoMemory>
+    ensures { OnOk result (refusals.new ≡ refusals.old ++ each (spec.party_row (map view clients.now)) (map view parties.now)) }
+{
+    for (place, party) in parties.iter().enumerate() {
+        party_row(refusals, clients, place, party)?;
+    }
+    Ok(())
+}
+
+/// What the rows of a configuration are guilty of, in order. The other value is a table that holds nothing.
+#[tactic(auto, unfolding(crate::specs::Version1::rows_refusals))]
+pub fn judge_rows(refusals: &mut Refusals, root: &Value, empty: &Value) -> Result<(), NoMemory>
+    requires { view empty.now ≡ table no_members }
+    ensures { OnOk result (refusals.new ≡ refusals.old ++ spec.rows_refusals (view root.now)) }
+{
+    let clients = rows_at(root, "client");
+    let parties = rows_at(root, "party");
+    provider_row(refusals, table_at(root, "provider", empty))?;
+    array(refusals, root, "user")?;
+    user_rows(refusals, rows_at(root, "user"))?;
+    array(refusals, root, "client")?;
+    client_rows(refusals, parties, clients)?;
+    array(refusals, root, "party")?;
+    party_rows(refusals, clients, parties)
+}

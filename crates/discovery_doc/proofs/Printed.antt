@@ -1,0 +1,55 @@
+-- The document of a printable provider is one of this provider.
+use Rattle.std.proofs.Common.{◌≡◌, Option, Some, None, option_map, Ok, codes, refl}
+use Rattle.serde_json.specs.Data.{Data, string, no_members}
+use Rattle.claim_set.specs.Building.{or_else}
+use Rattle.claim_set.specs.Reading.{Reads, claims_text}
+use Rattle.claim_set.proofs.Building.{get-put_all}
+use Rattle.claim_set.proofs.Written.{claims_read-claims_text}
+use Rattle.claim_set.proofs.Parsing.{read_reads}
+use Rattle.client_registry.specs.declared.records.Provider.{Provider}
+use Rattle.client_registry.specs.Records.{endpoint}
+use Rattle.discovery_doc.specs.Metadata.{metadata_entries, metadata, response_types, subject_types, algorithms}
+use Rattle.discovery_doc.specs.Document.{IsMetadata, IsDocument}
+use Rattle.discovery_doc.specs.Printed.{IsPrintable}
+use Rattle.discovery_doc.specs.Reading.{discovery_read}
+use Rattle.discovery_doc.proofs.Documents.{document_read}
+use Rattle.discovery_doc.proofs.Fitting.{ClaimsFit-metadata}
+
+or_none : (o : Option Data) → or_else o None ≡ o
+or_none None = refl
+or_none (Some d) = refl
+
+stands : (p : Provider) → IsPrintable p → IsMetadata p.issuer (metadata p) p
+unfolding metadata
+stands p h = record {
+  issuer = rw (get-put_all (codes "issuer") (metadata_entries p) no_members) refl;
+  is_asked = refl;
+  authorize = rw (get-put_all (codes "authorization_endpoint") (metadata_entries p) no_members) refl;
+  authorize_url = h.authorize;
+  token = rw (get-put_all (codes "token_endpoint") (metadata_entries p) no_members) refl;
+  token_url = h.token;
+  userinfo = rw (get-put_all (codes "userinfo_endpoint") (metadata_entries p) no_members) (or_none (option_map string p.userinfo));
+  userinfo_url = h.userinfo;
+  keys = endpoint p.issuer (codes "/jwks");
+  jwks_uri = rw (get-put_all (codes "jwks_uri") (metadata_entries p) no_members) refl;
+  response_types = response_types;
+  response_types_supported = rw (get-put_all (codes "response_types_supported") (metadata_entries p) no_members) refl;
+  subject_types = subject_types;
+  subject_types_supported = rw (get-put_all (codes "subject_types_supported") (metadata_entries p) no_members) refl;
+  algorithms = algorithms;
+  algorithms_supported = rw (get-put_all (codes "id_token_signing_alg_values_supported") (metadata_entries p) no_members) refl;
+  hs256 = refl;
+}
+
+pub printed_reads : (p : Provider) → IsPrintable p → Reads (claims_text (metadata p)) (metadata p)
+printed_reads p h = read_reads (claims_text (metadata p)) (metadata p) (claims_read-claims_text (metadata p) (ClaimsFit-metadata p h))
+
+pub printed_document : (p : Provider) → IsPrintable p → IsDocument p.issuer (claims_text (metadata p)) p
+printed_document p h = record {
+  members = metadata p;
+  reads = printed_reads p h;
+  metadata = stands p h;
+}
+
+pub printed_read : (p : Provider) → IsPrintable p → discovery_read p.issuer (claims_text (metadata p)) ≡ Ok p
+printed_read p h = document_read p.issuer (claims_text (metadata p)) p (printed_document p h)

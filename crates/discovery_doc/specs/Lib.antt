@@ -1,0 +1,4 @@
+pub mod Metadata
+pub mod Reading
+pub mod Document
+pub mod Printed

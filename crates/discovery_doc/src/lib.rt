@@ -1,0 +1,27 @@
+//! The metadata of an OpenID provider, written and read (OpenID Connect Discovery 1.0, 3 and 4).
+//!
+//! The document is a JSON object. It stands at the issuer without a last `/`, then
+//! `/.well-known/openid-configuration`. URLs in it are absolute.
+//!
+//! | Module | What it has |
+//! |---|---|
+//! | `printing` | [`print_discovery`] writes the document of a registry's provider |
+//! | `reading` | [`read_discovery`] reads a document as a provider's endpoints |
+//! | `no` | [`DiscNo`], why a document is refused |
+//! | `law` | what holds of documents, for the crates above |
+#![tactic(auto)]
+
+mod law;
+mod no;
+mod printing;
+mod reading;
+#[cfg(test)]
+mod tests;
+
+pub use law::{
+    printed_metadata_is_read, read_documents_have_the_metadata, read_documents_name_the_provider,
+    refused_documents_have_the_first_reason,
+};
+pub use no::DiscNo;
+pub use printing::print_discovery;
+pub use reading::read_discovery;
