@@ -23,12 +23,10 @@ mod registry;
 mod rows;
 mod rules;
 mod subjects;
-#[cfg(test)]
-mod tests;
 
 pub use configuration_rows::RegNo;
 pub use law::{refusals_have_their_causes, refused_configurations_have_the_least};
 pub use reading::read_registry;
-pub use records::{Client, Party, Provider, Scopes, Types, User};
+pub use records::{Client, Party, Provider, Types, User};
 pub use registry::Registry;
 pub use rows::endpoint;

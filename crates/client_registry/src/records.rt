@@ -1,9 +1,10 @@
 // What a configuration says of the provider, its users, its clients and their relying parties.
 
 ghost use Rattle.std.specs.Prelude.{◌≡◌, IfOk};
+ghost use Rattle.client_registry.specs.Records.{types_of_number};
 
 use registered_url::{WebUrl, WebUrls};
-use sso_base::{Blob, NoMemory, Text, Texts};
+use sso_base::{Blob, NoMemory, Text, Texts, copied_text};
 use std::alloc::Global;
 
 /// The endpoints of an OpenID provider (OpenID Connect Discovery 1.0, 3).
@@ -40,14 +41,25 @@ pub struct Types {
     pub token: bool,
 }
 
-/// The scope words (OpenID Connect Core 1.0, 3.1.2.1 and 5.4).
-#[derive(Clone, Copy, Debug, PartialEq, Eq)]
-pub struct Scopes {
-    pub openid: bool,
-    pub profile: bool,
-    pub email: bool,
-    pub address: bool,
-    pub phone: bool,
+impl Types {
+    /// The words of the response type of this number, from 0, in the order `code`, `id_token`, `id_token token`,
+    /// `code id_token`, `code token`, `code id_token token`. No number has no words.
+    pub fn of_number(number: Option<usize>) -> Types
+        ensures { result ≡ types_of_number number }
+    {
+        match number {
+            None => Types {
+                code: false,
+                id_token: false,
+                token: false,
+            },
+            Some(n) => Types {
+                code: n == 0 || n == 3 || n == 4 || n == 5,
+                id_token: n == 1 || n == 2 || n == 3 || n == 5,
+                token: n == 2 || n == 4 || n == 5,
+            },
+        }
+    }
 }
 
 /// A client (OpenID Connect Core 1.0, 3.1.2.1; RFC 6749, 2).
@@ -100,16 +112,6 @@ pub struct Party {
     pub signed: bool,
     /// What is kept of the redirection URI.
     pub redirect_url: WebUrl,
-}
-
-// An equal text, where there is one.
-fn copied_text(alloc: Global, text: &Option<Text>) -> Result<Option<Text>, NoMemory>
-    ensures { IfOk result (λ o. o ≡ text.now) }
-{
-    match text {
-        Some(text) => Ok(Some(text.copy(alloc)?)),
-        None => Ok(None),
-    }
 }
 
 // An equal URL, where there is one.

@@ -194,23 +194,6 @@ fn client_of(alloc: Global, row: &Value) -> Result<Client, NoMemory>
     })
 }
 
-fn types_of_number(number: Option<usize>) -> Types
-    ensures { result ≡ spec.types_of_number number }
-{
-    match number {
-        None => Types {
-            code: false,
-            id_token: false,
-            token: false,
-        },
-        Some(n) => Types {
-            code: n == 0 || n == 3 || n == 4 || n == 5,
-            id_token: n == 1 || n == 2 || n == 3 || n == 5,
-            token: n == 2 || n == 4 || n == 5,
-        },
-    }
-}
-
 // The place of the client of this id, from 0.
 pub(crate) fn client_place(clients: &[Client], id: &[u8]) -> Option<usize>
     ensures value { result ≡ spec.client_place id.now clients.now }
@@ -246,7 +229,7 @@ fn party_of(alloc: Global, clients: &[Client], row: &Value) -> Result<Party, NoM
         client: client_number(clients, text_or(row, "client", "").as_bytes()),
         redirect: Text::new(alloc, text_or(row, "redirect_uri", ""))?,
         listen: Text::new(alloc, text_or(row, "listen", ""))?,
-        types: types_of_number(number),
+        types: Types::of_number(number),
         scope: Text::new(alloc, text_or(row, "scope", "openid"))?,
         prompt: text_of(alloc, text_at(row, "prompt"))?,
         max_age: natural_at(row, "max_age"),

@@ -25,6 +25,7 @@ impl Model for Refusals {
 }
 
 impl Refusals {
+    /// No refusal.
     pub fn new(alloc: Global) -> Refusals
         ensures { result ≡ [] }
     {

@@ -7,6 +7,7 @@
 //! | `text` | `Text`, `Blob`, `Texts` |
 //! | `word` | `Word`, 32 random bytes, and its text |
 //! | `moment` | `Moment`, a number of seconds |
+//! | `message` | `Message` and `Answered`: what servers send each other |
 //! | `history` | `Entry` and `Pair`: what a core was asked, and what it replied |
 //! | `rows` | rows with names, found, put and removed |
 //! | `sink`, `sink_memory` | where bytes are written to |
@@ -17,6 +18,7 @@
 mod history;
 mod law;
 mod memory;
+mod message;
 mod moment;
 mod rows;
 mod shelf;
@@ -31,6 +33,7 @@ mod word;
 pub use history::{Entry, Pair};
 pub use law::words_have_one_text;
 pub use memory::NoMemory;
+pub use message::{Answered, Message, copied_text};
 pub use moment::Moment;
 pub use rows::{Named, find_row, is_live, put_row, remove_row};
 pub use shelf::{Shelf, ShelfNo};

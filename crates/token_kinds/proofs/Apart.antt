@@ -28,14 +28,14 @@ use Rattle.logout_token.proofs.Tokens.{IsLogoutToken-read}
 
 -- ---- one text has one claim set
 
-same_claims : (ms ns : Members) (p q : List ℕ) → p ≡ q → Reads p ms → Reads q ns → ms ≡ ns
+pub same_claims : (ms ns : Members) (p q : List ℕ) → p ≡ q → Reads p ms → Reads q ns → ms ≡ ns
 same_claims ms ns p q same r s =
     let first = reads_read p ms r in
     let second = reads_read q ns s in
     cc
 
 -- what stands there, and what does not
-nothing_stands : (name v : List ℕ) (o : Option (List ℕ)) (ms ns : Members) → ms ≡ ns → get_member name ms ≡ None → get_member name ns ≡ option_map string o → o ≡ Some v → ⊥
+pub nothing_stands : (name v : List ℕ) (o : Option (List ℕ)) (ms ns : Members) → ms ≡ ns → get_member name ms ≡ None → get_member name ns ≡ option_map string o → o ≡ Some v → ⊥
 nothing_stands name v o ms ns same absent there is =
     let stands : get_member name ns ≡ Some (string v) = there ∙ ap (option_map string) is in
     cc stands

@@ -1,2 +1,4 @@
 pub mod Apart
+pub mod Issued
+pub mod Refusals
 mod Samples

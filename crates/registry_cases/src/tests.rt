@@ -1,6 +1,6 @@
 //! Configurations that are read, and one for each refusal that a file can bring about.
 
-use crate::{RegNo, Registry, read_registry};
+use client_registry::{RegNo, Registry, read_registry};
 use std::alloc::{AllocError, Global};
 use std::test::Fail;
 

@@ -1,0 +1,8 @@
+pub mod Numbers
+pub mod Places
+pub mod Reaching
+pub mod Wishes
+pub mod Fragments
+pub mod Judgements
+pub mod AskedNames
+mod Samples

@@ -1,0 +1,62 @@
+-- What every refusal that is sent back keeps, and what every granted wish does.
+use Rattle.std.specs.Prelude.{◌≡◌, ◌<◌, ◌≤◌, ◌^◌, ℕ, true, false, ◌||◌, List, length, map, codes, Some, is_some, slice_get, IfSome}
+use Rattle.configuration_rows.specs.Kinds.{has_text, is_response_type}
+use Rattle.client_registry.specs.declared.records.Client.{Client}
+use Rattle.client_registry.specs.Records.{types_of_number}
+use Rattle.client_registry.specs.Configuration.{Configuration}
+use Rattle.client_registry.specs.Registered.{AreApart}
+use Rattle.request_params.specs.declared.params.Params.{Params}
+use Rattle.auth_request.specs.declared.wish.Wish.{Wish}
+use Rattle.auth_request.specs.Words.{words_of, has_word}
+use Rattle.auth_request.specs.Parameters.{type_of, age_of, scopes_among}
+
+-- no two clients have one id, as in every registry
+abbrev pub ClientsAreApart : Configuration → Type 0
+ClientsAreApart c = AreApart (map (λ (k : Client). k.id) c.clients)
+
+-- the client of this number has the request's `client_id`, and the request's `redirect_uri` is this one and is
+-- registered for it (RFC 6749, 3.1.2.2 and 3.1.2.3)
+pub record IsRegistered (c : Configuration) (p : Params) (number : ℕ) (uri : List ℕ) : Type 0 where
+  pub client : Client
+  pub there : slice_get c.clients number ≡ Some client
+  pub named : p.client_id ≡ Some client.id
+  pub asked : p.redirect_uri ≡ Some uri
+  pub registered : has_text uri client.redirects ≡ true
+
+-- the response type is one of the five that answer in the fragment: one of the six, and not `code` (OAuth 2.0 Multiple
+-- Response Type Encoding Practices, 5)
+pub record AnswersInFragment (p : Params) : Type 0 where
+  pub text : List ℕ
+  pub asked : p.response_type ≡ Some text
+  pub known : is_response_type text ≡ true
+  pub other : text ≡ codes "code" → ⊥
+
+-- what every granted wish keeps: its client is one of the registry's, its redirection URI and its response type are ones
+-- that the client has, its scope has `openid`, a nonce is there where an ID Token comes from the authorization endpoint
+-- and has at most 255 bytes, `none` stands alone, and the age has at most nine digits
+pub record IsWish (c : Configuration) (w : Wish) : Type 0 where
+  pub below : w.client < length c.clients
+  pub client : Client
+  pub there : slice_get c.clients w.client ≡ Some client
+  pub registered : has_text w.redirect client.redirects ≡ true
+  pub number : ℕ
+  pub types : w.types ≡ types_of_number (Some number)
+  pub has_type : slice_get client.types number ≡ Some true
+  pub openid : w.scopes.openid ≡ true
+  pub nonce : w.types.id_token ≡ true → is_some w.nonce ≡ true
+  pub short_nonce : IfSome w.nonce (λ t. length t ≤ 255)
+  pub no_login : w.none ≡ true → w.login ≡ false
+  pub no_consent : w.none ≡ true → w.consent ≡ false
+  pub age : IfSome w.max_age (λ n. n < 10 ^ 9)
+
+-- the wish is what the parameters say
+pub record IsWishOf (p : Params) (w : Wish) : Type 0 where
+  pub redirect : p.redirect_uri ≡ Some w.redirect
+  pub types : w.types ≡ types_of_number (type_of p.response_type)
+  pub scopes : w.scopes ≡ scopes_among (words_of p.scope)
+  pub state : w.state ≡ p.state
+  pub nonce : w.nonce ≡ p.nonce
+  pub none : w.none ≡ has_word (codes "none") (words_of p.prompt)
+  pub login : w.login ≡ (has_word (codes "login") (words_of p.prompt) || has_word (codes "select_account") (words_of p.prompt))
+  pub consent : w.consent ≡ has_word (codes "consent") (words_of p.prompt)
+  pub max_age : w.max_age ≡ age_of p.max_age

@@ -1,0 +1,260 @@
+// The judgement of an authorization request: the first row that fits (OpenID Connect Core 1.0, 3.1.2.2).
+
+ghost use Rattle.std.specs.Prelude.{◌≡◌, IfOk, option_map};
+ghost use Rattle.std.specs.List.{list_any};
+ghost use Rattle.sso_base.specs.Refusals.{first_refusal};
+ghost use Rattle.configuration_rows.specs.Kinds.{has_text};
+ghost use Rattle.auth_request.specs.Judgement as spec;
+
+use crate::parameters::{Asking, asking_of};
+use crate::wish::{AuthError, PageNo, Refusal, Verdict, Wish};
+use client_registry::{Client, Registry, Types};
+use request_params::Params;
+use sso_base::{NoMemory, Text, Texts, copied_text};
+use std::alloc::Global;
+
+// The most bytes that a nonce may have.
+const LONGEST_NONCE: usize = 255;
+
+fn client_number(registry: &Registry, params: &Params) -> Option<u32>
+    ensures { result ≡ spec.client_number registry.now params.now }
+{
+    match &params.client_id {
+        Some(id) => registry.find_client(id.as_str().as_bytes()),
+        None => None,
+    }
+}
+
+// Whether the text is in the list.
+#[tactic(auto, using(configuration_rows::proofs::Lists::drop_at))]
+fn has(texts: &Texts, text: &str) -> bool
+    ensures { result ≡ has_text text.now texts.now }
+{
+    for place in 0..texts.count() {
+        if text == texts.at(place).as_str() {
+            return true;
+        }
+    }
+    false
+}
+
+// The redirection URI, where it is exactly one of the client's (RFC 6749, 3.1.2.4).
+fn redirect_of<'a>(client: &Client, uri: &'a Option<Text>) -> Option<&'a Text>
+    ensures { option_map (λ t. t.now) result ≡ spec.redirect_of client.now uri.now }
+{
+    match uri {
+        Some(uri) if has(&client.redirects, uri.as_str()) => Some(uri),
+        _ => None,
+    }
+}
+
+// Whether the client may ask for the response type.
+fn may_ask(client: &Client, number: Option<usize>) -> bool
+    ensures { result ≡ spec.may_ask client.now number }
+{
+    match number {
+        Some(number) => client.types.get(number).copied().unwrap_or(false),
+        None => false,
+    }
+}
+
+// Whether the response type answers in the fragment.
+fn is_in_fragment(number: Option<usize>) -> bool
+    ensures { result ≡ spec.is_in_fragment number }
+{
+    match number {
+        Some(number) => number != 0,
+        None => false,
+    }
+}
+
+fn mode_of(number: Option<usize>) -> &'static str
+    ensures { result.now ≡ spec.mode_of number }
+{
+    if is_in_fragment(number) {
+        "fragment"
+    } else {
+        "query"
+    }
+}
+
+// Whether a response mode is asked for that is not the type's own.
+fn is_other_mode(number: Option<usize>, mode: &Option<Text>) -> bool
+    ensures { result ≡ spec.is_other_mode number mode.now }
+{
+    match mode {
+        Some(mode) => !mode.equals(mode_of(number)),
+        None => false,
+    }
+}
+
+// Whether a nonce is missing or too long.
+fn is_bad_nonce(number: Option<usize>, nonce: &Option<Text>) -> bool
+    ensures { result ≡ spec.is_bad_nonce number nonce.now }
+{
+    match nonce {
+        Some(nonce) => nonce.as_str().len() > LONGEST_NONCE,
+        None => Types::of_number(number).id_token,
+    }
+}
+
+// The first error whose condition holds.
+#[tactic(auto, unfolding(crate::specs::Judgement::errors))]
+fn first_error(
+    client: &Client,
+    params: &Params,
+    asking: &Asking,
+    object_refused: bool,
+) -> Result<(), AuthError>
+    ensures { result ≡ first_refusal (spec.errors client.now params.now asking.now object_refused) }
+{
+    if params.request_uri.is_some() {
+        return Err(AuthError::RequestUriNotSupported);
+    }
+    if params.registration.is_some() {
+        return Err(AuthError::RegistrationNotSupported);
+    }
+    if object_refused {
+        return Err(AuthError::InvalidRequestObject);
+    }
+    if params.response_type.is_none() {
+        return Err(AuthError::InvalidRequest);
+    }
+    if asking.number.is_none() {
+        return Err(AuthError::UnsupportedResponseType);
+    }
+    if !may_ask(client, asking.number) {
+        return Err(AuthError::UnauthorizedClient);
+    }
+    if is_other_mode(asking.number, &params.response_mode) {
+        return Err(AuthError::InvalidRequest);
+    }
+    if !asking.scopes.openid {
+        return Err(AuthError::InvalidScope);
+    }
+    if is_bad_nonce(asking.number, &params.nonce) {
+        return Err(AuthError::InvalidRequest);
+    }
+    if asking.prompt.none && asking.prompt.others {
+        return Err(AuthError::InvalidRequest);
+    }
+    if params.max_age.is_some() && asking.max_age.is_none() {
+        return Err(AuthError::InvalidRequest);
+    }
+    if !asking.claims.fits {
+        return Err(AuthError::InvalidRequest);
+    }
+    Ok(())
+}
+
+// The error, sent to the redirection URI.
+fn refusal_of(
+    alloc: Global,
+    redirect: &Text,
+    params: &Params,
+    number: Option<usize>,
+    code: AuthError,
+) -> Result<Refusal, NoMemory>
+    ensures { IfOk result (λ r. r ≡ record { redirect = redirect.now; fragment = spec.is_in_fragment number; state = params.now.state; code = code }) }
+{
+    Ok(Refusal {
+        redirect: redirect.copy(alloc)?,
+        fragment: is_in_fragment(number),
+        state: copied_text(alloc, &params.state)?,
+        code,
+    })
+}
+
+fn wish_of(
+    alloc: Global,
+    client: u32,
+    redirect: &Text,
+    params: &Params,
+    asking: Asking,
+) -> Result<Wish, NoMemory>
+    ensures { IfOk result (λ w. w ≡ spec.wish_of client redirect.now params.now asking) }
+{
+    let claims = asking.claims;
+    Ok(Wish {
+        client,
+        redirect: redirect.copy(alloc)?,
+        types: Types::of_number(asking.number),
+        scopes: asking.scopes,
+        state: copied_text(alloc, &params.state)?,
+        nonce: copied_text(alloc, &params.nonce)?,
+        none: asking.prompt.none,
+        login: asking.prompt.login,
+        consent: asking.prompt.consent,
+        max_age: asking.max_age,
+        subs: claims.subs,
+        id_asked: claims.id_asked,
+        info_asked: claims.info_asked,
+    })
+}
+
+// The first error, or else the wish.
+fn answer(
+    alloc: Global,
+    client: u32,
+    redirect: &Text,
+    params: &Params,
+    asking: Asking,
+    judged: Result<(), AuthError>,
+) -> Result<Verdict, NoMemory>
+    ensures { IfOk result (λ v. v ≡ spec.answer client redirect.now params.now asking judged) }
+{
+    match judged {
+        Ok(()) => {
+            let wish = wish_of(alloc, client, redirect, params, asking)?;
+            Ok(Verdict::Grant(wish))
+        }
+        Err(code) => {
+            let refusal = refusal_of(alloc, redirect, params, asking.number, code)?;
+            Ok(Verdict::Refuse(refusal))
+        }
+    }
+}
+
+/// Judges an authorization request (OpenID Connect Core 1.0, 3.1.2.2), where `object_refused` says whether its request
+/// object was refused (6.1). The first of these rows that fits is answered.
+///
+/// | Condition | Verdict |
+/// |---|---|
+/// | `client_id` is absent or unknown | [`PageNo::Client`] |
+/// | `redirect_uri` is absent, or not exactly one of the client's | [`PageNo::Redirect`] |
+/// | `request_uri` is there | [`AuthError::RequestUriNotSupported`] |
+/// | `registration` is there | [`AuthError::RegistrationNotSupported`] |
+/// | the request object was refused | [`AuthError::InvalidRequestObject`] |
+/// | `response_type` is absent | [`AuthError::InvalidRequest`] |
+/// | it is none of the six | [`AuthError::UnsupportedResponseType`] |
+/// | it is none of the client's | [`AuthError::UnauthorizedClient`] |
+/// | `response_mode` is there, and is not the type's own | [`AuthError::InvalidRequest`] |
+/// | `scope` lacks the word `openid` | [`AuthError::InvalidScope`] |
+/// | `nonce` is absent where the type has `id_token`, or has over 255 bytes | [`AuthError::InvalidRequest`] |
+/// | `prompt` has the word `none` and another word | [`AuthError::InvalidRequest`] |
+/// | `max_age` is there, and is not 1 to 9 decimal digits | [`AuthError::InvalidRequest`] |
+/// | `claims` is there, and has another form (5.5) | [`AuthError::InvalidRequest`] |
+/// | none of these | [`Verdict::Grant`] |
+///
+/// A refusal goes to the redirection URI with the request's state, in the fragment exactly where the response type is one
+/// of the five other than `code`.
+#[tactic(auto, unfolding(crate::specs::Judgement::judgement), using(crate::proofs::Numbers::below))]
+pub fn judge(
+    alloc: Global,
+    registry: &Registry,
+    params: &Params,
+    object_refused: bool,
+) -> Result<Verdict, NoMemory>
+    ensures { IfOk result (λ v. v ≡ spec.judgement registry.now params.now object_refused) }
+{
+    let Some(number) = client_number(registry, params) else {
+        return Ok(Verdict::Page(PageNo::Client));
+    };
+    let client = registry.client(number);
+    let Some(redirect) = redirect_of(client, &params.redirect_uri) else {
+        return Ok(Verdict::Page(PageNo::Redirect));
+    };
+    let asking = asking_of(alloc, params)?;
+    let judged = first_error(client, params, &asking, object_refused);
+    answer(alloc, number, redirect, params, asking, judged)
+}

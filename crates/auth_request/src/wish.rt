@@ -1,0 +1,139 @@
+// What an authorization request wishes, and how it is judged.
+
+ghost use Rattle.std.specs.Prelude.{◌≡◌, IfOk};
+
+use client_registry::Types;
+use scope_claims::Scopes;
+use sso_base::{NoMemory, Text, Texts, copied_text};
+use std::alloc::Global;
+
+/// What an authorization request wishes, where it may be answered (OpenID Connect Core 1.0, 3.1.2.1 and 5.5).
+#[derive(Debug, Drop)]
+pub struct Wish {
+    /// The number of its client, from 0.
+    pub client: u32,
+    /// The redirection URI: one that the client has.
+    pub redirect: Text,
+    pub types: Types,
+    pub scopes: Scopes,
+    pub state: Option<Text>,
+    pub nonce: Option<Text>,
+    /// Whether `prompt` has the word `none`.
+    pub none: bool,
+    /// Whether `prompt` has the word `login` or `select_account`.
+    pub login: bool,
+    /// Whether `prompt` has the word `consent`.
+    pub consent: bool,
+    /// In seconds.
+    pub max_age: Option<u64>,
+    /// The subjects, of which the user must be one (OpenID Connect Core 1.0, 5.5.1).
+    pub subs: Option<Texts>,
+    /// The names of the claims that are asked for in the ID Token.
+    pub id_asked: Texts,
+    /// The names of the claims that are asked for from the UserInfo endpoint.
+    pub info_asked: Texts,
+}
+
+/// The error codes of authorization responses (RFC 6749, 4.1.2.1; OpenID Connect Core 1.0, 3.1.2.6).
+#[derive(Clone, Copy, Debug, PartialEq, Eq)]
+pub enum AuthError {
+    InvalidRequest,
+    UnauthorizedClient,
+    AccessDenied,
+    UnsupportedResponseType,
+    InvalidScope,
+    ServerError,
+    TemporarilyUnavailable,
+    InteractionRequired,
+    LoginRequired,
+    AccountSelectionRequired,
+    ConsentRequired,
+    InvalidRequestUri,
+    InvalidRequestObject,
+    RequestNotSupported,
+    RequestUriNotSupported,
+    RegistrationNotSupported,
+    /// A code that none of these texts define.
+    Other,
+}
+
+/// Why the provider shows an error page instead of sending the browser back.
+#[derive(Clone, Copy, Debug, PartialEq, Eq)]
+pub enum PageNo {
+    /// The client is absent or unknown.
+    Client,
+    /// The redirection URI is absent or none of the client's.
+    Redirect,
+    /// A name stands twice.
+    Twice,
+    /// The login or consent form is of no live turn.
+    Turn,
+    /// The form was served to another browser.
+    Browser,
+}
+
+/// An authorization error response (OpenID Connect Core 1.0, 3.1.2.6 and 3.2.2.6).
+#[derive(Debug, Drop)]
+pub struct Refusal {
+    /// The redirection URI that it is sent to: one that the client has.
+    pub redirect: Text,
+    /// Whether it stands in the fragment, else in the query.
+    pub fragment: bool,
+    pub state: Option<Text>,
+    pub code: AuthError,
+}
+
+/// The judgement of an authorization request.
+#[derive(Debug, Drop)]
+pub enum Verdict {
+    Page(PageNo),
+    Refuse(Refusal),
+    Grant(Wish),
+}
+
+// An equal list of texts, where there is one.
+fn copied_texts(alloc: Global, texts: &Option<Texts>) -> Result<Option<Texts>, NoMemory>
+    ensures { IfOk result (λ o. o ≡ texts.now) }
+{
+    match texts {
+        Some(texts) => Ok(Some(texts.copy(alloc)?)),
+        None => Ok(None),
+    }
+}
+
+impl Wish {
+    /// An equal wish.
+    pub fn copy(&self, alloc: Global) -> Result<Wish, NoMemory>
+        ensures { IfOk result (λ w. w ≡ self.now) }
+    {
+        Ok(Wish {
+            client: self.client,
+            redirect: self.redirect.copy(alloc)?,
+            types: self.types,
+            scopes: self.scopes,
+            state: copied_text(alloc, &self.state)?,
+            nonce: copied_text(alloc, &self.nonce)?,
+            none: self.none,
+            login: self.login,
+            consent: self.consent,
+            max_age: self.max_age,
+            subs: copied_texts(alloc, &self.subs)?,
+            id_asked: self.id_asked.copy(alloc)?,
+            info_asked: self.info_asked.copy(alloc)?,
+        })
+    }
+}
+
+impl Refusal {
+    /// An equal refusal.
+    pub fn copy(&self, alloc: Global) -> Result<Refusal, NoMemory>
+        ensures { IfOk result (λ r. r ≡ self.now) }
+    {
+        Ok(Refusal {
+            redirect: self.redirect.copy(alloc)?,
+            fragment: self.fragment,
+            state: copied_text(alloc, &self.state)?,
+            code: self.code,
+        })
+    }
+}

@@ -1,0 +1,53 @@
+-- Which requests may be answered, in the words of the standard (OpenID Connect Core 1.0, 3.1.2.1 and 3.1.2.4).
+use Rattle.std.specs.Prelude.{ℕ, ◌≡◌, ◌≤◌, ◌+◌, ◌⊎◌, true, false, List, Option, Some, None, slice_get}
+use Rattle.client_registry.specs.Configuration.{Configuration, subject_at}
+use Rattle.scope_claims.specs.Claims.{is_one_of, covers}
+use Rattle.auth_request.specs.declared.wish.Wish.{Wish}
+use Rattle.auth_request.specs.declared.wish.AuthError.{AuthError}
+use Rattle.auth_request.specs.declared.wish.AuthError.TheVariants.{LoginRequired, ConsentRequired, AccessDenied}
+use Rattle.request_need.specs.declared.standing.Standing.{Standing}
+use Rattle.request_need.specs.Need.{needed_scopes, asks_consent}
+
+-- the login is no more seconds ago than `max_age` allows
+abbrev pub IsRecent : Option ℕ → ℕ → ℕ → Type 0
+IsRecent None auth_time at = Unit {0}
+IsRecent (Some most) auth_time at = at ≤ auth_time + most
+
+-- the user logged in for this request itself; or no login is asked for, and the one that stands is recent
+abbrev pub HasSignedIn : Wish → Standing → ℕ → Type 0
+HasSignedIn wish s at = (s.in_turn ≡ true) ⊎ ((wish.login ≡ false) × IsRecent wish.max_age s.auth_time at)
+
+-- the subject is one of those that are asked for, where some are (Core 5.5.1)
+abbrev pub IsAskedFor : List ℕ → Option (List (List ℕ)) → Type 0
+IsAskedFor sub None = Unit {0}
+IsAskedFor sub (Some subs) = is_one_of subs sub ≡ true
+
+-- the user has granted the client all that a consent to the wish is about, and needn't be asked again
+pub record HasGranted (wish : Wish) (s : Standing) : Type 0 where
+  pub not_again : wish.consent ≡ false
+  pub covered : covers s.granted (needed_scopes wish) ≡ true
+  pub ever : s.granted.openid ≡ true
+
+-- the client asks no consent, or the user agreed to this request itself, or has granted it before
+abbrev pub HasAgreed : Configuration → Wish → Standing → Type 0
+HasAgreed c wish s = (asks_consent (slice_get c.clients wish.client) ≡ false) ⊎ (s.agreed ≡ true) ⊎ HasGranted wish s
+
+pub record IsAnswerable (c : Configuration) (wish : Wish) (s : Standing) (at : ℕ) : Type 0 where
+  pub signed_in : HasSignedIn wish s at
+  pub user : IsAskedFor (subject_at c wish.client s.user) wish.subs
+  pub agreed : HasAgreed c wish s
+
+-- particular subjects are asked for, and this is none of them (Core 5.5.1)
+abbrev pub IsOther : List ℕ → Option (List (List ℕ)) → Type 0
+IsOther sub None = ⊥
+IsOther sub (Some subs) = is_one_of subs sub ≡ false
+
+-- the user logged in for this request itself, and is another than those that are asked for
+abbrev pub IsDenied : Configuration → Wish → Option Standing → Type 0
+IsDenied c wish None = ⊥
+IsDenied c wish (Some s) = (s.in_turn ≡ true) × IsOther (subject_at c wish.client s.user) wish.subs
+
+-- the cause of a refusal: no page may be shown (Core 3.1.2.6, `login_required` and `consent_required`), or access is denied
+abbrev pub HasCause : Configuration → Wish → Option Standing → AuthError → Type 0
+HasCause c wish standing code =
+    ((code ≡ LoginRequired) × (wish.none ≡ true)) ⊎ ((code ≡ ConsentRequired) × (wish.none ≡ true)) ⊎ ((code ≡ AccessDenied) × IsDenied c wish standing)

@@ -1,0 +1,10 @@
+pub mod Among
+pub mod Forms
+pub mod Texts
+pub mod Standing
+pub mod Refused
+pub mod Objects
+pub mod RoundTrip
+pub mod Fitting
+pub mod Written
+mod Samples

@@ -1,0 +1,4 @@
+pub mod Request
+pub mod Sealing
+pub mod Reading
+pub mod Object

@@ -1,0 +1,148 @@
+-- The parameters that a request object gives, or why it is refused (OpenID Connect Core 1.0, 6.1 and 6.3).
+use Rattle.std.specs.Prelude.{ℕ, List, Bool, true, false, not, ◌||◌, Option, Some, None, option_map, is_some, Result, Ok, Err, codes}
+use Rattle.std.specs.List.{list_any}
+use Rattle.std.specs.Str.{bytes_eq}
+use Rattle.serde_json.specs.Data.{Data, Members}
+use Rattle.serde_json.specs.Find.{get_member, as_str, as_number, as_object}
+use Rattle.serde_json.specs.Written.{number_text}
+use Rattle.sso_base.specs.Refusals.{and_then, forbid}
+use Rattle.claim_set.specs.Kinds.{of_kind, text_claim, texts_claim}
+use Rattle.claim_set.specs.Reading.{claims_read, claims_text}
+use Rattle.claim_set.specs.declared.no.ClaimNo.{ClaimNo}
+use Rattle.claim_set.specs.declared.no.ClaimNo.TheVariants as claims
+use Rattle.jws_compact.specs.declared.no.JwsNo.{JwsNo}
+use Rattle.jws_compact.specs.declared.no.JwsNo.TheVariants as jws
+use Rattle.jws_compact.specs.declared.unsealing.Unsealed.{Unsealed}
+use Rattle.jws_compact.specs.Jws.{verdict}
+use Rattle.client_registry.specs.declared.records.Client.{Client}
+use Rattle.request_params.specs.declared.params.Params.{Params}
+use Rattle.request_object.specs.declared.raw.FirstClaims.{FirstClaims}
+use Rattle.request_object.specs.declared.raw.LastClaims.{LastClaims}
+use Rattle.request_object.specs.declared.raw.RawRequest.{RawRequest}
+use Rattle.request_object.specs.declared.no.ObjNo.{ObjNo}
+use Rattle.request_object.specs.declared.no.ObjNo.TheVariants.{NoMemory, Jws, Claims, Issuer, Audience, Nested}
+
+-- ---- the claims, each of its kind
+
+-- the digits of a number, and the JSON text of an object
+abbrev pub digits_in : Data → Option (List ℕ)
+digits_in d = option_map number_text (as_number d)
+
+abbrev pub object_text : Data → Option (List ℕ)
+object_text d = option_map claims_text (as_object d)
+
+abbrev pub either : Option (List ℕ) → Option (List ℕ) → Option (List ℕ)
+either (Some s) o = Some s
+either None o = o
+
+-- a string is its own text; what is none may have a text of another form
+abbrev pub text_or : (Data → Option (List ℕ)) → Data → Option (List ℕ)
+text_or other d = either (as_str d) (other d)
+
+-- `max_age`, a string or a number (OpenID Connect Core 1.0, 6.1, where it is a number)
+abbrev pub age_claim : Members → Result (Option (List ℕ)) ClaimNo
+age_claim ms = of_kind (codes "max_age") (get_member (codes "max_age") ms) (text_or digits_in)
+
+-- `claims`, a string or an object (OpenID Connect Core 1.0, 5.5, where it is an object in a request object)
+abbrev pub claims_claim : Members → Result (Option (List ℕ)) ClaimNo
+claims_claim ms = of_kind (codes "claims") (get_member (codes "claims") ms) (text_or object_text)
+
+-- the claims, as far as they are there; the first of another kind, by name, is refused
+unfoldable pub first_in : Members → Result FirstClaims ClaimNo
+first_in ms =
+    and_then (texts_claim (codes "aud") ms) (λ aud.
+    and_then (claims_claim ms) (λ claims.
+    and_then (text_claim (codes "client_id") ms) (λ client_id.
+    and_then (text_claim (codes "iss") ms) (λ iss.
+    and_then (age_claim ms) (λ max_age.
+    and_then (text_claim (codes "nonce") ms) (λ nonce.
+    and_then (text_claim (codes "prompt") ms) (λ prompt.
+    Ok (record { aud = aud; claims = claims; client_id = client_id; iss = iss; max_age = max_age; nonce = nonce; prompt = prompt }))))))))
+
+unfoldable pub last_in : Members → Result LastClaims ClaimNo
+last_in ms =
+    and_then (text_claim (codes "redirect_uri") ms) (λ redirect_uri.
+    and_then (text_claim (codes "registration") ms) (λ registration.
+    and_then (text_claim (codes "request") ms) (λ request.
+    and_then (text_claim (codes "request_uri") ms) (λ request_uri.
+    and_then (text_claim (codes "response_mode") ms) (λ response_mode.
+    and_then (text_claim (codes "response_type") ms) (λ response_type.
+    and_then (text_claim (codes "scope") ms) (λ scope.
+    and_then (text_claim (codes "state") ms) (λ state.
+    Ok (record { redirect_uri = redirect_uri; registration = registration; request = request; request_uri = request_uri; response_mode = response_mode; response_type = response_type; scope = scope; state = state })))))))))
+
+abbrev pub raw_in : Members → Result RawRequest ClaimNo
+raw_in ms = and_then (first_in ms) (λ first. and_then (last_in ms) (λ last. Ok (record { first = first; last = last })))
+
+-- ---- what is refused, in order
+
+-- it is there, and is another text
+abbrev pub is_other : List ℕ → Option (List ℕ) → Bool
+is_other t None = false
+is_other t (Some s) = not (bytes_eq s t)
+
+-- the text is among the texts
+abbrev pub is_among : List ℕ → List (List ℕ) → Bool
+is_among t ts = list_any (λ s. bytes_eq s t) ts
+
+-- the texts are there, and the text is not among them
+abbrev pub lacks : List ℕ → Option (List (List ℕ)) → Bool
+lacks t None = false
+lacks t (Some ts) = not (is_among t ts)
+
+-- the parameters, where the object is the client's, for this provider, and with no request inside
+unfoldable pub judged : Client → List ℕ → RawRequest → Result Params ObjNo
+judged client issuer r =
+    forbid Issuer (is_other client.id r.first.iss)
+    (forbid Audience (lacks issuer r.first.aud)
+    (forbid Nested (is_some r.last.request || is_some r.last.request_uri)
+    (Ok (record {
+      response_type = r.last.response_type;
+      client_id = r.first.client_id;
+      redirect_uri = r.last.redirect_uri;
+      scope = r.last.scope;
+      state = r.last.state;
+      nonce = r.first.nonce;
+      response_mode = r.last.response_mode;
+      prompt = r.first.prompt;
+      max_age = r.first.max_age;
+      claims = r.first.claims;
+      request = r.last.request;
+      request_uri = r.last.request_uri;
+      registration = r.last.registration;
+    }))))
+
+abbrev pub if_raw : Client → List ℕ → Result RawRequest ClaimNo → Result Params ObjNo
+if_raw client issuer (Ok r) = judged client issuer r
+if_raw client issuer (Err e) = Err (Claims e)
+
+-- the parameters that a claim set gives
+unfoldable pub request_of : Client → List ℕ → Members → Result Params ObjNo
+request_of client issuer ms = if_raw client issuer (raw_in ms)
+
+abbrev pub if_claims : Client → List ℕ → Result Members ClaimNo → Result Params ObjNo
+if_claims client issuer (Ok ms) = request_of client issuer ms
+if_claims client issuer (Err e) = Err (Claims e)
+
+abbrev pub if_opened : Client → List ℕ → Result Unsealed JwsNo → Result Params ObjNo
+if_opened client issuer (Ok o) = if_claims client issuer (claims_read o.payload)
+if_opened client issuer (Err e) = Err (Jws e)
+
+-- the parameters that a text gives as a request object of the client for the issuer, or the first refusal that fits
+unfoldable pub request_read : Client → List ℕ → List ℕ → Result Params ObjNo
+request_read client issuer t = if_opened client issuer (verdict client.secret t)
+
+-- want of memory stands inside another refusal
+abbrev pub hides_memory : ObjNo → Bool
+hides_memory (Jws jws.NoMemory) = true
+hides_memory (Claims claims.NoMemory) = true
+hides_memory e = false
+
+-- a refusal of a sealed text or of claims, as that of a request object; want of memory is the object's own
+abbrev pub as_jws : JwsNo → ObjNo
+as_jws jws.NoMemory = NoMemory
+as_jws e = Jws e
+
+abbrev pub as_claims : ClaimNo → ObjNo
+as_claims claims.NoMemory = NoMemory
+as_claims e = Claims e

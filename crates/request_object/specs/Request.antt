@@ -1,0 +1,43 @@
+-- A request object that is written: the parameters of an authorization request as claims, issued by the client for the
+-- provider (OpenID Connect Core 1.0, 6.1). It has neither `request` nor `request_uri`, nor `registration`.
+use Rattle.std.specs.Prelude.{ℕ, List, [], ◌∷◌, ◌++◌, Option, Some, option_map, codes}
+use Rattle.serde_json.specs.Data.{string, Members, no_members}
+use Rattle.claim_set.specs.Building.{Entry, put_all}
+use Rattle.claim_set.specs.Reading.{claims_text}
+use Rattle.jws_compact.specs.declared.sealing.Typ.TheVariants.{Jwt}
+use Rattle.jws_compact.specs.Jws.{seal_text}
+use Rattle.client_registry.specs.declared.records.Client.{Client}
+use Rattle.request_params.specs.declared.params.Params.{Params}
+
+abbrev pub text_entry : List ℕ → Option (List ℕ) → Entry
+text_entry name o = (name, option_map string o)
+
+-- the claims, by name, in the order of their names
+abbrev pub first_entries : Client → List ℕ → Params → List Entry
+first_entries client issuer p =
+    (codes "aud", Some (string issuer))
+    ∷ text_entry (codes "claims") p.claims
+    ∷ text_entry (codes "client_id") p.client_id
+    ∷ (codes "iss", Some (string client.id))
+    ∷ text_entry (codes "max_age") p.max_age
+    ∷ text_entry (codes "nonce") p.nonce ∷ []
+
+abbrev pub last_entries : Params → List Entry
+last_entries p =
+    text_entry (codes "prompt") p.prompt
+    ∷ text_entry (codes "redirect_uri") p.redirect_uri
+    ∷ text_entry (codes "response_mode") p.response_mode
+    ∷ text_entry (codes "response_type") p.response_type
+    ∷ text_entry (codes "scope") p.scope
+    ∷ text_entry (codes "state") p.state ∷ []
+
+abbrev pub request_entries : Client → List ℕ → Params → List Entry
+request_entries client issuer p = first_entries client issuer p ++ last_entries p
+
+-- the claim set of a request object
+unfoldable pub request_members : Client → List ℕ → Params → Members
+request_members client issuer p = put_all (request_entries client issuer p) no_members
+
+-- the text of a request object: its claim set, sealed under the client's secret
+unfoldable pub request_text : Client → List ℕ → Params → List ℕ
+request_text client issuer p = seal_text client.secret Jwt (claims_text (request_members client issuer p))

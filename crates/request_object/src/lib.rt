@@ -1,0 +1,29 @@
+//! Request objects: authorization requests whose parameters are sealed by the client (OpenID Connect Core 1.0, 6.1).
+//!
+//! A request object is a sealed text (RFC 7515, 3.1) under the client's secret. Its payload is a claim set in which the
+//! parameters of the request stand by their names, with the client as `iss` and the provider's issuer as `aud`.
+//!
+//! | Module | What it has |
+//! |---|---|
+//! | `sealing` | [`seal_request`] writes and seals one; [`written_len`] is the test of one condition of it |
+//! | `reading` | [`unseal_request`] reads the parameters of one |
+//! | `raw` | the claims of a request object, each of its kind |
+//! | `no` | [`ObjNo`], why a request object is refused |
+//! | `law` | what holds of request objects, for the crates above |
+#![tactic(auto)]
+
+mod law;
+mod no;
+mod raw;
+mod reading;
+mod sealing;
+#[cfg(test)]
+mod tests;
+
+pub use law::{
+    parameters_of_their_types_fit, read_objects_are_request_objects,
+    refused_objects_have_the_first_reason, sealed_requests_are_read,
+};
+pub use no::ObjNo;
+pub use reading::unseal_request;
+pub use sealing::{seal_request, written_len};

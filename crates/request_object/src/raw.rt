@@ -1,0 +1,182 @@
+// The claims of a request object, as far as they are there, each of its kind.
+
+ghost use Rattle.std.specs.Prelude.{◌≡◌, ◌⊎◌, Ok, Err, IfOk, IfErr, false, option_and_then, codes};
+ghost use Rattle.serde_json.specs.Find.{get_member};
+ghost use Rattle.serde_json.specs.View.{view};
+ghost use Rattle.serde_json.specs.Written.{has_float};
+ghost use Rattle.claim_set.specs.Reading.{claims_text};
+ghost use Rattle.request_object.specs.Reading.{digits_in, object_text, age_claim, claims_claim, first_in, last_in, raw_in};
+
+use claim_set::{ClaimNo, ClaimSet, write_claims};
+use serde_json::Value;
+use sso_base::{NoMemory, Text, Texts};
+use std::alloc::Global;
+
+// The claims up to `prompt`, in the order of their names.
+#[derive(Debug, Drop)]
+pub(crate) struct FirstClaims {
+    pub(crate) aud: Option<Texts>,
+    pub(crate) claims: Option<Text>,
+    pub(crate) client_id: Option<Text>,
+    pub(crate) iss: Option<Text>,
+    pub(crate) max_age: Option<Text>,
+    pub(crate) nonce: Option<Text>,
+    pub(crate) prompt: Option<Text>,
+}
+
+// The claims from `redirect_uri` on, in the order of their names.
+#[derive(Debug, Drop)]
+pub(crate) struct LastClaims {
+    pub(crate) redirect_uri: Option<Text>,
+    pub(crate) registration: Option<Text>,
+    pub(crate) request: Option<Text>,
+    pub(crate) request_uri: Option<Text>,
+    pub(crate) response_mode: Option<Text>,
+    pub(crate) response_type: Option<Text>,
+    pub(crate) scope: Option<Text>,
+    pub(crate) state: Option<Text>,
+}
+
+// All of them.
+#[derive(Debug, Drop)]
+pub(crate) struct RawRequest {
+    pub(crate) first: FirstClaims,
+    pub(crate) last: LastClaims,
+}
+
+// The digits of a number.
+#[tactic(auto, using(crate::proofs::Texts::digits_of, crate::proofs::Texts::no_digits_of))]
+fn digits(alloc: Global, value: &Value) -> Result<Option<Text>, NoMemory>
+    requires { has_float (view value.now) ≡ false }
+    ensures { IfOk result (λ o. o ≡ digits_in (view value.now)) }
+{
+    if value.is_number() {
+        Ok(Some(Text::from_string(value.to_string(alloc)?)))
+    } else {
+        Ok(None)
+    }
+}
+
+// The digits of the number that `max_age` is, where it is one. A claim set tells only numbers below 2^40, so the number
+// is looked up in the set's text.
+fn age_digits(alloc: Global, claims: &ClaimSet) -> Result<Option<Text>, NoMemory>
+    ensures { IfOk result (λ o. o ≡ option_and_then digits_in (get_member (codes "max_age") claims.now)) }
+{
+    let written = write_claims(claims)?;
+    // What was written is read, so that memory alone can be wanting.
+    let Ok(value) = Value::from_slice(alloc, written.as_bytes()) else {
+        return Err(NoMemory);
+    };
+    match value.get("max_age") {
+        Some(age) => digits(alloc, age),
+        None => Ok(None),
+    }
+}
+
+// `max_age`: a string, or a number in decimal.
+fn age(alloc: Global, claims: &ClaimSet) -> Result<Option<Text>, ClaimNo>
+    ensures ok { IfOk result (λ o. age_claim claims.now ≡ Ok o) }
+    ensures err { IfErr result (λ e. (e ≡ ClaimNo.NoMemory) ⊎ (age_claim claims.now ≡ Err e)) }
+{
+    match claims.text("max_age") {
+        Err(ClaimNo::WrongKind(name)) => match age_digits(alloc, claims)? {
+            Some(digits) => Ok(Some(digits)),
+            None => Err(ClaimNo::WrongKind(name)),
+        },
+        answer => answer,
+    }
+}
+
+// The text of a claim set.
+fn text_of(alloc: Global, claims: &ClaimSet) -> Result<Text, NoMemory>
+    ensures { IfOk result (λ t. t ≡ claims_text claims.now) }
+{
+    let written = write_claims(claims)?;
+    let text = std::str::from_utf8(written.as_bytes()).unwrap();
+    Text::new(alloc, text)
+}
+
+// The JSON text of the object that `claims` is, where it is one.
+fn claims_object(alloc: Global, claims: &ClaimSet) -> Result<Option<Text>, NoMemory>
+    ensures { IfOk result (λ o. o ≡ option_and_then object_text (get_member (codes "claims") claims.now)) }
+{
+    match claims.member("claims") {
+        Ok(Some(asked)) => Ok(Some(text_of(alloc, &asked)?)),
+        Ok(None) => Ok(None),
+        Err(ClaimNo::NoMemory) => Err(NoMemory),
+        Err(_) => Ok(None),
+    }
+}
+
+// `claims`: a string, or the JSON text of an object.
+fn asked_claims(alloc: Global, claims: &ClaimSet) -> Result<Option<Text>, ClaimNo>
+    ensures ok { IfOk result (λ o. claims_claim claims.now ≡ Ok o) }
+    ensures err { IfErr result (λ e. (e ≡ ClaimNo.NoMemory) ⊎ (claims_claim claims.now ≡ Err e)) }
+{
+    match claims.text("claims") {
+        Err(ClaimNo::WrongKind(name)) => match claims_object(alloc, claims)? {
+            Some(text) => Ok(Some(text)),
+            None => Err(ClaimNo::WrongKind(name)),
+        },
+        answer => answer,
+    }
+}
+
+// The claims are asked for in the order of their names, so that the first of another kind is the one that is refused.
+#[tactic(auto, unfolding(crate::specs::Reading::first_in))]
+fn first_claims(alloc: Global, claims: &ClaimSet) -> Result<FirstClaims, ClaimNo>
+    ensures ok { IfOk result (λ r. first_in claims.now ≡ Ok r) }
+    ensures err { IfErr result (λ e. (e ≡ ClaimNo.NoMemory) ⊎ (first_in claims.now ≡ Err e)) }
+{
+    let aud = claims.texts("aud")?;
+    let asked = asked_claims(alloc, claims)?;
+    let client_id = claims.text("client_id")?;
+    let iss = claims.text("iss")?;
+    let max_age = age(alloc, claims)?;
+    let nonce = claims.text("nonce")?;
+    let prompt = claims.text("prompt")?;
+    Ok(FirstClaims {
+        aud,
+        claims: asked,
+        client_id,
+        iss,
+        max_age,
+        nonce,
+        prompt,
+    })
+}
+
+#[tactic(auto, unfolding(crate::specs::Reading::last_in))]
+fn last_claims(claims: &ClaimSet) -> Result<LastClaims, ClaimNo>
+    ensures ok { IfOk result (λ r. last_in claims.now ≡ Ok r) }
+    ensures err { IfErr result (λ e. (e ≡ ClaimNo.NoMemory) ⊎ (last_in claims.now ≡ Err e)) }
+{
+    let redirect_uri = claims.text("redirect_uri")?;
+    let registration = claims.text("registration")?;
+    let request = claims.text("request")?;
+    let request_uri = claims.text("request_uri")?;
+    let response_mode = claims.text("response_mode")?;
+    let response_type = claims.text("response_type")?;
+    let scope = claims.text("scope")?;
+    let state = claims.text("state")?;
+    Ok(LastClaims {
+        redirect_uri,
+        registration,
+        request,
+        request_uri,
+        response_mode,
+        response_type,
+        scope,
+        state,
+    })
+}
+
+// The claims, as far as they are there, or the refusal of the first that is of another kind.
+pub(crate) fn raw_claims(alloc: Global, claims: &ClaimSet) -> Result<RawRequest, ClaimNo>
+    ensures ok { IfOk result (λ r. raw_in claims.now ≡ Ok r) }
+    ensures err { IfErr result (λ e. (e ≡ ClaimNo.NoMemory) ⊎ (raw_in claims.now ≡ Err e)) }
+{
+    let first = first_claims(alloc, claims)?;
+    let last = last_claims(claims)?;
+    Ok(RawRequest { first, last })
+}

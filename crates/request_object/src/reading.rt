@@ -1,0 +1,163 @@
+// A request object is read, or refused for the first reason that fits.
+
+ghost use Rattle.std.specs.Prelude.{◌≡◌, ◌⊎◌, Ok, Err, IfOk, IfErr, IsFalse};
+ghost use Rattle.request_params.specs.declared.params.Params.{Params};
+ghost use Rattle.request_object.specs.Object.{IsRequestObject};
+ghost use Rattle.request_object.specs.Reading.{is_other as is_other_text, is_among, lacks as lacks_text, judged, request_of, request_read, hides_memory, as_claims, as_jws};
+
+use crate::no::ObjNo;
+use crate::raw::{RawRequest, raw_claims};
+use claim_set::{ClaimNo, ClaimSet, read_claims};
+use client_registry::Client;
+use jws_compact::{JwsNo, unseal};
+use request_params::Params;
+use sso_base::{Text, Texts};
+use std::alloc::Global;
+
+// Whether there is a text, and it is another than this one.
+fn is_other(text: &Text, given: &Option<Text>) -> bool
+    ensures { result ≡ is_other_text text.now given.now }
+{
+    match given {
+        None => false,
+        Some(given) => !given.equals(text.as_str()),
+    }
+}
+
+// Whether the text is among the texts.
+fn has_text(texts: &Texts, text: &str) -> bool
+    ensures { result ≡ is_among text.now texts.now }
+{
+    for i in 0..texts.count() {
+        if texts.at(i).as_str() == text {
+            return true;
+        }
+    }
+    false
+}
+
+// Whether there are texts, and this one is not among them.
+fn lacks(text: &Text, given: &Option<Texts>) -> bool
+    ensures { result ≡ lacks_text text.now given.now }
+{
+    match given {
+        None => false,
+        Some(texts) => !has_text(texts, text.as_str()),
+    }
+}
+
+// The parameters among the claims, where the object is the client's, for this issuer, and has no request inside.
+#[tactic(auto, unfolding(crate::specs::Reading::judged))]
+fn params_in(client: &Client, issuer: &Text, raw: RawRequest) -> Result<Params, ObjNo>
+    ensures ok { IfOk result (λ p. judged client.now issuer.now raw ≡ Ok p) }
+    ensures err { IfErr result (λ e. judged client.now issuer.now raw ≡ Err e) }
+    ensures memory_is_outermost { IfErr result (λ e. IsFalse (hides_memory e)) }
+{
+    let RawRequest { first, last } = raw;
+    if is_other(&client.id, &first.iss) {
+        return Err(ObjNo::Issuer);
+    }
+    if lacks(issuer, &first.aud) {
+        return Err(ObjNo::Audience);
+    }
+    if last.request.is_some() || last.request_uri.is_some() {
+        return Err(ObjNo::Nested);
+    }
+    Ok(Params {
+        response_type: last.response_type,
+        client_id: first.client_id,
+        redirect_uri: last.redirect_uri,
+        scope: last.scope,
+        state: last.state,
+        nonce: first.nonce,
+        response_mode: last.response_mode,
+        prompt: first.prompt,
+        max_age: first.max_age,
+        claims: first.claims,
+        request: last.request,
+        request_uri: last.request_uri,
+        registration: last.registration,
+    })
+}
+
+// The refusal of claims, as that of a request object.
+fn claims_refused(error: ClaimNo) -> ObjNo
+    ensures refused { result ≡ as_claims error }
+    ensures memory_is_outermost { IsFalse (hides_memory result) }
+{
+    match error {
+        ClaimNo::NoMemory => ObjNo::NoMemory,
+        error => ObjNo::Claims(error),
+    }
+}
+
+// The refusal of a sealed text, as that of a request object.
+fn jws_refused(error: JwsNo) -> ObjNo
+    ensures refused { result ≡ as_jws error }
+    ensures memory_is_outermost { IsFalse (hides_memory result) }
+{
+    match error {
+        JwsNo::NoMemory => ObjNo::NoMemory,
+        error => ObjNo::Jws(error),
+    }
+}
+
+// The parameters that a claim set gives.
+#[tactic(auto, unfolding(crate::specs::Reading::request_of))]
+fn request_in(
+    alloc: Global,
+    client: &Client,
+    issuer: &Text,
+    claims: &ClaimSet,
+) -> Result<Params, ObjNo>
+    ensures ok { IfOk result (λ p. request_of client.now issuer.now claims.now ≡ Ok p) }
+    ensures err { IfErr result (λ e. (e ≡ ObjNo.NoMemory) ⊎ (request_of client.now issuer.now claims.now ≡ Err e)) }
+    ensures memory_is_outermost { IfErr result (λ e. IsFalse (hides_memory e)) }
+{
+    match raw_claims(alloc, claims) {
+        Ok(raw) => params_in(client, issuer, raw),
+        Err(error) => Err(claims_refused(error)),
+    }
+}
+
+// The parameters of the request object that a text is, or the first refusal that fits.
+#[tactic(auto, unfolding(crate::specs::Reading::request_read))]
+fn opened(alloc: Global, client: &Client, issuer: &Text, text: &[u8]) -> Result<Params, ObjNo>
+    ensures answers { IfOk result (λ p. request_read client.now issuer.now text.now ≡ Ok p) }
+    ensures refuses { IfErr result (λ e. (e ≡ ObjNo.NoMemory) ⊎ (request_read client.now issuer.now text.now ≡ Err e)) }
+    ensures memory_is_outermost { IfErr result (λ e. IsFalse (hides_memory e)) }
+{
+    let opened = match unseal(alloc, client.secret.as_str().as_bytes(), text) {
+        Ok(opened) => opened,
+        Err(error) => return Err(jws_refused(error)),
+    };
+    let claims = match read_claims(alloc, opened.payload.as_bytes()) {
+        Ok(claims) => claims,
+        Err(error) => return Err(claims_refused(error)),
+    };
+    request_in(alloc, client, issuer, &claims)
+}
+
+/// The parameters of the request object that `text` is, of this client for the provider with this issuer (OpenID Connect
+/// Core 1.0, 6.1 and 6.3).
+///
+/// A parameter is a string. `max_age` may also be a number, which is read in decimal, and `claims` an object, which is
+/// read as its JSON text. An empty string is a value. `iss` and `aud` may be absent; `exp`, `iat`, `nbf`, `jti` and all
+/// other claims are ignored.
+///
+/// Exactly the request objects of this client for this issuer are read. Of any other text the first refusal that fits is
+/// answered, in the order of [`ObjNo`]. A refusal has no want of memory inside.
+pub fn unseal_request(
+    alloc: Global,
+    client: &Client,
+    issuer: &Text,
+    text: &[u8],
+) -> Result<Params, ObjNo>
+    ensures object { IfOk result (λ p. IsRequestObject client.now issuer.now text.now p) }
+    ensures accepts { (p : Params) → IsRequestObject client.now issuer.now text.now p → IfErr result (λ e. e ≡ ObjNo.NoMemory) }
+    ensures answers { IfOk result (λ p. request_read client.now issuer.now text.now ≡ Ok p) }
+    ensures refuses { IfErr result (λ e. (e ≡ ObjNo.NoMemory) ⊎ (request_read client.now issuer.now text.now ≡ Err e)) }
+    ensures memory_is_outermost { IfErr result (λ e. IsFalse (hides_memory e)) }
+{
+    opened(alloc, client, issuer, text)
+}

@@ -1,0 +1,14 @@
+pub mod NameLaws
+pub mod Values
+pub mod Repeated
+pub mod InOrder
+pub mod Requests
+pub mod Lossy
+pub mod Utf8Bytes
+pub mod Forms
+pub mod OnLiterals
+pub mod Printed
+pub mod MergeLaws
+pub mod Whole
+pub mod Answering
+mod Samples

@@ -1,0 +1,24 @@
+-- Pairs of texts as a form, read and written (the URL Standard, 5.1 and 5.2).
+use Rattle.std.specs.Prelude.{ℕ, List, [], map}
+use Rattle.std.specs.Str.Lossy.{utf8_lossy}
+use Rattle.form_urlencoded.specs.Form.{raw_pairs, decode, extend_pairs}
+use Rattle.sso_base.specs.Words.{Text}
+
+-- a name and its value
+abbrev pub Pair : Type 0
+Pair = Text × Text
+
+-- the text that a name or a value of a form stands for; what is no UTF-8 is U+FFFD in it
+abbrev pub text_of : List ℕ → Text
+text_of bytes = utf8_lossy (decode bytes)
+
+abbrev pub pair_of : List ℕ × List ℕ → Pair
+pair_of pair = (text_of pair.0, text_of pair.1)
+
+-- the pairs that a form has, in order
+unfoldable pub form_pairs : List ℕ → List Pair
+form_pairs form = map pair_of (raw_pairs form)
+
+-- the form that is written of pairs
+unfoldable pub form_text : List Pair → Text
+form_text pairs = extend_pairs [] pairs

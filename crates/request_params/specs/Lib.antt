@@ -1,0 +1,9 @@
+pub mod Names
+pub mod Form
+pub mod Reading
+pub mod OnePair
+pub mod Merging
+pub mod AllNames
+pub mod Location
+pub mod Printing
+pub mod Signed

@@ -1,0 +1,89 @@
+-- Reading an authorization request: its parameters are the pairs of a form (OpenID Connect Core 1.0, 3.1.2.1; RFC 6749,
+-- 3.1). Pairs with other names or with empty values are as if they were not there, and no name may stand twice.
+use Rattle.std.specs.Prelude.{◌≡◌, ◌⊎◌, ℕ, Bool, ◌&&◌, List, [], ◌∷◌, ◌++◌, length, filter, nat_lt, Option, Some, None, is_some, Result, Ok, Err, IsTrue, IsFalse, ⊤, if◌then◌else◌}
+use Rattle.std.specs.List.{list_any}
+use Rattle.std.specs.Str.{bytes_eq}
+use Rattle.sso_base.specs.Words.{Text}
+use Rattle.request_params.specs.declared.params.Params.{Params}
+use Rattle.request_params.specs.declared.name.ParamName.{ParamName}
+use Rattle.request_params.specs.declared.no.AskNo.{AskNo}
+use Rattle.request_params.specs.declared.no.AskNo.TheVariants.{Twice, Differs, OuterScope, NoMemory}
+use Rattle.request_params.specs.Names.{name_text, name_of, param_of, params_by}
+use Rattle.request_params.specs.Form.{Pair, form_pairs}
+
+-- ---- the pairs that count
+
+-- the name is that of a parameter, and the value is not empty
+abbrev pub is_kept : Pair → Bool
+is_kept pair = is_some (name_of pair.0) && nat_lt 0 (length pair.1)
+
+-- the pairs of a form that are kept, in order
+abbrev pub kept_pairs : List ℕ → List Pair
+kept_pairs form = filter is_kept (form_pairs form)
+
+-- one of the pairs has the name
+abbrev pub has_name : Text → List Pair → Bool
+has_name name pairs = list_any (λ pair. bytes_eq pair.0 name) pairs
+
+-- the value of the pair that has the name
+abbrev pub value_of : Text → List Pair → Option Text
+value_of name [] = None
+value_of name (pair ∷ pairs) = if bytes_eq pair.0 name then Some pair.1 else value_of name pairs
+
+-- the name of the first of the pairs whose name one of those before it has; some stand before all
+abbrev pub repeated_after : List Pair → List Pair → Option Text
+repeated_after before [] = None
+repeated_after before (pair ∷ pairs) = if has_name pair.0 before then Some pair.0 else repeated_after (before ++ pair ∷ []) pairs
+
+-- the first name that stands again
+abbrev pub first_repeated : List Pair → Option Text
+first_repeated pairs = repeated_after [] pairs
+
+-- the parameters that stand in pairs
+abbrev pub params_in : List Pair → Params
+params_in pairs = params_by (λ name. value_of (name_text name) pairs)
+
+abbrev pub unless_repeated : Option Text → Params → Result Params AskNo
+unless_repeated None params = Ok params
+unless_repeated (Some name) params = Err (Twice name)
+
+abbrev pub pairs_read : List Pair → Result Params AskNo
+pairs_read pairs = unless_repeated (first_repeated pairs) (params_in pairs)
+
+-- the request in a form, or its refusal
+unfoldable pub request_read : List ℕ → Result Params AskNo
+request_read form = pairs_read (kept_pairs form)
+
+-- ---- the same in literal words
+
+-- the pair is one of the pairs
+abbrev pub Has : List Pair → Pair → Type 0
+Has [] pair = ⊥
+Has (first ∷ pairs) pair = (first ≡ pair) ⊎ Has pairs pair
+
+-- no name stands twice
+abbrev pub StandOnce : List Pair → Type 0
+StandOnce [] = ⊤
+StandOnce (pair ∷ pairs) = IsFalse (has_name pair.0 pairs) × StandOnce pairs
+
+-- the name is that of the first pair whose name stood before: up to that pair no name stands twice
+pub record RepeatsFirst (pairs : List Pair) (name : Text) : Type 0 where
+  pub before : List Pair
+  pub value : Text
+  pub after : List Pair
+  pub cut : pairs ≡ before ++ (name, value) ∷ after
+  pub once : StandOnce before
+  pub stood : IsTrue (has_name name before)
+
+-- the form has these parameters: no name stands twice in it, and each parameter is the value of the pair with its name
+pub record HasRequest (form : List ℕ) (params : Params) : Type 0 where
+  pub once : StandOnce (kept_pairs form)
+  pub stands : (name : ParamName) (value : Text) → param_of name params ≡ Some value → Has (kept_pairs form) (name_text name, value)
+  pub all : (name : ParamName) (value : Text) → Has (kept_pairs form) (name_text name, value) → param_of name params ≡ Some value
+
+-- the form is refused so: with the first name that stands again, and for no other reason
+abbrev pub RefusesForm : List ℕ → AskNo → Type 0
+RefusesForm form (Twice name) = RepeatsFirst (kept_pairs form) name
+RefusesForm form (Differs name) = ⊥
+RefusesForm form OuterScope = ⊥
+RefusesForm form NoMemory = ⊥

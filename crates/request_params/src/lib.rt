@@ -1,0 +1,38 @@
+//! The parameters of authorization requests: read from forms, merged with those of a request object, and written as the
+//! location to which a user agent is sent (OpenID Connect Core 1.0, 3.1.2.1 and 6.1).
+//!
+//! | Module | What it has |
+//! |---|---|
+//! | `name` | [`ParamName`], the names of the parameters, and [`ALL_NAMES`] |
+//! | `params` | [`Params`], the parameters of a request |
+//! | `no` | [`AskNo`], why a request is refused |
+//! | `reading` | [`read_request`] reads a form |
+//! | `merging` | [`merge`] puts the parameters of a request object over those beside it |
+//! | `location` | [`with_query`] and [`with_fragment`] write pairs behind a URL |
+//! | `printing` | [`print_request`] writes the location of a request |
+//! | `law` | what holds of requests, for the crates above |
+#![tactic(auto)]
+
+mod law;
+mod location;
+mod merging;
+mod name;
+mod no;
+mod params;
+mod printing;
+mod reading;
+#[cfg(test)]
+mod tests;
+
+pub use law::{
+    forms_have_their_parameters, merged_parameters_agree, parameters_have_names,
+    printed_requests_are_read, refused_forms_repeat_a_name, refused_merges_have_a_cause,
+    signed_requests_are_whole,
+};
+pub use location::{with_fragment, with_query};
+pub use merging::merge;
+pub use name::{ALL_NAMES, ParamName};
+pub use no::AskNo;
+pub use params::Params;
+pub use printing::print_request;
+pub use reading::read_request;

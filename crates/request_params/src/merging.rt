@@ -1,0 +1,138 @@
+// The parameters of a request object are put over those beside it.
+
+ghost use Rattle.std.specs.Prelude.{◌≡◌, ◌⊎◌, true, Ok, Err, IfOk, IfErr, IsErrAnd, OnOk, codes};
+ghost use Rattle.std.specs.Option.{option_or};
+ghost use Rattle.sso_base.specs.Refusals.{first_refusal};
+ghost use Rattle.request_params.specs.Names.{name_text, param_of};
+ghost use Rattle.request_params.specs.AllNames.{with_all};
+ghost use Rattle.request_params.specs.Merging.{has_word as has_word_of, states_word, differ, merge_refusals, merged, request_merged, IsMerged, RefusesMerge};
+ghost use Rattle.request_params.specs.declared.params.Params.{Params};
+ghost use Rattle.request_params.specs.declared.no.AskNo.{AskNo};
+
+use crate::name::{ALL_NAMES, ParamName};
+use crate::no::AskNo;
+use crate::params::Params;
+use sso_base::{NoMemory, Text, copied_text};
+use std::alloc::Global;
+
+// Whether a text has a word. Words stand between single spaces.
+fn has_word(text: &str, word: &str) -> bool
+    ensures { result ≡ has_word_of word.now text.now }
+{
+    text.split(' ').any(|piece| piece == word)
+}
+
+// Whether a scope is there and has the word `openid`.
+fn is_openid(scope: &Option<Text>) -> bool
+    ensures { result ≡ states_word (codes "openid") scope.now }
+{
+    match scope {
+        Some(scope) => has_word(scope.as_str(), "openid"),
+        None => false,
+    }
+}
+
+// Whether a parameter is absent beside the request object, or another one in it.
+fn is_another(outer: &Option<Text>, inner: &Option<Text>) -> bool
+    ensures { result ≡ differ outer.now inner.now }
+{
+    match (outer, inner) {
+        (None, _) => true,
+        (Some(_), None) => false,
+        (Some(outer), Some(inner)) => !outer.equals(inner.as_str()),
+    }
+}
+
+// The refusal for a parameter that is another one.
+fn differs(alloc: Global, name: ParamName) -> AskNo
+    ensures { (result ≡ AskNo.NoMemory) ⊎ (result ≡ AskNo.Differs (name_text name)) }
+{
+    match Text::new(alloc, name.as_str()) {
+        Ok(name) => AskNo::Differs(name),
+        Err(NoMemory) => AskNo::NoMemory,
+    }
+}
+
+// The first refusal whose condition holds.
+fn refused(alloc: Global, outer: &Params, inner: &Params) -> Result<(), AskNo>
+    ensures ok { OnOk result (first_refusal (merge_refusals outer.now inner.now) ≡ Ok tt) }
+    ensures err { IfErr result (λ e. (e ≡ AskNo.NoMemory) ⊎ (first_refusal (merge_refusals outer.now inner.now) ≡ Err e)) }
+{
+    if is_another(&outer.client_id, &inner.client_id) {
+        return Err(differs(alloc, ParamName::ClientId));
+    }
+    if is_another(&outer.response_type, &inner.response_type) {
+        return Err(differs(alloc, ParamName::ResponseType));
+    }
+    if !is_openid(&outer.scope) {
+        return Err(AskNo::OuterScope);
+    }
+    Ok(())
+}
+
+// The inner parameter where it is there, else the outer one.
+fn first_there(
+    alloc: Global,
+    inner: &Option<Text>,
+    outer: &Option<Text>,
+) -> Result<Option<Text>, NoMemory>
+    ensures { IfOk result (λ o. o ≡ option_or inner.now outer.now) }
+{
+    match inner {
+        Some(text) => Ok(Some(text.copy(alloc)?)),
+        None => copied_text(alloc, outer),
+    }
+}
+
+// Sets the parameters of these names.
+fn set_all(
+    alloc: Global,
+    names: &[ParamName],
+    params: &mut Params,
+    outer: &Params,
+    inner: &Params,
+) -> Result<(), NoMemory>
+    ensures { OnOk result (params.new ≡ with_all (λ name. option_or (param_of name inner.now) (param_of name outer.now)) names.now params.old) }
+{
+    for name in names {
+        let value = first_there(alloc, inner.get(*name), outer.get(*name))?;
+        params.set(*name, value);
+    }
+    Ok(())
+}
+
+// Each parameter of the request object, and the others from beside it.
+fn put_over(alloc: Global, outer: &Params, inner: &Params) -> Result<Params, NoMemory>
+    ensures { IfOk result (λ params. params ≡ merged outer.now inner.now) }
+{
+    let mut params = Params::new();
+    set_all(alloc, &ALL_NAMES, &mut params, outer, inner)?;
+    Ok(params)
+}
+
+// The whole request, or the refusal.
+#[tactic(auto, unfolding(crate::specs::Merging::request_merged))]
+fn whole(alloc: Global, outer: &Params, inner: &Params) -> Result<Params, AskNo>
+    ensures answers { IfOk result (λ params. request_merged outer.now inner.now ≡ Ok params) }
+    ensures refuses { IfErr result (λ e. (e ≡ AskNo.NoMemory) ⊎ (request_merged outer.now inner.now ≡ Err e)) }
+{
+    refused(alloc, outer, inner)?;
+    Ok(put_over(alloc, outer, inner)?)
+}
+
+/// Puts the parameters of a request object, `inner`, over those beside it, `outer` (OpenID Connect Core 1.0, 6.1).
+///
+/// Each parameter is that of `inner` where it is there, also where it is empty, else that of `outer`.
+/// [`AskNo::Differs`] is answered exactly where `client_id`, or else `response_type`, is absent in `outer`, or is in both
+/// and not the same. [`AskNo::OuterScope`] is answered exactly where neither is so and the `scope` of `outer` is absent or
+/// does not have the word `openid`; words stand between single spaces.
+pub fn merge(alloc: Global, outer: &Params, inner: &Params) -> Result<Params, AskNo>
+    ensures answers { IfOk result (λ params. request_merged outer.now inner.now ≡ Ok params) }
+    ensures merged { IfOk result (λ params. IsMerged outer.now inner.now params) }
+    ensures accepts { (params : Params) → IsMerged outer.now inner.now params → IfErr result (λ e. e ≡ AskNo.NoMemory) }
+    ensures refuses { IfErr result (λ e. (e ≡ AskNo.NoMemory) ⊎ (request_merged outer.now inner.now ≡ Err e)) }
+    ensures cause { IfErr result (λ e. (e ≡ AskNo.NoMemory) ⊎ RefusesMerge outer.now inner.now e) }
+    ensures refused { (why : AskNo) → RefusesMerge outer.now inner.now why → IsErrAnd result (λ e. (e ≡ AskNo.NoMemory) ⊎ (e ≡ why)) }
+{
+    whole(alloc, outer, inner)
+}

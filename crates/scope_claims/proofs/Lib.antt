@@ -1,0 +1,4 @@
+pub mod Joining
+pub mod Covering
+pub mod Asking
+mod Samples

@@ -1,0 +1,53 @@
+// What servers send each other.
+
+ghost use Rattle.std.specs.Prelude.{◌≡◌, IfOk};
+
+use crate::memory::NoMemory;
+use crate::text::{Blob, Text};
+use std::alloc::Global;
+
+/// A request from one server to another: a POST of a form where it has a body, else a GET.
+#[derive(Debug, Drop)]
+pub struct Message {
+    /// The URL that it is sent to.
+    pub to: Text,
+    /// The value of its `Authorization` header (RFC 9110, 11.6.2).
+    pub auth: Option<Text>,
+    /// The form, in `application/x-www-form-urlencoded`.
+    pub body: Option<Blob>,
+}
+
+impl Message {
+    /// An equal message.
+    pub fn copy(&self, alloc: Global) -> Result<Message, NoMemory>
+        ensures { IfOk result (λ m. m ≡ self.now) }
+    {
+        let body = match &self.body {
+            Some(body) => Some(body.copy(alloc)?),
+            None => None,
+        };
+        Ok(Message {
+            to: self.to.copy(alloc)?,
+            auth: copied_text(alloc, &self.auth)?,
+            body,
+        })
+    }
+}
+
+/// A server's answer to such a request.
+#[derive(Debug, Drop)]
+pub struct Answered {
+    /// The HTTP status.
+    pub status: u16,
+    pub body: Blob,
+}
+
+/// An equal text, where there is one.
+pub fn copied_text(alloc: Global, text: &Option<Text>) -> Result<Option<Text>, NoMemory>
+    ensures { IfOk result (λ o. o ≡ text.now) }
+{
+    match text {
+        Some(text) => Ok(Some(text.copy(alloc)?)),
+        None => Ok(None),
+    }
+}

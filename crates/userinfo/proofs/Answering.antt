@@ -1,0 +1,83 @@
+-- An answer is read exactly where it is a UserInfo response, and others are refused for the first reason.
+use Rattle.std.proofs.Common.{◌≡◌, ◌≢◌, ◌⊎◌, inl, inr, ◌==◌, ℕ, true, false, not, List, Option, Some, None, Result, Ok, Err, codes, refl, sym, ap, ◌∙◌, arith}
+use Rattle.std.proofs.lemmas.Bool.Decides.{nat_tests}
+use Rattle.serde_json.specs.Data.{string, Members}
+use Rattle.serde_json.specs.Find.{get_member}
+use Rattle.sso_base.specs.declared.message.Answered.{Answered}
+use Rattle.sso_base.specs.Refusals.{forbid}
+use Rattle.sso_base.proofs.Refusals.{forbid_ok}
+use Rattle.sso_base.proofs.Decided.{not_not}
+use Rattle.claim_set.specs.declared.no.ClaimNo.{ClaimNo}
+use Rattle.claim_set.specs.Kinds.{text_claim}
+use Rattle.claim_set.specs.Reading.{claims_read, Reads}
+use Rattle.claim_set.proofs.Parsing.{read_reads, reads_read}
+use Rattle.claim_set.proofs.KindLaws.{text_there}
+use Rattle.userinfo.specs.declared.no.InfoNo.{InfoNo}
+use Rattle.userinfo.specs.declared.no.InfoNo.TheVariants as no
+use Rattle.userinfo.specs.Answer.{if_there, sub_in, if_claims, info_read, IsUserInfo}
+
+abbrev sub_ok : List ℕ → Result (List ℕ) InfoNo
+sub_ok t = Ok t
+
+-- ---- the status
+
+is_200 : (n : ℕ) → (n == 200) ≡ true → n ≡ 200
+is_200 n h = grind (arith, nat_tests, h)
+
+are_200 : (n : ℕ) → n ≡ 200 → not (n == 200) ≡ false
+are_200 n h = grind (arith, nat_tests, h)
+
+not_200 : (n : ℕ) → n ≢ 200 → not (n == 200) ≡ true
+not_200 n h = grind (arith, nat_tests, h)
+
+pub claims_judged : (a : Answered) → a.status ≡ 200 → info_read a ≡ if_claims (claims_read a.body)
+unfolding info_read
+claims_judged a h = ap (λ b. forbid (no.Status a.status) b (if_claims (claims_read a.body))) (are_200 a.status h)
+
+pub status_refused : (a : Answered) → a.status ≢ 200 → info_read a ≡ Err (no.Status a.status)
+unfolding info_read
+status_refused a h = ap (λ b. forbid (no.Status a.status) b (if_claims (claims_read a.body))) (not_200 a.status h)
+
+accepted : (a : Answered) (t : List ℕ) → info_read a ≡ sub_ok t → (a.status ≡ 200) × (if_claims (claims_read a.body) ≡ sub_ok t)
+unfolding info_read
+accepted a t h =
+    let parts = forbid_ok (no.Status a.status) (not (a.status == 200)) (if_claims (claims_read a.body)) t h in
+    (is_200 a.status (not_not (a.status == 200) parts.0), parts.1)
+
+-- ---- the claims
+
+sub_at : (ms : Members) (t : List ℕ) (r : Result (Option (List ℕ)) ClaimNo) → text_claim (codes "sub") ms ≡ r → if_there r ≡ sub_ok t → get_member (codes "sub") ms ≡ Some (string t)
+sub_at ms t (Ok None) is h = absurd (cc)
+sub_at ms t (Ok (Some s)) is h = let same : s ≡ t = cc in text_there ms (codes "sub") (Some s) is ∙ ap (λ x. Some (string x)) same
+sub_at ms t (Err e) is h = absurd (cc)
+
+info_at : (a : Answered) (t : List ℕ) (r : Result Members ClaimNo) → a.status ≡ 200 → claims_read a.body ≡ r → if_claims r ≡ sub_ok t → IsUserInfo a t
+info_at a t (Ok ms) ok is h = record { status = ok; claims = ms; reads = read_reads a.body ms is; names = sub_at ms t (text_claim (codes "sub") ms) refl h }
+info_at a t (Err e) ok is h = absurd (cc)
+
+pub read_is_info : (a : Answered) (t : List ℕ) → info_read a ≡ sub_ok t → IsUserInfo a t
+read_is_info a t h = let parts = accepted a t h in info_at a t (claims_read a.body) parts.0 refl parts.1
+
+pub members_judged : (a : Answered) (ms : Members) → a.status ≡ 200 → Reads a.body ms → info_read a ≡ sub_in ms
+members_judged a ms h r = claims_judged a h ∙ ap if_claims (reads_read a.body ms r)
+
+sub_read : (ms : Members) (t : List ℕ) → get_member (codes "sub") ms ≡ Some (string t) → sub_in ms ≡ sub_ok t
+sub_read ms t h = rw h refl
+
+pub info_is_read : (a : Answered) (t : List ℕ) → IsUserInfo a t → info_read a ≡ sub_ok t
+info_is_read a t i = members_judged a i.claims i.status i.reads ∙ sub_read i.claims t i.names
+
+-- ---- what is answered
+
+not_both : {Z : Type 0} (t : List ℕ) (e : InfoNo) → sub_ok t ≡ Err e → Z
+not_both t e h = absurd (cc)
+
+one_sub : (s t : List ℕ) → sub_ok s ≡ sub_ok t → s ≡ t
+one_sub s t h = cc
+
+pub same_sub : (a : Answered) (t u : List ℕ) → IsUserInfo a t → info_read a ≡ sub_ok u → u ≡ t
+same_sub a t u i h = one_sub u t (sym h ∙ info_is_read a t i)
+
+pub only_memory_at : (a : Answered) (t : List ℕ) → IsUserInfo a t → (e : InfoNo) → (e ≡ no.NoMemory) ⊎ (info_read a ≡ Err e) → e ≡ no.NoMemory
+only_memory_at a t i e (inl is) = is
+only_memory_at a t i e (inr h) = not_both t e (sym (info_is_read a t i) ∙ h)

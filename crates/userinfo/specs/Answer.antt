@@ -1,0 +1,46 @@
+-- UserInfo responses (OpenID Connect Core 1.0, 5.3.2 and 5.3.3).
+use Rattle.std.specs.Prelude.{◌≡◌, ℕ, ◌==◌, Bool, true, false, not, List, codes, Option, Some, None, Result, Ok, Err}
+use Rattle.serde_json.specs.Data.{string, Members}
+use Rattle.serde_json.specs.Find.{get_member}
+use Rattle.sso_base.specs.declared.message.Answered.{Answered}
+use Rattle.sso_base.specs.Refusals.{forbid}
+use Rattle.claim_set.specs.declared.no.ClaimNo.{ClaimNo}
+use Rattle.claim_set.specs.declared.no.ClaimNo.TheVariants as claims
+use Rattle.claim_set.specs.Kinds.{text_claim}
+use Rattle.claim_set.specs.Reading.{Reads, claims_read}
+use Rattle.userinfo.specs.declared.no.InfoNo.{InfoNo}
+use Rattle.userinfo.specs.declared.no.InfoNo.TheVariants.{NoMemory, Status, Claims, NoSub}
+
+abbrev pub if_there : Result (Option (List ℕ)) ClaimNo → Result (List ℕ) InfoNo
+if_there (Ok None) = Err NoSub
+if_there (Ok (Some sub)) = Ok sub
+if_there (Err e) = Err (Claims e)
+
+-- the subject among claims
+abbrev pub sub_in : Members → Result (List ℕ) InfoNo
+sub_in ms = if_there (text_claim (codes "sub") ms)
+
+abbrev pub if_claims : Result Members ClaimNo → Result (List ℕ) InfoNo
+if_claims (Ok ms) = sub_in ms
+if_claims (Err e) = Err (Claims e)
+
+-- the subject that an answer names, or the first refusal that fits
+unfoldable pub info_read : Answered → Result (List ℕ) InfoNo
+info_read a = forbid (Status a.status) (not (a.status == 200)) (if_claims (claims_read a.body))
+
+-- the answer is a UserInfo response about this subject: status 200, and claims with this `sub`
+pub record IsUserInfo (a : Answered) (sub : List ℕ) : Type 0 where
+  pub status : a.status ≡ 200
+  pub claims : Members
+  pub reads : Reads a.body claims
+  pub names : get_member (codes "sub") claims ≡ Some (string sub)
+
+-- want of memory stands inside another refusal
+abbrev pub hides_memory : InfoNo → Bool
+hides_memory (Claims claims.NoMemory) = true
+hides_memory e = false
+
+-- a refusal of claims, as that of an answer; want of memory is the answer's own
+abbrev pub as_claims : ClaimNo → InfoNo
+as_claims claims.NoMemory = NoMemory
+as_claims e = Claims e

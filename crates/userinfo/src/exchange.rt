@@ -1,0 +1,80 @@
+// The request for UserInfo, and its answer.
+
+ghost use Rattle.std.specs.Prelude.{◌≡◌, ◌⊎◌, ℕ, List, Ok, Err, IfOk, IfErr, IsFalse};
+ghost use Rattle.userinfo.specs.Request.{info_message};
+ghost use Rattle.userinfo.specs.Answer.{sub_in, info_read, as_claims, hides_memory, IsUserInfo};
+
+use crate::no::InfoNo;
+use claim_set::{ClaimNo, ClaimSet, read_claims};
+use sso_base::{Answered, Message, NoMemory, Text};
+use std::alloc::Global;
+
+/// The request for UserInfo: a GET to the endpoint, whose header is `Bearer`, a space and the access token (OpenID
+/// Connect Core 1.0, 5.3.1; RFC 6750, 2.1).
+#[tactic(auto, unfolding(crate::specs::Request::info_message))]
+pub fn print_info(alloc: Global, endpoint: &Text, access: &Text) -> Result<Message, NoMemory>
+    ensures { IfOk result (λ m. m ≡ info_message endpoint.now access.now) }
+{
+    let mut header = String::from_str(alloc, "Bearer ")?;
+    header.push_str(access.as_str())?;
+    Ok(Message {
+        to: endpoint.copy(alloc)?,
+        auth: Some(Text::from_string(header)),
+        body: None,
+    })
+}
+
+// The refusal of claims, as that of an answer.
+fn claims_refused(error: ClaimNo) -> InfoNo
+    ensures refused { result ≡ as_claims error }
+    ensures memory_is_outermost { IsFalse (hides_memory result) }
+{
+    match error {
+        ClaimNo::NoMemory => InfoNo::NoMemory,
+        error => InfoNo::Claims(error),
+    }
+}
+
+// The subject among claims.
+fn subject_in(claims: &ClaimSet) -> Result<Text, InfoNo>
+    ensures ok { IfOk result (λ t. sub_in claims.now ≡ Ok t) }
+    ensures err { IfErr result (λ e. (e ≡ InfoNo.NoMemory) ⊎ (sub_in claims.now ≡ Err e)) }
+    ensures memory_is_outermost { IfErr result (λ e. IsFalse (hides_memory e)) }
+{
+    match claims.text("sub") {
+        Ok(Some(sub)) => Ok(sub),
+        Ok(None) => Err(InfoNo::NoSub),
+        Err(error) => Err(claims_refused(error)),
+    }
+}
+
+// The subject that an answer names, or the first refusal that fits.
+#[tactic(auto, unfolding(crate::specs::Answer::info_read))]
+fn subject_of(alloc: Global, answer: &Answered) -> Result<Text, InfoNo>
+    ensures ok { IfOk result (λ t. info_read answer.now ≡ Ok t) }
+    ensures err { IfErr result (λ e. (e ≡ InfoNo.NoMemory) ⊎ (info_read answer.now ≡ Err e)) }
+    ensures memory_is_outermost { IfErr result (λ e. IsFalse (hides_memory e)) }
+{
+    if answer.status != 200 {
+        return Err(InfoNo::Status(answer.status));
+    }
+    match read_claims(alloc, answer.body.as_bytes()) {
+        Ok(claims) => subject_in(&claims),
+        Err(error) => Err(claims_refused(error)),
+    }
+}
+
+/// The subject that a UserInfo answer names (OpenID Connect Core 1.0, 5.3.2 and 5.3.4).
+///
+/// Exactly the answers with status 200 whose body is a claim set with a `sub` that is a string are read. Of any other the
+/// first refusal that fits is answered, in the order of [`InfoNo`].
+pub fn read_info(alloc: Global, answer: &Answered) -> Result<Text, InfoNo>
+    ensures answers { IfOk result (λ t. info_read answer.now ≡ Ok t) }
+    ensures info { IfOk result (λ t. IsUserInfo answer.now t) }
+    ensures accepts { (t : List ℕ) → IsUserInfo answer.now t → IfErr result (λ e. e ≡ InfoNo.NoMemory) }
+    ensures value { (t : List ℕ) → IsUserInfo answer.now t → IfOk result (λ u. u ≡ t) }
+    ensures refuses { IfErr result (λ e. (e ≡ InfoNo.NoMemory) ⊎ (info_read answer.now ≡ Err e)) }
+    ensures memory_is_outermost { IfErr result (λ e. IsFalse (hides_memory e)) }
+{
+    subject_of(alloc, answer)
+}

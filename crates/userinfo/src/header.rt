@@ -1,0 +1,77 @@
+// The `Authorization` header of a request with a bearer token.
+
+ghost use Rattle.std.specs.Prelude.{◌≡◌, ◌≤◌, length, option_map};
+ghost use Rattle.sso_base.specs.Words.{word_of_text};
+ghost use Rattle.userinfo.specs.Header.{scheme_of, is_bearer as is_bearer_scheme, if_word, header_read, bearer_read};
+
+use sso_base::Word;
+
+/// The bearer token that a request presents (RFC 6750, 2.1).
+#[derive(Clone, Copy, Debug, PartialEq, Eq)]
+pub enum Bearer {
+    /// There is no header, or it is of another scheme.
+    Absent,
+    /// The scheme is `Bearer`, and what follows it is not one space and the text of a word.
+    Unreadable,
+    /// The word that stands in the header.
+    Given(Word),
+}
+
+// How many bytes stand before the first space, or in all where there is none.
+fn scheme_len(header: &[u8]) -> usize
+    ensures value { result ≡ length (scheme_of header.now) }
+    ensures within { result ≤ length header.now }
+{
+    let mut len = 0;
+    for byte in header {
+        if *byte == b' ' {
+            return len;
+        }
+        len += 1;
+    }
+    len
+}
+
+// Whether the scheme is `Bearer`, in any case (RFC 9110, 11.1).
+fn is_bearer(scheme: &[u8]) -> bool
+    ensures { result ≡ is_bearer_scheme scheme.now }
+{
+    scheme.eq_ignore_ascii_case(b"bearer")
+}
+
+// The word of this text.
+fn read_word(text: &[u8]) -> Bearer
+    ensures { result ≡ if_word (word_of_text text.now) }
+{
+    match Word::read(text) {
+        Some(word) => Bearer::Given(word),
+        None => Bearer::Unreadable,
+    }
+}
+
+// The bearer token of a header that is there.
+fn read_header(header: &[u8]) -> Bearer
+    ensures { result ≡ header_read header.now }
+{
+    let (scheme, rest) = header.split_at(scheme_len(header));
+    if !is_bearer(scheme) {
+        return Bearer::Absent;
+    }
+    match rest.split_first() {
+        Some((_space, text)) => read_word(text),
+        None => Bearer::Unreadable,
+    }
+}
+
+/// The bearer token of an `Authorization` header: `Bearer` in any case, one space and the text of a word, and nothing
+/// else (RFC 6750, 2.1; RFC 9110, 11.1). The scheme is what stands before the first space, or the whole header where
+/// there is none. It takes no memory.
+#[tactic(auto, unfolding(crate::specs::Header::bearer_read))]
+pub fn read_bearer(auth: Option<&[u8]>) -> Bearer
+    ensures { result ≡ bearer_read (option_map (λ h. h.now) auth.entry) }
+{
+    match auth {
+        Some(header) => read_header(header),
+        None => Bearer::Absent,
+    }
+}

@@ -1,0 +1,28 @@
+//! UserInfo: what a provider tells a client of a user, the request for it, and its answer (OpenID Connect Core 1.0, 5.3).
+//!
+//! | Module | What it has |
+//! |---|---|
+//! | `held` | [`info_claims`] and [`held_claims`], the claims that are told of a user |
+//! | `header` | [`read_bearer`] reads the bearer token of a request, a [`Bearer`] |
+//! | `exchange` | [`print_info`] writes the request, [`read_info`] reads the answer |
+//! | `no` | [`InfoNo`], why an answer is refused |
+//! | `law` | what holds of claims, requests and answers, for the crates above |
+#![tactic(auto)]
+
+mod exchange;
+mod header;
+mod held;
+mod law;
+mod no;
+#[cfg(test)]
+mod tests;
+
+pub use exchange::{print_info, read_info};
+pub use header::{Bearer, read_bearer};
+pub use held::{held_claims, info_claims};
+pub use law::{
+    configured_claims_are_standard, headers_are_read_by_their_scheme, held_claims_are_wanted,
+    info_is_the_subject_and_held_claims, printed_requests_are_read, read_answers_are_user_info,
+    refused_answers_have_the_first_reason, told_claims_fit, written_claims_name_the_subject,
+};
+pub use no::InfoNo;
