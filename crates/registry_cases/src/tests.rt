@@ -1,6 +1,11 @@
 //! Configurations that are read, and one for each refusal that a file can bring about.
+//!
+//! A table has a case on each line: a change, ` => `, and what is answered.
+//!
+//! Each function owns one large value at most, and none over a loop: with two its proof takes minutes.
 
 use client_registry::{RegNo, Registry, read_registry};
+use sso_base::NoMemory;
 use std::alloc::{AllocError, Global};
 use std::test::Fail;
 
@@ -66,72 +71,93 @@ userinfo = true
 signed = true
 ";
 
-// The sample, with the first of these texts replaced by the second.
-fn changed(alloc: Global, old: &str, new: &str) -> Result<String, AllocError> {
-    SAMPLE.replacen(alloc, old, new, 1)
+// The first of two texts and what stands behind the mark; all of it and nothing where there is no mark.
+fn parts<'a>(text: &'a str, mark: &str) -> (&'a str, &'a str) {
+    text.split_once(mark).unwrap_or((text, ""))
 }
 
-// The sample, with a pairwise client.
-fn sample(alloc: Global) -> Result<Registry, Fail> {
-    let text = changed(alloc, "logout_session = true", "subject = \"pairwise\"")?;
-    match read_registry(alloc, text.as_bytes()) {
-        Ok(registry) => Ok(registry),
-        Err(_refusal) => Err("refused".into()),
-    }
+// The sample with a change `old -> new`: the first of one text replaced by another. A bar stands for the end of a line.
+fn changed(alloc: Global, change: &str) -> Result<String, AllocError> {
+    let (old, new) = parts(change, " -> ");
+    let text = SAMPLE.replacen(alloc, old, new, 1)?;
+    text.as_str().replace(alloc, "|", "\n")
 }
 
-#[test]
-fn the_provider_is_read(rt: HostRuntime) -> Result<(), Fail> {
-    let registry = sample(rt.alloc())?;
-    assert_eq!(rt; registry.prefix().as_str(), "");
-    assert_eq!(rt; registry.listen().as_str(), "127.0.0.1:8080");
-    assert!(rt; !registry.secure());
-    assert_eq!(rt;
-        registry.provider().token.as_str(),
-        "http://127.0.0.1:8080/token"
-    );
-    Ok(())
+fn has_provider(registry: &Registry) -> bool {
+    registry.prefix().as_str() == ""
+        && registry.listen().as_str() == "127.0.0.1:8080"
+        && !registry.secure()
+        && registry.provider().token.as_str() == "http://127.0.0.1:8080/token"
 }
 
-#[test]
-fn rows_are_found_by_name(rt: HostRuntime) -> Result<(), Fail> {
-    let registry = sample(rt.alloc())?;
-    assert_eq!(rt; registry.find_user(b"bob"), Some(1));
-    assert_eq!(rt; registry.find_user(b"carol"), None);
-    assert_eq!(rt; registry.find_client(b"mail-client"), Some(2));
-    assert_eq!(rt; registry.find_party(b"news"), Some(1));
-    Ok(())
+fn finds_rows(registry: &Registry) -> bool {
+    registry.find_user(b"bob") == Some(1)
+        && registry.find_user(b"carol").is_none()
+        && registry.find_client(b"mail-client") == Some(2)
+        && registry.find_party(b"news") == Some(1)
 }
 
 // The JSON text of the claims of `alice`.
 const CLAIMS: &[u8] =
     b"{\"email\":\"alice@example.org\",\"email_verified\":true,\"name\":\"Alice Adams\"}";
 
-#[test]
-fn rows_are_read(rt: HostRuntime) -> Result<(), Fail> {
-    let registry = sample(rt.alloc())?.copy(rt.alloc())?;
-    assert!(rt; registry.users() == 2 && registry.user(0).claims.as_bytes() == CLAIMS);
-    assert!(rt; registry.clients() == 3 && registry.client(1).types[2]);
-    assert!(rt; registry.parties() == 3 && registry.party(2).signed);
-    Ok(())
+fn has_rows(registry: &Registry) -> bool {
+    registry.users() == 2
+        && registry.user(0).claims.as_bytes() == CLAIMS
+        && registry.clients() == 3
+        && registry.client(1).types[2]
+        && registry.parties() == 3
+        && registry.party(2).signed
 }
 
 // The subject of `alice` at the pairwise client: SHA-256 of the host, the user's id and the salt, by another program.
 const SUBJECT: &str = "qlayDppuAjR1nzOXIidOtkg1tuFuJXm6fEzaoKvlIYY";
 
-#[test]
-fn subjects_are_ids_or_digests(rt: HostRuntime) -> Result<(), Fail> {
-    let registry = sample(rt.alloc())?;
-    assert!(rt; registry.users() == 2 && registry.clients() == 3);
-    if registry.users() == 2 && registry.clients() == 3 {
-        assert_eq!(rt; registry.subject(1, 0).as_str(), "alice");
-        assert_eq!(rt; registry.subject(0, 0).as_str(), SUBJECT);
+fn has_subjects(registry: &Registry) -> bool {
+    registry.users() == 2
+        && registry.clients() == 3
+        && registry.subject(1, 0).as_str() == "alice"
+        && registry.subject(0, 0).as_str() == SUBJECT
+}
+
+fn has_copied_rows(alloc: Global, registry: &Registry) -> Result<bool, NoMemory> {
+    let copied = registry.copy(alloc)?;
+    Ok(has_rows(&copied))
+}
+
+// The first thing that is not as in the sample, empty where there is none.
+fn first_lack(alloc: Global, answer: &Result<Registry, RegNo>) -> &'static str {
+    let Ok(registry) = answer else {
+        return "a registry";
+    };
+    if !has_provider(registry) {
+        return "the provider";
     }
+    if !finds_rows(registry) {
+        return "names";
+    }
+    if !has_subjects(registry) {
+        return "subjects";
+    }
+    if has_copied_rows(alloc, registry) != Ok(true) {
+        return "rows";
+    }
+    ""
+}
+
+#[test]
+fn the_sample_is_read_with_a_pairwise_client(rt: HostRuntime) -> Result<(), Fail> {
+    let file = changed(
+        rt.alloc(),
+        "logout_session = true -> subject = \"pairwise\"",
+    )?;
+    let answer = read_registry(rt.alloc(), file.as_bytes());
+    assert_eq!(rt; first_lack(rt.alloc(), &answer), "");
     Ok(())
 }
 
 // The name of an answer, and the text that it carries, empty where there is none.
-fn refusal(answer: &Result<Registry, RegNo>) -> (&str, &str) {
+fn parts_of(answer: &Result<Registry, RegNo>) -> (&str, &str) {
     match answer {
         Ok(_) => ("Ok", ""),
         Err(RegNo::NoMemory) => ("NoMemory", ""),
@@ -150,206 +176,107 @@ fn refusal(answer: &Result<Registry, RegNo>) -> (&str, &str) {
     }
 }
 
-// A text of the sample, another in its place, the answer, and the text that a refusal carries.
-const CHANGED: [(&str, &str, &str, &str); 36] = [
-    ("", "", "Ok", ""),
-    ("version = 1", "version = 2", "Version", ""),
-    ("version = 1", "version = \"1\"", "Version", ""),
-    ("version = 1\n", "", "Version", ""),
-    ("rounds = 1", "rounds = 1 1", "NotToml", ""),
-    ("rounds = 1", "rounds = 1\nrounds = 1", "NotToml", ""),
-    ("rounds = 1", "rounds = 9223372036854775808", "NotToml", ""),
-    (
-        "issuer = \"http://127.0.0.1:8080\"\n",
-        "",
-        "Missing",
-        "provider.issuer",
-    ),
-    (
-        "secret = \"shop-secret-shop-secret-shop-secret\"\n",
-        "",
-        "Missing",
-        "client[0].secret",
-    ),
-    ("id = \"bob\"\n", "", "Missing", "user[1].id"),
-    ("rounds = 1", "rounds = 0", "WrongKind", "user[0].rounds"),
-    ("rounds = 1", "rounds = -1", "WrongKind", "user[0].rounds"),
-    (
-        "rounds = 1",
-        "rounds = 1000001",
-        "WrongKind",
-        "user[0].rounds",
-    ),
-    (
-        "email_verified = true",
-        "email_verified = 1",
-        "WrongKind",
-        "user[0].claims",
-    ),
-    (
-        "email_verified = true",
-        "admin = true",
-        "WrongKind",
-        "user[0].claims",
-    ),
-    ("id = \"bob\"", "id = \"Bob\"", "WrongKind", "user[1].id"),
-    (
-        "scope = \"openid profile\"",
-        "scope = \"profile\"",
-        "WrongKind",
-        "party[0].scope",
-    ),
-    (
-        "scope = \"openid profile\"",
-        "scope = \"openid  profile\"",
-        "WrongKind",
-        "party[0].scope",
-    ),
-    (
-        "8081/logout",
-        "8081/leave",
-        "WrongKind",
-        "client[0].logout_uri",
-    ),
-    (
-        "8081/logout",
-        "8082/logout",
-        "WrongKind",
-        "client[0].logout_uri",
-    ),
-    (
-        "response_type = \"code id_token\"",
-        "response_type = \"code\"",
-        "WrongKind",
-        "party[2].response_type",
-    ),
-    (
-        "[\"http://127.0.0.1:8081/cb\"]",
-        "[]",
-        "WrongKind",
-        "client[0].redirect_uris",
-    ),
-    (
-        "[\"http://127.0.0.1:8081/cb\"]",
-        "[\"http://127.0.0.1:8081/cb\", 1]",
-        "WrongKind",
-        "client[0].redirect_uris",
-    ),
-    (
-        "[\"http://127.0.0.1:8081/cb\"]",
-        "[\"http://example.org\"]",
-        "BadUrl",
-        "client[0].redirect_uris",
-    ),
-    (
-        "issuer = \"http://127.0.0.1:8080\"",
-        "issuer = \"https://u@a.b\"",
-        "BadUrl",
-        "provider.issuer",
-    ),
-    (
-        "issuer = \"http://127.0.0.1:8080\"",
-        "issuer = \"https://a.b?c\"",
-        "WrongKind",
-        "provider.issuer",
-    ),
-    (
-        "redirect_uri = \"http://127.0.0.1:8081/cb\"",
-        "redirect_uri = \"http://127.0.0.1:8081/other\"",
-        "BadUrl",
-        "party[0].redirect_uri",
-    ),
-    ("id = \"bob\"", "id = \"alice\"", "Twice", "alice"),
-    (
-        "id = \"mail-client\"",
-        "id = \"shop-client\"",
-        "Twice",
-        "shop-client",
-    ),
-    (
-        "secret = \"news-secret-news-secret-news-secret\"",
-        "secret = \"shop-secret-shop-secret-shop-secret\"",
-        "Twice",
-        "news-client",
-    ),
-    (
-        "[\"http://127.0.0.1:8082/cb\"]",
-        "[\"http://127.0.0.1:8082/cb\", \"http://127.0.0.1:8081/cb\"]",
-        "Twice",
-        "http://127.0.0.1:8081/cb",
-    ),
-    ("name = \"news\"", "name = \"shop\"", "Twice", "shop"),
-    ("name = \"news\"", "name = \"op\"", "Twice", "op"),
-    (
-        "shop-secret-shop-secret-shop-secret",
-        "shop-secret-shop-secret-shop-se",
-        "ShortSecret",
-        "shop-client",
-    ),
-    (
-        "client = \"shop-client\"",
-        "client = \"bank-client\"",
-        "UnknownClient",
-        "shop",
-    ),
-    (
-        "[\"http://127.0.0.1:8081/cb\"]",
-        "[\"http://127.0.0.1:8081/cb\", \"http://localhost/cb\"]\nsubject = \"pairwise\"",
-        "MixedHosts",
-        "shop-client",
-    ),
-];
+// Whether a file is answered by this: `Ok`, or the name of a refusal and the text that it carries.
+fn is_answered(alloc: Global, file: &[u8], want: &str) -> bool {
+    let answer = read_registry(alloc, file);
+    parts_of(&answer) == parts(want, " ")
+}
+
+// Whether a case of a table is answered as it says: a change of the sample, ` => `, and the answer.
+fn is_change_answered(alloc: Global, case: &str) -> Result<bool, AllocError> {
+    let (change, want) = parts(case, " => ");
+    let file = changed(alloc, change)?;
+    Ok(is_answered(alloc, file.as_bytes(), want))
+}
+
+// The first change of a table that is not answered as it says, empty where there is none.
+fn first_wrong<'a>(alloc: Global, table: &'a str) -> Result<&'a str, AllocError> {
+    for case in table.split('\n') {
+        if !is_change_answered(alloc, case)? {
+            return Ok(case);
+        }
+    }
+    Ok("")
+}
+
+const CHANGED: &str = " ->  => Ok
+version = 1 -> version = 2 => Version
+version = 1 -> version = \"1\" => Version
+version = 1 ->  => Version
+rounds = 1 -> rounds = 1 1 => NotToml
+rounds = 1 -> rounds = 1|rounds = 1 => NotToml
+rounds = 1 -> rounds = 9223372036854775808 => NotToml
+issuer = \"http://127.0.0.1:8080\" ->  => Missing provider.issuer
+secret = \"shop-secret-shop-secret-shop-secret\" ->  => Missing client[0].secret
+id = \"bob\" ->  => Missing user[1].id
+rounds = 1 -> rounds = 0 => WrongKind user[0].rounds
+rounds = 1 -> rounds = -1 => WrongKind user[0].rounds
+rounds = 1 -> rounds = 1000001 => WrongKind user[0].rounds
+email_verified = true -> email_verified = 1 => WrongKind user[0].claims
+email_verified = true -> admin = true => WrongKind user[0].claims
+id = \"bob\" -> id = \"Bob\" => WrongKind user[1].id
+scope = \"openid profile\" -> scope = \"profile\" => WrongKind party[0].scope
+scope = \"openid profile\" -> scope = \"openid  profile\" => WrongKind party[0].scope
+8081/logout -> 8081/leave => WrongKind client[0].logout_uri
+8081/logout -> 8082/logout => WrongKind client[0].logout_uri
+response_type = \"code id_token\" -> response_type = \"code\" => WrongKind party[2].response_type
+[\"http://127.0.0.1:8081/cb\"] -> [] => WrongKind client[0].redirect_uris
+[\"http://127.0.0.1:8081/cb\"] -> [\"http://127.0.0.1:8081/cb\", 1] => WrongKind client[0].redirect_uris
+[\"http://127.0.0.1:8081/cb\"] -> [\"http://example.org\"] => BadUrl client[0].redirect_uris
+issuer = \"http://127.0.0.1:8080\" -> issuer = \"https://u@a.b\" => BadUrl provider.issuer
+issuer = \"http://127.0.0.1:8080\" -> issuer = \"https://a.b?c\" => WrongKind provider.issuer
+redirect_uri = \"http://127.0.0.1:8081/cb\" -> redirect_uri = \"http://127.0.0.1:8081/other\" => BadUrl party[0].redirect_uri
+id = \"bob\" -> id = \"alice\" => Twice alice
+id = \"mail-client\" -> id = \"shop-client\" => Twice shop-client
+secret = \"news-secret-news-secret-news-secret\" -> secret = \"shop-secret-shop-secret-shop-secret\" => Twice news-client
+[\"http://127.0.0.1:8082/cb\"] -> [\"http://127.0.0.1:8082/cb\", \"http://127.0.0.1:8081/cb\"] => Twice http://127.0.0.1:8081/cb
+name = \"news\" -> name = \"shop\" => Twice shop
+name = \"news\" -> name = \"op\" => Twice op
+shop-secret-shop-secret-shop-secret -> shop-secret-shop-secret-shop-se => ShortSecret shop-client
+client = \"shop-client\" -> client = \"bank-client\" => UnknownClient shop
+[\"http://127.0.0.1:8081/cb\"] -> [\"http://127.0.0.1:8081/cb\", \"http://localhost/cb\"]|subject = \"pairwise\" => MixedHosts shop-client";
 
 #[test]
 fn each_refusal_is_answered(rt: HostRuntime) -> Result<(), Fail> {
-    for (old, new, name, carried) in CHANGED {
-        let text = changed(rt.alloc(), old, new)?;
-        let answer = read_registry(rt.alloc(), text.as_bytes());
-        assert_eq!(rt; refusal(&answer), (name, carried), "{new}");
-    }
+    assert_eq!(rt; first_wrong(rt.alloc(), CHANGED)?, "");
     Ok(())
-}
-
-// A text, the answer, and the text that a refusal carries.
-const TEXTS: [(&[u8], &str, &str); 5] = [
-    (b"", "Version", ""),
-    (b"version = 1", "Missing", "provider.issuer"),
-    (b"version = 1\nprovider = 3", "Missing", "provider.issuer"),
-    (b"version =", "NotToml", ""),
-    (b"version = 1 # \xff", "NotToml", ""),
-];
-
-#[test]
-fn other_texts_are_refused(rt: HostRuntime) {
-    for (text, name, carried) in TEXTS {
-        let answer = read_registry(rt.alloc(), text);
-        assert_eq!(rt; refusal(&answer), (name, carried));
-    }
 }
 
 const PROVIDER: &str = "version = 1
 provider = {issuer = \"https://a.b\", listen = \"a.b:443\", salt = \"00112233445566778899aabbccddeeff\"}
 ";
 
-// What stands beside the provider, the answer, and the text that a refusal carries.
-const BESIDE: [(&str, &str, &str); 6] = [
-    ("", "Ok", ""),
-    ("user = []", "Ok", ""),
-    ("user = 5", "WrongKind", "user"),
-    ("client = {}", "WrongKind", "client"),
-    ("party = \"shop\"", "WrongKind", "party"),
-    ("user = [1]", "Missing", "user[0].id"),
-];
+// Whether a provider with this beside it is answered by this.
+fn is_beside(alloc: Global, others: &str, want: &str) -> Result<bool, AllocError> {
+    let mut file = String::from_str(alloc, PROVIDER)?;
+    file.push_str(others)?;
+    Ok(is_answered(alloc, file.as_bytes(), want))
+}
 
 #[test]
 fn rows_stand_in_arrays(rt: HostRuntime) -> Result<(), Fail> {
-    for (others, name, carried) in BESIDE {
-        let mut text = String::from_str(rt.alloc(), PROVIDER)?;
-        text.push_str(others)?;
-        let answer = read_registry(rt.alloc(), text.as_bytes());
-        assert_eq!(rt; refusal(&answer), (name, carried), "{others}");
-    }
+    assert!(rt; is_beside(rt.alloc(), "", "Ok")?);
+    assert!(rt; is_beside(rt.alloc(), "user = []", "Ok")?);
+    assert!(rt; is_beside(rt.alloc(), "user = 5", "WrongKind user")?);
+    assert!(rt; is_beside(rt.alloc(), "client = {}", "WrongKind client")?);
+    assert!(rt; is_beside(rt.alloc(), "party = \"shop\"", "WrongKind party")?);
+    assert!(rt; is_beside(rt.alloc(), "user = [1]", "Missing user[0].id")?);
     Ok(())
+}
+
+#[test]
+fn other_texts_are_refused(rt: HostRuntime) {
+    assert!(rt; is_answered(rt.alloc(), b"", "Version"));
+    assert!(rt; is_answered(rt.alloc(), b"version = 1", "Missing provider.issuer"));
+    assert!(rt;
+        is_answered(
+            rt.alloc(),
+            b"version = 1\nprovider = 3",
+            "Missing provider.issuer"
+        )
+    );
+    assert!(rt; is_answered(rt.alloc(), b"version =", "NotToml"));
+    assert!(rt; is_answered(rt.alloc(), b"version = 1 # \xff", "NotToml"));
 }
 
 // A row of each kind, with `#` for its number.
@@ -373,12 +300,17 @@ redirect_uri = \"https://a.b/#\"
 listen = \"a.b:443\"
 ";
 
+// Adds the row with this number.
+fn push_row(alloc: Global, text: &mut String, row: &str, number: u32) -> Result<(), AllocError> {
+    let number = number.to_string(alloc)?;
+    let row = row.replace(alloc, "#", number.as_str())?;
+    text.push_str(row.as_str())
+}
+
 // Adds rows of these numbers.
 fn push_rows(alloc: Global, text: &mut String, row: &str, count: u32) -> Result<(), AllocError> {
     for number in 0..count {
-        let number = number.to_string(alloc)?;
-        let row = row.replace(alloc, "#", number.as_str())?;
-        text.push_str(row.as_str())?;
+        push_row(alloc, text, row, number)?;
     }
     Ok(())
 }
@@ -392,50 +324,58 @@ fn peopled(alloc: Global, users: u32, clients: u32, parties: u32) -> Result<Stri
     Ok(text)
 }
 
-// How many users, clients and parties there are, the answer, and the text that a refusal carries.
-const PEOPLED: [(u32, u32, u32, &str, &str); 5] = [
-    (512, 128, 64, "Ok", ""),
-    (513, 0, 0, "TooMany", "user"),
-    (0, 129, 0, "TooMany", "client"),
-    (0, 65, 65, "TooMany", "party"),
-    (513, 129, 65, "TooMany", "user"),
-];
+// Whether so many users, clients and parties are answered by this.
+fn is_peopled(
+    alloc: Global,
+    (users, clients, parties): (u32, u32, u32),
+    want: &str,
+) -> Result<bool, AllocError> {
+    let file = peopled(alloc, users, clients, parties)?;
+    Ok(is_answered(alloc, file.as_bytes(), want))
+}
 
 #[test]
 fn rows_have_limits(rt: HostRuntime) -> Result<(), Fail> {
-    for (users, clients, parties, name, carried) in PEOPLED {
-        let text = peopled(rt.alloc(), users, clients, parties)?;
-        let answer = read_registry(rt.alloc(), text.as_bytes());
-        assert_eq!(rt;
-            refusal(&answer),
-            (name, carried),
-            "{users} {clients} {parties}"
-        );
-    }
+    assert!(rt; is_peopled(rt.alloc(), (512, 128, 64), "Ok")?);
+    assert!(rt; is_peopled(rt.alloc(), (513, 0, 0), "TooMany user")?);
+    assert!(rt; is_peopled(rt.alloc(), (0, 129, 0), "TooMany client")?);
+    assert!(rt; is_peopled(rt.alloc(), (0, 65, 65), "TooMany party")?);
+    assert!(rt; is_peopled(rt.alloc(), (513, 129, 65), "TooMany user")?);
     Ok(())
+}
+
+// Whether `alice` with a name of so many bytes is answered by this.
+fn is_named(alloc: Global, length: usize, want: &str) -> Result<bool, AllocError> {
+    let name = "x".repeat(alloc, length)?;
+    let file = SAMPLE.replacen(alloc, "Alice Adams", name.as_str(), 1)?;
+    Ok(is_answered(alloc, file.as_bytes(), want))
 }
 
 // The other claims of `alice`, with the names and quotes, have 61 bytes.
 #[test]
 fn claims_have_at_most_2048_bytes(rt: HostRuntime) -> Result<(), Fail> {
-    for (length, name, carried) in [(1987, "Ok", ""), (1988, "TooMany", "claims")] {
-        let long = "x".repeat(rt.alloc(), length)?;
-        let text = changed(rt.alloc(), "Alice Adams", long.as_str())?;
-        let answer = read_registry(rt.alloc(), text.as_bytes());
-        assert_eq!(rt; refusal(&answer), (name, carried), "{length}");
-    }
+    assert!(rt; is_named(rt.alloc(), 1987, "Ok")?);
+    assert!(rt; is_named(rt.alloc(), 1988, "TooMany claims")?);
     Ok(())
+}
+
+// A provider, with lines behind it up to so many bytes.
+fn padded(alloc: Global, size: usize) -> Result<String, AllocError> {
+    let mut file = String::from_str(alloc, PROVIDER)?;
+    for _ in file.len()..size {
+        file.push('\n')?;
+    }
+    Ok(file)
+}
+
+fn is_padded(alloc: Global, size: usize, want: &str) -> Result<bool, AllocError> {
+    let file = padded(alloc, size)?;
+    Ok(is_answered(alloc, file.as_bytes(), want))
 }
 
 #[test]
 fn files_have_at_most_1_048_576_bytes(rt: HostRuntime) -> Result<(), Fail> {
-    for (size, name, carried) in [(1_048_576, "Ok", ""), (1_048_577, "TooLong", "")] {
-        let mut text = String::from_str(rt.alloc(), PROVIDER)?;
-        for _ in text.len()..size {
-            text.push('\n')?;
-        }
-        let answer = read_registry(rt.alloc(), text.as_bytes());
-        assert_eq!(rt; refusal(&answer), (name, carried), "{size}");
-    }
+    assert!(rt; is_padded(rt.alloc(), 1_048_576, "Ok")?);
+    assert!(rt; is_padded(rt.alloc(), 1_048_577, "TooLong")?);
     Ok(())
 }

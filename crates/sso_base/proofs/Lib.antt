@@ -9,4 +9,5 @@ pub mod Spelling
 pub mod Decided
 pub mod ListSteps
 pub mod WordTexts
+pub mod WordUtf8
 mod Samples

@@ -1,5 +1,6 @@
 pub mod Base64Url
 pub mod Faults
+pub mod Journal
 pub mod Legal
 pub mod OnlyText
 pub mod Outside

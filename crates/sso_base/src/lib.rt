@@ -8,7 +8,9 @@
 //! | `word` | `Word`, 32 random bytes, and its text |
 //! | `moment` | `Moment`, a number of seconds |
 //! | `message` | `Message` and `Answered`: what servers send each other |
+//! | `http` | `Ask` and `HttpReply`: requests and replies, as far as HTTP carries them |
 //! | `history` | `Entry` and `Pair`: what a core was asked, and what it replied |
+//! | `journal` | `Core`: what takes asks one after another, and stores its history |
 //! | `rows` | rows with names, found, put and removed |
 //! | `sink`, `sink_memory` | where bytes are written to |
 //! | `shelf`, `shelf_memory` | where contents are fetched from |
@@ -16,6 +18,8 @@
 #![tactic(auto)]
 
 mod history;
+mod http;
+mod journal;
 mod law;
 mod memory;
 mod message;
@@ -31,6 +35,8 @@ mod text;
 mod word;
 
 pub use history::{Entry, Pair};
+pub use http::{Ask, HttpReply, Kind, Method};
+pub use journal::{Core, CoreNo};
 pub use law::words_have_one_text;
 pub use memory::NoMemory;
 pub use message::{Answered, Message, copied_text};

@@ -85,6 +85,7 @@ fn a_word_has_one_text_of_43_characters(rt: HostRuntime) -> Result<(), Fail> {
     let word = Word::new(bytes);
     let text = b"AAAAAAAAAAAAAAAAAAAAAAAAAAAAAAAAAAAAAAAAAAE".as_slice();
     assert_eq!(rt; word.text().as_slice(), text);
+    assert_eq!(rt; word.to_text(rt.alloc())?.as_str().as_bytes(), text);
     for (text, want) in [
         (text, Some(word)),
         (b"".as_slice(), None),

@@ -1,7 +1,10 @@
-ghost use Rattle.std.specs.Prelude.{◌≡◌, length};
+ghost use Rattle.std.specs.Prelude.{◌≡◌, length, IfOk};
 ghost use Rattle.sso_base.specs.Words.{IsWord, word_text, word_of_text};
 
+use crate::memory::NoMemory;
+use crate::text::Text;
 use base64::engine::general_purpose::URL_SAFE_NO_PAD;
+use std::alloc::Global;
 use std::marker::Model;
 
 // The length of a word's text, in characters.
@@ -49,6 +52,15 @@ impl Word {
         let mut text = [0; 43];
         let _ = URL_SAFE_NO_PAD.encode_slice(&self.bytes, &mut text);
         text
+    }
+
+    /// Its text, copied.
+    pub fn to_text(&self, alloc: Global) -> Result<Text, NoMemory>
+        ensures { IfOk result (λ t. t ≡ word_text self.now) }
+    {
+        let bytes = self.text();
+        let text = std::str::from_utf8(&bytes).unwrap();
+        Text::new(alloc, text)
     }
 
     /// The word that has this text. None exactly where the text is not strict base64url without padding

@@ -1,0 +1,6 @@
+pub mod ErrorCode
+pub mod Printing
+pub mod Params
+pub mod Reading
+pub mod Parts
+pub mod Sent

@@ -1,0 +1,39 @@
+// What a provider gives to a client.
+
+ghost use Rattle.std.specs.Prelude.{◌≡◌, IfOk};
+
+use sso_base::{NoMemory, Text, Word, copied_text};
+use std::alloc::Global;
+
+/// A successful authorization response (OpenID Connect Core 1.0, 3.1.2.5, 3.2.2.5 and 3.3.2.5). Each part is there as the
+/// response type has it.
+#[derive(Debug, Drop)]
+pub struct Answer {
+    /// The redirection URI that it is sent to: one that the client has.
+    pub redirect: Text,
+    /// Whether it stands in the fragment, else in the query.
+    pub fragment: bool,
+    /// The code.
+    pub code: Option<Word>,
+    /// The access token.
+    pub access: Option<Word>,
+    /// The ID Token.
+    pub id: Option<Text>,
+    pub state: Option<Text>,
+}
+
+impl Answer {
+    /// An equal answer.
+    pub fn copy(&self, alloc: Global) -> Result<Answer, NoMemory>
+        ensures { IfOk result (λ a. a ≡ self.now) }
+    {
+        Ok(Answer {
+            redirect: self.redirect.copy(alloc)?,
+            fragment: self.fragment,
+            code: self.code,
+            access: self.access,
+            id: copied_text(alloc, &self.id)?,
+            state: copied_text(alloc, &self.state)?,
+        })
+    }
+}

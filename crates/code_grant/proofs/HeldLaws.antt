@@ -1,0 +1,179 @@
+-- What a table keeps of its rows, when rows are left out, added and changed.
+use Rattle.std.proofs.Common.{◌≡◌, ◌<◌, ◌≤◌, ℕ, suc, Bool, true, not, nat_le, cond, List, [], ◌∷◌, ◌++◌, filter, length, Option, Some, None, IfSome, inl, inr, refl, sym, ◌∙◌, ap, subst, arith}
+use Rattle.std.specs.Str.{bytes_eq}
+use Rattle.std.specs.List.{AllByRecursion}
+use Rattle.std.proofs.lemmas.Bool.{and_parts, and_from, leb-true}
+use Rattle.sso_base.specs.Words.{Word}
+use Rattle.sso_base.specs.Rows.{without, row_of}
+use Rattle.sso_base.specs.Stands.{IsDistinct}
+use Rattle.sso_base.proofs.RowLaws.{bool_cases, bytes_true, bytes_turn, row_of-append, row_of-without_same, or_row}
+use Rattle.sso_base.proofs.Removing.{filter-without}
+use Rattle.code_grant.specs.Held.{IsHeld, IsInOrder, none_after, most_rows}
+
+-- ---- rows left out
+
+pub all_filter : {R : Type 0} (P : R → Type 0) (p : R → Bool) (rows : List R) → AllByRecursion P rows → AllByRecursion P (filter p rows)
+all_filter P p [] all = tt
+all_filter {R} P p (r ∷ rs) all =
+    let A : Bool → Type 0 = λ b. AllByRecursion P (cond b (r ∷ filter p rs) (filter p rs)) in
+    elim (bool_cases (p r)) [
+      | inl e ↦ subst A (sym e) (all.0, all_filter P p rs all.1)
+      | inr e ↦ subst A (sym e) (all_filter P p rs all.1)
+    ]
+
+pub row_none-filter : {R : Type 0} (name : R → Word) (w : Word) (p : R → Bool) (rows : List R) → row_of name w rows ≡ None → row_of name w (filter p rows) ≡ None
+row_none-filter name w p [] h = refl
+row_none-filter {R} name w p (r ∷ rs) h =
+    let G : Bool → Option R = λ b. cond b (Some r) (row_of name w rs) in
+    let F : Bool → Option R = λ b. row_of name w (cond b (r ∷ filter p rs) (filter p rs)) in
+    let H : Bool → Option R = λ b. cond b (Some r) (row_of name w (filter p rs)) in
+    elim (bool_cases (bytes_eq (name r) w)) [
+      | inl e ↦ (let k : G true ≡ None = sym (ap G e) ∙ h in cc)
+      | inr e ↦ (let again : row_of name w (filter p rs) ≡ None = row_none-filter name w p rs (sym (ap G e) ∙ h) in
+          elim (bool_cases (p r)) [ inl f ↦ ap F f ∙ ap H e ∙ again | inr f ↦ ap F f ∙ again ])
+    ]
+
+pub distinct_filter : {R : Type 0} (name : R → Word) (p : R → Bool) (rows : List R) → IsDistinct name rows → IsDistinct name (filter p rows)
+distinct_filter name p [] d = tt
+distinct_filter {R} name p (r ∷ rs) d =
+    let D : Bool → Type 0 = λ b. IsDistinct name (cond b (r ∷ filter p rs) (filter p rs)) in
+    let again : IsDistinct name (filter p rs) = distinct_filter name p rs d.1 in
+    elim (bool_cases (p r)) [
+      | inl e ↦ subst D (sym e) (row_none-filter name (name r) p rs d.0, again)
+      | inr e ↦ subst D (sym e) again
+    ]
+
+pub ordered_filter : {R : Type 0} (begun : R → ℕ) (p : R → Bool) (rows : List R) → IsInOrder begun rows → IsInOrder begun (filter p rows)
+ordered_filter begun p [] o = tt
+ordered_filter {R} begun p (r ∷ rs) o =
+    let D : Bool → Type 0 = λ b. IsInOrder begun (cond b (r ∷ filter p rs) (filter p rs)) in
+    let again : IsInOrder begun (filter p rs) = ordered_filter begun p rs o.1 in
+    elim (bool_cases (p r)) [
+      | inl e ↦ subst D (sym e) (all_filter (λ (later : R). begun r ≤ begun later) p rs o.0, again)
+      | inr e ↦ subst D (sym e) again
+    ]
+
+pub filter_short : {R : Type 0} (p : R → Bool) (rows : List R) → length (filter p rows) ≤ length rows
+filter_short p [] = omega arith
+filter_short {R} p (r ∷ rs) =
+    let low : length (filter p rs) ≤ length rs = filter_short p rs in
+    let L : Bool → Type 0 = λ b. length (cond b (r ∷ filter p rs) (filter p rs)) ≤ suc (length rs) in
+    elim (bool_cases (p r)) [ inl e ↦ subst L (sym e) (omega arith) | inr e ↦ subst L (sym e) (omega arith) ]
+
+pub held_filter : {R : Type 0} (name : R → Word) (begun : R → ℕ) (InRange : R → Type 0) (p : R → Bool) (rows : List R)
+    → IsHeld name begun InRange rows → IsHeld name begun InRange (filter p rows)
+held_filter name begun InRange p rows h =
+    let low : length (filter p rows) ≤ length rows = filter_short p rows in
+    let few : length rows ≤ 65536 = h.few in
+    record {
+      distinct = distinct_filter name p rows h.distinct;
+      ordered = ordered_filter begun p rows h.ordered;
+      few = omega arith;
+      in_range = all_filter InRange p rows h.in_range;
+    }
+
+pub held_without : {R : Type 0} (name : R → Word) (begun : R → ℕ) (InRange : R → Type 0) (w : Word) (rows : List R)
+    → IsHeld name begun InRange rows → IsHeld name begun InRange (without name w rows)
+held_without {R} name begun InRange w rows h =
+    let H : List R → Type 0 = λ xs. IsHeld name begun InRange xs in
+    subst H (filter-without name w rows) (held_filter name begun InRange (λ (row : R). not (bytes_eq (name row) w)) rows h)
+
+-- ---- one row more
+
+pub all_push : {R : Type 0} (P : R → Type 0) (row : R) (rows : List R) → AllByRecursion P rows → P row → AllByRecursion P (rows ++ row ∷ [])
+all_push P row [] all last = (last, tt)
+all_push P row (r ∷ rs) all last = (all.0, all_push P row rs all.1 last)
+
+pub distinct_push : {R : Type 0} (name : R → Word) (row : R) (rows : List R) → IsDistinct name rows → row_of name (name row) rows ≡ None → IsDistinct name (rows ++ row ∷ [])
+distinct_push name row [] d h = (refl, tt)
+distinct_push {R} name row (r ∷ rs) d h =
+    let G : Bool → Option R = λ b. cond b (Some r) (row_of name (name row) rs) in
+    let O : Option R → Option R = λ o. or_row o (row_of name (name r) (row ∷ [])) in
+    let F : Bool → Option R = λ b. cond b (Some row) None in
+    elim (bool_cases (bytes_eq (name r) (name row))) [
+      | inl e ↦ (let k : G true ≡ None = sym (ap G e) ∙ h in cc)
+      | inr e ↦ (row_of-append name (name r) rs (row ∷ []) ∙ ap O d.0 ∙ ap F (bytes_turn (name r) (name row) e), distinct_push name row rs d.1 (sym (ap G e) ∙ h))
+    ]
+
+pub ordered_push : {R : Type 0} (begun : R → ℕ) (row : R) (rows : List R) → IsInOrder begun rows → none_after begun (begun row) rows ≡ true → IsInOrder begun (rows ++ row ∷ [])
+ordered_push begun row [] o h = (tt, tt)
+ordered_push {R} begun row (r ∷ rs) o h =
+    let parts = and_parts (nat_le (begun r) (begun row)) (none_after begun (begun row) rs) h in
+    (all_push (λ (later : R). begun r ≤ begun later) row rs o.0 (leb-true (begun r) (begun row) parts.0), ordered_push begun row rs o.1 parts.1)
+
+length_push : {R : Type 0} (row : R) (rows : List R) → length (rows ++ row ∷ []) ≡ suc (length rows)
+length_push row [] = refl
+length_push row (r ∷ rs) = ap suc (length_push row rs)
+
+pub held_push : {R : Type 0} (name : R → Word) (begun : R → ℕ) (InRange : R → Type 0) (row : R) (rows : List R)
+    → IsHeld name begun InRange rows → length rows < most_rows → row_of name (name row) rows ≡ None → none_after begun (begun row) rows ≡ true → InRange row
+    → IsHeld name begun InRange (rows ++ row ∷ [])
+held_push name begun InRange row rows h fewer unnamed latest here =
+    let long : length (rows ++ row ∷ []) ≡ suc (length rows) = length_push row rows in
+    let low : length rows < 65536 = fewer in
+    record {
+      distinct = distinct_push name row rows h.distinct unnamed;
+      ordered = ordered_push begun row rows h.ordered latest;
+      few = omega arith;
+      in_range = all_push InRange row rows h.in_range here;
+    }
+
+-- ---- the row of a name
+
+pub row_has : {R : Type 0} (name : R → Word) (P : R → Type 0) (w : Word) (rows : List R) → AllByRecursion P rows → IfSome (row_of name w rows) P
+row_has name P w [] all = tt
+row_has {R} name P w (r ∷ rs) all =
+    let S : Bool → Type 0 = λ b. IfSome (cond b (Some r) (row_of name w rs)) P in
+    elim (bool_cases (bytes_eq (name r) w)) [
+      | inl e ↦ subst S (sym e) all.0
+      | inr e ↦ subst S (sym e) (row_has name P w rs all.1)
+    ]
+
+pub some_has : {R : Type 0} (name : R → Word) (P : R → Type 0) (w : Word) (rows : List R) (row : R) → AllByRecursion P rows → row_of name w rows ≡ Some row → P row
+some_has {R} name P w rows row all e =
+    let S : Option R → Type 0 = λ o. IfSome o P in
+    subst S e (row_has name P w rows all)
+
+-- where a row of the name is taken out, fewer are left
+pub shorter : {R : Type 0} (name : R → Word) (w : Word) (rows : List R) (row : R) → row_of name w rows ≡ Some row → length (without name (name row) rows) < length rows
+shorter name w [] row e = cc
+shorter {R} name w (r ∷ rs) row e =
+    let G : Bool → Option R = λ b. cond b (Some r) (row_of name w rs) in
+    let W : Bool → Type 0 = λ b. length (cond b (without name (name row) rs) (r ∷ without name (name row) rs)) < suc (length rs) in
+    elim (bool_cases (bytes_eq (name r) w)) [
+      | inl f ↦
+          (let same : r ≡ row = (let k : Some r ≡ Some row = sym (ap G f) ∙ e in cc) in
+          let named : bytes_eq (name r) (name row) ≡ true = bytes_true (name r) (name row) (ap name same) in
+          let L : List R → Type 0 = λ xs. length xs ≤ length rs in
+          let low : length (without name (name row) rs) ≤ length rs = subst L (filter-without name (name row) rs) (filter_short (λ (x : R). not (bytes_eq (name x) (name row))) rs) in
+          subst W (sym named) (omega arith))
+      | inr f ↦
+          (let low : length (without name (name row) rs) < length rs = shorter name w rs row (sym (ap G f) ∙ e) in
+          elim (bool_cases (bytes_eq (name r) (name row))) [ inl k ↦ subst W (sym k) (omega arith) | inr k ↦ subst W (sym k) (omega arith) ])
+    ]
+
+-- ---- the row of a name moved to the end
+
+none_after-filter : {R : Type 0} (begun : R → ℕ) (at : ℕ) (p : R → Bool) (rows : List R) → none_after begun at rows ≡ true → none_after begun at (filter p rows) ≡ true
+none_after-filter begun at p [] h = refl
+none_after-filter {R} begun at p (r ∷ rs) h =
+    let parts = and_parts (nat_le (begun r) at) (none_after begun at rs) h in
+    let again : none_after begun at (filter p rs) ≡ true = none_after-filter begun at p rs parts.1 in
+    let N : Bool → Bool = λ b. none_after begun at (cond b (r ∷ filter p rs) (filter p rs)) in
+    elim (bool_cases (p r)) [
+      | inl e ↦ ap N e ∙ and_from (nat_le (begun r) at) (none_after begun at (filter p rs)) parts.0 again
+      | inr e ↦ ap N e ∙ again
+    ]
+
+pub held_moved : {R : Type 0} (name : R → Word) (begun : R → ℕ) (InRange : R → Type 0) (w : Word) (row moved : R) (rows : List R)
+    → IsHeld name begun InRange rows → row_of name w rows ≡ Some row → none_after begun (begun moved) rows ≡ true → name moved ≡ name row → InRange moved
+    → IsHeld name begun InRange (without name (name moved) rows ++ moved ∷ [])
+held_moved {R} name begun InRange w row moved rows h found latest named here =
+    let L : Word → Type 0 = λ v. length (without name v rows) < length rows in
+    let fewer : length (without name (name moved) rows) < length rows = subst L (sym named) (shorter name w rows row found) in
+    let few : length rows ≤ 65536 = h.few in
+    let N : List R → Type 0 = λ xs. none_after begun (begun moved) xs ≡ true in
+    let p : R → Bool = λ x. not (bytes_eq (name x) (name moved)) in
+    held_push name begun InRange moved (without name (name moved) rows) (held_without name begun InRange (name moved) rows h)
+    (omega arith) (row_of-without_same name (name moved) rows)
+    (subst N (filter-without name (name moved) rows) (none_after-filter begun (begun moved) p rows latest)) here

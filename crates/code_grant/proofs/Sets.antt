@@ -1,0 +1,66 @@
+-- Sets of clients, and what users have granted to clients.
+use Rattle.std.proofs.Common.{◌≡◌, ◌≢◌, ◌<◌, ◌+◌, ◌*◌, ℕ, suc, zero, Bool, true, false, List, length, replicate, refl, arith}
+use Rattle.std.specs.List.{slice_index_or}
+use Rattle.std.proofs.lemmas.List.{length-set, length-replicate, get_or-set_same, get_or-set_other}
+use Rattle.scope_claims.specs.declared.scopes.Scopes.{Scopes}
+use Rattle.scope_claims.specs.Claims.{no_scopes, joined}
+use Rattle.code_grant.specs.Clients.{no_clients, has_client, with_client}
+use Rattle.code_grant.specs.Consents.{no_consents, granted_to, with_grant}
+
+blank : {X : Type 0} (n i : ℕ) (x : X) → slice_index_or (replicate n x) i x ≡ x
+blank zero i x = refl
+blank (suc n) zero x = refl
+blank (suc n) (suc i) x = blank n i x
+
+-- ---- sets of clients
+
+pub has_client-none : (client : ℕ) → has_client client no_clients ≡ false
+unfolding no_clients
+has_client-none client = blank 128 client false
+
+pub length-no_clients : length no_clients ≡ 128
+unfolding no_clients
+length-no_clients = length-replicate 128 false
+
+pub has_client-with_client : (client : ℕ) (clients : List Bool) → client < length clients → has_client client (with_client client clients) ≡ true
+has_client-with_client client clients within = get_or-set_same clients client true false within
+
+pub has_client-with_other : (client other : ℕ) (clients : List Bool) → client ≢ other → has_client client (with_client other clients) ≡ has_client client clients
+has_client-with_other client other clients apart = get_or-set_other clients other client true false apart
+
+pub length-with_client : (client : ℕ) (clients : List Bool) → length (with_client client clients) ≡ length clients
+length-with_client client clients = length-set clients client true
+
+-- ---- what users have granted to clients
+
+pub granted_to-none : (user client : ℕ) → granted_to user client no_consents ≡ no_scopes
+unfolding no_consents granted_to
+granted_to-none user client = blank 65536 (user * 128 + client) no_scopes
+
+pub length-no_consents : length no_consents ≡ 65536
+unfolding no_consents
+length-no_consents = length-replicate 65536 no_scopes
+
+pub granted_to-with_grant : (user client : ℕ) (scopes : Scopes) (consents : List Scopes) → user < 512 → client < 128 → length consents ≡ 65536
+    → granted_to user client (with_grant user client scopes consents) ≡ joined (granted_to user client consents) scopes
+unfolding granted_to with_grant
+granted_to-with_grant user client scopes consents u c long =
+    get_or-set_same consents (user * 128 + client) (joined (slice_index_or consents (user * 128 + client) no_scopes) scopes) no_scopes (omega arith)
+
+-- users and clients have places of their own
+apart_places : (user client u c : ℕ) → client < 128 → c < 128 → (user ≡ u → client ≡ c → ⊥) → (user * 128 + client) ≢ (u * 128 + c)
+apart_places user client u c low below apart same =
+    let users : user ≡ u = omega arith in
+    let clients : client ≡ c = omega arith in
+    apart users clients
+
+pub granted_to-with_other : (user client u c : ℕ) (scopes : Scopes) (consents : List Scopes) → client < 128 → c < 128 → (user ≡ u → client ≡ c → ⊥)
+    → granted_to user client (with_grant u c scopes consents) ≡ granted_to user client consents
+unfolding granted_to with_grant
+granted_to-with_other user client u c scopes consents low below apart =
+    get_or-set_other consents (u * 128 + c) (user * 128 + client) (joined (slice_index_or consents (u * 128 + c) no_scopes) scopes) no_scopes (apart_places user client u c low below apart)
+
+pub length-with_grant : (user client : ℕ) (scopes : Scopes) (consents : List Scopes) → length (with_grant user client scopes consents) ≡ length consents
+unfolding with_grant
+length-with_grant user client scopes consents =
+    length-set consents (user * 128 + client) (joined (slice_index_or consents (user * 128 + client) no_scopes) scopes)

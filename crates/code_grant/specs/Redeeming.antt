@@ -1,0 +1,25 @@
+-- The redemption of a code (RFC 6749, 4.1.2, 4.1.3 and 10.5; OpenID Connect Core 1.0, 3.1.3.2).
+use Rattle.std.specs.Prelude.{◌≡◌, ◌<◌, ◌+◌, ℕ, ◌==◌, false, not, List, Option, Some, None, if◌then◌else◌}
+use Rattle.std.specs.Str.{bytes_eq}
+use Rattle.sso_base.specs.Rows.{lives}
+use Rattle.code_grant.specs.declared.rows.CodeRow.{CodeRow}
+use Rattle.code_grant.specs.declared.redeem.Redeem.{Redeem}
+use Rattle.code_grant.specs.declared.redeem.Redeem.TheVariants.{Redeemed, Unknown, OtherClient, Spent, Expired, OtherUri}
+use Rattle.code_grant.specs.Rows.{code_usable}
+
+-- what a client gets for a code with a redirection URI at a moment, where this is the code's row: the first that fits
+abbrev pub redeem_of : ℕ → List ℕ → ℕ → Option CodeRow → Redeem
+redeem_of client redirect at None = Unknown
+redeem_of client redirect at (Some code) =
+    if not (code.wish.client == client) then OtherClient
+    else if code.spent then Spent
+    else if not (lives code_usable code.issued at) then Expired
+    else if not (bytes_eq code.wish.redirect redirect) then OtherUri
+    else Redeemed
+
+-- the code may be redeemed by the client with the redirection URI at the moment
+pub record IsRedeemable (client : ℕ) (redirect : List ℕ) (at : ℕ) (code : CodeRow) : Type 0 where
+  pub own_client : code.wish.client ≡ client
+  pub unspent : code.spent ≡ false
+  pub in_time : at < code.issued + 120
+  pub own_uri : code.wish.redirect ≡ redirect

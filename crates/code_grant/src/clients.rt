@@ -1,0 +1,52 @@
+// Sets of clients.
+
+ghost use Rattle.std.specs.Prelude.{◌≡◌, ◌<◌};
+ghost use Rattle.code_grant.specs.Clients as spec;
+
+use std::marker::Model;
+
+/// How many clients there are at most.
+pub(crate) const CLIENTS: u32 = 128;
+
+/// A set of client numbers below 128. It takes no memory.
+#[derive(Clone, Copy, Debug, PartialEq, Eq)]
+pub struct Clients {
+    flags: [bool; 128],
+}
+
+impl Model for Clients {
+    ghost use Rattle.std.specs.Prelude.{List, Bool};
+
+    ghost Value = { List Bool };
+
+    ghost view = { λ c. c.flags };
+
+    ghost inverse = { λ flags. record { flags = flags } };
+}
+
+impl Clients {
+    /// The empty set.
+    #[tactic(auto, unfolding(crate::specs::Clients::no_clients))]
+    pub fn new() -> Clients
+        ensures { result ≡ spec.no_clients }
+    {
+        Clients {
+            flags: [false; 128],
+        }
+    }
+
+    /// Whether the set has that number.
+    pub fn has(&self, client: u32) -> bool
+        ensures { result ≡ spec.has_client client self.now }
+    {
+        client < CLIENTS && self.flags[client as usize]
+    }
+
+    /// Adds the number.
+    pub fn add(&mut self, client: u32)
+        requires { client < 128 }
+        ensures { self.new ≡ spec.with_client client self.old }
+    {
+        self.flags[client as usize] = true;
+    }
+}

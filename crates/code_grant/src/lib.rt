@@ -1,0 +1,47 @@
+//! The provider's tables: its turns, sessions, codes and access tokens, and what users have granted to clients
+//! (OpenID Connect Core 1.0, 3.1.2; RFC 6749, 4.1).
+//!
+//! Each table is seen as the list of its held rows in order of issue. Only [`Grants::new`] and [`Grants::reserve`] take
+//! memory.
+//!
+//! | Module | What it has |
+//! |---|---|
+//! | `grants` | [`Grants`], all tables: made, reserved, purged; what users have granted |
+//! | `turns`, `sessions`, `codes`, `tokens` | the calls of `Grants` on one table each |
+//! | `rows` | [`TurnRow`], [`SessionRow`], [`CodeRow`], [`TokenRow`] |
+//! | `clients` | [`Clients`], a set of clients |
+//! | `redeem` | [`Redeem`], what a client gets for a code |
+//! | `table` | [`Table`] names a table |
+//! | `held` | the held rows of one table, of any kind |
+//! | `consents` | scopes for each user and client |
+//! | `law` | what holds of the tables, for the crates above |
+#![tactic(auto)]
+
+mod clients;
+mod codes;
+mod consents;
+mod grants;
+mod held;
+mod law;
+mod redeem;
+mod rows;
+mod sessions;
+mod table;
+#[cfg(test)]
+mod tests;
+mod tokens;
+mod turns;
+
+pub use clients::Clients;
+pub use grants::Grants;
+pub use law::{
+    changes_are_of_one_row, codes_are_redeemed_once, grants_are_joined, other_codes_do_not_count,
+    purges_leave_what_lives, redeemed_codes_are_redeemable, second_uses_end_the_tokens,
+    sets_have_what_was_added,
+};
+pub use redeem::Redeem;
+pub use rows::{
+    CODE_LIFE, CODE_USABLE, CodeRow, SESSION_LIFE, SessionRow, TOKEN_LIFE, TURN_LIFE, TokenRow,
+    TurnRow,
+};
+pub use table::Table;

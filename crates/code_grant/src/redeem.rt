@@ -1,0 +1,46 @@
+// What a client gets for a code.
+
+ghost use Rattle.std.specs.Prelude.{◌≡◌};
+ghost use Rattle.std.specs.Option.{option_copied};
+ghost use Rattle.code_grant.specs.Redeeming.{redeem_of};
+
+use crate::rows::{CODE_USABLE, CodeRow};
+use sso_base::{Moment, is_live};
+
+/// What a client gets for a code with a redirection URI: the first that fits, in this order but for `Redeemed`, which is
+/// last (RFC 6749, 4.1.3; OpenID Connect Core 1.0, 3.1.3.2).
+#[derive(Clone, Copy, Debug, PartialEq, Eq)]
+pub enum Redeem {
+    /// The code is good, and is spent now.
+    Redeemed,
+    /// No held code has that word.
+    Unknown,
+    /// The code was issued to another client.
+    OtherClient,
+    /// The code was redeemed before.
+    Spent,
+    /// The code was issued 120 seconds ago or longer.
+    Expired,
+    /// The code was sent to another redirection URI.
+    OtherUri,
+}
+
+// What a client gets for the code of this row.
+pub(crate) fn judge(row: Option<&CodeRow>, client: u32, redirect: &[u8], at: Moment) -> Redeem
+    ensures { result ≡ redeem_of client redirect.now at (option_copied row.entry) }
+{
+    let Some(row) = row else {
+        return Redeem::Unknown;
+    };
+    if row.wish.client != client {
+        Redeem::OtherClient
+    } else if row.spent {
+        Redeem::Spent
+    } else if !is_live(CODE_USABLE, row.issued, at) {
+        Redeem::Expired
+    } else if row.wish.redirect.as_str().as_bytes() != redirect {
+        Redeem::OtherUri
+    } else {
+        Redeem::Redeemed
+    }
+}

@@ -1,0 +1,89 @@
+// The sessions of the provider.
+
+ghost use Rattle.std.specs.Prelude.{◌≡◌, ◌<◌, ◌≤◌, true, length, None, IfSome};
+ghost use Rattle.std.specs.Option.{option_copied};
+ghost use Rattle.sso_base.specs.Rows.{row_of};
+ghost use Rattle.code_grant.specs.Held.{changed, moved, none_after, most_rows};
+ghost use Rattle.code_grant.specs.Rows.{session_name, session_begun};
+ghost use Rattle.code_grant.specs.Tables as spec;
+
+use crate::grants::Grants;
+use crate::held::{Held, place_of};
+use crate::rows::SessionRow;
+use sso_base::{Moment, Word, find_row, remove_row};
+
+impl Held<SessionRow> {
+    fn renew(&mut self, word: Word, at: Moment)
+        requires { none_after session_begun at self.old.rows ≡ true }
+        ensures rows { self.new ≡ record self.old { rows = moved session_name word (spec.session_at at) self.old.rows } }
+        ensures bound { length self.new.rows ≤ length self.old.rows }
+    {
+        if let Some(row) = find_row(&self.rows, word) {
+            let renewed = SessionRow {
+                auth_time: at,
+                ..*row
+            };
+            remove_row(&mut self.rows, renewed.word);
+            self.rows.push_reserved(renewed);
+        }
+    }
+
+    fn visit(&mut self, word: Word, client: u32)
+        requires { client < 128 }
+        ensures rows { self.new ≡ record self.old { rows = changed session_name word (spec.session_with client) self.old.rows } }
+        ensures bound { length self.new.rows ≤ length self.old.rows }
+    {
+        if let Some(place) = place_of(&self.rows, word) {
+            self.rows[place].clients.add(client);
+        }
+    }
+}
+
+impl Grants {
+    /// Adds a session.
+    pub fn start_session(&mut self, row: SessionRow)
+        requires reserved { self.old.reserved.sessions ≡ true }
+        requires few { length self.old.sessions < most_rows }
+        requires unnamed { row_of session_name row.word self.old.sessions ≡ None }
+        requires latest { none_after session_begun row.auth_time self.old.sessions ≡ true }
+        requires user { row.user < 512 }
+        ensures { self.new ≡ spec.with_session row self.old }
+    {
+        self.reserved.sessions = false;
+        self.sessions.add(row);
+    }
+
+    /// The session of that word; None exactly where no held session has it. Its life may have ended.
+    pub fn session(&self, word: Word) -> Option<&SessionRow>
+        ensures row { option_copied result ≡ row_of session_name word self.now.sessions }
+        ensures user { IfSome (option_copied result) (λ row. row.user < 512) }
+        ensures held { spec.AreSessions self.now.sessions }
+    {
+        self.sessions.find(word)
+    }
+
+    /// The user of the session of that word logged in again: its `auth_time` is the moment, and it counts as issued
+    /// anew, so it goes to the end. Where no held session has the word, nothing changes.
+    pub fn renew(&mut self, word: Word, at: Moment)
+        requires { none_after session_begun at self.old.sessions ≡ true }
+        ensures { self.new ≡ spec.session_renewed word at self.old }
+    {
+        self.sessions.renew(word, at);
+    }
+
+    /// Adds a client to those that the session of that word has answered. Where no held session has the word, nothing
+    /// changes.
+    pub fn visit(&mut self, word: Word, client: u32)
+        requires { client < 128 }
+        ensures { self.new ≡ spec.session_visited word client self.old }
+    {
+        self.sessions.visit(word, client);
+    }
+
+    /// Takes out the session of that word. Where no held session has it, nothing changes.
+    pub fn end_session(&mut self, word: Word)
+        ensures { self.new ≡ spec.session_ended word self.old }
+    {
+        self.sessions.remove(word);
+    }
+}

@@ -1,0 +1,19 @@
+// The names of the tables.
+
+/// A table of the provider.
+#[derive(Clone, Copy, Debug, PartialEq, Eq)]
+pub enum Table {
+    Turns,
+    Sessions,
+    Codes,
+    Tokens,
+}
+
+/// For which tables room for one more row is reserved.
+#[derive(Clone, Copy, Debug)]
+pub struct Reserved {
+    pub turns: bool,
+    pub sessions: bool,
+    pub codes: bool,
+    pub tokens: bool,
+}

@@ -1,0 +1,15 @@
+pub mod Past
+pub mod Clients
+pub mod Turns
+pub mod Sessions
+pub mod Codes
+pub mod AccessTokens
+pub mod Consents
+pub mod IdTokens
+pub mod Asks
+pub mod Replies
+pub mod Room
+pub mod Values
+pub mod Answering
+pub mod Causes
+pub mod Legal

@@ -1,0 +1,61 @@
+// Requests to a server, and what it replies, as far as HTTP carries them (RFC 9110).
+
+use crate::text::{Blob, Text, Texts};
+use crate::word::Word;
+
+/// The method of a request (RFC 9110, 9.3).
+#[derive(Clone, Copy, Debug, PartialEq, Eq)]
+pub enum Method {
+    Get,
+    Post,
+    /// Any other method.
+    Other,
+}
+
+/// One request to a server.
+#[derive(Debug, Drop)]
+pub struct Ask {
+    pub method: Method,
+    /// The target up to its first `?`.
+    pub path: Text,
+    /// What follows that `?`, empty where there is none.
+    pub query: Blob,
+    /// The form that was posted, in `application/x-www-form-urlencoded`.
+    pub body: Option<Blob>,
+    /// The first of the server's two cookies, where it is a word's text.
+    pub first: Option<Word>,
+    /// The second.
+    pub second: Option<Word>,
+    /// The value of the `Authorization` header (RFC 9110, 11.6.2).
+    pub auth: Option<Text>,
+}
+
+/// What the body of a reply is.
+#[derive(Clone, Copy, Debug, PartialEq, Eq)]
+pub enum Kind {
+    /// There is none.
+    Empty,
+    /// `text/plain; charset=utf-8`
+    Plain,
+    /// `text/html; charset=utf-8`
+    Html,
+    /// `application/json`
+    Json,
+}
+
+/// The reply to a request.
+#[derive(Debug, Drop)]
+pub struct HttpReply {
+    /// The status (RFC 9110, 15).
+    pub status: u16,
+    /// Whether it has `Pragma: no-cache` (RFC 6749, 5.1).
+    pub pragma: bool,
+    /// The value of its `Location` header (RFC 9110, 10.2.2).
+    pub location: Option<Text>,
+    /// The values of its `Set-Cookie` headers (RFC 6265, 4.1).
+    pub cookies: Texts,
+    /// The value of its `WWW-Authenticate` header (RFC 9110, 11.6.1).
+    pub challenge: Option<Text>,
+    pub kind: Kind,
+    pub body: Blob,
+}

@@ -1,0 +1,40 @@
+// The bodies of a token endpoint's answers are written.
+
+ghost use Rattle.std.specs.Prelude.{◌≡◌, IfOk};
+ghost use Rattle.sso_base.specs.Words.{word_text};
+ghost use Rattle.token_endpoint.specs.Answer.{tokens_text};
+ghost use Rattle.token_endpoint.specs.Errors.{error_text};
+
+use crate::error::TokenError;
+use claim_set::{ClaimSet, write_claims};
+use sso_base::{Blob, NoMemory, Text, Word};
+use std::alloc::Global;
+
+// How long an access token lives, in seconds.
+const LIFE: u64 = 3600;
+
+/// The body of an answer to a granted request (RFC 6749, 5.1; OpenID Connect Core 1.0, 3.1.3.3): a JSON object on one line,
+/// with `access_token`, the text of the word, `expires_in`, which is 3,600 seconds, `id_token`, and `token_type`, which is
+/// `Bearer`.
+#[tactic(auto, unfolding(crate::specs::Answer::tokens_text))]
+pub fn print_tokens(alloc: Global, access: &Word, id: &Text) -> Result<Blob, NoMemory>
+    ensures { IfOk result (λ b. b ≡ tokens_text (word_text access.now) id.now) }
+{
+    let access = access.to_text(alloc)?;
+    let mut set = ClaimSet::new(alloc);
+    set.put_text("access_token", access.as_str())?;
+    set.put_number("expires_in", LIFE)?;
+    set.put_text("id_token", id.as_str())?;
+    set.put_text("token_type", "Bearer")?;
+    write_claims(&set)
+}
+
+/// The body of an answer to a refused request (RFC 6749, 5.2): a JSON object on one line, with `error`, the code.
+#[tactic(auto, unfolding(crate::specs::Errors::error_text))]
+pub fn print_token_error(alloc: Global, error: TokenError) -> Result<Blob, NoMemory>
+    ensures { IfOk result (λ b. b ≡ error_text error) }
+{
+    let mut set = ClaimSet::new(alloc);
+    set.put_text("error", error.as_str())?;
+    write_claims(&set)
+}

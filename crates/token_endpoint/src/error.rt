@@ -1,0 +1,48 @@
+// The error codes of the token endpoint (RFC 6749, 5.2).
+
+ghost use Rattle.std.specs.Prelude.{◌≡◌, ◌≢◌};
+ghost use Rattle.token_endpoint.specs.Errors as spec;
+
+use crate::no::GrantNo;
+
+/// An error code of the token endpoint (RFC 6749, 5.2).
+#[derive(Clone, Copy, Debug, PartialEq, Eq)]
+pub enum TokenError {
+    /// `invalid_request`: the request is malformed.
+    InvalidRequest,
+    /// `invalid_client`: the client did not show that it is one.
+    InvalidClient,
+    /// `invalid_grant`: the code is none that is good for the client and its redirection URI.
+    InvalidGrant,
+    /// `unsupported_grant_type`: it is not `authorization_code`.
+    UnsupportedGrantType,
+}
+
+impl TokenError {
+    /// How it is written.
+    pub fn as_str(self) -> &'static str
+        ensures { result.now ≡ spec.error_code self }
+    {
+        match self {
+            TokenError::InvalidRequest => "invalid_request",
+            TokenError::InvalidClient => "invalid_client",
+            TokenError::InvalidGrant => "invalid_grant",
+            TokenError::UnsupportedGrantType => "unsupported_grant_type",
+        }
+    }
+}
+
+/// The error that a refused token request is answered with (RFC 6749, 5.2). Want of memory is answered with none.
+pub fn token_error(why: &GrantNo) -> TokenError
+    requires { why.now ≢ GrantNo.NoMemory }
+    ensures { result ≡ spec.token_error why.now }
+{
+    match why {
+        GrantNo::NoAuth | GrantNo::WrongClient => TokenError::InvalidClient,
+        GrantNo::OtherGrant => TokenError::UnsupportedGrantType,
+        GrantNo::BadForm | GrantNo::Twice(_) | GrantNo::TwoAuths | GrantNo::Missing(_) => {
+            TokenError::InvalidRequest
+        }
+        GrantNo::NoMemory => unreachable!(),
+    }
+}

@@ -1,0 +1,109 @@
+// A token request is read as a grant, or refused for the first reason that fits.
+
+ghost use Rattle.std.specs.Prelude.{◌≡◌, ◌⊎◌, Ok, Err, IfOk, IfErr, option_map};
+ghost use Rattle.std.specs.Str.{IsUtf8};
+ghost use Rattle.token_endpoint.specs.Request.{code_read, grant_read};
+ghost use Rattle.token_endpoint.specs.Granted.{IsGrant, Cause};
+
+use crate::authentication::{is_other, read_client};
+use crate::no::GrantNo;
+use crate::parameters::{Parameter, read_parameters, value};
+use client_registry::Registry;
+use sso_base::{NoMemory, Text};
+use std::alloc::Global;
+
+/// What a client asks tokens for (RFC 6749, 4.1.3).
+#[derive(Debug, Drop)]
+pub struct Grant {
+    /// The number of the client in the registry, from 0. It showed its secret.
+    pub client: u32,
+    /// The authorization code.
+    pub code: Text,
+    /// The redirection URI of the authorization request, as the client says.
+    pub redirect: Text,
+}
+
+// The refusal for want of a parameter.
+fn missing(alloc: Global, name: &str) -> GrantNo
+    ensures { (result ≡ GrantNo.NoMemory) ⊎ (result ≡ GrantNo.Missing name.now) }
+{
+    match Text::new(alloc, name) {
+        Ok(name) => GrantNo::Missing(name),
+        Err(NoMemory) => GrantNo::NoMemory,
+    }
+}
+
+// What the client of this number asks for.
+#[tactic(auto, unfolding(crate::specs::Request::code_read))]
+fn read_code(alloc: Global, parameters: &[Parameter], client: u32) -> Result<Grant, GrantNo>
+    ensures ok { IfOk result (λ g. code_read parameters.now client ≡ Ok g) }
+    ensures err { IfErr result (λ e. (e ≡ GrantNo.NoMemory) ⊎ (code_read parameters.now client ≡ Err e)) }
+{
+    let kind = value(parameters, "grant_type");
+    if is_other("authorization_code", kind) {
+        return Err(GrantNo::OtherGrant);
+    }
+    if kind.is_none() {
+        return Err(missing(alloc, "grant_type"));
+    }
+    let Some(code) = value(parameters, "code") else {
+        return Err(missing(alloc, "code"));
+    };
+    let Some(redirect) = value(parameters, "redirect_uri") else {
+        return Err(missing(alloc, "redirect_uri"));
+    };
+    Ok(Grant {
+        client,
+        code: code.copy(alloc)?,
+        redirect: redirect.copy(alloc)?,
+    })
+}
+
+// What a token request asks for.
+#[tactic(auto, unfolding(crate::specs::Request::grant_read))]
+fn granted(
+    alloc: Global,
+    registry: &Registry,
+    auth: Option<&[u8]>,
+    body: Option<&[u8]>,
+) -> Result<Grant, GrantNo>
+    ensures ok { IfOk result (λ g. grant_read registry.now (option_map (λ h. h.now) auth.entry) (option_map (λ b. b.now) body.entry) ≡ Ok g) }
+    ensures err { IfErr result (λ e. (e ≡ GrantNo.NoMemory) ⊎ (grant_read registry.now (option_map (λ h. h.now) auth.entry) (option_map (λ b. b.now) body.entry) ≡ Err e)) }
+{
+    let Some(form) = body else {
+        return Err(GrantNo::BadForm);
+    };
+    let parameters = read_parameters(alloc, form)?;
+    let client = read_client(alloc, registry, auth, &parameters)?;
+    read_code(alloc, &parameters, client)
+}
+
+/// Reads a token request for a code (RFC 6749, 4.1.3; OpenID Connect Core 1.0, 3.1.3.1), from its `Authorization` header and its
+/// body, a form.
+///
+/// The client shows its secret in one of two ways (RFC 6749, 2.3.1; OpenID Connect Core 1.0, 9). By HTTP Basic, the header is
+/// `Basic` in any case, one space and strict base64 with padding of the id, `:` and the secret, each written as a form writes it;
+/// the first `:` divides. The scheme is what stands before the first space, or the whole header where there is none, and a header
+/// of another scheme is as if it were not there. By parameters, `client_id` and `client_secret` stand in the body. Other
+/// parameters are ignored, but no name may stand twice; a parameter with an empty value is there. In names and values `+` is a
+/// space and escapes are decoded, and what is then no UTF-8 becomes U+FFFD.
+///
+/// Exactly these requests are read. Of any other the first refusal that fits is answered, in the order of [`GrantNo`].
+pub fn read_grant(
+    alloc: Global,
+    registry: &Registry,
+    auth: Option<&[u8]>,
+    body: Option<&[u8]>,
+) -> Result<Grant, GrantNo>
+    ensures answers { IfOk result (λ g. grant_read registry.now (option_map (λ h. h.now) auth.entry) (option_map (λ b. b.now) body.entry) ≡ Ok g) }
+    ensures grant { IfOk result (λ g. IsGrant registry.now (option_map (λ h. h.now) auth.entry) (option_map (λ b. b.now) body.entry) g) }
+    ensures texts { IfOk result (λ g. IsUtf8 g.code × IsUtf8 g.redirect) }
+    ensures accepts { (g : Grant) → IsGrant registry.now (option_map (λ h. h.now) auth.entry) (option_map (λ b. b.now) body.entry) g → IfErr result (λ e. e ≡ GrantNo.NoMemory) }
+    ensures value { (g : Grant) → IsGrant registry.now (option_map (λ h. h.now) auth.entry) (option_map (λ b. b.now) body.entry) g → IfOk result (λ r. r ≡ g) }
+    ensures refuses { IfErr result (λ e. (e ≡ GrantNo.NoMemory) ⊎ (grant_read registry.now (option_map (λ h. h.now) auth.entry) (option_map (λ b. b.now) body.entry) ≡ Err e)) }
+    ensures cause { IfErr result (λ e. (e ≡ GrantNo.NoMemory) ⊎ Cause registry.now (option_map (λ h. h.now) auth.entry) (option_map (λ b. b.now) body.entry) e) }
+{
+    // A count says what every registry keeps: that no two of its clients have one id.
+    let _clients = registry.clients();
+    granted(alloc, registry, auth, body)
+}

@@ -1,0 +1,46 @@
+//! The token endpoint's formats: token requests for a code, and their answers, each read and written (RFC 6749, 4.1.3, 5.1 and
+//! 5.2; OpenID Connect Core 1.0, 3.1.3).
+//!
+//! A client shows its secret by HTTP Basic or by parameters of the request (RFC 6749, 2.3.1; OpenID Connect Core 1.0, 9,
+//! `client_secret_basic` and `client_secret_post`). No request is granted without the secret of the client that it is granted to.
+//!
+//! | Module | What it has |
+//! |---|---|
+//! | `parameters` | the parameters of a request's body, and their names and values |
+//! | `basic` | the `Authorization` header of a client, read and written |
+//! | `authentication` | which client a request authenticates |
+//! | `granting` | [`read_grant`] reads a token request, as a [`Grant`] |
+//! | `asking` | [`print_grant`] writes a token request |
+//! | `error` | [`TokenError`], the error codes of the endpoint, and which a refused request is answered with |
+//! | `answering` | [`print_tokens`] and [`print_token_error`] write the bodies of answers |
+//! | `reading` | [`read_tokens`] reads an answer, as [`Tokens`] |
+//! | `no` | [`GrantNo`] and [`TokensNo`], why a request and an answer are refused |
+//! | `law` | what holds of requests and answers, for the crates above |
+#![tactic(auto)]
+
+mod answering;
+mod asking;
+mod authentication;
+mod basic;
+mod error;
+mod granting;
+mod law;
+mod no;
+mod parameters;
+mod reading;
+#[cfg(test)]
+mod tests;
+
+pub use answering::{print_token_error, print_tokens};
+pub use asking::print_grant;
+pub use error::{TokenError, token_error};
+pub use granting::{Grant, read_grant};
+pub use law::{
+    answers_are_read_by_their_members, granted_clients_show_their_secret,
+    headers_are_read_literally, printed_requests_are_granted, printed_tokens_are_read,
+    refused_answers_have_the_first_reason, refused_requests_have_a_cause,
+    requests_are_granted_literally, written_answers_have_their_text,
+    written_requests_have_their_text,
+};
+pub use no::{GrantNo, TokensNo};
+pub use reading::{Tokens, read_tokens};

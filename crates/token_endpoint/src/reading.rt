@@ -1,0 +1,136 @@
+// An answer to a token request is read, or refused for the first reason that fits.
+
+ghost use Rattle.std.specs.Prelude.{◌≡◌, ◌⊎◌, Ok, Err, IfOk, IfErr, IsFalse};
+ghost use Rattle.token_endpoint.specs.Answer.{is_bearer as is_bearer_type, raw_in, whole, tokens_in, tokens_read, as_claims, hides_memory, HasTokens};
+
+use crate::no::TokensNo;
+use claim_set::{ClaimNo, ClaimSet, read_claims};
+use sso_base::{Answered, NoMemory, Text};
+use std::alloc::Global;
+
+/// The tokens of a successful answer to a token request (OpenID Connect Core 1.0, 3.1.3.3).
+#[derive(Debug, Drop)]
+pub struct Tokens {
+    /// The access token, of the type `Bearer`.
+    pub access: Text,
+    /// The ID Token, which has not been opened.
+    pub id: Text,
+}
+
+// The members, as far as they are there.
+#[derive(Debug, Drop)]
+struct RawTokens {
+    access: Option<Text>,
+    id: Option<Text>,
+    kind: Option<Text>,
+}
+
+// The refusal for want of a member.
+fn missing(alloc: Global, name: &str) -> TokensNo
+    ensures missing { (result ≡ TokensNo.NoMemory) ⊎ (result ≡ TokensNo.Missing name.now) }
+    ensures memory_is_outermost { IsFalse (hides_memory result) }
+{
+    match Text::new(alloc, name) {
+        Ok(name) => TokensNo::Missing(name),
+        Err(NoMemory) => TokensNo::NoMemory,
+    }
+}
+
+// The refusal of claims, as that of an answer.
+fn claims_refused(error: ClaimNo) -> TokensNo
+    ensures refused { result ≡ as_claims error }
+    ensures memory_is_outermost { IsFalse (hides_memory result) }
+{
+    match error {
+        ClaimNo::NoMemory => TokensNo::NoMemory,
+        error => TokensNo::Claims(error),
+    }
+}
+
+// The members, as far as they are there. They are asked for in the order of their names, so that the first of another kind is
+// the one that is refused.
+#[tactic(auto, unfolding(crate::specs::Answer::raw_in))]
+fn raw_tokens(claims: &ClaimSet) -> Result<RawTokens, ClaimNo>
+    ensures ok { IfOk result (λ r. raw_in claims.now ≡ Ok r) }
+    ensures err { IfErr result (λ e. (e ≡ ClaimNo.NoMemory) ⊎ (raw_in claims.now ≡ Err e)) }
+{
+    let access = claims.text("access_token")?;
+    let id = claims.text("id_token")?;
+    let kind = claims.text("token_type")?;
+    Ok(RawTokens { access, id, kind })
+}
+
+// Whether the type of an access token is `Bearer`, in any case.
+fn is_bearer(kind: &Text) -> bool
+    ensures { result ≡ is_bearer_type kind.now }
+{
+    kind.as_str().eq_ignore_ascii_case("bearer")
+}
+
+// The tokens, where the members that must be there are.
+#[tactic(auto, unfolding(crate::specs::Answer::whole))]
+fn whole_tokens(alloc: Global, raw: RawTokens) -> Result<Tokens, TokensNo>
+    ensures ok { IfOk result (λ t. whole raw ≡ Ok t) }
+    ensures err { IfErr result (λ e. (e ≡ TokensNo.NoMemory) ⊎ (whole raw ≡ Err e)) }
+    ensures memory_is_outermost { IfErr result (λ e. IsFalse (hides_memory e)) }
+{
+    let RawTokens { access, id, kind } = raw;
+    let Some(access) = access else {
+        return Err(missing(alloc, "access_token"));
+    };
+    let Some(kind) = kind else {
+        return Err(missing(alloc, "token_type"));
+    };
+    let Some(id) = id else {
+        return Err(missing(alloc, "id_token"));
+    };
+    if !is_bearer(&kind) {
+        return Err(TokensNo::NotBearer);
+    }
+    Ok(Tokens { access, id })
+}
+
+// The tokens in a claim set.
+#[tactic(auto, unfolding(crate::specs::Answer::tokens_in))]
+fn claimed_tokens(alloc: Global, claims: &ClaimSet) -> Result<Tokens, TokensNo>
+    ensures ok { IfOk result (λ t. tokens_in claims.now ≡ Ok t) }
+    ensures err { IfErr result (λ e. (e ≡ TokensNo.NoMemory) ⊎ (tokens_in claims.now ≡ Err e)) }
+    ensures memory_is_outermost { IfErr result (λ e. IsFalse (hides_memory e)) }
+{
+    match raw_tokens(claims) {
+        Ok(raw) => whole_tokens(alloc, raw),
+        Err(error) => Err(claims_refused(error)),
+    }
+}
+
+// The tokens that an answer has.
+#[tactic(auto, unfolding(crate::specs::Answer::tokens_read))]
+fn answered_tokens(alloc: Global, answer: &Answered) -> Result<Tokens, TokensNo>
+    ensures ok { IfOk result (λ t. tokens_read answer.now ≡ Ok t) }
+    ensures err { IfErr result (λ e. (e ≡ TokensNo.NoMemory) ⊎ (tokens_read answer.now ≡ Err e)) }
+    ensures memory_is_outermost { IfErr result (λ e. IsFalse (hides_memory e)) }
+{
+    if answer.status != 200 {
+        return Err(TokensNo::Status(answer.status));
+    }
+    match read_claims(alloc, answer.body.as_bytes()) {
+        Ok(claims) => claimed_tokens(alloc, &claims),
+        Err(error) => Err(claims_refused(error)),
+    }
+}
+
+/// The tokens that an answer to a token request has (RFC 6749, 5.1; OpenID Connect Core 1.0, 3.1.3.3).
+///
+/// Exactly the answers with status 200 are read whose body is a JSON object of whole numbers with the strings `access_token`,
+/// `id_token` and `token_type`, where the last is `Bearer` in any case. Other members are ignored. Of any other answer the first
+/// refusal that fits is answered, in the order of [`TokensNo`].
+pub fn read_tokens(alloc: Global, answer: &Answered) -> Result<Tokens, TokensNo>
+    ensures answers { IfOk result (λ t. tokens_read answer.now ≡ Ok t) }
+    ensures tokens { IfOk result (λ t. HasTokens answer.now t) }
+    ensures accepts { (t : Tokens) → HasTokens answer.now t → IfErr result (λ e. e ≡ TokensNo.NoMemory) }
+    ensures value { (t : Tokens) → HasTokens answer.now t → IfOk result (λ r. r ≡ t) }
+    ensures refuses { IfErr result (λ e. (e ≡ TokensNo.NoMemory) ⊎ (tokens_read answer.now ≡ Err e)) }
+    ensures memory_is_outermost { IfErr result (λ e. IsFalse (hides_memory e)) }
+{
+    answered_tokens(alloc, answer)
+}
