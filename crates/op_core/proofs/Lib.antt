@@ -1,14 +1,25 @@
-pub mod KeptNames
-pub mod Sample
-pub mod Standing
-pub mod Forms
-pub mod Pages
-pub mod Answers
-pub mod Refusals
-pub mod TokenResponses
-pub mod Passwords
-pub mod CodesOnce
-mod FirstLogin
-mod Legality
-mod CauseSamples
-mod Sessions
+pub mod Lookups
+pub mod Beginning
+pub mod LiveInBoth
+pub mod Leaving
+pub mod RoomFor
+pub mod TextsSoFar
+pub mod KeptRows
+pub mod KeptTables
+pub mod Carried
+pub mod ConsentsKept
+pub mod AnswerTells
+pub mod Finding
+pub mod LiveRows
+pub mod MadeSessions
+pub mod MadeRows
+pub mod Ranges
+pub mod Places
+mod MakingSamples
+pub mod Outcomes
+pub mod Stepping
+pub mod Committing
+pub mod TakenRows
+pub mod TakenSessions
+pub mod TakenUp
+pub mod Journals

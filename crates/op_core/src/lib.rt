@@ -1,16 +1,32 @@
-//! The provider (OpenID Connect Core 1.0, 3): for each past and each request, one reply.
+//! The provider (OpenID Connect Core 1.0, 3): each ask gets the reply that is defined by the asks and replies before it.
+//!
+//! [`OpCore`] meets `Core`: what it replies is `op_answer` of its past, it keeps its history, and its tables hold exactly what
+//! lives after the history. A step takes all its memory before its first change.
+//!
+//! | Module | What it has |
+//! |---|---|
+//! | `state` | [`OpCore`], a provider with its history and its tables |
+//! | `step` | one step |
+//! | `answering`, `replying`, `redeeming` | the reply, by the rows that live |
+//! | `questions`, `room` | what is asked of the tables, and whether they have room |
+//! | `outcome`, `making` | what a reply brings: rows, the session that it used, the client that it answered |
+//! | `taking`, `keeping` | how the tables take a pair up |
+//! | `values` | asks hold values of their types |
 #![tactic(auto)]
 
-mod ask;
-mod law;
-mod messages;
-mod reply;
+mod answering;
+mod keeping;
+mod making;
+mod outcome;
+mod questions;
+mod redeeming;
+mod replying;
+mod room;
+mod state;
+mod step;
+mod taking;
 #[cfg(test)]
 mod tests;
+mod values;
 
-pub use ask::OpAsk;
-pub use law::{
-    codes_are_answered_once, replies_have_a_cause, rows_stand, session_words_need_a_password,
-};
-pub use messages::Messages;
-pub use reply::OpReply;
+pub use state::OpCore;

@@ -5,8 +5,8 @@ use claim_set::ClaimNo;
 use client_registry::Client;
 use jws_compact::{JwsNo, Typ, seal};
 use registered_url::WebUrls;
-use request_params::Params;
-use sso_base::{Text, Texts};
+use request_params::{ParamName, Params};
+use sso_base::{NoMemory, Text, Texts};
 use std::alloc::Global;
 use std::test::Fail;
 
@@ -30,27 +30,32 @@ fn client(alloc: Global) -> Result<Client, Fail> {
     })
 }
 
-fn text(alloc: Global, text: &str) -> Result<Option<Text>, Fail> {
-    Ok(Some(Text::new(alloc, text)?))
+// Every parameter that a request object may have.
+const ALL: &str = "response_type=code id_token
+client_id=mail-client
+redirect_uri=http://127.0.0.1:8083/cb
+scope=openid email
+state=s
+nonce=n
+response_mode=fragment
+prompt=login
+max_age=10
+claims={\"id_token\":{\"sub\":null}}";
+
+// Sets the parameter that is written as `name=value`.
+fn set_one(alloc: Global, params: &mut Params, pair: &str) -> Result<(), NoMemory> {
+    let (name, value) = pair.split_once("=").unwrap_or((pair, ""));
+    if let Some(name) = ParamName::read(name) {
+        params.set(name, Some(Text::new(alloc, value)?));
+    }
+    Ok(())
 }
 
-// Every parameter that a request object may have.
-fn all_params(alloc: Global) -> Result<Params, Fail> {
-    Ok(Params {
-        response_type: text(alloc, "code id_token")?,
-        client_id: text(alloc, "mail-client")?,
-        redirect_uri: text(alloc, "http://127.0.0.1:8083/cb")?,
-        scope: text(alloc, "openid email")?,
-        state: text(alloc, "s")?,
-        nonce: text(alloc, "n")?,
-        response_mode: text(alloc, "fragment")?,
-        prompt: text(alloc, "login")?,
-        max_age: text(alloc, "10")?,
-        claims: text(alloc, "{\"id_token\":{\"sub\":null}}")?,
-        request: None,
-        request_uri: None,
-        registration: None,
-    })
+fn set_all(alloc: Global, params: &mut Params) -> Result<(), NoMemory> {
+    for pair in ALL.split('\n') {
+        set_one(alloc, params, pair)?;
+    }
+    Ok(())
 }
 
 // Made of the same claims with Python's hmac, json and base64.
@@ -69,36 +74,59 @@ fn is(parameter: &Option<Text>, text: &str) -> bool {
     }
 }
 
+// Are these the parameters of `ALL`?
+fn are_all(back: &Params) -> bool {
+    is(&back.response_type, "code id_token")
+        && is(&back.client_id, "mail-client")
+        && is(&back.redirect_uri, "http://127.0.0.1:8083/cb")
+        && is(&back.scope, "openid email")
+        && is(&back.state, "s")
+        && is(&back.nonce, "n")
+        && is(&back.response_mode, "fragment")
+        && is(&back.prompt, "login")
+        && is(&back.max_age, "10")
+        && is(&back.claims, "{\"id_token\":{\"sub\":null}}")
+        && back.request.is_none()
+        && back.request_uri.is_none()
+        && back.registration.is_none()
+}
+
+// The text of the parameters, where they may be sealed and are written with 298 bytes.
+fn plain_sealed(
+    alloc: Global,
+    client: &Client,
+    issuer: &Text,
+    params: &Params,
+) -> Result<Option<Text>, NoMemory> {
+    let nested = params.request.is_some()
+        || params.request_uri.is_some()
+        || params.registration.is_some();
+    if nested || written_len(alloc, client, issuer, params)? != 298 {
+        return Ok(None);
+    }
+    Ok(Some(seal_request(alloc, client, issuer, params)?))
+}
+
+fn all_sealed(alloc: Global, client: &Client, issuer: &Text) -> Result<Option<Text>, NoMemory> {
+    let mut params = Params::new();
+    set_all(alloc, &mut params)?;
+    plain_sealed(alloc, client, issuer, &params)
+}
+
+fn reads_all(alloc: Global, client: &Client, issuer: &Text) -> bool {
+    match unseal_request(alloc, client, issuer, SEALED.as_bytes()) {
+        Ok(back) => are_all(&back),
+        Err(_) => false,
+    }
+}
+
 #[test]
 fn a_sealed_request_is_that_of_python_and_is_read(rt: HostRuntime) -> Result<(), Fail> {
-    let alloc = rt.alloc();
-    let client = client(alloc)?;
-    let issuer = Text::new(alloc, ISSUER)?;
-    let params = all_params(alloc)?;
-    let length = written_len(alloc, &client, &issuer, &params)?;
-    assert_eq!(rt; length, 298);
-    assert!(rt; length <= 6000);
-    assert!(rt; params.request.is_none());
-    assert!(rt; params.request_uri.is_none());
-    assert!(rt; params.registration.is_none());
-    let sealed = seal_request(alloc, &client, &issuer, &params)?;
-    assert_eq!(rt; sealed.as_str(), SEALED);
-    let Ok(back) = unseal_request(alloc, &client, &issuer, SEALED.as_bytes()) else {
-        return Err(Fail::from("refused"));
-    };
-    assert!(rt; is(&back.response_type, "code id_token"));
-    assert!(rt; is(&back.client_id, "mail-client"));
-    assert!(rt; is(&back.redirect_uri, "http://127.0.0.1:8083/cb"));
-    assert!(rt; is(&back.scope, "openid email"));
-    assert!(rt; is(&back.state, "s"));
-    assert!(rt; is(&back.nonce, "n"));
-    assert!(rt; is(&back.response_mode, "fragment"));
-    assert!(rt; is(&back.prompt, "login"));
-    assert!(rt; is(&back.max_age, "10"));
-    assert!(rt; is(&back.claims, "{\"id_token\":{\"sub\":null}}"));
-    assert!(rt;
-        back.request.is_none() && back.request_uri.is_none() && back.registration.is_none()
-    );
+    let client = client(rt.alloc())?;
+    let issuer = Text::new(rt.alloc(), ISSUER)?;
+    assert!(rt; reads_all(rt.alloc(), &client, &issuer));
+    let sealed = all_sealed(rt.alloc(), &client, &issuer)?;
+    assert!(rt; is(&sealed, SEALED));
     Ok(())
 }
 
@@ -110,23 +138,29 @@ const FOREIGN: &str = "eyJhbGciOiJIUzI1NiJ9.\
     dGhfdGltZSI6IHsiZXNzZW50aWFsIjogdHJ1ZX19fSwgImV4cCI6IDEsICJzdGF0ZSI6ICIifQ.\
     pOiJ16L8Vbz16c56mpRX1rrOPFWtLOHKYWlYmRW4Td8";
 
+const FOREIGN_CLAIMS: &str = "{\"id_token\":{\"auth_time\":{\"essential\":true}},\
+    \"userinfo\":{\"given_name\":{\"essential\":true},\"nickname\":null}}";
+
+// Are these its parameters? Its state is empty.
+fn are_foreign(back: &Params) -> bool {
+    is(&back.max_age, "86400")
+        && is(&back.claims, FOREIGN_CLAIMS)
+        && matches!(&back.state, Some(state) if state.as_str().is_empty())
+        && back.client_id.is_none()
+}
+
+fn reads_foreign(alloc: Global, client: &Client, issuer: &Text) -> bool {
+    match unseal_request(alloc, client, issuer, FOREIGN.as_bytes()) {
+        Ok(back) => are_foreign(&back),
+        Err(_) => false,
+    }
+}
+
 #[test]
 fn a_request_object_of_another_program_is_read(rt: HostRuntime) -> Result<(), Fail> {
-    let alloc = rt.alloc();
-    let issuer = Text::new(alloc, ISSUER)?;
-    let Ok(params) = unseal_request(alloc, &client(alloc)?, &issuer, FOREIGN.as_bytes()) else {
-        return Err(Fail::from("refused"));
-    };
-    assert!(rt; is(&params.max_age, "86400"));
-    assert!(rt;
-        is(
-            &params.claims,
-            "{\"id_token\":{\"auth_time\":{\"essential\":true}},\
-         \"userinfo\":{\"given_name\":{\"essential\":true},\"nickname\":null}}"
-        )
-    );
-    assert!(rt; matches!(&params.state, Some(state) if state.as_str().is_empty()));
-    assert!(rt; params.client_id.is_none());
+    let client = client(rt.alloc())?;
+    let issuer = Text::new(rt.alloc(), ISSUER)?;
+    assert!(rt; reads_foreign(rt.alloc(), &client, &issuer));
     Ok(())
 }
 
@@ -145,86 +179,133 @@ fn refusal(answer: &Result<Params, ObjNo>) -> &str {
     }
 }
 
-// Claims, and the answer to their sealed text. Where several refusals fit, it is the first that is answered.
+// Claims, ` => `, and the answer to their sealed text. Where several refusals fit, it is the first that is answered.
+const CASES: &str = "{} => Ok
+{\"iss\":\"mail-client\",\"aud\":\"http://127.0.0.1:8080\"} => Ok
+{\"aud\":[\"x\",\"http://127.0.0.1:8080\"]} => Ok
+{\"exp\":1,\"iat\":\"x\",\"nbf\":9999999999,\"jti\":null,\"sub\":7} => Ok
+{\"registration\":\"\",\"state\":\"\"} => Ok
+{\"max_age\":-1} => Ok
+{\"max_age\":18446744073709551615} => Ok
+[] => Claims
+{ => Claims
+{\"x\":1.0,\"iss\":1} => x
+{\"aud\":1,\"claims\":1} => aud
+{\"aud\":[\"http://127.0.0.1:8080\",1]} => aud
+{\"claims\":[],\"client_id\":1} => claims
+{\"client_id\":1,\"iss\":1} => client_id
+{\"iss\":1,\"max_age\":null} => iss
+{\"max_age\":{},\"nonce\":1} => max_age
+{\"max_age\":1.5} => max_age
+{\"nonce\":1,\"prompt\":1} => nonce
+{\"prompt\":1,\"redirect_uri\":1} => prompt
+{\"redirect_uri\":1,\"registration\":1} => redirect_uri
+{\"registration\":{},\"request\":1} => registration
+{\"request\":1,\"request_uri\":1} => request
+{\"request_uri\":1,\"response_mode\":1} => request_uri
+{\"response_mode\":1,\"response_type\":1} => response_mode
+{\"response_type\":1,\"scope\":1} => response_type
+{\"scope\":1,\"state\":1} => scope
+{\"state\":1,\"iss\":\"x\"} => state
+{\"iss\":\"x\",\"aud\":\"x\"} => Issuer
+{\"iss\":\"http://127.0.0.1:8080\",\"aud\":\"mail-client\"} => Issuer
+{\"aud\":\"x\",\"request\":\"\"} => Audience
+{\"aud\":[]} => Audience
+{\"iss\":\"mail-client\",\"request\":\"\"} => Nested
+{\"request_uri\":\"http://127.0.0.1/r\"} => Nested";
+
+// The claims, sealed under a key.
+fn sealed(alloc: Global, key: &[u8], payload: &str) -> Result<Text, NoMemory> {
+    if payload.len() > 6000 {
+        return Err(NoMemory);
+    }
+    seal(alloc, key, Typ::Jwt, payload.as_bytes())
+}
+
+// What is answered to a text.
+fn told(alloc: Global, client: &Client, issuer: &Text, object: &str) -> Result<Text, NoMemory> {
+    let answer = unseal_request(alloc, client, issuer, object.as_bytes());
+    Text::new(alloc, refusal(&answer))
+}
+
+// Is this answered to the claims, sealed under the key?
+fn is_told(
+    alloc: Global,
+    client: &Client,
+    issuer: &Text,
+    key: &[u8],
+    case: (&str, &str),
+) -> Result<bool, NoMemory> {
+    let object = sealed(alloc, key, case.0)?;
+    Ok(told(alloc, client, issuer, object.as_str())?.equals(case.1))
+}
+
+// Is a case answered so, and under another key refused?
+fn is_case(alloc: Global, client: &Client, issuer: &Text, line: &str) -> Result<bool, NoMemory> {
+    let (payload, name) = line.split_once(" => ").unwrap_or((line, ""));
+    Ok(
+        is_told(alloc, client, issuer, SECRET.as_bytes(), (payload, name))?
+            && is_told(alloc, client, issuer, b"another key", (payload, "BadMac"))?,
+    )
+}
+
+// The first case that is answered otherwise, empty where there is none.
+fn first_wrong(alloc: Global, client: &Client, issuer: &Text) -> Result<&'static str, NoMemory> {
+    for line in CASES.split('\n') {
+        if !is_case(alloc, client, issuer, line)? {
+            return Ok(line);
+        }
+    }
+    Ok("")
+}
+
 #[test]
 fn request_objects_are_refused_for_the_first_reason(rt: HostRuntime) -> Result<(), Fail> {
     let client = client(rt.alloc())?;
     let issuer = Text::new(rt.alloc(), ISSUER)?;
-    for (payload, name) in [
-        ("{}", "Ok"),
-        (
-            "{\"iss\":\"mail-client\",\"aud\":\"http://127.0.0.1:8080\"}",
-            "Ok",
-        ),
-        ("{\"aud\":[\"x\",\"http://127.0.0.1:8080\"]}", "Ok"),
-        (
-            "{\"exp\":1,\"iat\":\"x\",\"nbf\":9999999999,\"jti\":null,\"sub\":7}",
-            "Ok",
-        ),
-        ("{\"registration\":\"\",\"state\":\"\"}", "Ok"),
-        ("{\"max_age\":-1}", "Ok"),
-        ("{\"max_age\":18446744073709551615}", "Ok"),
-        ("[]", "Claims"),
-        ("{", "Claims"),
-        ("{\"x\":1.0,\"iss\":1}", "x"),
-        ("{\"aud\":1,\"claims\":1}", "aud"),
-        ("{\"aud\":[\"http://127.0.0.1:8080\",1]}", "aud"),
-        ("{\"claims\":[],\"client_id\":1}", "claims"),
-        ("{\"client_id\":1,\"iss\":1}", "client_id"),
-        ("{\"iss\":1,\"max_age\":null}", "iss"),
-        ("{\"max_age\":{},\"nonce\":1}", "max_age"),
-        ("{\"max_age\":1.5}", "max_age"),
-        ("{\"nonce\":1,\"prompt\":1}", "nonce"),
-        ("{\"prompt\":1,\"redirect_uri\":1}", "prompt"),
-        ("{\"redirect_uri\":1,\"registration\":1}", "redirect_uri"),
-        ("{\"registration\":{},\"request\":1}", "registration"),
-        ("{\"request\":1,\"request_uri\":1}", "request"),
-        ("{\"request_uri\":1,\"response_mode\":1}", "request_uri"),
-        ("{\"response_mode\":1,\"response_type\":1}", "response_mode"),
-        ("{\"response_type\":1,\"scope\":1}", "response_type"),
-        ("{\"scope\":1,\"state\":1}", "scope"),
-        ("{\"state\":1,\"iss\":\"x\"}", "state"),
-        ("{\"iss\":\"x\",\"aud\":\"x\"}", "Issuer"),
-        (
-            "{\"iss\":\"http://127.0.0.1:8080\",\"aud\":\"mail-client\"}",
-            "Issuer",
-        ),
-        ("{\"aud\":\"x\",\"request\":\"\"}", "Audience"),
-        ("{\"aud\":[]}", "Audience"),
-        ("{\"iss\":\"mail-client\",\"request\":\"\"}", "Nested"),
-        ("{\"request_uri\":\"http://127.0.0.1/r\"}", "Nested"),
-    ] {
-        assert!(rt; payload.len() <= 6000);
-        let object = seal(rt.alloc(), SECRET.as_bytes(), Typ::Jwt, payload.as_bytes())?;
-        let answer = unseal_request(rt.alloc(), &client, &issuer, object.as_str().as_bytes());
-        assert_eq!(rt; refusal(&answer), name, "{payload}");
-        let object = seal(rt.alloc(), b"another key", Typ::Jwt, payload.as_bytes())?;
-        let answer = unseal_request(rt.alloc(), &client, &issuer, object.as_str().as_bytes());
-        assert_eq!(rt; refusal(&answer), "BadMac");
-    }
-    let answer = unseal_request(rt.alloc(), &client, &issuer, b"a.b");
-    assert_eq!(rt; refusal(&answer), "Jws");
+    assert_eq!(rt; first_wrong(rt.alloc(), &client, &issuer)?, "");
+    assert!(rt; told(rt.alloc(), &client, &issuer, "a.b")?.equals("Jws"));
     Ok(())
 }
 
-// A number is read in decimal, whatever its size.
+// Is `max_age` of the text this, where it is read?
+fn has_age(alloc: Global, client: &Client, issuer: &Text, object: &str, age: &str) -> bool {
+    match unseal_request(alloc, client, issuer, object.as_bytes()) {
+        Ok(params) => is(&params.max_age, age),
+        Err(_) => false,
+    }
+}
+
+fn is_age(alloc: Global, client: &Client, issuer: &Text, line: &str) -> Result<bool, NoMemory> {
+    let (payload, age) = line.split_once(" => ").unwrap_or((line, ""));
+    let object = sealed(alloc, SECRET.as_bytes(), payload)?;
+    Ok(has_age(alloc, client, issuer, object.as_str(), age))
+}
+
+// Claims, ` => `, and the `max_age` of their sealed text: a number is read in decimal, whatever its size.
+const AGES: &str = "{\"max_age\":0} => 0
+{\"max_age\":-9223372036854775808} => -9223372036854775808
+{\"max_age\":18446744073709551615} => 18446744073709551615
+{\"max_age\":\"007\"} => 007";
+
+// The first line that is read otherwise.
+fn first_wrong_age(
+    alloc: Global,
+    client: &Client,
+    issuer: &Text,
+) -> Result<&'static str, NoMemory> {
+    for line in AGES.split('\n') {
+        if !is_age(alloc, client, issuer, line)? {
+            return Ok(line);
+        }
+    }
+    Ok("")
+}
+
 #[test]
 fn ages_are_read_in_decimal(rt: HostRuntime) -> Result<(), Fail> {
     let client = client(rt.alloc())?;
     let issuer = Text::new(rt.alloc(), ISSUER)?;
-    for (payload, age) in [
-        ("{\"max_age\":0}", "0"),
-        ("{\"max_age\":-9223372036854775808}", "-9223372036854775808"),
-        ("{\"max_age\":18446744073709551615}", "18446744073709551615"),
-        ("{\"max_age\":\"007\"}", "007"),
-    ] {
-        assert!(rt; payload.len() <= 6000);
-        let object = seal(rt.alloc(), SECRET.as_bytes(), Typ::Jwt, payload.as_bytes())?;
-        let Ok(params) = unseal_request(rt.alloc(), &client, &issuer, object.as_str().as_bytes())
-        else {
-            return Err(Fail::from("refused"));
-        };
-        assert!(rt; is(&params.max_age, age), "{payload}");
-    }
+    assert_eq!(rt; first_wrong_age(rt.alloc(), &client, &issuer)?, "");
     Ok(())
 }

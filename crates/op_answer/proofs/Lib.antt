@@ -1,0 +1,13 @@
+pub mod KeptNames
+pub mod Standing
+pub mod Forms
+pub mod Pages
+pub mod Answers
+pub mod Refusals
+pub mod TokenResponses
+pub mod Passwords
+pub mod CodesOnce
+pub mod FirstLogin
+mod Legality
+mod CauseSamples
+pub mod Sessions

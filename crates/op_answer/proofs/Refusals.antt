@@ -1,0 +1,111 @@
+-- What authorization error responses say.
+use Rattle.std.proofs.Common.{◌≡◌, ℕ, Bool, true, false, Option, Some, None, refl, ◌⊎◌, inl, inr}
+use Rattle.sso_base.specs.Words.{Word}
+use Rattle.sso_base.specs.declared.history.Entry.{Entry}
+use Rattle.client_registry.specs.Configuration.{Configuration}
+use Rattle.auth_request.specs.declared.wish.Wish.{Wish}
+use Rattle.auth_request.specs.declared.wish.Refusal.{Refusal}
+use Rattle.auth_request.specs.declared.wish.AuthError.TheVariants.{LoginRequired, ConsentRequired, AccessDenied, UnsupportedResponseType}
+use Rattle.auth_request.specs.declared.wish.Verdict.TheVariants as verdict
+use Rattle.request_need.specs.declared.need.Need.{Need}
+use Rattle.request_need.specs.declared.need.Need.TheVariants as need
+use Rattle.code_grant.specs.declared.rows.TurnRow.{TurnRow}
+use Rattle.code_grant.specs.declared.rows.SessionRow.{SessionRow}
+use Rattle.op_exchange.specs.declared.ask.OpAsk.{OpAsk}
+use Rattle.op_exchange.specs.declared.ask.OpAsk.TheVariants as ask
+use Rattle.op_exchange.specs.declared.reply.OpReply.{OpReply}
+use Rattle.op_exchange.specs.declared.reply.OpReply.TheVariants.{Refused}
+use Rattle.op_answer.specs.Past.{OpPast}
+use Rattle.op_answer.specs.Sessions.{live_session}
+use Rattle.op_answer.specs.Replies.{authorize_by, page_browser, login_by, consent_by, session_after}
+use Rattle.op_answer.specs.Answering.{op_reply, op_answer}
+use Rattle.op_answer.specs.Causes.{OwnTurn, OwnConsent, RefusedAtOnce, RefusedAfterLogin, RefusedAtConsent, RefusedCause, need_at_once, need_after_login, need_after_yes}
+use Rattle.op_answer.proofs.Standing.{own_replies_stand}
+use Rattle.op_answer.proofs.Forms.{Unserved, Served, request_led, LoginLed, LoginSeen, login_led, ConsentLed, ConsentSeen, consent_led, token_told}
+
+module _ (c : Configuration) (past : OpPast) (e : Entry OpAsk) (refusal : Refusal) (given : Option Word) where
+  abbrev this : OpReply
+  this = Refused refusal given
+
+  refused_by : (wish : Wish) (browser presented : Option Word) (wanted : Need) (session : Option SessionRow)
+      → live_session past e.at presented ≡ session → need_at_once c past e wish (live_session past e.at presented) ≡ wanted
+      → authorize_by c e wish (page_browser past e browser) wanted session ≡ this → RefusedAtOnce c past e wish presented refusal given
+  refused_by wish browser presented (need.Error code) session live wants h = record { code = code; refusal_is = cc; none_given = cc; why = inr wants }
+  refused_by wish browser presented need.Consent (Some session) live wants h = cc
+  refused_by wish browser presented need.Consent None live wants h = cc
+  refused_by wish browser presented need.Answer (Some session) live wants h = cc
+  refused_by wish browser presented need.Answer None live wants h = cc
+  refused_by wish browser presented need.Login session live wants h = cc
+
+  refused_at_once : (wish : Wish) (browser presented : Option Word) → Unserved c past e this wish ⊎ Served c past e this wish browser (live_session past e.at presented)
+      → RefusedAtOnce c past e wish presented refusal given
+  refused_at_once wish browser presented (inl led) =
+      let h = led.1 in record { code = UnsupportedResponseType; refusal_is = cc; none_given = cc; why = inl (led.0, refl) }
+  refused_at_once wish browser presented (inr led) =
+      let session = live_session past e.at presented in
+      refused_by wish browser presented (need_at_once c past e wish session) session refl refl led.1
+
+  refused_signed : (turn : Option Word) (user : ℕ) (browser presented : Option Word) (row : TurnRow) → OwnTurn past e turn browser row → (wanted : Need)
+      → need_after_login c past e row (session_after past e user presented) ≡ wanted
+      → login_by c e row (session_after past e user presented) wanted ≡ this → RefusedAfterLogin c past e turn user browser presented refusal given
+  refused_signed turn user browser presented row own (need.Error code) wants h =
+      record { row = row; own = own; code = code; refusal_is = cc; why = rw wants refl; given_is = cc }
+  refused_signed turn user browser presented row own need.Login wants h =
+      record { row = row; own = own; code = LoginRequired; refusal_is = cc; why = rw wants refl; given_is = cc }
+  refused_signed turn user browser presented row own need.Consent wants h = cc
+  refused_signed turn user browser presented row own need.Answer wants h = cc
+
+  refused_seen : (turn : Option Word) (signed : Option ℕ) (browser presented : Option Word) → LoginSeen c past e this turn signed browser presented
+      → RefusedCause c past e (ask.Login turn signed browser presented) refusal given
+  refused_seen turn None browser presented seen = let h = seen.led in cc
+  refused_seen turn (Some user) browser presented seen =
+      refused_signed turn user browser presented seen.row seen.own (need_after_login c past e seen.row (session_after past e user presented)) refl seen.led
+
+  refused_after : (turn : Option Word) (signed : Option ℕ) (browser presented : Option Word) → LoginLed c past e this turn signed browser presented
+      → RefusedCause c past e (ask.Login turn signed browser presented) refusal given
+  refused_after turn signed browser presented (inl led) = let h = led.1 in cc
+  refused_after turn signed browser presented (inr (inl led)) = let h = led.1 in cc
+  refused_after turn signed browser presented (inr (inr seen)) = refused_seen turn signed browser presented seen
+
+  refused_yes : (turn browser presented : Option Word) (row : TurnRow) (session : SessionRow) → OwnConsent past e turn browser presented row session → (wanted : Need)
+      → need_after_yes c past e row session ≡ wanted → consent_by c e row session wanted ≡ this → RefusedAtConsent c past e turn true browser presented refusal given
+  refused_yes turn browser presented row session own (need.Error code) wants h =
+      record { row = row; session = session; own = own; code = code; refusal_is = cc; why = rw wants refl; none_given = cc }
+  refused_yes turn browser presented row session own need.Login wants h =
+      record { row = row; session = session; own = own; code = LoginRequired; refusal_is = cc; why = rw wants refl; none_given = cc }
+  refused_yes turn browser presented row session own need.Consent wants h =
+      record { row = row; session = session; own = own; code = ConsentRequired; refusal_is = cc; why = rw wants refl; none_given = cc }
+  refused_yes turn browser presented row session own need.Answer wants h = cc
+
+  refused_decided : (turn : Option Word) (agree : Bool) (browser presented : Option Word) → ConsentSeen c past e this turn agree browser presented
+      → RefusedAtConsent c past e turn agree browser presented refusal given
+  refused_decided turn false browser presented seen =
+      let h = seen.led in record { row = seen.row; session = seen.session; own = seen.own; code = AccessDenied; refusal_is = cc; why = refl; none_given = cc }
+  refused_decided turn true browser presented seen =
+      refused_yes turn browser presented seen.row seen.session seen.own (need_after_yes c past e seen.row seen.session) refl seen.led
+
+  refused_consent : (turn : Option Word) (agree : Bool) (browser presented : Option Word) → ConsentLed c past e this turn agree browser presented
+      → RefusedAtConsent c past e turn agree browser presented refusal given
+  refused_consent turn agree browser presented (inl led) = let h = led.1 in cc
+  refused_consent turn agree browser presented (inr (inl led)) = let h = led.1 in cc
+  refused_consent turn agree browser presented (inr (inr seen)) = refused_decided turn agree browser presented seen
+
+  refused_asked : (asked : OpAsk) → op_reply c past e asked ≡ this → RefusedCause c past e asked refusal given
+  refused_asked (ask.Authorize (verdict.Page why) browser presented) h = cc
+  refused_asked (ask.Authorize (verdict.Refuse judged) browser presented) h = (cc, cc)
+  refused_asked (ask.Authorize (verdict.Grant wish) browser presented) h =
+      refused_at_once wish browser presented (request_led c past e this wish browser (live_session past e.at presented) h)
+  refused_asked (ask.Login turn signed browser presented) h =
+      refused_after turn signed browser presented (login_led c past e this turn signed browser presented h)
+  refused_asked (ask.Consent turn agree browser presented) h =
+      refused_consent turn agree browser presented (consent_led c past e this turn agree browser presented h)
+  refused_asked (ask.Token grant) h = let told = token_told c past e this grant h in cc
+  refused_asked (ask.Info bearer) h = cc
+  refused_asked (ask.SignOut session) h = cc
+  refused_asked ask.Metadata h = cc
+  refused_asked ask.Keys h = cc
+  refused_asked ask.Twice h = cc
+  refused_asked ask.NotHere h = cc
+
+  pub refusals_have_a_cause : op_answer c past e ≡ Refused refusal given → RefusedCause c past e e.ask refusal given
+  refusals_have_a_cause h = refused_asked e.ask (own_replies_stand c past e this refl h).reply_is

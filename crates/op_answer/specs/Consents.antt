@@ -1,0 +1,34 @@
+-- The scope values that users have granted to clients (OpenID Connect Core 1.0, 3.1.2.4).
+use Rattle.std.specs.Prelude.{ℕ, ◌==◌, Bool, true, false, ◌&&◌, [], ◌∷◌, Option, Some, None, if◌then◌else◌}
+use Rattle.scope_claims.specs.declared.scopes.Scopes.{Scopes}
+use Rattle.scope_claims.specs.Claims.{no_scopes, joined}
+use Rattle.request_need.specs.Need.{needed_scopes}
+use Rattle.code_grant.specs.declared.rows.TurnRow.{TurnRow}
+use Rattle.code_grant.specs.declared.rows.SessionRow.{SessionRow}
+use Rattle.op_exchange.specs.declared.ask.OpAsk.{OpAsk}
+use Rattle.op_exchange.specs.declared.ask.OpAsk.TheVariants.{Consent}
+use Rattle.op_exchange.specs.declared.reply.OpReply.{OpReply}
+use Rattle.op_exchange.specs.declared.reply.OpReply.TheVariants.{Answered, Refused}
+use Rattle.op_answer.specs.Past.{OpPast}
+use Rattle.op_answer.specs.Turns.{turn_of}
+use Rattle.op_answer.specs.Sessions.{session_of}
+
+-- the turn that an agreeing consent closed
+abbrev pub turn_agreed : OpPast → OpAsk → OpReply → Option TurnRow
+turn_agreed past (Consent turn true b session) (Answered answer given) = turn_of past turn
+turn_agreed past (Consent turn true b session) (Refused refusal given) = turn_of past turn
+turn_agreed past ask reply = None
+
+abbrev pub is_grant_of : ℕ → ℕ → TurnRow → Option SessionRow → Bool
+is_grant_of user client turn None = false
+is_grant_of user client turn (Some session) = session.user == user && turn.wish.client == client
+
+abbrev pub granted_by : OpPast → ℕ → ℕ → Option TurnRow → Scopes
+granted_by past user client None = no_scopes
+granted_by past user client (Some turn) =
+    if is_grant_of user client turn (session_of past turn.session) then needed_scopes turn.wish else no_scopes
+
+-- the union of the scope values that the user's consents were about
+abbrev pub grant_of : OpPast → ℕ → ℕ → Scopes
+grant_of [] user client = no_scopes
+grant_of (p ∷ past) user client = joined (grant_of past user client) (granted_by past user client (turn_agreed past p.entry.ask p.reply))

@@ -1,0 +1,46 @@
+-- Legal pasts of the provider, and what holds in them: a code is answered by tokens once, and a session word only to a login
+-- form with a right password.
+use Rattle.std.specs.Prelude.{◌≡◌, ℕ, Option, Some, None}
+use Rattle.sso_base.specs.Words.{Word}
+use Rattle.sso_base.specs.Legal.{IsLegalBy}
+use Rattle.sso_base.specs.declared.history.Entry.{Entry}
+use Rattle.client_registry.specs.Configuration.{Configuration}
+use Rattle.code_grant.specs.declared.rows.TurnRow.{TurnRow}
+use Rattle.code_grant.specs.declared.rows.CodeRow.{CodeRow}
+use Rattle.op_exchange.specs.declared.ask.OpAsk.{OpAsk}
+use Rattle.op_exchange.specs.declared.ask.OpAsk.TheVariants.{Login}
+use Rattle.op_exchange.specs.declared.reply.OpReply.{OpReply}
+use Rattle.op_exchange.specs.declared.reply.OpReply.TheVariants.{Tokens}
+use Rattle.op_answer.specs.Past.{OpPair, OpPast}
+use Rattle.op_exchange.specs.Values.{IsOpAsk}
+use Rattle.op_answer.specs.Codes.{code_named, held_code}
+use Rattle.op_answer.specs.Replies.{session_after}
+use Rattle.op_answer.specs.Answering.{op_answer}
+use Rattle.op_answer.specs.Causes.{OwnTurn}
+
+-- each reply is the answer to its entry after its own past, and time never goes back
+abbrev pub IsLegalOp : Configuration → OpPast → Type 0
+IsLegalOp c past = IsLegalBy IsOpAsk (op_answer c) past
+
+-- ---- codes
+
+abbrev pub place_redeemed : OpReply → Option CodeRow → Option ℕ
+place_redeemed (Tokens access id) (Some code) = Some code.by
+place_redeemed reply code = None
+
+-- the code that a pair was answered tokens for, by the place of the pair that made it, from 0
+abbrev pub code_redeemed : OpPast → OpPair → Option ℕ
+code_redeemed past p = place_redeemed p.reply (held_code past p.entry.at (code_named p.entry.ask))
+
+-- ---- session words
+
+-- a login form with the right password of a user, for a live turn and from its browser, leaves this session
+pub record PassedPassword (past : OpPast) (e : Entry OpAsk) (w : Word) : Type 0 where
+  pub turn : Option Word
+  pub user : ℕ
+  pub browser : Option Word
+  pub presented : Option Word
+  pub asked : e.ask ≡ Login turn (Some user) browser presented
+  pub row : TurnRow
+  pub own : OwnTurn past e turn browser row
+  pub word_is : w ≡ (session_after past e user presented).word

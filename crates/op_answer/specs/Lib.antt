@@ -1,0 +1,11 @@
+pub mod Past
+pub mod Turns
+pub mod Sessions
+pub mod Codes
+pub mod AccessTokens
+pub mod Consents
+pub mod Replies
+pub mod Room
+pub mod Answering
+pub mod Causes
+pub mod Legal

@@ -1,0 +1,64 @@
+// What holds of the provider's answers.
+
+ghost use Rattle.std.specs.Prelude.{◌≡◌, ◌↔◌, ℕ, Bool, true, List, ◌∷◌, ◌++◌, Option, Some};
+ghost use Rattle.sso_base.specs.Words.{Word, Text};
+ghost use Rattle.sso_base.specs.Rows.{row_of};
+ghost use Rattle.sso_base.specs.Stands.{Stands};
+ghost use Rattle.sso_base.specs.declared.history.Entry.{Entry};
+ghost use Rattle.client_registry.specs.Configuration.{Configuration};
+ghost use Rattle.scope_claims.specs.declared.scopes.Scopes.{Scopes};
+ghost use Rattle.auth_request.specs.declared.wish.Refusal.{Refusal};
+ghost use Rattle.auth_request.specs.declared.wish.PageNo.{PageNo};
+ghost use Rattle.auth_answer.specs.declared.answer.Answer.{Answer};
+ghost use Rattle.token_endpoint.specs.declared.error.TokenError.{TokenError};
+ghost use Rattle.code_grant.specs.declared.rows.TurnRow.{TurnRow};
+ghost use Rattle.code_grant.specs.declared.rows.SessionRow.{SessionRow};
+ghost use Rattle.code_grant.specs.declared.rows.CodeRow.{CodeRow};
+ghost use Rattle.code_grant.specs.declared.rows.TokenRow.{TokenRow};
+ghost use Rattle.code_grant.specs.Rows.{turn_name, session_name, code_name, access_name};
+ghost use Rattle.op_exchange.specs.declared.ask.OpAsk.{OpAsk};
+ghost use Rattle.op_exchange.specs.declared.reply.OpReply.{OpReply};
+ghost use Rattle.op_exchange.specs.declared.reply.OpReply.TheVariants as reply;
+ghost use Rattle.op_answer.specs.Past.{OpPair, OpPast};
+ghost use Rattle.op_answer.specs.Turns.{turns, turn_made, turn_kept};
+ghost use Rattle.op_answer.specs.Sessions.{sessions, session_made, session_kept};
+ghost use Rattle.op_answer.specs.Codes.{codes_issued, code_made, code_kept};
+ghost use Rattle.op_answer.specs.AccessTokens.{accesses, access_made, access_kept};
+ghost use Rattle.op_answer.specs.Answering.{op_answer};
+ghost use Rattle.op_answer.specs.Causes.{is_own, Stood, LoginPageCause, ConsentPageCause, AnsweredCause, RefusedCause, ErrorPageCause, TokensCause, TokenRefusedCause};
+ghost use Rattle.op_answer.specs.Legal.{IsLegalOp, code_redeemed, PassedPassword};
+ghost use Rattle.op_exchange.specs.Replied.{session_given};
+
+/// A row is found after a past exactly where some pair made it, no later pair made one of its name or ended it, and it is
+/// as the later pairs left it.
+pub fn rows_stand()
+    ensures turns { (past : OpPast) (w : Word) (row : TurnRow) → (row_of turn_name w (turns past) ≡ Some row) ↔ Stands turn_name turn_made turn_kept past w row }
+    ensures sessions { (past : OpPast) (w : Word) (row : SessionRow) → (row_of session_name w (sessions past) ≡ Some row) ↔ Stands session_name session_made session_kept past w row }
+    ensures codes { (past : OpPast) (w : Word) (row : CodeRow) → (row_of code_name w (codes_issued past) ≡ Some row) ↔ Stands code_name code_made code_kept past w row }
+    ensures accesses { (past : OpPast) (w : Word) (row : TokenRow) → (row_of access_name w (accesses past) ≡ Some row) ↔ Stands access_name access_made access_kept past w row }
+{}
+
+/// What each reply of the provider says of the past and of the ask that led to it. Any reply but `NotHere` and `Full` is to
+/// an ask that a request gives, and there was room for what it makes.
+pub fn replies_have_a_cause()
+    ensures own { (c : Configuration) (past : OpPast) (e : Entry OpAsk) (r : OpReply) → is_own r ≡ true → op_answer c past e ≡ r → Stood c past e r }
+    ensures login_pages { (c : Configuration) (past : OpPast) (e : Entry OpAsk) (turn browser : Word) (again : Bool) → op_answer c past e ≡ reply.LoginPage turn browser again → LoginPageCause past e e.ask turn browser again }
+    ensures consent_pages { (c : Configuration) (past : OpPast) (e : Entry OpAsk) (turn browser : Word) (given : Option Word) (client : Text) (scopes : Scopes) → op_answer c past e ≡ reply.ConsentPage turn browser given client scopes → ConsentPageCause c past e e.ask turn browser given client scopes }
+    ensures answers { (c : Configuration) (past : OpPast) (e : Entry OpAsk) (answer : Answer) (given : Option Word) → op_answer c past e ≡ reply.Answered answer given → AnsweredCause c past e e.ask answer given }
+    ensures refusals { (c : Configuration) (past : OpPast) (e : Entry OpAsk) (refusal : Refusal) (given : Option Word) → op_answer c past e ≡ reply.Refused refusal given → RefusedCause c past e e.ask refusal given }
+    ensures error_pages { (c : Configuration) (past : OpPast) (e : Entry OpAsk) (why : PageNo) → op_answer c past e ≡ reply.ErrorPage why → ErrorPageCause past e e.ask why }
+    ensures tokens { (c : Configuration) (past : OpPast) (e : Entry OpAsk) (access : Word) (id : Text) → op_answer c past e ≡ reply.Tokens access id → TokensCause c past e e.ask access id }
+    ensures token_errors { (c : Configuration) (past : OpPast) (e : Entry OpAsk) (code : TokenError) → op_answer c past e ≡ reply.TokenRefused code → TokenRefusedCause past e e.ask code }
+{}
+
+/// After any legal past a code gets tokens at most once: no two pairs were answered tokens for the code that one pair made
+/// (RFC 6749, 4.1.2).
+pub fn codes_are_answered_once()
+    ensures { (c : Configuration) (later between earlier : OpPast) (p q : OpPair) (n : ℕ) → IsLegalOp c (later ++ q ∷ (between ++ p ∷ earlier)) → code_redeemed earlier p ≡ Some n → code_redeemed (between ++ p ∷ earlier) q ≡ Some n → ⊥ }
+{}
+
+/// In any legal past a reply that sets a session word is to a login form with the right password of a user, for a live turn
+/// and from the turn's browser.
+pub fn session_words_need_a_password()
+    ensures { (c : Configuration) (later earlier : OpPast) (p : OpPair) (w : Word) → IsLegalOp c (later ++ p ∷ earlier) → session_given p.reply ≡ Some w → PassedPassword earlier p.entry w }
+{}

@@ -1,0 +1,13 @@
+//! What the provider answers (OpenID Connect Core 1.0, 3), as a definition: for each past and each ask one reply, and what
+//! holds of it. It has no running code.
+//!
+//! The definitions stand in `specs/`: the rows that stand after a past (`Turns`, `Sessions`, `Codes`, `AccessTokens`,
+//! `Consents`), the reply that asks them (`Replies`, `Room`, `Answering`), and what a reply says of the past (`Causes`,
+//! `Legal`).
+#![tactic(auto)]
+
+mod law;
+
+pub use law::{
+    codes_are_answered_once, replies_have_a_cause, rows_stand, session_words_need_a_password,
+};

@@ -1,0 +1,97 @@
+-- What is kept when a pair is taken up for which room was reserved.
+use Rattle.std.proofs.Common.{◌≡◌, ◌≤◌, ℕ, ◌+◌, List, [], ◌∷◌, ◌++◌, reverse, Option, Some, IfSome, true, sym, ◌∙◌, subst, arith}
+use Rattle.sso_base.specs.Words.{Word}
+use Rattle.sso_base.specs.Legal.{last_moment, IsEntry}
+use Rattle.sso_base.specs.Journal.{most_weight, history_weight}
+use Rattle.client_registry.specs.Configuration.{Configuration}
+use Rattle.code_grant.specs.declared.rows.TurnRow.{TurnRow}
+use Rattle.code_grant.specs.declared.rows.SessionRow.{SessionRow}
+use Rattle.code_grant.specs.declared.rows.CodeRow.{CodeRow}
+use Rattle.code_grant.specs.declared.rows.TokenRow.{TokenRow}
+use Rattle.code_grant.specs.Tables.{Tables, with_room}
+use Rattle.op_exchange.specs.Values.{IsOpAsk}
+use Rattle.op_exchange.specs.Weight.{ask_weight}
+use Rattle.op_answer.specs.Past.{OpPair, OpPast}
+use Rattle.op_answer.specs.Turns.{turns, turn_made}
+use Rattle.op_answer.specs.Sessions.{sessions, session_made}
+use Rattle.op_answer.specs.Codes.{codes_issued, code_made}
+use Rattle.op_answer.specs.Answering.{op_answer}
+use Rattle.op_core.specs.Agreeing.{KeepsPast, Keeps, is_own_turn, is_own_session, is_own_code}
+use Rattle.op_core.specs.Keeping.{FollowsPair}
+use Rattle.op_core.specs.Outcome.{Brings}
+use Rattle.op_core.specs.Providing.{Providing, past_of}
+use Rattle.op_core.specs.Taking.{TakesUp}
+use Rattle.op_core.proofs.Stepping.{own_carried, keeps_more}
+
+-- room changes no row
+with_room_keeps : (c : Configuration) (past : OpPast) (t : Tables) → KeepsPast c past t → KeepsPast c past (with_room t)
+with_room_keeps c past t k =
+    record {
+      agrees = record { turns = k.agrees.turns; sessions = k.agrees.sessions; codes = k.agrees.codes; tokens = k.agrees.tokens; granted = k.agrees.granted };
+      begun = record { turns = k.begun.turns; sessions = k.begun.sessions; codes = k.begun.codes; tokens = k.begun.tokens };
+      own = record { turns = k.own.turns; sessions = k.own.sessions; codes = k.own.codes };
+    }
+
+-- a row that was made is an own one
+if_made : {R : Type 0} (P : R → Type 0) (m n : Option R) → m ≡ n → IfSome m P → (r : R) → n ≡ Some r → P r
+if_made {R} P m n same h r is =
+    let I : Option R → Type 0 = λ o. IfSome o P in
+    subst I (same ∙ is) h
+
+module _ (c : Configuration) (history items : List OpPair) (weight more : ℕ) (t reserved u : Tables) (p : OpPair) (turn : Option TurnRow) (session : Option SessionRow) (code : Option CodeRow) (token : Option TokenRow) (used : Option Word) (client : Option ℕ) where
+  -- what the step has shown when it takes the pair up, of the provider as a value
+  abbrev pub Shown : Providing → Type 0
+  Shown s =
+      (last_moment (past_of s) ≤ p.entry.at)
+      × (p.reply ≡ op_answer s.registry (past_of s) p.entry)
+      × Brings (past_of s) p turn session code token used client
+      × IfSome turn (λ row. is_own_turn s.registry row ≡ true)
+      × IfSome session (λ row. is_own_session s.registry row ≡ true)
+      × IfSome code (λ row. is_own_code s.registry row ≡ true)
+      × (history_weight ask_weight s.history + more ≤ most_weight)
+
+  takes_up : KeepsPast c (reverse history) reserved → Shown (record { registry = c; history = history }) → TakesUp reserved p turn session code token used client c (reverse history) (last_moment (reverse history))
+  takes_up keeps shown =
+      let brings : Brings (reverse history) p turn session code token used client = shown.2 in
+      record {
+        order = shown.0;
+        agrees = keeps.agrees;
+        begun = keeps.begun;
+        own = keeps.own;
+        reply_is = shown.1;
+        used_is = brings.used_is;
+        client_is = brings.client_is;
+        turn_is = brings.turn_is;
+        session_is = brings.session_is;
+        code_is = brings.code_is;
+        token_is = brings.token_is;
+      }
+
+  light_by : (a b : ℕ) → a ≡ b → b + more ≤ most_weight → a + more ≤ most_weight
+  light_by a b h low = omega (arith, h, low)
+
+  committed : Keeps c history weight t → reserved ≡ with_room t → IsEntry IsOpAsk p.entry → more ≡ ask_weight p.entry.ask → items ≡ history ++ p ∷ []
+      → ((d : Configuration) (past : OpPast) (before : ℕ) → TakesUp reserved p turn session code token used client d past before → FollowsPair reserved u past p)
+      → Shown (record { registry = c; history = history }) → Keeps c items (weight + more) u
+  committed keeps room entry more_is items_are follows shown =
+      let past : OpPast = reverse history in
+      let brings : Brings past p turn session code token used client = shown.2 in
+      let R : Tables → Type 0 = λ x. KeepsPast c past x in
+      let kept : KeepsPast c past reserved = subst R (sym room) (with_room_keeps c past t keeps.tables) in
+      let one : FollowsPair reserved u past p = follows c past (last_moment past) (takes_up kept shown) in
+      let own = own_carried c reserved u past p kept.own one
+      (if_made (λ row. is_own_turn c row ≡ true) turn (turn_made (turns past) past p) brings.turn_is shown.3)
+      (if_made (λ row. is_own_session c row ≡ true) session (session_made (sessions past) past p) brings.session_is shown.4)
+      (if_made (λ row. is_own_code c row ≡ true) code (code_made (codes_issued past) past p) brings.code_is shown.5) in
+      let I : List OpPair → Type 0 = λ x. Keeps c x (weight + more) u in
+      subst I (sym items_are)
+      (keeps_more c history weight more reserved u p (record { tables = kept; weight_is = keeps.weight_is; light = keeps.light; legal = keeps.legal }) shown.0 one own entry shown.1 more_is
+      (light_by weight (history_weight ask_weight history) keeps.weight_is shown.6))
+
+  pub committed_as : (s : Providing) → ◌≡◌ {A = Providing} (record { registry = c; history = history }) s → Keeps c history weight t → reserved ≡ with_room t → IsEntry IsOpAsk p.entry → more ≡ ask_weight p.entry.ask
+      → items ≡ history ++ p ∷ []
+      → ((d : Configuration) (past : OpPast) (before : ℕ) → TakesUp reserved p turn session code token used client d past before → FollowsPair reserved u past p)
+      → Shown s → Keeps c items (weight + more) u
+  committed_as s view keeps room entry more_is items_are follows shown =
+      let S : Providing → Type 0 = λ x. Shown x in
+      committed keeps room entry more_is items_are follows (subst S (sym view) shown)

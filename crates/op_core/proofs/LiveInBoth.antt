@@ -1,0 +1,160 @@
+-- For each table of the provider: what lives in it at a moment is what lives after the past.
+use Rattle.std.proofs.Common.{◌≡◌, ◌≤◌, ℕ, Bool, true, false, cond, nat_lt, List, length, Option, Some, None, option_and_then, reverse, sym, ◌∙◌, ap, subst}
+use Rattle.std.specs.List.{list_any}
+use Rattle.std.specs.Str.{bytes_eq}
+use Rattle.sso_base.specs.Words.{Word}
+use Rattle.sso_base.specs.Rows.{row_of, lives, if_lives, live_rows}
+use Rattle.sso_base.specs.Stands.{IsDistinct}
+use Rattle.sso_base.specs.Legal.{last_moment}
+use Rattle.sso_base.proofs.RowLaws.{rows_distinct}
+use Rattle.client_registry.specs.Configuration.{Configuration}
+use Rattle.code_grant.proofs.HeldLaws.{distinct_filter}
+use Rattle.code_grant.specs.declared.rows.TurnRow.{TurnRow}
+use Rattle.code_grant.specs.declared.rows.SessionRow.{SessionRow}
+use Rattle.code_grant.specs.declared.rows.CodeRow.{CodeRow}
+use Rattle.code_grant.specs.declared.rows.TokenRow.{TokenRow}
+use Rattle.code_grant.specs.Rows.{turn_name, turn_begun, turn_life, session_name, session_begun, session_life, code_name, code_begun, code_life, access_name, access_begun, access_life}
+use Rattle.code_grant.specs.Held.{most_rows, has_room_for_one, IsFull}
+use Rattle.code_grant.specs.Tables.{Tables, AreTurns, AreSessions, AreCodes, AreTokens}
+use Rattle.op_answer.specs.Past.{OpPair, OpPast}
+use Rattle.op_core.specs.Providing.{Providing, past_of}
+use Rattle.op_answer.specs.Turns.{turns, turn_made, turn_kept, live_turns, live_turn, has_turn_browser}
+use Rattle.op_answer.specs.Sessions.{sessions, session_made, session_kept, live_sessions, live_session}
+use Rattle.op_answer.specs.Codes.{codes_issued, code_made, code_kept, held_codes, held_code}
+use Rattle.op_answer.specs.AccessTokens.{accesses, access_made, access_kept, live_accesses, live_access_token}
+use Rattle.op_core.specs.Agreeing.{KeepsTables, is_own_turn, is_own_session, is_own_code}
+use Rattle.op_answer.proofs.KeptNames.{turn_names, session_names, code_names, access_names}
+use Rattle.op_core.proofs.Lookups.{same_later, found_in_both, found_live, found_good}
+
+-- ---- one row: found and live, found and not live, not found
+
+module _ {R : Type 0} (life : ℕ) (begun : R → ℕ) (at : ℕ) where
+  pub is_found : (row : R) (o : Option R) → Some row ≡ o → true ≡ lives life (begun row) at → Some row ≡ option_and_then (if_lives life begun at) o
+  is_found row o found live =
+      let F : Option R → Option R = λ x. option_and_then (if_lives life begun at) x in
+      let C : Bool → Option R = λ b. cond b (Some row) None in
+      ap C live ∙ ap F found
+
+  pub is_gone : (row : R) (o : Option R) → Some row ≡ o → false ≡ lives life (begun row) at → None ≡ option_and_then (if_lives life begun at) o
+  is_gone row o found ended =
+      let F : Option R → Option R = λ x. option_and_then (if_lives life begun at) x in
+      let C : Bool → Option R = λ b. cond b (Some row) None in
+      ap C ended ∙ ap F found
+
+  pub is_absent : (o : Option R) → None ≡ o → None ≡ option_and_then (if_lives life begun at) o
+  is_absent o found =
+      let F : Option R → Option R = λ x. option_and_then (if_lives life begun at) x in
+      ap F found
+
+-- ---- each table
+
+module _ (c : Configuration) (history : List OpPair) (t : Tables) (keeps : KeepsTables c history t) (p : Providing) (view : ◌≡◌ {A = Providing} (record { registry = c; history = history }) p) (at : ℕ) (order : last_moment (past_of p) ≤ at) where
+  past_is : reverse history ≡ past_of p
+  past_is = ap past_of view
+
+  in_order : last_moment (reverse history) ≤ at
+  in_order = let B : OpPast → Type 0 = λ q. last_moment q ≤ at in subst B (sym past_is) order
+
+  pub turns_live : live_rows turn_life turn_begun at t.turns ≡ live_turns (past_of p) at
+  turns_live =
+      let L : OpPast → List TurnRow = λ q. live_turns q at in
+      same_later turn_name turn_life turn_begun (last_moment (reverse history)) at in_order t.turns (turns (reverse history)) keeps.agrees.turns ∙ ap L past_is
+
+  pub turn_live : (word : Option Word) (w : Word) → word ≡ Some w → AreTurns t.turns → option_and_then (if_lives turn_life turn_begun at) (row_of turn_name w t.turns) ≡ live_turn (past_of p) at word
+  turn_live word w is held =
+      let L : OpPast → Option TurnRow = λ q. live_turn q at (Some w) in
+      let M : Option Word → Option TurnRow = λ v. live_turn (past_of p) at v in
+      found_in_both turn_name turn_life turn_begun (last_moment (reverse history)) at in_order w t.turns (turns (reverse history)) held.distinct
+      (rows_distinct turn_name turn_made turn_kept turn_names (reverse history)) keeps.agrees.turns
+      ∙ ap L past_is ∙ ap M (sym is)
+
+  pub turn_own : (w : Word) (row : TurnRow) → Some row ≡ row_of turn_name w t.turns → is_own_turn p.registry row ≡ true
+  turn_own w row found =
+      let O : Providing → Type 0 = λ q. is_own_turn q.registry row ≡ true in
+      subst O view (found_good turn_name (is_own_turn c) w t.turns row keeps.own.turns (sym found))
+
+  pub sessions_live : live_rows session_life session_begun at t.sessions ≡ live_sessions (past_of p) at
+  sessions_live =
+      let L : OpPast → List SessionRow = λ q. live_sessions q at in
+      same_later session_name session_life session_begun (last_moment (reverse history)) at in_order t.sessions (sessions (reverse history)) keeps.agrees.sessions ∙ ap L past_is
+
+  pub session_live : (word : Option Word) (w : Word) → word ≡ Some w → AreSessions t.sessions → option_and_then (if_lives session_life session_begun at) (row_of session_name w t.sessions) ≡ live_session (past_of p) at word
+  session_live word w is held =
+      let L : OpPast → Option SessionRow = λ q. live_session q at (Some w) in
+      let M : Option Word → Option SessionRow = λ v. live_session (past_of p) at v in
+      found_in_both session_name session_life session_begun (last_moment (reverse history)) at in_order w t.sessions (sessions (reverse history)) held.distinct
+      (rows_distinct session_name session_made session_kept session_names (reverse history)) keeps.agrees.sessions
+      ∙ ap L past_is ∙ ap M (sym is)
+
+  pub session_own : (w : Word) (row : SessionRow) → Some row ≡ row_of session_name w t.sessions → is_own_session p.registry row ≡ true
+  session_own w row found =
+      let O : Providing → Type 0 = λ q. is_own_session q.registry row ≡ true in
+      subst O view (found_good session_name (is_own_session c) w t.sessions row keeps.own.sessions (sym found))
+
+  pub codes_live : live_rows code_life code_begun at t.codes ≡ held_codes (past_of p) at
+  codes_live =
+      let L : OpPast → List CodeRow = λ q. held_codes q at in
+      same_later code_name code_life code_begun (last_moment (reverse history)) at in_order t.codes (codes_issued (reverse history)) keeps.agrees.codes ∙ ap L past_is
+
+  pub code_live : (word : Option Word) (w : Word) → word ≡ Some w → AreCodes t.codes → option_and_then (if_lives code_life code_begun at) (row_of code_name w t.codes) ≡ held_code (past_of p) at word
+  code_live word w is held =
+      let L : OpPast → Option CodeRow = λ q. held_code q at (Some w) in
+      let M : Option Word → Option CodeRow = λ v. held_code (past_of p) at v in
+      found_in_both code_name code_life code_begun (last_moment (reverse history)) at in_order w t.codes (codes_issued (reverse history)) held.distinct
+      (rows_distinct code_name code_made code_kept code_names (reverse history)) keeps.agrees.codes
+      ∙ ap L past_is ∙ ap M (sym is)
+
+  pub code_own : (w : Word) (row : CodeRow) → Some row ≡ row_of code_name w t.codes → is_own_code p.registry row ≡ true
+  code_own w row found =
+      let O : Providing → Type 0 = λ q. is_own_code q.registry row ≡ true in
+      subst O view (found_good code_name (is_own_code c) w t.codes row keeps.own.codes (sym found))
+
+  pub tokens_live : live_rows access_life access_begun at t.tokens ≡ live_accesses (past_of p) at
+  tokens_live =
+      let L : OpPast → List TokenRow = λ q. live_accesses q at in
+      same_later access_name access_life access_begun (last_moment (reverse history)) at in_order t.tokens (accesses (reverse history)) keeps.agrees.tokens ∙ ap L past_is
+
+  pub token_live : (w : Word) → AreTokens t.tokens → option_and_then (if_lives access_life access_begun at) (row_of access_name w t.tokens) ≡ live_access_token (past_of p) at w
+  token_live w held =
+      let L : OpPast → Option TokenRow = λ q. live_access_token q at w in
+      found_in_both access_name access_life access_begun (last_moment (reverse history)) at in_order w t.tokens (accesses (reverse history)) held.distinct
+      (rows_distinct access_name access_made access_kept access_names (reverse history)) keeps.agrees.tokens
+      ∙ ap L past_is
+
+  pub turns_room : has_room_for_one turn_life turn_begun at t.turns ≡ nat_lt (length (live_turns (past_of p) at)) most_rows
+  turns_room = let N : List TurnRow → Bool = λ rows. nat_lt (length rows) most_rows in ap N turns_live
+
+  pub sessions_room : has_room_for_one session_life session_begun at t.sessions ≡ nat_lt (length (live_sessions (past_of p) at)) most_rows
+  sessions_room = let N : List SessionRow → Bool = λ rows. nat_lt (length rows) most_rows in ap N sessions_live
+
+  pub codes_room : has_room_for_one code_life code_begun at t.codes ≡ nat_lt (length (held_codes (past_of p) at)) most_rows
+  codes_room = let N : List CodeRow → Bool = λ rows. nat_lt (length rows) most_rows in ap N codes_live
+
+  pub tokens_room : has_room_for_one access_life access_begun at t.tokens ≡ nat_lt (length (live_accesses (past_of p) at)) most_rows
+  tokens_room = let N : List TokenRow → Bool = λ rows. nat_lt (length rows) most_rows in ap N tokens_live
+
+  pub sessions_full : IsFull session_life session_begun at t.sessions → length (live_sessions (past_of p) at) ≡ most_rows
+  sessions_full is = let L : List SessionRow → ℕ = λ rows. length rows in ap L (sym sessions_live) ∙ ap L is.live ∙ is.most
+
+  pub browser_live : (browser : Word) → list_any (λ (turn : TurnRow). bytes_eq turn.browser browser) (live_rows turn_life turn_begun at t.turns) ≡ has_turn_browser (past_of p) at browser
+  browser_live browser =
+      let A : List TurnRow → Bool = λ rows. list_any (λ (turn : TurnRow). bytes_eq turn.browser browser) rows in
+      ap A turns_live
+
+-- ---- the row of a word lives exactly where it is found among the live rows; and these are distinct
+
+module _ (past : OpPast) (at : ℕ) (w : Word) where
+  pub turn_named : live_turn past at (Some w) ≡ row_of turn_name w (live_turns past at)
+  turn_named = found_live turn_name turn_life turn_begun at w (turns past) (rows_distinct turn_name turn_made turn_kept turn_names past)
+
+  pub session_named : live_session past at (Some w) ≡ row_of session_name w (live_sessions past at)
+  session_named = found_live session_name session_life session_begun at w (sessions past) (rows_distinct session_name session_made session_kept session_names past)
+
+  pub code_named : held_code past at (Some w) ≡ row_of code_name w (held_codes past at)
+  code_named = found_live code_name code_life code_begun at w (codes_issued past) (rows_distinct code_name code_made code_kept code_names past)
+
+  pub token_named : live_access_token past at w ≡ row_of access_name w (live_accesses past at)
+  token_named = found_live access_name access_life access_begun at w (accesses past) (rows_distinct access_name access_made access_kept access_names past)
+
+pub sessions_distinct : (past : OpPast) (at : ℕ) → IsDistinct session_name (live_sessions past at)
+sessions_distinct past at = distinct_filter session_name (λ (row : SessionRow). lives session_life row.auth_time at) (sessions past) (rows_distinct session_name session_made session_kept session_names past)

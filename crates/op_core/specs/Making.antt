@@ -1,0 +1,66 @@
+-- The rows that a step makes, from what lives before it. Where the reply is the provider's answer they are the rows that the
+-- definitions of turns, sessions, codes and access tokens make.
+use Rattle.std.specs.Prelude.{ℕ, length, Option, Some, None, option_map, option_and_then, Ok}
+use Rattle.sso_base.specs.Words.{Word, word_of_text}
+use Rattle.sso_base.specs.declared.history.Entry.{Entry}
+use Rattle.auth_request.specs.declared.wish.Wish.{Wish}
+use Rattle.auth_request.specs.declared.wish.Verdict.TheVariants.{Grant}
+use Rattle.code_grant.specs.declared.rows.TurnRow.{TurnRow}
+use Rattle.code_grant.specs.declared.rows.SessionRow.{SessionRow}
+use Rattle.code_grant.specs.declared.rows.CodeRow.{CodeRow}
+use Rattle.code_grant.specs.declared.rows.TokenRow.{TokenRow}
+use Rattle.op_exchange.specs.declared.ask.OpAsk.{OpAsk}
+use Rattle.op_exchange.specs.declared.ask.OpAsk.TheVariants.{Authorize, Login, Consent, Token}
+use Rattle.op_exchange.specs.declared.reply.OpReply.{OpReply}
+use Rattle.op_exchange.specs.declared.reply.OpReply.TheVariants.{Answered, Tokens}
+use Rattle.op_answer.specs.Past.{OpPast}
+use Rattle.op_answer.specs.Turns.{live_turn}
+use Rattle.op_answer.specs.Sessions.{live_session, session_set, is_answered, client_of_wish, and_client}
+use Rattle.op_answer.specs.Codes.{code_in, code_made_by, held_code}
+use Rattle.op_answer.specs.AccessTokens.{access_answered, access_redeemed}
+use Rattle.op_answer.specs.Replies.{session_after}
+
+-- the wish of the request, or of the live turn
+abbrev pub wish_found : OpPast → ℕ → OpAsk → Option Wish
+wish_found past at (Authorize (Grant wish) b session) = Some wish
+wish_found past at (Login turn signed b session) = option_map (λ (row : TurnRow). row.wish) (live_turn past at turn)
+wish_found past at (Consent turn agree b session) = option_map (λ (row : TurnRow). row.wish) (live_turn past at turn)
+wish_found past at ask = None
+
+-- the live session that was presented, the one that a right password leaves, or the live turn's
+abbrev pub session_found : OpPast → Entry OpAsk → OpAsk → Option SessionRow
+session_found past e (Authorize verdict b session) = live_session past e.at session
+session_found past e (Login turn (Some user) b presented) = Some (session_after past e user presented)
+session_found past e (Consent turn agree b session) =
+    option_and_then (λ (row : TurnRow). live_session past e.at row.session) (live_turn past e.at turn)
+session_found past e ask = None
+
+-- the client that a reply answers
+abbrev pub client_found : OpPast → Entry OpAsk → OpReply → Option ℕ
+client_found past e reply = client_of_wish (is_answered reply) (wish_found past e.at e.ask)
+
+-- A login whose reply has a session word puts the session that it leaves, with the client that it answers.
+abbrev pub session_with : Option ℕ → SessionRow → SessionRow
+session_with client row = record row { clients = and_client client row.clients }
+
+abbrev pub session_put_by : OpPast → Entry OpAsk → Option ℕ → OpAsk → Option Word → Option SessionRow
+session_put_by past e client (Login turn (Some user) b presented) (Some w) =
+    Some (session_with client (session_after past e user presented))
+session_put_by past e client ask given = None
+
+abbrev pub session_put : OpPast → Entry OpAsk → OpReply → Option SessionRow
+session_put past e reply = session_put_by past e (client_found past e reply) e.ask (session_set e.ask reply)
+
+abbrev pub code_put : OpPast → Entry OpAsk → OpReply → Option CodeRow
+code_put past e reply =
+    code_made_by (length past) e.at (code_in reply) (wish_found past e.at e.ask) (session_found past e e.ask)
+
+abbrev pub access_put_by : OpPast → Entry OpAsk → OpAsk → OpReply → Option TokenRow
+access_put_by past e (Token (Ok grant)) (Tokens w id) =
+    access_redeemed (length past) e.at w (held_code past e.at (word_of_text grant.code))
+access_put_by past e ask (Answered answer given) =
+    access_answered (length past) e.at answer.access (wish_found past e.at ask) (session_found past e ask)
+access_put_by past e ask reply = None
+
+abbrev pub access_put : OpPast → Entry OpAsk → OpReply → Option TokenRow
+access_put past e reply = access_put_by past e e.ask reply

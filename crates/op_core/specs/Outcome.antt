@@ -1,0 +1,33 @@
+-- What a pair brings beside its reply: the rows that it makes, the session that it used and the client that it answered.
+use Rattle.std.specs.Prelude.{◌≡◌, ℕ, Option, Some, None, option_and_then}
+use Rattle.sso_base.specs.Words.{Word}
+use Rattle.code_grant.specs.declared.rows.TurnRow.{TurnRow}
+use Rattle.code_grant.specs.declared.rows.SessionRow.{SessionRow}
+use Rattle.code_grant.specs.declared.rows.CodeRow.{CodeRow}
+use Rattle.code_grant.specs.declared.rows.TokenRow.{TokenRow}
+use Rattle.sso_base.specs.declared.history.Entry.{Entry}
+use Rattle.op_exchange.specs.declared.ask.OpAsk.{OpAsk}
+use Rattle.op_exchange.specs.declared.ask.OpAsk.TheVariants.{Authorize, Login, Consent}
+use Rattle.op_exchange.specs.declared.reply.OpReply.{OpReply}
+use Rattle.op_answer.specs.Past.{OpPair, OpPast}
+use Rattle.op_answer.specs.Turns.{turns, turn_made, live_turn}
+use Rattle.op_answer.specs.Sessions.{sessions, session_made, session_set, session_used, client_answered}
+use Rattle.op_answer.specs.Codes.{codes_issued, code_made}
+use Rattle.op_answer.specs.AccessTokens.{accesses, access_made}
+
+-- the session of a reply that answers: presented, left by the login, or the live turn's
+abbrev pub used_found : OpPast → Entry OpAsk → OpAsk → OpReply → Option Word
+used_found past e (Authorize verdict b session) reply = session
+used_found past e (Login turn signed b session) reply = session_set (Login turn signed b session) reply
+used_found past e (Consent turn agree b session) reply = option_and_then (λ (row : TurnRow). row.session) (live_turn past e.at turn)
+used_found past e ask reply = None
+
+-- these are the rows that the definitions of turns, sessions, codes and access tokens make; the session counts only where a
+-- client was answered
+pub record Brings (past : OpPast) (p : OpPair) (turn : Option TurnRow) (session : Option SessionRow) (code : Option CodeRow) (token : Option TokenRow) (used : Option Word) (client : Option ℕ) : Type 0 where
+  pub turn_is : turn ≡ turn_made (turns past) past p
+  pub session_is : session ≡ session_made (sessions past) past p
+  pub code_is : code ≡ code_made (codes_issued past) past p
+  pub token_is : token ≡ access_made (accesses past) past p
+  pub client_is : client_answered past p ≡ client
+  pub used_is : (n : ℕ) → client ≡ Some n → session_used past p.entry.ask p.reply ≡ used

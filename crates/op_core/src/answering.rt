@@ -1,0 +1,126 @@
+// What the provider replies.
+
+ghost use Rattle.std.specs.Prelude.{◌≡◌, ◌≤◌, true, IfOk};
+ghost use Rattle.sso_base.specs.Legal.{last_moment};
+ghost use Rattle.op_exchange.specs.Asks as asks;
+ghost use Rattle.op_answer.specs.Answering as spec;
+ghost use Rattle.op_core.specs.Providing.{past_of};
+
+use crate::state::OpCore;
+use auth_request::{PageNo, Verdict, Wish};
+use discovery_doc::print_discovery;
+use op_exchange::{OpAsk, OpReply};
+use sso_base::{Entry, NoMemory, Text};
+use std::alloc::Global;
+use token_endpoint::{Grant, GrantNo};
+
+// How many bytes a nonce may have.
+const MOST_NONCE: usize = 255;
+
+fn is_short(nonce: &Option<Text>) -> bool
+    ensures { result ≡ asks.is_short_nonce nonce.now }
+{
+    match nonce {
+        Some(nonce) => nonce.as_str().len() <= MOST_NONCE,
+        None => true,
+    }
+}
+
+impl OpCore {
+    fn is_prepared_wish(&self, wish: &Wish) -> bool
+        ensures { result ≡ asks.is_prepared_wish self.now.registry wish.now }
+    {
+        wish.client < self.registry.clients() && is_short(&wish.nonce) && wish.scopes.openid
+    }
+
+    fn is_prepared_verdict(&self, verdict: &Verdict) -> bool
+        ensures { result ≡ asks.is_prepared_verdict self.now.registry verdict.now }
+    {
+        match verdict {
+            Verdict::Grant(wish) => self.is_prepared_wish(wish),
+            _ => true,
+        }
+    }
+
+    fn is_prepared_grant(&self, grant: &Result<Grant, GrantNo>) -> bool
+        ensures { result ≡ asks.is_prepared self.now.registry (OpAsk.Token grant.now) }
+    {
+        match grant {
+            Ok(grant) => grant.client < self.registry.clients(),
+            Err(GrantNo::NoMemory) => false,
+            Err(_) => true,
+        }
+    }
+
+    // Whether a request can give the ask.
+    pub(crate) fn is_prepared(&self, ask: &OpAsk) -> bool
+        ensures { result ≡ asks.is_prepared self.now.registry ask.now }
+    {
+        match ask {
+            OpAsk::Authorize { verdict, .. } => self.is_prepared_verdict(verdict),
+            OpAsk::Login {
+                signed: Some(user),
+                ..
+            } => *user < self.registry.users(),
+            OpAsk::Token { grant } => self.is_prepared_grant(grant),
+            _ => true,
+        }
+    }
+
+    // The reply, were there always room.
+    fn reply(&self, alloc: Global, entry: &Entry<OpAsk>) -> Result<OpReply, NoMemory>
+        requires moment { last_moment (past_of self.now) ≤ entry.now.at }
+        requires prepared { asks.is_prepared self.now.registry entry.now.ask ≡ true }
+        ensures { IfOk result (λ r. r ≡ spec.op_reply self.now.registry (past_of self.now) entry.now entry.now.ask) }
+    {
+        match &entry.ask {
+            OpAsk::Authorize {
+                verdict,
+                browser,
+                session,
+            } => self.authorize(alloc, entry, verdict, *browser, *session),
+            OpAsk::Login {
+                turn,
+                signed,
+                browser,
+                session,
+            } => {
+                let turn = self.live_turn(entry.at, *turn);
+                self.login(alloc, entry, turn, *signed, *browser, *session)
+            }
+            OpAsk::Consent {
+                turn,
+                agree,
+                browser,
+                session,
+            } => {
+                let turn = self.live_turn(entry.at, *turn);
+                self.consent(alloc, entry, turn, *agree, *browser, *session)
+            }
+            OpAsk::Token { grant } => self.token(alloc, entry, grant),
+            OpAsk::Metadata => Ok(OpReply::Metadata {
+                text: print_discovery(alloc, &self.registry)?,
+            }),
+            OpAsk::Keys => Ok(OpReply::Keys),
+            OpAsk::Twice => Ok(OpReply::ErrorPage { why: PageNo::Twice }),
+            OpAsk::Info { .. } | OpAsk::SignOut { .. } | OpAsk::NotHere => Ok(OpReply::NotHere),
+        }
+    }
+
+    // The reply: an ask that no request gives finds nothing here, and without room nothing changes.
+    #[tactic(auto, unfolding(op_answer::specs::Answering::op_answer))]
+    pub(crate) fn answer(&self, alloc: Global, entry: &Entry<OpAsk>) -> Result<OpReply, NoMemory>
+        requires { last_moment (past_of self.now) ≤ entry.now.at }
+        ensures { IfOk result (λ r. r ≡ spec.op_answer self.now.registry (past_of self.now) entry.now) }
+    {
+        if !self.is_prepared(&entry.ask) {
+            return Ok(OpReply::NotHere);
+        }
+        let reply = self.reply(alloc, entry)?;
+        if self.lacks_room(entry, &reply) {
+            Ok(OpReply::Full)
+        } else {
+            Ok(reply)
+        }
+    }
+}

@@ -1,0 +1,475 @@
+// The rows that an ask and its reply make. They take memory, so they are made before anything changes.
+
+ghost use Rattle.std.specs.Prelude.{◌≡◌, ◌<◌, ◌≤◌, true, false, None, length, IfOk, IfSome, option_map};
+ghost use Rattle.std.specs.Option.{option_copied};
+ghost use Rattle.sso_base.specs.Words.{word_of_text};
+ghost use Rattle.sso_base.specs.Legal.{last_moment};
+ghost use Rattle.code_grant.specs.declared.rows.TurnRow.{TurnRow};
+ghost use Rattle.op_exchange.specs.Asks.{is_prepared, is_prepared_wish};
+ghost use Rattle.op_exchange.specs.Clients.{is_user};
+ghost use Rattle.op_core.specs.Providing.{past_of};
+ghost use Rattle.op_core.specs.Agreeing.{is_own_turn, is_own_session, is_own_code};
+ghost use Rattle.op_core.specs.Making as spec;
+ghost use Rattle.op_answer.specs.Turns as turns;
+ghost use Rattle.op_answer.specs.Sessions as sessions;
+ghost use Rattle.op_answer.specs.Codes as codes;
+ghost use Rattle.op_answer.specs.AccessTokens as tokens;
+ghost use Rattle.op_answer.specs.Replies.{session_after};
+
+use crate::state::OpCore;
+use auth_request::{Verdict, Wish};
+use code_grant::{Clients, CodeRow, SessionRow, TokenRow, TurnRow};
+use op_exchange::{OpAsk, OpReply};
+use sso_base::{Entry, Moment, NoMemory, Word};
+use std::alloc::Global;
+use token_endpoint::Grant;
+
+/// The rows that an ask and its reply make: at most one of each kind.
+#[derive(Drop)]
+pub(crate) struct Made {
+    pub turn: Option<TurnRow>,
+    pub session: Option<SessionRow>,
+    pub code: Option<CodeRow>,
+    pub token: Option<TokenRow>,
+}
+
+impl Made {
+    /// No row.
+    pub(crate) fn none() -> Made
+        ensures { result ≡ record { turn = None; session = None; code = None; token = None } }
+    {
+        Made {
+            turn: None,
+            session: None,
+            code: None,
+            token: None,
+        }
+    }
+}
+
+// A turn that begins with a page.
+fn turn_begun(
+    alloc: Global,
+    at: Moment,
+    word: Word,
+    browser: Word,
+    wish: &Wish,
+    session: Option<Word>,
+) -> Result<TurnRow, NoMemory>
+    ensures { IfOk result (λ row. row ≡ record { word = word; browser = browser; wish = wish.now; session = session; in_turn = false; begun = at }) }
+{
+    Ok(TurnRow {
+        word,
+        browser,
+        wish: wish.copy(alloc)?,
+        session,
+        in_turn: false,
+        begun: at,
+    })
+}
+
+/// The word of the session that a right password left.
+pub(crate) fn session_set(ask: &OpAsk, reply: &OpReply) -> Option<Word>
+    ensures { result ≡ sessions.session_set ask.now reply.now }
+{
+    let OpAsk::Login { .. } = ask else {
+        return None;
+    };
+    match reply {
+        OpReply::ConsentPage { session, .. }
+        | OpReply::Answered { session, .. }
+        | OpReply::Refused { session, .. } => *session,
+        _ => None,
+    }
+}
+
+/// The code of a response.
+pub(crate) fn code_in(reply: &OpReply) -> Option<Word>
+    ensures { result ≡ codes.code_in reply.now }
+{
+    match reply {
+        OpReply::Answered { answer, .. } => answer.code,
+        _ => None,
+    }
+}
+
+// The session, with the client that was answered.
+fn session_with(client: Option<u32>, session: &SessionRow) -> SessionRow
+    requires { IfSome client (λ n. n < 128) }
+    ensures { result ≡ spec.session_with client session.now }
+{
+    let mut row = *session;
+    if let Some(client) = client {
+        row.clients.add(client);
+    }
+    row
+}
+
+// A code of this wish and session.
+fn code_issued(
+    alloc: Global,
+    by: u64,
+    at: Moment,
+    word: Word,
+    wish: &Wish,
+    session: &SessionRow,
+) -> Result<CodeRow, NoMemory>
+    ensures { IfOk result (λ row. row ≡ codes.code_issued by at word wish.now session.now) }
+{
+    Ok(CodeRow {
+        word,
+        wish: wish.copy(alloc)?,
+        user: session.user,
+        sid: session.sid,
+        auth_time: session.auth_time,
+        issued: at,
+        spent: false,
+        by,
+    })
+}
+
+// An access token of this wish and user.
+fn access_issued(
+    alloc: Global,
+    by: u64,
+    at: Moment,
+    word: Word,
+    code: Option<Word>,
+    wish: &Wish,
+    user: u32,
+) -> Result<TokenRow, NoMemory>
+    ensures { IfOk result (λ row. row ≡ tokens.access_issued by at word code wish.now user) }
+{
+    Ok(TokenRow {
+        word,
+        client: wish.client,
+        user,
+        scopes: wish.scopes,
+        asked: wish.info_asked.copy(alloc)?,
+        code,
+        issued: at,
+        by,
+    })
+}
+
+impl OpCore {
+    // The place in the history of the next pair.
+    #[tactic(auto, using(crate::proofs::Places::as_long))]
+    fn place(&self) -> u64
+        ensures { result ≡ length (past_of self.now) }
+    {
+        self.history.len() as u64
+    }
+
+    // Each registry has at most 128 clients and 512 users.
+    #[tactic(auto, using(crate::proofs::Ranges::client_in_range))]
+    fn bound_client(&self, wish: &Wish)
+        requires { is_prepared_wish self.now.registry wish.now ≡ true }
+        ensures { wish.now.client < 128 }
+    {
+        // A count says what every registry keeps.
+        let _clients = self.registry.clients();
+    }
+
+    #[tactic(auto, using(crate::proofs::Ranges::user_in_range))]
+    fn bound_user(&self, user: u32)
+        requires { is_user self.now.registry user ≡ true }
+        ensures { user < 512 }
+    {
+        let _users = self.registry.users();
+    }
+
+    // ---- what a reply is about
+
+    // The wish of a live turn.
+    fn turn_wish(&self, at: Moment, turn: Option<Word>) -> Option<&Wish>
+        requires { last_moment (past_of self.now) ≤ at }
+        ensures wish { option_copied result ≡ option_map (λ (row : TurnRow). row.wish) (turns.live_turn (past_of self.now) at turn) }
+        ensures own { IfSome (option_copied result) (λ wish. is_prepared_wish self.now.registry wish ≡ true) }
+    {
+        match self.live_turn(at, turn) {
+            Some(row) => Some(&row.wish),
+            None => None,
+        }
+    }
+
+    // The wish of the request, or of the live turn.
+    fn wish_found<'a>(&'a self, at: Moment, ask: &'a OpAsk) -> Option<&'a Wish>
+        requires moment { last_moment (past_of self.now) ≤ at }
+        requires prepared { is_prepared self.now.registry ask.now ≡ true }
+        ensures wish { option_copied result ≡ spec.wish_found (past_of self.now) at ask.now }
+        ensures own { IfSome (option_copied result) (λ wish. is_prepared_wish self.now.registry wish ≡ true) }
+    {
+        match ask {
+            OpAsk::Authorize {
+                verdict: Verdict::Grant(wish),
+                ..
+            } => Some(wish),
+            OpAsk::Login { turn, .. } => self.turn_wish(at, *turn),
+            OpAsk::Consent { turn, .. } => self.turn_wish(at, *turn),
+            _ => None,
+        }
+    }
+
+    // The presented session with a new time, where it is live and of this user; else a new one.
+    pub(crate) fn session_after(
+        &self,
+        entry: &Entry<OpAsk>,
+        user: u32,
+        presented: Option<Word>,
+    ) -> SessionRow
+        requires moment { last_moment (past_of self.now) ≤ entry.now.at }
+        requires user { is_user self.now.registry user ≡ true }
+        ensures row { result ≡ session_after (past_of self.now) entry.now user presented }
+        ensures own { is_own_session self.now.registry result ≡ true }
+    {
+        match self.live_session(entry.at, presented) {
+            Some(session) if session.user == user => SessionRow {
+                auth_time: entry.at,
+                ..*session
+            },
+            _ => SessionRow {
+                word: entry.fresh[0],
+                sid: entry.fresh[1],
+                user,
+                auth_time: entry.at,
+                clients: Clients::new(),
+            },
+        }
+    }
+
+    // The live session that was presented, the one that a right password leaves, or the live turn's.
+    fn session_found(&self, entry: &Entry<OpAsk>) -> Option<SessionRow>
+        requires moment { last_moment (past_of self.now) ≤ entry.now.at }
+        requires prepared { is_prepared self.now.registry entry.now.ask ≡ true }
+        ensures row { result ≡ spec.session_found (past_of self.now) entry.now entry.now.ask }
+        ensures own { IfSome result (λ row. is_own_session self.now.registry row ≡ true) }
+    {
+        match &entry.ask {
+            OpAsk::Authorize { session, .. } => self.live_session(entry.at, *session).copied(),
+            OpAsk::Login {
+                signed: Some(user),
+                session,
+                ..
+            } => Some(self.session_after(entry, *user, *session)),
+            OpAsk::Consent { turn, .. } => {
+                let turn = self.live_turn(entry.at, *turn)?;
+                self.live_session(entry.at, turn.session).copied()
+            }
+            _ => None,
+        }
+    }
+
+    // The client that the reply answers.
+    pub(crate) fn client_found(&self, entry: &Entry<OpAsk>, reply: &OpReply) -> Option<u32>
+        requires moment { last_moment (past_of self.now) ≤ entry.now.at }
+        requires prepared { is_prepared self.now.registry entry.now.ask ≡ true }
+        ensures client { result ≡ spec.client_found (past_of self.now) entry.now reply.now }
+        ensures in_range { IfSome result (λ client. client < 128) }
+    {
+        let OpReply::Answered { .. } = reply else {
+            return None;
+        };
+        let wish = self.wish_found(entry.at, &entry.ask)?;
+        self.bound_client(wish);
+        Some(wish.client)
+    }
+
+    // ---- the rows
+
+    // The turn of an authorization request that got a page.
+    fn turn_put(
+        &self,
+        alloc: Global,
+        entry: &Entry<OpAsk>,
+        reply: &OpReply,
+    ) -> Result<Option<TurnRow>, NoMemory>
+        requires { is_prepared self.now.registry entry.now.ask ≡ true }
+        ensures row { IfOk result (λ row. row ≡ turns.turn_started entry.now.at entry.now.ask reply.now) }
+        ensures own { IfOk result (λ row. IfSome row (λ turn. is_own_turn self.now.registry turn ≡ true)) }
+        ensures client { IfOk result (λ row. IfSome row (λ turn. turn.wish.client < 128)) }
+    {
+        let OpAsk::Authorize {
+            verdict: Verdict::Grant(wish),
+            session: presented,
+            ..
+        } = &entry.ask
+        else {
+            return Ok(None);
+        };
+        let (word, browser, session) = match reply {
+            OpReply::LoginPage { turn, browser, .. } => (*turn, *browser, None),
+            OpReply::ConsentPage { turn, browser, .. } => (*turn, *browser, *presented),
+            _ => return Ok(None),
+        };
+        self.bound_client(wish);
+        let turn = turn_begun(alloc, entry.at, word, browser, wish, session)?;
+        Ok(Some(turn))
+    }
+
+    // The session that a login leaves where its reply has a session word.
+    fn session_put(&self, entry: &Entry<OpAsk>, reply: &OpReply) -> Option<SessionRow>
+        requires moment { last_moment (past_of self.now) ≤ entry.now.at }
+        requires prepared { is_prepared self.now.registry entry.now.ask ≡ true }
+        ensures row { result ≡ spec.session_put (past_of self.now) entry.now reply.now }
+        ensures own { IfSome result (λ row. is_own_session self.now.registry row ≡ true) }
+        ensures in_range { IfSome result (λ row. row.user < 512) }
+    {
+        let OpAsk::Login {
+            signed: Some(user),
+            session: presented,
+            ..
+        } = &entry.ask
+        else {
+            return None;
+        };
+        session_set(&entry.ask, reply)?;
+        let session = self.session_after(entry, *user, *presented);
+        self.bound_user(session.user);
+        Some(session_with(self.client_found(entry, reply), &session))
+    }
+
+    // The code of a response.
+    fn code_put(
+        &self,
+        alloc: Global,
+        entry: &Entry<OpAsk>,
+        reply: &OpReply,
+    ) -> Result<Option<CodeRow>, NoMemory>
+        requires moment { last_moment (past_of self.now) ≤ entry.now.at }
+        requires prepared { is_prepared self.now.registry entry.now.ask ≡ true }
+        ensures row { IfOk result (λ row. row ≡ spec.code_put (past_of self.now) entry.now reply.now) }
+        ensures own { IfOk result (λ row. IfSome row (λ code. is_own_code self.now.registry code ≡ true)) }
+        ensures user { IfOk result (λ row. IfSome row (λ code. code.user < 512)) }
+        ensures client { IfOk result (λ row. IfSome row (λ code. code.wish.client < 128)) }
+    {
+        let Some(word) = code_in(reply) else {
+            return Ok(None);
+        };
+        let Some(wish) = self.wish_found(entry.at, &entry.ask) else {
+            return Ok(None);
+        };
+        let Some(session) = self.session_found(entry) else {
+            return Ok(None);
+        };
+        self.bound_client(wish);
+        self.bound_user(session.user);
+        let code = code_issued(alloc, self.place(), entry.at, word, wish, &session)?;
+        Ok(Some(code))
+    }
+
+    // The access token that came for a code.
+    fn access_redeemed(
+        &self,
+        alloc: Global,
+        at: Moment,
+        word: Word,
+        grant: &Grant,
+    ) -> Result<Option<TokenRow>, NoMemory>
+        requires { last_moment (past_of self.now) ≤ at }
+        ensures row { IfOk result (λ row. row ≡ tokens.access_redeemed (length (past_of self.now)) at word (codes.held_code (past_of self.now) at (word_of_text grant.now.code))) }
+        ensures user { IfOk result (λ row. IfSome row (λ token. token.user < 512)) }
+        ensures client { IfOk result (λ row. IfSome row (λ token. token.client < 128)) }
+    {
+        let Some(code) = self.held_code(at, Word::read(grant.code.as_str().as_bytes())) else {
+            return Ok(None);
+        };
+        self.bound_client(&code.wish);
+        self.bound_user(code.user);
+        let from = Some(code.word);
+        let token = access_issued(alloc, self.place(), at, word, from, &code.wish, code.user)?;
+        Ok(Some(token))
+    }
+
+    // The access token of a response.
+    fn access_answered(
+        &self,
+        alloc: Global,
+        entry: &Entry<OpAsk>,
+        word: Option<Word>,
+    ) -> Result<Option<TokenRow>, NoMemory>
+        requires moment { last_moment (past_of self.now) ≤ entry.now.at }
+        requires prepared { is_prepared self.now.registry entry.now.ask ≡ true }
+        ensures row { IfOk result (λ row. row ≡ tokens.access_answered (length (past_of self.now)) entry.now.at word (spec.wish_found (past_of self.now) entry.now.at entry.now.ask) (spec.session_found (past_of self.now) entry.now entry.now.ask)) }
+        ensures user { IfOk result (λ row. IfSome row (λ token. token.user < 512)) }
+        ensures client { IfOk result (λ row. IfSome row (λ token. token.client < 128)) }
+    {
+        let Some(word) = word else {
+            return Ok(None);
+        };
+        let Some(wish) = self.wish_found(entry.at, &entry.ask) else {
+            return Ok(None);
+        };
+        let Some(session) = self.session_found(entry) else {
+            return Ok(None);
+        };
+        self.bound_client(wish);
+        self.bound_user(session.user);
+        let token = access_issued(
+            alloc,
+            self.place(),
+            entry.at,
+            word,
+            None,
+            wish,
+            session.user,
+        )?;
+        Ok(Some(token))
+    }
+
+    // The access token of a response, or of tokens for a code.
+    fn access_put(
+        &self,
+        alloc: Global,
+        entry: &Entry<OpAsk>,
+        reply: &OpReply,
+    ) -> Result<Option<TokenRow>, NoMemory>
+        requires moment { last_moment (past_of self.now) ≤ entry.now.at }
+        requires prepared { is_prepared self.now.registry entry.now.ask ≡ true }
+        ensures row { IfOk result (λ row. row ≡ spec.access_put (past_of self.now) entry.now reply.now) }
+        ensures user { IfOk result (λ row. IfSome row (λ token. token.user < 512)) }
+        ensures client { IfOk result (λ row. IfSome row (λ token. token.client < 128)) }
+    {
+        match reply {
+            OpReply::Tokens { access, .. } => match &entry.ask {
+                OpAsk::Token { grant: Ok(grant) } => {
+                    self.access_redeemed(alloc, entry.at, *access, grant)
+                }
+                _ => Ok(None),
+            },
+            OpReply::Answered { answer, .. } => self.access_answered(alloc, entry, answer.access),
+            _ => Ok(None),
+        }
+    }
+
+    /// The rows that a prepared ask and its reply make.
+    pub(crate) fn made(
+        &self,
+        alloc: Global,
+        entry: &Entry<OpAsk>,
+        reply: &OpReply,
+    ) -> Result<Made, NoMemory>
+        requires moment { last_moment (past_of self.now) ≤ entry.now.at }
+        requires prepared { is_prepared self.now.registry entry.now.ask ≡ true }
+        ensures turn { IfOk result (λ m. m.turn ≡ turns.turn_started entry.now.at entry.now.ask reply.now) }
+        ensures session { IfOk result (λ m. m.session ≡ spec.session_put (past_of self.now) entry.now reply.now) }
+        ensures code { IfOk result (λ m. m.code ≡ spec.code_put (past_of self.now) entry.now reply.now) }
+        ensures token { IfOk result (λ m. m.token ≡ spec.access_put (past_of self.now) entry.now reply.now) }
+        ensures own_turn { IfOk result (λ m. IfSome m.turn (λ row. is_own_turn self.now.registry row ≡ true)) }
+        ensures own_session { IfOk result (λ m. IfSome m.session (λ row. is_own_session self.now.registry row ≡ true)) }
+        ensures own_code { IfOk result (λ m. IfSome m.code (λ row. is_own_code self.now.registry row ≡ true)) }
+        ensures turn_client { IfOk result (λ m. IfSome m.turn (λ row. row.wish.client < 128)) }
+        ensures session_user { IfOk result (λ m. IfSome m.session (λ row. row.user < 512)) }
+        ensures code_user { IfOk result (λ m. IfSome m.code (λ row. row.user < 512)) }
+        ensures code_client { IfOk result (λ m. IfSome m.code (λ row. row.wish.client < 128)) }
+        ensures token_user { IfOk result (λ m. IfSome m.token (λ row. row.user < 512)) }
+        ensures token_client { IfOk result (λ m. IfSome m.token (λ row. row.client < 128)) }
+    {
+        Ok(Made {
+            turn: self.turn_put(alloc, entry, reply)?,
+            session: self.session_put(entry, reply),
+            code: self.code_put(alloc, entry, reply)?,
+            token: self.access_put(alloc, entry, reply)?,
+        })
+    }
+}

@@ -1,0 +1,98 @@
+// What the provider replies to a token request (RFC 6749, 4.1.3, 4.1.4 and 5.2; OpenID Connect Core 1.0, 3.1.3).
+
+ghost use Rattle.std.specs.Prelude.{◌≡◌, ◌≤◌, true, Some, IfOk};
+ghost use Rattle.sso_base.specs.Legal.{last_moment};
+ghost use Rattle.op_exchange.specs.Asks.{is_prepared};
+ghost use Rattle.op_exchange.specs.declared.ask.OpAsk.TheVariants as ask;
+ghost use Rattle.code_grant.specs.declared.redeem.Redeem.TheVariants as redeem;
+ghost use Rattle.code_grant.specs.Redeeming.{redeem_of};
+ghost use Rattle.op_core.specs.Agreeing.{is_own_code};
+ghost use Rattle.op_core.specs.Redeemed.{is_redeemed};
+ghost use Rattle.op_core.specs.Providing.{past_of};
+ghost use Rattle.op_answer.specs.Replies as spec;
+
+use crate::state::OpCore;
+use code_grant::{CODE_USABLE, CodeRow};
+use op_exchange::{OpAsk, OpReply};
+use op_issue::{authentication_of_code, id_token_for};
+use sso_base::{Entry, Moment, NoMemory, Word, is_live};
+use std::alloc::Global;
+use token_endpoint::{Grant, GrantNo, TokenError, token_error};
+
+// Whether the grant's client may redeem the code: it is the client's own, unspent and usable, and was sent to the grant's
+// redirection URI.
+fn is_redeemable(code: &CodeRow, grant: &Grant, at: Moment) -> bool
+    ensures { result ≡ is_redeemed (redeem_of grant.now.client grant.now.redirect at (Some code.now)) }
+{
+    code.wish.client == grant.client
+        && !code.spent
+        && is_live(CODE_USABLE, code.issued, at)
+        && code.wish.redirect.as_str() == grant.redirect.as_str()
+}
+
+impl OpCore {
+    // The tokens for a code.
+    fn tokens_for(
+        &self,
+        alloc: Global,
+        entry: &Entry<OpAsk>,
+        code: &CodeRow,
+    ) -> Result<OpReply, NoMemory>
+        requires { is_own_code self.now.registry code.now ≡ true }
+        ensures { IfOk result (λ r. r ≡ spec.tokens_by self.now.registry entry.now redeem.Redeemed (Some code.now)) }
+    {
+        let access = entry.fresh[0];
+        let who = authentication_of_code(code);
+        let id = id_token_for(
+            alloc,
+            &self.registry,
+            &code.wish,
+            &who,
+            entry.at,
+            &Some(access),
+            &None,
+        )?;
+        Ok(OpReply::Tokens { access, id })
+    }
+
+    fn granted_tokens(
+        &self,
+        alloc: Global,
+        entry: &Entry<OpAsk>,
+        grant: &Grant,
+    ) -> Result<OpReply, NoMemory>
+        requires { last_moment (past_of self.now) ≤ entry.now.at }
+        ensures { IfOk result (λ r. r ≡ spec.tokens self.now.registry (past_of self.now) entry.now grant.now) }
+    {
+        let refused = OpReply::TokenRefused {
+            code: TokenError::InvalidGrant,
+        };
+        let Some(code) = self.held_code(entry.at, Word::read(grant.code.as_str().as_bytes())) else {
+            return Ok(refused);
+        };
+        if is_redeemable(code, grant, entry.at) {
+            self.tokens_for(alloc, entry, code)
+        } else {
+            Ok(refused)
+        }
+    }
+
+    // The reply to a token request.
+    pub(crate) fn token(
+        &self,
+        alloc: Global,
+        entry: &Entry<OpAsk>,
+        grant: &Result<Grant, GrantNo>,
+    ) -> Result<OpReply, NoMemory>
+        requires moment { last_moment (past_of self.now) ≤ entry.now.at }
+        requires prepared { is_prepared self.now.registry (ask.Token grant.now) ≡ true }
+        ensures { IfOk result (λ r. r ≡ spec.token self.now.registry (past_of self.now) entry.now grant.now) }
+    {
+        match grant {
+            Ok(grant) => self.granted_tokens(alloc, entry, grant),
+            Err(why) => Ok(OpReply::TokenRefused {
+                code: token_error(why),
+            }),
+        }
+    }
+}

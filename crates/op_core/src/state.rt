@@ -1,0 +1,55 @@
+// The provider: its registry, its history, and the tables that answer for the history.
+
+ghost use Rattle.std.specs.Prelude.{◌≡◌, [], IfOk};
+ghost use Rattle.sso_base.specs.Legal.{last_moment};
+ghost use Rattle.op_core.specs.Agreeing.{Agrees};
+ghost use Rattle.op_core.specs.Providing.{past_of};
+
+use client_registry::Registry;
+use code_grant::Grants;
+use op_exchange::{OpAsk, OpReply};
+use sso_base::{NoMemory, Pair};
+use std::alloc::Global;
+use std::marker::Model;
+
+/// The provider (OpenID Connect Core 1.0, 3), seen as its registry and its history, oldest first.
+#[derive(Drop)]
+pub struct OpCore {
+    pub(crate) registry: Registry,
+    pub(crate) history: Vec<Pair<OpAsk, OpReply>>,
+    pub(crate) weight: u64,
+    pub(crate) grants: Grants,
+}
+
+impl Model for OpCore {
+    ghost use Rattle.op_core.specs.Providing.{Providing};
+
+    ghost Value = { Providing };
+
+    ghost view = { λ c. record { registry = c.registry; history = c.history.items } };
+
+    ghost use Rattle.op_core.specs.Agreeing.{Keeps};
+
+    ghost invariant = { λ c. Keeps c.registry c.history.items c.weight c.grants };
+}
+
+impl OpCore {
+    /// A provider that was asked nothing.
+    pub fn new(alloc: Global, registry: Registry) -> Result<OpCore, NoMemory>
+        ensures { IfOk result (λ c. c ≡ record { registry = registry; history = [] }) }
+    {
+        Ok(OpCore {
+            registry,
+            history: Vec::new(alloc),
+            weight: 0,
+            grants: Grants::new(alloc)?,
+        })
+    }
+
+    /// The tables: what lives in them at the moment of the last entry is exactly what lives after the history.
+    pub fn tables(&self) -> &Grants
+        ensures { Agrees result.now (past_of self.now) (last_moment (past_of self.now)) }
+    {
+        &self.grants
+    }
+}

@@ -1,0 +1,2 @@
+pub mod Sample
+mod Told

@@ -1,0 +1,31 @@
+-- The asks that a request can give.
+use Rattle.std.specs.Prelude.{Bool, true, false, ◌&&◌, nat_le, length, Option, Some, None, Ok, Err}
+use Rattle.sso_base.specs.Words.{Text}
+use Rattle.client_registry.specs.Configuration.{Configuration}
+use Rattle.auth_request.specs.declared.wish.Wish.{Wish}
+use Rattle.auth_request.specs.declared.wish.Verdict.{Verdict}
+use Rattle.auth_request.specs.declared.wish.Verdict.TheVariants as verdict
+use Rattle.token_endpoint.specs.declared.no.GrantNo.TheVariants as grant_no
+use Rattle.op_exchange.specs.declared.ask.OpAsk.{OpAsk}
+use Rattle.op_exchange.specs.declared.ask.OpAsk.TheVariants as ask
+use Rattle.op_exchange.specs.Clients.{is_client, is_user}
+
+abbrev pub is_short_nonce : Option Text → Bool
+is_short_nonce None = true
+is_short_nonce (Some nonce) = nat_le (length nonce) 255
+
+abbrev pub is_prepared_wish : Configuration → Wish → Bool
+is_prepared_wish c wish = is_client c wish.client && is_short_nonce wish.nonce && wish.scopes.openid
+
+abbrev pub is_prepared_verdict : Configuration → Verdict → Bool
+is_prepared_verdict c (verdict.Grant wish) = is_prepared_wish c wish
+is_prepared_verdict c other = true
+
+-- reading a request gives numbers of the registry, nonces of at most 255 bytes, the scope value `openid`, and no want of
+-- memory
+abbrev pub is_prepared : Configuration → OpAsk → Bool
+is_prepared c (ask.Authorize verdict browser session) = is_prepared_verdict c verdict
+is_prepared c (ask.Login turn (Some user) browser session) = is_user c user
+is_prepared c (ask.Token (Ok grant)) = is_client c grant.client
+is_prepared c (ask.Token (Err grant_no.NoMemory)) = false
+is_prepared c other = true

@@ -1,0 +1,48 @@
+-- What an ask weighs: 1,024 and the bytes of its texts.
+use Rattle.std.specs.Prelude.{ℕ, ◌+◌, List, length, map, sum, Option, Some, None, Result, Ok, Err}
+use Rattle.sso_base.specs.Words.{Text}
+use Rattle.auth_request.specs.declared.wish.Wish.{Wish}
+use Rattle.auth_request.specs.declared.wish.Verdict.{Verdict}
+use Rattle.auth_request.specs.declared.wish.Verdict.TheVariants as verdict
+use Rattle.token_endpoint.specs.declared.granting.Grant.{Grant}
+use Rattle.token_endpoint.specs.declared.no.GrantNo.{GrantNo}
+use Rattle.token_endpoint.specs.declared.no.GrantNo.TheVariants.{Twice, Missing}
+use Rattle.op_exchange.specs.declared.ask.OpAsk.{OpAsk}
+use Rattle.op_exchange.specs.declared.ask.OpAsk.TheVariants.{Authorize, Token}
+
+abbrev pub text_bytes : Option Text → ℕ
+text_bytes None = 0
+text_bytes (Some t) = length t
+
+abbrev pub texts_bytes : List Text → ℕ
+texts_bytes texts = sum (map (λ (t : Text). length t) texts)
+
+abbrev pub texts_bytes_if : Option (List Text) → ℕ
+texts_bytes_if None = 0
+texts_bytes_if (Some texts) = texts_bytes texts
+
+abbrev pub wish_bytes : Wish → ℕ
+wish_bytes wish =
+    length wish.redirect + text_bytes wish.state + text_bytes wish.nonce + texts_bytes_if wish.subs + texts_bytes wish.id_asked + texts_bytes wish.info_asked
+
+abbrev pub verdict_bytes : Verdict → ℕ
+verdict_bytes (verdict.Page why) = 0
+verdict_bytes (verdict.Refuse refusal) = length refusal.redirect + text_bytes refusal.state
+verdict_bytes (verdict.Grant wish) = wish_bytes wish
+
+abbrev pub refused_bytes : GrantNo → ℕ
+refused_bytes (Twice name) = length name
+refused_bytes (Missing name) = length name
+refused_bytes other = 0
+
+abbrev pub grant_bytes : Result Grant GrantNo → ℕ
+grant_bytes (Ok grant) = length grant.code + length grant.redirect
+grant_bytes (Err why) = refused_bytes why
+
+abbrev pub ask_bytes : OpAsk → ℕ
+ask_bytes (Authorize judged browser session) = verdict_bytes judged
+ask_bytes (Token grant) = grant_bytes grant
+ask_bytes other = 0
+
+abbrev pub ask_weight : OpAsk → ℕ
+ask_weight asked = 1024 + ask_bytes asked

@@ -1,0 +1,134 @@
+// What the provider replies.
+
+ghost use Rattle.std.specs.Prelude.{◌≡◌, IfOk};
+
+use crate::messages::Messages;
+use auth_answer::Answer;
+use auth_request::{PageNo, Refusal};
+use scope_claims::Scopes;
+use sso_base::{Blob, NoMemory, Text, Word};
+use std::alloc::Global;
+use token_endpoint::TokenError;
+
+/// The provider's reply to a request.
+#[derive(Debug, Drop)]
+pub enum OpReply {
+    /// The login form of a turn, for the browser whose cookie is set; again after a wrong password.
+    LoginPage {
+        turn: Word,
+        browser: Word,
+        again: bool,
+    },
+    /// The consent form of a turn: the client's id, and what the consent is about. A session that a login left is set.
+    ConsentPage {
+        turn: Word,
+        browser: Word,
+        session: Option<Word>,
+        client: Text,
+        scopes: Scopes,
+    },
+    /// A successful authorization response. A session that a login left is set.
+    Answered {
+        answer: Answer,
+        session: Option<Word>,
+    },
+    /// An authorization error response. A session that a login left is set.
+    Refused {
+        refusal: Refusal,
+        session: Option<Word>,
+    },
+    /// An error page.
+    ErrorPage {
+        why: PageNo,
+    },
+    /// An access token and a sealed ID Token.
+    Tokens {
+        access: Word,
+        id: Text,
+    },
+    /// A token error response.
+    TokenRefused {
+        code: TokenError,
+    },
+    /// A UserInfo response.
+    Info {
+        claims: Blob,
+    },
+    /// A UserInfo error response, to a request with a token or without one.
+    InfoRefused {
+        given: bool,
+    },
+    /// A sign-out, with the messages that tell it to clients.
+    SignedOut {
+        messages: Messages,
+    },
+    /// The provider's metadata.
+    Metadata {
+        text: Text,
+    },
+    /// The provider's keys, of which there are none.
+    Keys,
+    /// Nothing is here.
+    NotHere,
+    /// A table has no room for a row.
+    Full,
+}
+
+impl OpReply {
+    /// An equal reply.
+    pub fn copy(&self, alloc: Global) -> Result<OpReply, NoMemory>
+        ensures { IfOk result (λ reply. reply ≡ self.now) }
+    {
+        Ok(match self {
+            OpReply::LoginPage {
+                turn,
+                browser,
+                again,
+            } => OpReply::LoginPage {
+                turn: *turn,
+                browser: *browser,
+                again: *again,
+            },
+            OpReply::ConsentPage {
+                turn,
+                browser,
+                session,
+                client,
+                scopes,
+            } => OpReply::ConsentPage {
+                turn: *turn,
+                browser: *browser,
+                session: *session,
+                client: client.copy(alloc)?,
+                scopes: *scopes,
+            },
+            OpReply::Answered { answer, session } => OpReply::Answered {
+                answer: answer.copy(alloc)?,
+                session: *session,
+            },
+            OpReply::Refused { refusal, session } => OpReply::Refused {
+                refusal: refusal.copy(alloc)?,
+                session: *session,
+            },
+            OpReply::ErrorPage { why } => OpReply::ErrorPage { why: *why },
+            OpReply::Tokens { access, id } => OpReply::Tokens {
+                access: *access,
+                id: id.copy(alloc)?,
+            },
+            OpReply::TokenRefused { code } => OpReply::TokenRefused { code: *code },
+            OpReply::Info { claims } => OpReply::Info {
+                claims: claims.copy(alloc)?,
+            },
+            OpReply::InfoRefused { given } => OpReply::InfoRefused { given: *given },
+            OpReply::SignedOut { messages } => OpReply::SignedOut {
+                messages: messages.copy(alloc)?,
+            },
+            OpReply::Metadata { text } => OpReply::Metadata {
+                text: text.copy(alloc)?,
+            },
+            OpReply::Keys => OpReply::Keys,
+            OpReply::NotHere => OpReply::NotHere,
+            OpReply::Full => OpReply::Full,
+        })
+    }
+}

@@ -1,0 +1,54 @@
+-- The ID Tokens of the provider (OpenID Connect Core 1.0, 2, 3.1.3.6, 3.2.2.10, 3.3.2.11 and 5.4).
+use Rattle.std.specs.Prelude.{ℕ, ◌+◌, Bool, not, ◌&&◌, [], ◌∷◌, Option, Some, None, option_map, if◌then◌else◌}
+use Rattle.sso_base.specs.Words.{Word, Text, word_text}
+use Rattle.client_registry.specs.declared.records.Types.{Types}
+use Rattle.client_registry.specs.Configuration.{Configuration, subject_at}
+use Rattle.scope_claims.specs.declared.scopes.Scopes.{Scopes}
+use Rattle.scope_claims.specs.Claims.{no_scopes}
+use Rattle.auth_request.specs.declared.wish.Wish.{Wish}
+use Rattle.userinfo.specs.Held.{held_members}
+use Rattle.id_token.specs.declared.claims.IdClaims.{IdClaims}
+use Rattle.id_token.specs.HalfHash.{half_hash_of}
+use Rattle.id_token.specs.Sealing.{id_text}
+use Rattle.code_grant.specs.declared.rows.SessionRow.{SessionRow}
+use Rattle.code_grant.specs.declared.rows.CodeRow.{CodeRow}
+use Rattle.op_issue.specs.declared.issuing.Authentication.{Authentication}
+use Rattle.op_exchange.specs.Clients.{client_id, client_secret}
+
+abbrev pub session_authentication : SessionRow → Authentication
+session_authentication session = record { user = session.user; sid = session.sid; auth_time = session.auth_time }
+
+abbrev pub code_authentication : CodeRow → Authentication
+code_authentication code = record { user = code.user; sid = code.sid; auth_time = code.auth_time }
+
+abbrev pub hash_of : Option Word → Option Text
+hash_of word = option_map (λ w. half_hash_of (word_text w)) word
+
+-- only an ID Token that comes without any access token has the claims of the scope values (Core 5.4)
+abbrev pub is_id_alone : Types → Bool
+is_id_alone types = types.id_token && not types.code && not types.token
+
+abbrev pub id_scopes : Wish → Scopes
+id_scopes wish = if is_id_alone wish.types then wish.scopes else no_scopes
+
+-- an ID Token, beside an access token and a code or not
+unfoldable pub id_claims : Configuration → Wish → Authentication → ℕ → Option Word → Option Word → IdClaims
+id_claims c wish who at access code =
+    record {
+      iss = c.provider.issuer;
+      sub = subject_at c wish.client who.user;
+      aud = client_id c wish.client ∷ [];
+      azp = None;
+      exp = at + 300;
+      iat = at;
+      auth_time = Some who.auth_time;
+      nonce = wish.nonce;
+      sid = Some (word_text who.sid);
+      at_hash = hash_of access;
+      c_hash = hash_of code;
+      more = held_members c who.user (id_scopes wish) wish.id_asked;
+    }
+
+-- the sealed ID Token of a wish
+unfoldable pub issued_id : Configuration → Wish → Authentication → ℕ → Option Word → Option Word → Text
+issued_id c wish who at access code = id_text (client_secret c wish.client) (id_claims c wish who at access code)

@@ -1,0 +1,4 @@
+pub mod IdTokens
+pub mod Issuing
+pub mod Issued
+pub mod ClientRules

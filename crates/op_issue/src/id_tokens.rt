@@ -1,0 +1,137 @@
+// ID Tokens (OpenID Connect Core 1.0, 2 and 3.1.3.6).
+
+ghost use Rattle.std.specs.Prelude.{◌≡◌, ◌<◌, true, [], ◌∷◌, length, IfOk};
+ghost use Rattle.sso_base.specs.Words.{IsWord};
+ghost use Rattle.op_exchange.specs.Asks.{is_short_nonce};
+ghost use Rattle.op_exchange.specs.Clients.{client_id};
+ghost use Rattle.op_issue.specs.IdTokens.{hash_of, id_scopes, id_claims, issued_id};
+ghost use Rattle.op_issue.specs.Issuing.{MayIssue};
+
+use crate::issuing::Authentication;
+use auth_request::Wish;
+use client_registry::Registry;
+use id_token::{IdClaims, half_hash, seal_id};
+use scope_claims::Scopes;
+use sso_base::{Moment, NoMemory, Text, Texts, Word, copied_text};
+use std::alloc::Global;
+use userinfo::held_claims;
+
+// The half digest of the text of a word, where there is one.
+fn hash_text(alloc: Global, word: &Option<Word>) -> Result<Option<Text>, NoMemory>
+    ensures { IfOk result (λ o. o ≡ hash_of word.now) }
+{
+    match word {
+        None => Ok(None),
+        Some(word) => {
+            let half = half_hash(&word.text());
+            let text = std::str::from_utf8(&half).unwrap();
+            Ok(Some(Text::new(alloc, text)?))
+        }
+    }
+}
+
+// The scope values whose claims the ID Token has: those of the wish where it comes without any access token.
+fn scopes_told(wish: &Wish) -> Scopes
+    ensures { result ≡ id_scopes wish.now }
+{
+    if wish.types.id_token && !wish.types.code && !wish.types.token {
+        wish.scopes
+    } else {
+        Scopes::none()
+    }
+}
+
+// The client as a lone audience.
+fn audience_of(alloc: Global, registry: &Registry, client: u32) -> Result<Texts, NoMemory>
+    requires { client < length registry.now.clients }
+    ensures { IfOk result (λ t. t ≡ client_id registry.now client ∷ []) }
+{
+    let mut audience = Texts::new(alloc);
+    audience.push(registry.client(client).id.copy(alloc)?)?;
+    Ok(audience)
+}
+
+// The claims of the ID Token.
+#[tactic(auto, unfolding(crate::specs::IdTokens::id_claims))]
+fn claims_for(
+    alloc: Global,
+    registry: &Registry,
+    wish: &Wish,
+    who: &Authentication,
+    at: Moment,
+    access: &Option<Word>,
+    code: &Option<Word>,
+) -> Result<IdClaims, NoMemory>
+    requires client { wish.now.client < length registry.now.clients }
+    requires user { who.now.user < length registry.now.users }
+    ensures { IfOk result (λ x. x ≡ id_claims registry.now wish.now who.now at access.now code.now) }
+{
+    Ok(IdClaims {
+        iss: registry.provider().issuer.copy(alloc)?,
+        sub: registry.subject(wish.client, who.user).copy(alloc)?,
+        aud: audience_of(alloc, registry, wish.client)?,
+        azp: None,
+        exp: at.seconds() + 300,
+        iat: at.seconds(),
+        auth_time: Some(who.auth_time.seconds()),
+        nonce: copied_text(alloc, &wish.nonce)?,
+        sid: Some(who.sid.to_text(alloc)?),
+        at_hash: hash_text(alloc, access)?,
+        c_hash: hash_text(alloc, code)?,
+        more: held_claims(
+            alloc,
+            registry,
+            who.user,
+            &scopes_told(wish),
+            &wish.id_asked,
+        )?,
+    })
+}
+
+// The bytes of a word. That there are 32, each below 256, is said for the proof of `bounds_of`.
+fn bytes_of(word: &Word) -> [u8; 32]
+    ensures { IsWord word.now }
+{
+    word.bytes()
+}
+
+// What the size of the claims rests on, said for the proof of `id_token_for`: each registry keeps its rules, and moments and
+// words have bounds.
+fn bounds_of(registry: &Registry, wish: &Wish, who: &Authentication, at: Moment)
+    requires client { wish.now.client < length registry.now.clients }
+    requires user { who.now.user < length registry.now.users }
+    requires nonce { is_short_nonce wish.now.nonce ≡ true }
+    ensures { MayIssue registry.now wish.now who.now at }
+{
+    let _clients = registry.clients();
+    let _sid = bytes_of(&who.sid);
+    let _auth_time = who.auth_time.seconds();
+    let _at = at.seconds();
+}
+
+/// The ID Token for a wish and the user who logged in, sealed under the client's secret (OpenID Connect Core 1.0, 2 and
+/// 3.1.3.6). It is good for 300 seconds from the moment. It has the half digests of the access token and of the code beside
+/// it, where there are any, the user's claims that are asked for by name, and, where it is issued alone, those of the scope
+/// values (5.4).
+///
+/// The client and the user are of the registry, and the nonce has at most 255 bytes: then the claims are never too long.
+#[tactic(auto, unfolding(crate::specs::IdTokens::issued_id))]
+pub fn id_token_for(
+    alloc: Global,
+    registry: &Registry,
+    wish: &Wish,
+    who: &Authentication,
+    at: Moment,
+    access: &Option<Word>,
+    code: &Option<Word>,
+) -> Result<Text, NoMemory>
+    requires client { wish.now.client < length registry.now.clients }
+    requires user { who.now.user < length registry.now.users }
+    requires nonce { is_short_nonce wish.now.nonce ≡ true }
+    ensures { IfOk result (λ t. t ≡ issued_id registry.now wish.now who.now at access.now code.now) }
+{
+    bounds_of(registry, wish, who, at);
+    let claims = claims_for(alloc, registry, wish, who, at, access, code)?;
+    let secret = registry.client(wish.client).secret.as_str();
+    seal_id(alloc, secret.as_bytes(), &claims)
+}

@@ -1,0 +1,117 @@
+// What is issued for a user who logged in: the successful authorization response (OpenID Connect Core 1.0, 3.1.2.5,
+// 3.2.2.5 and 3.3.2.5).
+
+ghost use Rattle.std.specs.Prelude.{◌≡◌, ◌<◌, true, length, IfOk};
+ghost use Rattle.op_exchange.specs.Asks.{is_short_nonce};
+ghost use Rattle.op_issue.specs.IdTokens.{session_authentication, code_authentication, issued_id};
+ghost use Rattle.op_issue.specs.Issued as spec;
+
+use crate::id_tokens::id_token_for;
+use auth_answer::Answer;
+use auth_request::Wish;
+use client_registry::{Registry, Types};
+use code_grant::{CodeRow, SessionRow};
+use sso_base::{Moment, NoMemory, Text, Word, copied_text};
+use std::alloc::Global;
+
+/// A user's login, as tokens tell it.
+#[derive(Clone, Copy, Debug, PartialEq, Eq)]
+pub struct Authentication {
+    /// The number of the user, from 0.
+    pub user: u32,
+    /// The session's name to clients (OpenID Connect Front-Channel Logout 1.0, 3).
+    pub sid: Word,
+    /// When the user last logged in.
+    pub auth_time: Moment,
+}
+
+/// The login that a session is about.
+pub fn authentication_of_session(session: &SessionRow) -> Authentication
+    ensures { result ≡ session_authentication session.now }
+{
+    Authentication {
+        user: session.user,
+        sid: session.sid,
+        auth_time: session.auth_time,
+    }
+}
+
+/// The login that a code was issued for.
+pub fn authentication_of_code(code: &CodeRow) -> Authentication
+    ensures { result ≡ code_authentication code.now }
+{
+    Authentication {
+        user: code.user,
+        sid: code.sid,
+        auth_time: code.auth_time,
+    }
+}
+
+/// Whether the response to a response type stands in the fragment of the redirection URI, and not in its query (OAuth 2.0
+/// Multiple Response Type Encoding Practices, 3 and 5): that of every type but `code`. What has no type is answered in the
+/// query.
+pub fn is_in_fragment(types: &Types) -> bool
+    ensures { result ≡ spec.is_in_fragment types.now }
+{
+    types.id_token || types.token
+}
+
+// The word, where it is wished for.
+fn word_if(wished: bool, word: Word) -> Option<Word>
+    ensures { result ≡ spec.if_wished wished word }
+{
+    if wished { Some(word) } else { None }
+}
+
+// The ID Token, where it is wished for.
+fn id_if_wished(
+    alloc: Global,
+    registry: &Registry,
+    wish: &Wish,
+    who: &Authentication,
+    at: Moment,
+    access: &Option<Word>,
+    code: &Option<Word>,
+) -> Result<Option<Text>, NoMemory>
+    requires client { wish.now.client < length registry.now.clients }
+    requires user { who.now.user < length registry.now.users }
+    requires nonce { is_short_nonce wish.now.nonce ≡ true }
+    ensures { IfOk result (λ o. o ≡ spec.if_wished wish.now.types.id_token (issued_id registry.now wish.now who.now at access.now code.now)) }
+{
+    if wish.types.id_token {
+        Ok(Some(id_token_for(alloc, registry, wish, who, at, access, code)?))
+    } else {
+        Ok(None)
+    }
+}
+
+/// The successful authorization response to a wish, for the user who logged in (OpenID Connect Core 1.0, 3.1.2.5, 3.2.2.5 and
+/// 3.3.2.5): a code, which is the third of the four fresh words, an access token, which is the fourth, and an ID Token about
+/// both, each where the response type has it. [`is_in_fragment`] tells where it stands.
+///
+/// The client and the user are of the registry, and the nonce has at most 255 bytes.
+pub fn issue(
+    alloc: Global,
+    registry: &Registry,
+    wish: &Wish,
+    who: &Authentication,
+    at: Moment,
+    fresh: &[Word; 4],
+) -> Result<Answer, NoMemory>
+    requires client { wish.now.client < length registry.now.clients }
+    requires user { who.now.user < length registry.now.users }
+    requires nonce { is_short_nonce wish.now.nonce ≡ true }
+    ensures { IfOk result (λ a. a ≡ spec.issued registry.now wish.now who.now at fresh.now) }
+{
+    let code = word_if(wish.types.code, fresh[2]);
+    let access = word_if(wish.types.token, fresh[3]);
+    let id = id_if_wished(alloc, registry, wish, who, at, &access, &code)?;
+    Ok(Answer {
+        redirect: wish.redirect.copy(alloc)?,
+        fragment: is_in_fragment(&wish.types),
+        code,
+        access,
+        id,
+        state: copied_text(alloc, &wish.state)?,
+    })
+}

@@ -1,0 +1,4 @@
+pub mod Routes
+pub mod PostedForms
+pub mod Prepared
+pub mod Requests

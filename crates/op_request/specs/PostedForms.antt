@@ -1,0 +1,37 @@
+-- The forms that the provider's own pages post: that of a login and that of a consent. A field with another name is as if it were
+-- not there, a field that is absent is empty, and no name of the form may stand twice, whatever the values.
+use Rattle.std.specs.Prelude.{ℕ, Bool, nat_lt, List, [], ◌∷◌, length, filter, codes, Option, unwrap_or}
+use Rattle.std.specs.List.{list_any}
+use Rattle.std.specs.Str.{bytes_eq}
+use Rattle.sso_base.specs.Words.{Text}
+use Rattle.request_params.specs.Form.{Pair, form_pairs}
+use Rattle.request_params.specs.Reading.{value_of}
+
+abbrev pub login_names : List Text
+login_names = codes "turn" ∷ codes "user" ∷ codes "password" ∷ []
+
+abbrev pub consent_names : List Text
+consent_names = codes "turn" ∷ codes "agree" ∷ []
+
+-- the form that was posted; an absent one is empty
+abbrev pub posted : Option (List ℕ) → List ℕ
+posted body = unwrap_or body []
+
+-- the fields of the form that was posted
+abbrev pub fields_of : Option (List ℕ) → List Pair
+fields_of body = form_pairs (posted body)
+
+-- how many fields have the name
+abbrev pub count : Text → List Pair → ℕ
+count name fields = length (filter (λ (field : Pair). bytes_eq field.0 name) fields)
+
+abbrev pub stands_twice : Text → List Pair → Bool
+stands_twice name fields = nat_lt 1 (count name fields)
+
+-- one of the names stands twice
+abbrev pub repeats_one : List Text → List Pair → Bool
+repeats_one names fields = list_any (λ name. stands_twice name fields) names
+
+-- the value of the field of this name
+abbrev pub field : Text → List Pair → Text
+field name fields = unwrap_or (value_of name fields) []

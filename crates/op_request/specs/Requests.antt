@@ -1,0 +1,136 @@
+-- What a request to the provider is and what it asks, in plain words.
+use Rattle.std.specs.Prelude.{◌≡◌, ◌⊎◌, ℕ, false, true, List, [], ◌∷◌, ◌++◌, codes, Option, Some, None, slice_get}
+use Rattle.sso_base.specs.Words.{Word, Text, IsWord, word_text}
+use Rattle.sso_base.specs.declared.http.Ask.{Ask}
+use Rattle.hmac256.specs.Hmac.{proof_of}
+use Rattle.configuration_rows.specs.Kinds.{has_text}
+use Rattle.client_registry.specs.declared.records.User.{User}
+use Rattle.client_registry.specs.declared.records.Client.{Client}
+use Rattle.client_registry.specs.Configuration.{Configuration}
+use Rattle.request_params.specs.declared.params.Params.{Params}
+use Rattle.request_params.specs.Form.{Pair}
+use Rattle.request_params.specs.Reading.{kept_pairs, Has, HasRequest, RepeatsFirst}
+use Rattle.request_params.specs.Merging.{IsMerged}
+use Rattle.auth_request.specs.declared.wish.Wish.{Wish}
+use Rattle.auth_request.specs.declared.wish.Verdict.TheVariants.{Grant}
+use Rattle.auth_request.specs.Judgement.{judgement}
+use Rattle.request_object.specs.Object.{IsRequestObject}
+use Rattle.token_endpoint.specs.Granted.{HasNo}
+use Rattle.op_exchange.specs.declared.ask.OpAsk.{OpAsk}
+use Rattle.op_exchange.specs.declared.ask.OpAsk.TheVariants as ask
+use Rattle.op_request.specs.declared.routes.Endpoint.{Endpoint}
+use Rattle.op_request.specs.declared.routes.Endpoint.TheVariants as endpoint
+use Rattle.op_request.specs.Routes.{Route, routes_of}
+use Rattle.op_request.specs.PostedForms.{login_names, consent_names, fields_of}
+use Rattle.op_request.specs.Prepared.{parameters_of}
+
+-- ---- where a request goes
+
+abbrev pub IsListed : Route → List Route → Type 0
+IsListed route [] = ⊥
+IsListed route (first ∷ routes) = (first ≡ route) ⊎ IsListed route routes
+
+-- the request is to this endpoint: its path is the provider's and then a path that is listed for its method
+pub record IsTo (c : Configuration) (request : Ask) (e : Endpoint) : Type 0 where
+  pub rest : Text
+  pub path : request.path ≡ c.prefix ++ rest
+  pub listed : IsListed (rest, e) (routes_of request.method)
+
+-- the endpoint to which an ask belongs, but for one that has a name twice
+abbrev pub own_endpoint : OpAsk → Option Endpoint
+own_endpoint (ask.Authorize verdict browser session) = Some endpoint.Authorization
+own_endpoint (ask.Login turn signed browser session) = Some endpoint.Login
+own_endpoint (ask.Consent turn agree browser session) = Some endpoint.Consent
+own_endpoint (ask.Token grant) = Some endpoint.Token
+own_endpoint (ask.Info bearer) = Some endpoint.UserInfo
+own_endpoint (ask.SignOut session) = Some endpoint.SignOut
+own_endpoint ask.Metadata = Some endpoint.Metadata
+own_endpoint ask.Keys = Some endpoint.Keys
+own_endpoint ask.Twice = None
+own_endpoint ask.NotHere = None
+
+-- ---- fields of a form
+
+-- two fields have the name
+pub record StandsTwice (name : Text) (fields : List Pair) : Type 0 where
+  pub before : List Pair
+  pub first : Text
+  pub between : List Pair
+  pub second : Text
+  pub after : List Pair
+  pub cut : fields ≡ before ++ (name, first) ∷ (between ++ (name, second) ∷ after)
+
+-- one of the names does
+pub record RepeatsName (names : List Text) (fields : List Pair) : Type 0 where
+  pub name : Text
+  pub listed : has_text name names ≡ true
+  pub twice : StandsTwice name fields
+
+-- the value is that of a field of this name, or it is empty and there is no such field
+abbrev pub IsField : List Pair → Text → Text → Type 0
+IsField fields name value = Has fields (name, value) ⊎ (HasNo fields name × (value ≡ []))
+
+-- the form has the id of the user of this number, and a password whose proof is the user's (RFC 8018, 5.2)
+pub record ShowsPassword (c : Configuration) (fields : List Pair) (number : ℕ) : Type 0 where
+  pub user : User
+  pub there : slice_get c.users number ≡ Some user
+  pub id : IsField fields (codes "user") user.id
+  pub password : Text
+  pub shown : IsField fields (codes "password") password
+  pub proved : proof_of password user.salt user.rounds ≡ user.proof
+
+-- the word is that of the form's field `turn`, where that is the text of one
+abbrev pub IsTurn : List Pair → Option Word → Type 0
+IsTurn fields (Some w) = Has fields (codes "turn", word_text w) × IsWord w
+IsTurn fields None = (w : Word) → IsWord w → ¬ Has fields (codes "turn", word_text w)
+
+-- ---- a name that stands twice
+
+-- the request posts a form to this endpoint, in which one of the names stands twice
+pub record RepeatsField (c : Configuration) (request : Ask) (e : Endpoint) (names : List Text) : Type 0 where
+  pub to : IsTo c request e
+  pub repeats : RepeatsName names (fields_of request.body)
+
+-- the request is an authorization request, in which a parameter stands twice with values
+pub record RepeatsParameter (c : Configuration) (request : Ask) : Type 0 where
+  pub to : IsTo c request endpoint.Authorization
+  pub name : Text
+  pub repeats : RepeatsFirst (kept_pairs (parameters_of request.method request)) name
+
+abbrev pub RepeatsAName : Configuration → Ask → Type 0
+RepeatsAName c request = RepeatsParameter c request ⊎ (RepeatsField c request endpoint.Login login_names ⊎ RepeatsField c request endpoint.Consent consent_names)
+
+-- ---- an authorization request
+
+-- the client of this number has the request's id, and the request has a request object of this client for this provider, with
+-- these parameters (OpenID Connect Core 1.0, 6.1)
+pub record HasObject (c : Configuration) (beside inside : Params) : Type 0 where
+  pub object : Text
+  pub stands : beside.request ≡ Some object
+  pub number : ℕ
+  pub client : Client
+  pub there : slice_get c.clients number ≡ Some client
+  pub named : beside.client_id ≡ Some client.id
+  pub is_object : IsRequestObject client c.provider.issuer object inside
+
+-- the parameters of a request object over those beside it, and where there is none, those of the request
+abbrev pub IsWhole : Configuration → Params → Params → Type 0
+IsWhole c beside whole = ((beside.request ≡ None) × (whole ≡ beside)) ⊎ ((inside : Params) × HasObject c beside inside × IsMerged beside inside whole)
+
+-- the form is a request whose parameters, with those of its object, are granted
+pub record IsGranted (c : Configuration) (form : List ℕ) (wish : Wish) : Type 0 where
+  pub beside : Params
+  pub read : HasRequest form beside
+  pub whole : Params
+  pub is_whole : IsWhole c beside whole
+  pub granted : judgement c whole false ≡ Grant wish
+
+-- ---- cookies
+
+-- the ask has the words of the request's cookies: the first is the browser's, the second the session's
+abbrev pub HasCookies : Ask → OpAsk → Type 0
+HasCookies request (ask.Authorize verdict browser session) = (browser ≡ request.first) × (session ≡ request.second)
+HasCookies request (ask.Login turn signed browser session) = (browser ≡ request.first) × (session ≡ request.second)
+HasCookies request (ask.Consent turn agree browser session) = (browser ≡ request.first) × (session ≡ request.second)
+HasCookies request (ask.SignOut session) = session ≡ request.second
+HasCookies request other = Unit {0}

@@ -1,0 +1,49 @@
+-- Which endpoint of the provider a request is to, by its method and its path. The paths are this provider's own, but for that
+-- of the metadata; they stand below the path of the issuer (OpenID Connect Discovery 1.0, 4).
+use Rattle.std.specs.Prelude.{List, [], ◌∷◌, length, take, drop, codes, Option, Some, None, option_and_then, if◌then◌else◌}
+use Rattle.std.specs.Str.{bytes_eq}
+use Rattle.sso_base.specs.Words.{Text}
+use Rattle.sso_base.specs.declared.http.Method.{Method}
+use Rattle.sso_base.specs.declared.http.Method.TheVariants.{Get, Post, Other}
+use Rattle.sso_base.specs.declared.http.Ask.{Ask}
+use Rattle.op_request.specs.declared.routes.Endpoint.{Endpoint}
+use Rattle.op_request.specs.declared.routes.Endpoint.TheVariants.{Metadata, Keys, Authorization, Login, Consent, Token, UserInfo, SignOut}
+
+-- what follows the prefix, in a path that begins with it
+abbrev pub below : Text → Text → Option Text
+below prefix path = if bytes_eq (take (length prefix) path) prefix then Some (drop (length prefix) path) else None
+
+abbrev pub Route : Type 0
+Route = Text × Endpoint
+
+abbrev pub get_routes : List Route
+get_routes =
+    (codes "/.well-known/openid-configuration", Metadata)  -- Discovery 4
+    ∷ (codes "/jwks", Keys)  -- Core 10.1
+    ∷ (codes "/authorize", Authorization)  -- Core 3.1.2.1
+    ∷ (codes "/userinfo", UserInfo)  -- Core 5.3.1
+    ∷ []
+
+abbrev pub post_routes : List Route
+post_routes =
+    (codes "/authorize", Authorization)  -- Core 3.1.2.1
+    ∷ (codes "/login", Login)
+    ∷ (codes "/consent", Consent)
+    ∷ (codes "/token", Token)  -- RFC 6749, 3.2
+    ∷ (codes "/userinfo", UserInfo)  -- Core 5.3.1
+    ∷ (codes "/signout", SignOut)
+    ∷ []
+
+abbrev pub routes_of : Method → List Route
+routes_of Get = get_routes
+routes_of Post = post_routes
+routes_of Other = []
+
+-- the endpoint of this path
+abbrev pub endpoint_of : List Route → Text → Option Endpoint
+endpoint_of [] path = None
+endpoint_of (route ∷ routes) path = if bytes_eq path route.0 then Some route.1 else endpoint_of routes path
+
+-- the endpoint that a request is to, where the paths stand below this prefix
+abbrev pub endpoint_asked : Text → Ask → Option Endpoint
+endpoint_asked prefix request = option_and_then (endpoint_of (routes_of request.method)) (below prefix request.path)

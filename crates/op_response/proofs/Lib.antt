@@ -1,0 +1,8 @@
+pub mod Pieces
+pub mod Characters
+pub mod ScopeTexts
+pub mod CookieLaws
+pub mod ReplyLaws
+pub mod FormLaws
+pub mod LineLaws
+mod Samples

@@ -1,0 +1,6 @@
+pub mod Joined
+pub mod Cookies
+pub mod Pages
+pub mod Lines
+pub mod Telling
+pub mod Told

@@ -1,0 +1,55 @@
+-- The pages on which a user logs in and consents (OpenID Connect Core 1.0, 3.1.2.3 and 3.1.2.4), in HTML (own).
+--
+-- Nothing is escaped in them, since nothing that is written into them has a mark that HTML reads: a word's text is letters,
+-- digits, `-` and `_`; the id of a client is letters, digits, `.`, `_`, `~` and `-`; scope values are letters. The path of an
+-- issuer is as the URL Standard writes it, without `"`, `<` and `>`; it may have `&`, which HTML reads only where the name or
+-- number of a character follows.
+use Rattle.std.specs.Prelude.{Bool, true, false, [], ◌∷◌, codes}
+use Rattle.std.specs.List.{concat}
+use Rattle.sso_base.specs.Words.{Text}
+use Rattle.scope_claims.specs.declared.scopes.Scopes.{Scopes}
+use Rattle.op_response.specs.Joined.{spaced}
+
+-- ---- the login page
+
+abbrev pub again_note : Bool → Text
+again_note true = codes "<p>Wrong user or password.</p>"
+again_note false = []
+
+unfoldable pub login_text : Text → Text → Text → Text
+login_text prefix turn note =
+    concat (
+    codes "<!doctype html><title>Login</title><form method=\"post\" action=\""
+    ∷ prefix
+    ∷ codes "/login\"><input type=\"hidden\" name=\"turn\" value=\""
+    ∷ turn
+    ∷ codes "\"><input name=\"user\"><input type=\"password\" name=\"password\"><button>Login</button></form>"
+    ∷ note ∷ [])
+
+-- the form of a turn, by its text, below the path of the issuer; again after a wrong password
+abbrev pub login_page : Text → Text → Bool → Text
+login_page prefix turn again = login_text prefix turn (again_note again)
+
+-- ---- the consent page
+
+-- scope values, with one space between
+abbrev pub scope_text : Scopes → Text
+scope_text s =
+    spaced ((s.openid, codes "openid") ∷ (s.profile, codes "profile") ∷ (s.email, codes "email") ∷ (s.address, codes "address") ∷ (s.phone, codes "phone") ∷ [])
+
+unfoldable pub consent_text : Text → Text → Text → Text → Text
+consent_text prefix turn client scopes =
+    concat (
+    codes "<!doctype html><title>Consent</title><p>"
+    ∷ client
+    ∷ codes ": "
+    ∷ scopes
+    ∷ codes "</p><form method=\"post\" action=\""
+    ∷ prefix
+    ∷ codes "/consent\"><input type=\"hidden\" name=\"turn\" value=\""
+    ∷ turn
+    ∷ codes "\"><button name=\"agree\" value=\"yes\">Yes</button><button name=\"agree\" value=\"no\">No</button></form>" ∷ [])
+
+-- the form of a turn, by its text, below the path of the issuer: a client, by its id, and the scope values that it asks for
+abbrev pub consent_page : Text → Text → Text → Scopes → Text
+consent_page prefix turn client scopes = consent_text prefix turn client (scope_text scopes)

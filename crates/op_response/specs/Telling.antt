@@ -1,0 +1,93 @@
+-- The provider's replies in HTTP (RFC 9110; OpenID Connect Core 1.0, 3.1.2, 3.1.3 and 5.3).
+use Rattle.std.specs.Prelude.{ℕ, Bool, true, false, List, [], ◌∷◌, ◌++◌, codes, Option, Some, None}
+use Rattle.sso_base.specs.Words.{Word, Text, word_text}
+use Rattle.sso_base.specs.declared.http.HttpReply.{HttpReply}
+use Rattle.sso_base.specs.declared.http.Kind.TheVariants.{Empty, Plain, Html, Json}
+use Rattle.word_cookie.specs.Cookies.{cookie}
+use Rattle.client_registry.specs.Configuration.{Configuration}
+use Rattle.scope_claims.specs.declared.scopes.Scopes.{Scopes}
+use Rattle.auth_request.specs.declared.wish.PageNo.{PageNo}
+use Rattle.auth_answer.specs.Printing.{answer_location, refusal_location}
+use Rattle.token_endpoint.specs.declared.error.TokenError.{TokenError}
+use Rattle.token_endpoint.specs.declared.error.TokenError.TheVariants.{InvalidClient}
+use Rattle.token_endpoint.specs.Answer.{tokens_text}
+use Rattle.token_endpoint.specs.Errors.{error_text}
+use Rattle.op_exchange.specs.declared.reply.OpReply.{OpReply}
+use Rattle.op_exchange.specs.declared.reply.OpReply.TheVariants as reply
+use Rattle.op_response.specs.Cookies.{browser_cookie, session_cookies}
+use Rattle.op_response.specs.Pages.{login_page, consent_page}
+use Rattle.op_response.specs.Lines.{page_word}
+
+-- ---- kinds of replies
+
+-- a page, with cookies
+abbrev pub html : List Text → Text → HttpReply
+html cookies page =
+    record { status = 200; pragma = false; location = None; cookies = cookies; challenge = None; kind = Html; body = page }
+
+-- one line of text
+abbrev pub plain : ℕ → Text → HttpReply
+plain status line =
+    record { status = status; pragma = false; location = None; cookies = []; challenge = None; kind = Plain; body = line ++ 10 ∷ [] }
+
+abbrev pub json : Text → HttpReply
+json text =
+    record { status = 200; pragma = false; location = None; cookies = []; challenge = None; kind = Json; body = text }
+
+-- the user agent is sent to a location (RFC 9110, 15.4.4)
+abbrev pub sent_to : Text → List Text → HttpReply
+sent_to location cookies =
+    record { status = 303; pragma = false; location = Some location; cookies = cookies; challenge = None; kind = Empty; body = [] }
+
+-- a response of the token endpoint, which no cache keeps (RFC 6749, 5.1 and 5.2)
+abbrev pub token_response : ℕ → Option Text → Text → HttpReply
+token_response status challenge text =
+    record { status = status; pragma = true; location = None; cookies = []; challenge = challenge; kind = Json; body = text }
+
+-- a request without a token that is good (RFC 6750, 3)
+abbrev pub unauthorized : Text → HttpReply
+unauthorized challenge =
+    record { status = 401; pragma = false; location = None; cookies = []; challenge = Some challenge; kind = Empty; body = [] }
+
+-- ---- pages
+
+abbrev pub login_shown : Configuration → Word → Word → Bool → HttpReply
+login_shown c turn browser again =
+    html (cookie c.secure browser_cookie browser ∷ []) (login_page c.prefix (word_text turn) again)
+
+abbrev pub consent_shown : Configuration → Word → Word → Option Word → Text → Scopes → HttpReply
+consent_shown c turn browser session client scopes =
+    html (cookie c.secure browser_cookie browser ∷ session_cookies c.secure session) (consent_page c.prefix (word_text turn) client scopes)
+
+abbrev pub error_shown : PageNo → HttpReply
+error_shown why = plain 400 (codes "error " ++ page_word why)
+
+-- ---- refusals
+
+-- a client that did not show that it is one is told how to (RFC 6749, 5.2; RFC 7617, 2)
+abbrev pub token_refused : TokenError → HttpReply
+token_refused InvalidClient = token_response 401 (Some (codes "Basic realm=\"sso\"")) (error_text InvalidClient)
+token_refused other = token_response 400 None (error_text other)
+
+-- a token that is not good is an error, and no token is none (RFC 6750, 3.1)
+abbrev pub bearer_challenge : Bool → Text
+bearer_challenge true = codes "Bearer error=\"invalid_token\""
+bearer_challenge false = codes "Bearer realm=\"sso\""
+
+-- ---- each reply
+
+unfoldable pub http_of : Configuration → OpReply → HttpReply
+http_of c (reply.LoginPage turn browser again) = login_shown c turn browser again
+http_of c (reply.ConsentPage turn browser session client scopes) = consent_shown c turn browser session client scopes
+http_of c (reply.Answered answer session) = sent_to (answer_location answer) (session_cookies c.secure session)
+http_of c (reply.Refused refusal session) = sent_to (refusal_location refusal) (session_cookies c.secure session)
+http_of c (reply.ErrorPage why) = error_shown why
+http_of c (reply.Tokens access id) = token_response 200 None (tokens_text (word_text access) id)
+http_of c (reply.TokenRefused code) = token_refused code
+http_of c (reply.Info claims) = json claims
+http_of c (reply.InfoRefused given) = unauthorized (bearer_challenge given)
+http_of c (reply.SignedOut messages) = plain 200 (codes "signed out")
+http_of c (reply.Metadata text) = json text
+http_of c reply.Keys = json (codes "{\"keys\":[]}")
+http_of c reply.NotHere = plain 404 (codes "not here")
+http_of c reply.Full = plain 503 (codes "full")

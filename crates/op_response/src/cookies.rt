@@ -1,0 +1,43 @@
+// The cookies of replies.
+
+ghost use Rattle.std.specs.Prelude.{◌≡◌, ◌++◌, [], ◌∷◌, IfOk, OnOk};
+ghost use Rattle.word_cookie.specs.Cookies.{cookie};
+ghost use Rattle.op_response.specs.Cookies as spec;
+
+use sso_base::{NoMemory, Texts, Word};
+use std::alloc::Global;
+use word_cookie::cookie;
+
+// The cookie of a browser that was given a form.
+const BROWSER: &str = "op_b";
+
+// The cookie of a session.
+const SESSION: &str = "op_s";
+
+// The browser's cookie alone.
+pub(crate) fn browser_cookies(
+    alloc: Global,
+    secure: bool,
+    browser: &Word,
+) -> Result<Texts, NoMemory>
+    ensures { IfOk result (λ t. t ≡ cookie secure spec.browser_cookie browser.now ∷ []) }
+{
+    let mut cookies = Texts::new(alloc);
+    cookies.push(cookie(alloc, secure, BROWSER, browser)?)?;
+    Ok(cookies)
+}
+
+// Adds the session's cookie, where there is a session word.
+pub(crate) fn push_session(
+    cookies: &mut Texts,
+    alloc: Global,
+    secure: bool,
+    session: &Option<Word>,
+) -> Result<(), NoMemory>
+    ensures { OnOk result (cookies.new ≡ cookies.old ++ spec.session_cookies secure session.now) }
+{
+    if let Some(word) = session {
+        cookies.push(cookie(alloc, secure, SESSION, word)?)?;
+    }
+    Ok(())
+}

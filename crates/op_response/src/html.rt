@@ -1,0 +1,109 @@
+// The login page and the consent page are written.
+
+ghost use Rattle.std.specs.Prelude.{◌≡◌, IfOk};
+ghost use Rattle.sso_base.specs.Words.{word_text};
+ghost use Rattle.op_response.specs.Pages as spec;
+
+use crate::joining::{joined, spaced};
+use scope_claims::Scopes;
+use sso_base::{Blob, NoMemory, Text, Word};
+use std::alloc::Global;
+
+fn again_note(again: bool) -> &'static str
+    ensures { result.now ≡ spec.again_note again }
+{
+    if again {
+        "<p>Wrong user or password.</p>"
+    } else {
+        ""
+    }
+}
+
+// The login page of a turn, by its text, below the path of the issuer.
+#[tactic(auto, unfolding(crate::specs::Pages::login_text))]
+fn login_text(alloc: Global, prefix: &str, turn: &str, note: &str) -> Result<Blob, NoMemory>
+    ensures { IfOk result (λ b. b ≡ spec.login_text prefix.now turn.now note.now) }
+{
+    let pieces = [
+        "<!doctype html><title>Login</title><form method=\"post\" action=\"",
+        prefix,
+        "/login\"><input type=\"hidden\" name=\"turn\" value=\"",
+        turn,
+        "\"><input name=\"user\"><input type=\"password\" name=\"password\"><button>Login</button></form>",
+        note,
+    ];
+    Ok(Blob::from_vec(joined(alloc, &pieces)?.into_bytes()))
+}
+
+// The same, again after a wrong password.
+pub(crate) fn login_page(
+    alloc: Global,
+    prefix: &Text,
+    turn: &Word,
+    again: bool,
+) -> Result<Blob, NoMemory>
+    ensures { IfOk result (λ b. b ≡ spec.login_page prefix.now (word_text turn.now) again) }
+{
+    let turn = turn.to_text(alloc)?;
+    login_text(alloc, prefix.as_str(), turn.as_str(), again_note(again))
+}
+
+// These scope values, with one space between.
+fn scope_text(alloc: Global, scopes: &Scopes) -> Result<Text, NoMemory>
+    ensures { IfOk result (λ t. t ≡ spec.scope_text scopes.now) }
+{
+    let words = [
+        (scopes.openid, "openid"),
+        (scopes.profile, "profile"),
+        (scopes.email, "email"),
+        (scopes.address, "address"),
+        (scopes.phone, "phone"),
+    ];
+    spaced(alloc, &words)
+}
+
+// The consent page of a turn, by its text, below the path of the issuer: a client, and scope values.
+#[tactic(auto, unfolding(crate::specs::Pages::consent_text))]
+fn consent_text(
+    alloc: Global,
+    prefix: &str,
+    turn: &str,
+    client: &str,
+    scopes: &str,
+) -> Result<Blob, NoMemory>
+    ensures { IfOk result (λ b. b ≡ spec.consent_text prefix.now turn.now client.now scopes.now) }
+{
+    let pieces = [
+        "<!doctype html><title>Consent</title><p>",
+        client,
+        ": ",
+        scopes,
+        "</p><form method=\"post\" action=\"",
+        prefix,
+        "/consent\"><input type=\"hidden\" name=\"turn\" value=\"",
+        turn,
+        "\"><button name=\"agree\" value=\"yes\">Yes</button><button name=\"agree\" value=\"no\">No</button></form>",
+    ];
+    Ok(Blob::from_vec(joined(alloc, &pieces)?.into_bytes()))
+}
+
+// The same, for a client by its id.
+pub(crate) fn consent_page(
+    alloc: Global,
+    prefix: &Text,
+    turn: &Word,
+    client: &Text,
+    scopes: &Scopes,
+) -> Result<Blob, NoMemory>
+    ensures { IfOk result (λ b. b ≡ spec.consent_page prefix.now (word_text turn.now) client.now scopes.now) }
+{
+    let turn = turn.to_text(alloc)?;
+    let scopes = scope_text(alloc, scopes)?;
+    consent_text(
+        alloc,
+        prefix.as_str(),
+        turn.as_str(),
+        client.as_str(),
+        scopes.as_str(),
+    )
+}

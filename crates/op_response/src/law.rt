@@ -1,0 +1,87 @@
+// What holds of replies that are told.
+
+ghost use Rattle.std.specs.Prelude.{◌≡◌, ◌++◌, ◌↔◌, ℕ, [], ◌∷◌, Bool, true, false, Option, Some, is_some, codes, map, Ok};
+ghost use Rattle.std.specs.Str.{IsUtf8};
+ghost use Rattle.std.specs.Str.Iter.{HasSubslice};
+ghost use Rattle.sso_base.specs.Words.{Word, Text, word_text};
+ghost use Rattle.sso_base.specs.declared.http.Kind.TheVariants as kind;
+ghost use Rattle.word_cookie.specs.UserAgent.{cookie_read};
+ghost use Rattle.client_registry.specs.Configuration.{Configuration};
+ghost use Rattle.client_registry.specs.Registered.{IsRegistry};
+ghost use Rattle.scope_claims.specs.declared.scopes.Scopes.{Scopes};
+ghost use Rattle.auth_request.specs.declared.wish.Refusal.{Refusal};
+ghost use Rattle.auth_request.specs.Words.{words_of};
+ghost use Rattle.auth_request.specs.Parameters.{scopes_among};
+ghost use Rattle.auth_answer.specs.declared.answer.Answer.{Answer};
+ghost use Rattle.auth_answer.specs.Printing.{answer_location, refusal_location};
+ghost use Rattle.token_endpoint.specs.Answer.{tokens_read};
+ghost use Rattle.op_exchange.specs.declared.reply.OpReply.{OpReply};
+ghost use Rattle.op_exchange.specs.declared.reply.OpReply.TheVariants as reply;
+ghost use Rattle.op_exchange.specs.Clients.{client_id};
+ghost use Rattle.op_exchange.specs.Replied.{ends_turn, session_given};
+ghost use Rattle.op_response.specs.Cookies.{browser_cookie, session_cookie};
+ghost use Rattle.op_response.specs.Pages.{scope_text};
+ghost use Rattle.op_response.specs.Telling.{http_of};
+ghost use Rattle.op_response.specs.Lines.{line_of};
+ghost use Rattle.op_response.specs.Told.{browser_given, words_set, kept, sets_cookie, is_token_response, has_mark};
+
+/// The cookies of a reply hold the words that it sets, in order and no others: the browser word of a page, and its session
+/// word where it has one. A user agent reads each under its name as the word's text, for every path, `HttpOnly`,
+/// `SameSite=Lax` and, exactly where the issuer is https, `Secure` (RFC 6265, 5.2). A reply without a session word sets no
+/// session cookie.
+pub fn cookies_hold_the_words_of_replies()
+    ensures read { (c : Configuration) (r : OpReply) → map cookie_read (http_of c r).cookies ≡ map (kept c.secure) (words_set r) }
+    ensures session { (c : Configuration) (r : OpReply) → sets_cookie session_cookie (http_of c r).cookies ≡ is_some (session_given r) }
+    ensures browser { (c : Configuration) (r : OpReply) → sets_cookie browser_cookie (http_of c r).cookies ≡ is_some (browser_given r) }
+{}
+
+/// Authorization responses, and no other replies, send the user agent on, with status 303, and to the location of the
+/// response.
+pub fn responses_send_the_user_agent_on()
+    ensures answer { (c : Configuration) (a : Answer) (given : Option Word) → (http_of c (reply.Answered a given)).location ≡ Some (answer_location a) }
+    ensures refusal { (c : Configuration) (r : Refusal) (given : Option Word) → (http_of c (reply.Refused r given)).location ≡ Some (refusal_location r) }
+    ensures location { (c : Configuration) (r : OpReply) → is_some (http_of c r).location ≡ ends_turn r }
+    ensures status { (c : Configuration) (r : OpReply) → ((http_of c r).status ≡ 303) ↔ (ends_turn r ≡ true) }
+{}
+
+/// Token responses, and no other replies, have `Pragma: no-cache`, and they are JSON. One that has tokens is read as these.
+pub fn token_responses_are_not_cached()
+    ensures pragma { (c : Configuration) (r : OpReply) → (http_of c r).pragma ≡ is_token_response r }
+    ensures json { (c : Configuration) (r : OpReply) → is_token_response r ≡ true → (http_of c r).kind ≡ kind.Json }
+    ensures read { (c : Configuration) (w : Word) (id : Text) → IsUtf8 id → tokens_read (record { status = (http_of c (reply.Tokens w id)).status; body = (http_of c (reply.Tokens w id)).body }) ≡ Ok (record { access = word_text w; id = id }) }
+{}
+
+/// A reply is a challenge exactly where its status is 401 (RFC 9110, 15.5.2).
+pub fn challenges_are_unauthorized()
+    ensures { (c : Configuration) (r : OpReply) → ((http_of c r).status ≡ 401) ↔ (is_some (http_of c r).challenge ≡ true) }
+{}
+
+/// The login form and the consent form are posted to the provider's own paths, with the text of their own turn, and a
+/// consent page says which client asks for which scope values.
+pub fn forms_are_posted_to_the_provider()
+    ensures login { (c : Configuration) (turn browser : Word) (again : Bool) → HasSubslice (http_of c (reply.LoginPage turn browser again)).body (codes "<form method=\"post\" action=\"" ++ (c.prefix ++ codes "/login\">")) }
+    ensures login_turn { (c : Configuration) (turn browser : Word) (again : Bool) → HasSubslice (http_of c (reply.LoginPage turn browser again)).body (codes "<input type=\"hidden\" name=\"turn\" value=\"" ++ (word_text turn ++ codes "\">")) }
+    ensures consent { (c : Configuration) (turn browser : Word) (given : Option Word) (client : Text) (scopes : Scopes) → HasSubslice (http_of c (reply.ConsentPage turn browser given client scopes)).body (codes "<form method=\"post\" action=\"" ++ (c.prefix ++ codes "/consent\">")) }
+    ensures consent_turn { (c : Configuration) (turn browser : Word) (given : Option Word) (client : Text) (scopes : Scopes) → HasSubslice (http_of c (reply.ConsentPage turn browser given client scopes)).body (codes "<input type=\"hidden\" name=\"turn\" value=\"" ++ (word_text turn ++ codes "\">")) }
+    ensures asked { (c : Configuration) (turn browser : Word) (given : Option Word) (client : Text) (scopes : Scopes) → HasSubslice (http_of c (reply.ConsentPage turn browser given client scopes)).body (codes "<p>" ++ (client ++ (codes ": " ++ (scope_text scopes ++ codes "</p>")))) }
+    ensures scopes { (s : Scopes) → scopes_among (words_of (Some (scope_text s))) ≡ s }
+{}
+
+/// No word's text, no id of a registry's client and no scope value has a mark that HTML reads, so pages escape nothing.
+pub fn pages_have_nothing_to_escape()
+    ensures word { (w : Word) → has_mark (word_text w) ≡ false }
+    ensures client { (c : Configuration) (n : ℕ) → IsRegistry c → has_mark (client_id c n) ≡ false }
+    ensures scopes { (s : Scopes) → has_mark (scope_text s) ≡ false }
+{}
+
+/// A plain body is one line, and a reply of no kind has none.
+pub fn plain_bodies_are_lines()
+    ensures plain { (c : Configuration) (r : OpReply) → (http_of c r).kind ≡ kind.Plain → (line : Text) × ((http_of c r).body ≡ line ++ 10 ∷ []) }
+    ensures empty { (c : Configuration) (r : OpReply) → (http_of c r).kind ≡ kind.Empty → (http_of c r).body ≡ [] }
+{}
+
+/// A line tells which parts an answer has and nothing of what they are, and the code of a refusal.
+pub fn lines_tell_parts_and_codes()
+    ensures parts { (a b : Answer) (given other : Option Word) → is_some a.code ≡ is_some b.code → is_some a.id ≡ is_some b.id → is_some a.access ≡ is_some b.access → line_of (reply.Answered a given) ≡ line_of (reply.Answered b other) }
+    ensures code { (a b : Refusal) (given other : Option Word) → line_of (reply.Refused a given) ≡ line_of (reply.Refused b other) → a.code ≡ b.code }
+{}

@@ -1,0 +1,29 @@
+//! The provider's replies as they go out: in HTTP (RFC 9110; OpenID Connect Core 1.0, 3.1.2, 3.1.3 and 5.3), and as the lines
+//! of a replay.
+//!
+//! | Module | What it has |
+//! |---|---|
+//! | `telling` | [`op_http`]: the status, the fields and the body of a reply |
+//! | `html` | the login page and the consent page |
+//! | `cookies` | the browser's cookie and the session's |
+//! | `lines` | [`op_line`]: the line of a reply |
+//! | `joining` | texts that are joined of pieces and of words |
+//! | `law` | what holds of replies that are told, for the crates above |
+#![tactic(auto)]
+
+mod cookies;
+mod html;
+mod joining;
+mod law;
+mod lines;
+mod telling;
+#[cfg(test)]
+mod tests;
+
+pub use law::{
+    challenges_are_unauthorized, cookies_hold_the_words_of_replies,
+    forms_are_posted_to_the_provider, lines_tell_parts_and_codes, pages_have_nothing_to_escape,
+    plain_bodies_are_lines, responses_send_the_user_agent_on, token_responses_are_not_cached,
+};
+pub use lines::op_line;
+pub use telling::op_http;

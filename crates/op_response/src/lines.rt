@@ -1,0 +1,79 @@
+// The line that tells a reply is written.
+
+ghost use Rattle.std.specs.Prelude.{◌≡◌, ◌++◌, IfOk};
+ghost use Rattle.op_response.specs.Lines as spec;
+
+use crate::joining::{joined, spaced};
+use auth_answer::{Answer, error_text};
+use auth_request::PageNo;
+use op_exchange::OpReply;
+use sso_base::{NoMemory, Text};
+use std::alloc::Global;
+
+// What an error page is about.
+pub(crate) fn page_word(why: PageNo) -> &'static str
+    ensures { result.now ≡ spec.page_word why }
+{
+    match why {
+        PageNo::Client => "client",
+        PageNo::Redirect => "redirect",
+        PageNo::Twice => "twice",
+        PageNo::Turn => "turn",
+        PageNo::Browser => "browser",
+    }
+}
+
+// Two texts, one behind the other.
+fn phrase(alloc: Global, first: &str, second: &str) -> Result<Text, NoMemory>
+    ensures { IfOk result (λ t. t ≡ first.now ++ second.now) }
+{
+    Ok(Text::from_string(joined(alloc, &[first, second])?))
+}
+
+fn answer_words(alloc: Global, answer: &Answer) -> Result<Text, NoMemory>
+    ensures { IfOk result (λ t. t ≡ spec.answer_words answer.now) }
+{
+    let words = [
+        (true, "answer"),
+        (answer.code.is_some(), "code"),
+        (answer.id.is_some(), "id_token"),
+        (answer.access.is_some(), "token"),
+    ];
+    spaced(alloc, &words)
+}
+
+// `signout` and how many messages it sends.
+fn signed_out(alloc: Global, messages: usize) -> Result<Text, NoMemory>
+    ensures { IfOk result (λ t. t ≡ spec.signed_out messages) }
+{
+    let count = messages.to_string(alloc)?;
+    phrase(alloc, "signout ", count.as_str())
+}
+
+/// The line that tells this reply in the text of a replay, without its place and its role: `login`, `login again`,
+/// `consent`, `answer` and the parts that it has, in the order `code`, `id_token` and `token`, `error` and the code, `page`
+/// and what it is about, `tokens`, `refused` and the code, `info`, `info invalid_token`, `info no_token`, `signout` and the
+/// number of messages, `metadata`, `keys`, `nothing` or `full`. It tells no word, token or claim.
+#[tactic(auto, unfolding(crate::specs::Lines::line_of))]
+pub fn op_line(alloc: Global, reply: &OpReply) -> Result<Text, NoMemory>
+    ensures { IfOk result (λ t. t ≡ spec.line_of reply.now) }
+{
+    match reply {
+        OpReply::LoginPage { again: false, .. } => Text::new(alloc, "login"),
+        OpReply::LoginPage { again: true, .. } => Text::new(alloc, "login again"),
+        OpReply::ConsentPage { .. } => Text::new(alloc, "consent"),
+        OpReply::Answered { answer, .. } => answer_words(alloc, answer),
+        OpReply::Refused { refusal, .. } => phrase(alloc, "error ", error_text(refusal.code)),
+        OpReply::ErrorPage { why } => phrase(alloc, "page ", page_word(*why)),
+        OpReply::Tokens { .. } => Text::new(alloc, "tokens"),
+        OpReply::TokenRefused { code } => phrase(alloc, "refused ", code.as_str()),
+        OpReply::Info { .. } => Text::new(alloc, "info"),
+        OpReply::InfoRefused { given: true } => Text::new(alloc, "info invalid_token"),
+        OpReply::InfoRefused { given: false } => Text::new(alloc, "info no_token"),
+        OpReply::SignedOut { messages } => signed_out(alloc, messages.count()),
+        OpReply::Metadata { .. } => Text::new(alloc, "metadata"),
+        OpReply::Keys => Text::new(alloc, "keys"),
+        OpReply::NotHere => Text::new(alloc, "nothing"),
+        OpReply::Full => Text::new(alloc, "full"),
+    }
+}

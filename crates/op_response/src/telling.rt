@@ -1,0 +1,227 @@
+// Replies are told in HTTP.
+
+ghost use Rattle.std.specs.Prelude.{◌≡◌, IfOk};
+ghost use Rattle.op_response.specs.Cookies.{session_cookies};
+ghost use Rattle.op_response.specs.Telling as spec;
+
+use crate::cookies::{browser_cookies, push_session};
+use crate::html::{consent_page, login_page};
+use crate::joining::joined;
+use crate::lines::page_word;
+use auth_answer::{print_answer, print_refusal};
+use auth_request::PageNo;
+use client_registry::Registry;
+use op_exchange::OpReply;
+use scope_claims::Scopes;
+use sso_base::{Blob, HttpReply, Kind, NoMemory, Text, Texts, Word};
+use std::alloc::Global;
+use token_endpoint::{TokenError, print_token_error, print_tokens};
+
+// The body of the reply with the provider's keys (RFC 7517, 5).
+const NO_KEYS: &str = "{\"keys\":[]}";
+
+fn html(cookies: Texts, page: Blob) -> HttpReply
+    ensures { result ≡ spec.html cookies page }
+{
+    HttpReply {
+        status: 200,
+        pragma: false,
+        location: None,
+        cookies,
+        challenge: None,
+        kind: Kind::Html,
+        body: page,
+    }
+}
+
+// A line of text, and its line feed.
+fn plain(alloc: Global, status: u16, line: &str) -> Result<HttpReply, NoMemory>
+    ensures { IfOk result (λ h. h ≡ spec.plain status line.now) }
+{
+    Ok(HttpReply {
+        status,
+        pragma: false,
+        location: None,
+        cookies: Texts::new(alloc),
+        challenge: None,
+        kind: Kind::Plain,
+        body: Blob::from_vec(joined(alloc, &[line, "\n"])?.into_bytes()),
+    })
+}
+
+fn json(alloc: Global, body: &[u8]) -> Result<HttpReply, NoMemory>
+    ensures { IfOk result (λ h. h ≡ spec.json body.now) }
+{
+    Ok(HttpReply {
+        status: 200,
+        pragma: false,
+        location: None,
+        cookies: Texts::new(alloc),
+        challenge: None,
+        kind: Kind::Json,
+        body: Blob::new(alloc, body)?,
+    })
+}
+
+// The user agent is sent to this location. A session that a login left is set.
+fn sent_to(
+    alloc: Global,
+    secure: bool,
+    location: Text,
+    session: &Option<Word>,
+) -> Result<HttpReply, NoMemory>
+    ensures { IfOk result (λ h. h ≡ spec.sent_to location (session_cookies secure session.now)) }
+{
+    let mut cookies = Texts::new(alloc);
+    push_session(&mut cookies, alloc, secure, session)?;
+    Ok(HttpReply {
+        status: 303,
+        pragma: false,
+        location: Some(location),
+        cookies,
+        challenge: None,
+        kind: Kind::Empty,
+        body: Blob::from_vec(Vec::new(alloc)),
+    })
+}
+
+fn token_response(alloc: Global, status: u16, challenge: Option<Text>, body: Blob) -> HttpReply
+    ensures { result ≡ spec.token_response status challenge body }
+{
+    HttpReply {
+        status,
+        pragma: true,
+        location: None,
+        cookies: Texts::new(alloc),
+        challenge,
+        kind: Kind::Json,
+        body,
+    }
+}
+
+fn unauthorized(alloc: Global, challenge: &str) -> Result<HttpReply, NoMemory>
+    ensures { IfOk result (λ h. h ≡ spec.unauthorized challenge.now) }
+{
+    Ok(HttpReply {
+        status: 401,
+        pragma: false,
+        location: None,
+        cookies: Texts::new(alloc),
+        challenge: Some(Text::new(alloc, challenge)?),
+        kind: Kind::Empty,
+        body: Blob::from_vec(Vec::new(alloc)),
+    })
+}
+
+fn token_refused(alloc: Global, code: TokenError) -> Result<HttpReply, NoMemory>
+    ensures { IfOk result (λ h. h ≡ spec.token_refused code) }
+{
+    let body = print_token_error(alloc, code)?;
+    match code {
+        TokenError::InvalidClient => {
+            let challenge = Text::new(alloc, "Basic realm=\"sso\"")?;
+            Ok(token_response(alloc, 401, Some(challenge), body))
+        }
+        TokenError::InvalidRequest | TokenError::InvalidGrant | TokenError::UnsupportedGrantType =>
+            Ok(token_response(alloc, 400, None, body)),
+    }
+}
+
+fn bearer_challenge(given: bool) -> &'static str
+    ensures { result.now ≡ spec.bearer_challenge given }
+{
+    if given {
+        "Bearer error=\"invalid_token\""
+    } else {
+        "Bearer realm=\"sso\""
+    }
+}
+
+fn login_shown(
+    alloc: Global,
+    registry: &Registry,
+    turn: &Word,
+    browser: &Word,
+    again: bool,
+) -> Result<HttpReply, NoMemory>
+    ensures { IfOk result (λ h. h ≡ spec.login_shown registry.now turn.now browser.now again) }
+{
+    let cookies = browser_cookies(alloc, registry.secure(), browser)?;
+    let page = login_page(alloc, registry.prefix(), turn, again)?;
+    Ok(html(cookies, page))
+}
+
+fn consent_shown(
+    alloc: Global,
+    registry: &Registry,
+    turn: &Word,
+    browser: &Word,
+    session: &Option<Word>,
+    client: &Text,
+    scopes: &Scopes,
+) -> Result<HttpReply, NoMemory>
+    ensures { IfOk result (λ h. h ≡ spec.consent_shown registry.now turn.now browser.now session.now client.now scopes.now) }
+{
+    let mut cookies = browser_cookies(alloc, registry.secure(), browser)?;
+    push_session(&mut cookies, alloc, registry.secure(), session)?;
+    let page = consent_page(alloc, registry.prefix(), turn, client, scopes)?;
+    Ok(html(cookies, page))
+}
+
+fn error_shown(alloc: Global, why: PageNo) -> Result<HttpReply, NoMemory>
+    ensures { IfOk result (λ h. h ≡ spec.error_shown why) }
+{
+    let line = joined(alloc, &["error ", page_word(why)])?;
+    plain(alloc, 400, line.as_str())
+}
+
+/// What this reply is in HTTP, at a provider with this registry.
+///
+/// A login page and a consent page are HTML and set the browser's cookie `op_b`. An answer and a refusal send the user agent
+/// to their location, with status 303. Each of these but a login page sets the session's cookie `op_s` where it has a
+/// session word. A cookie is a word's text, for every path, `HttpOnly`, `SameSite=Lax` and, where the issuer is https,
+/// `Secure` (RFC 6265, 4.1).
+///
+/// Token responses are JSON with `Pragma: no-cache` (RFC 6749, 5.1 and 5.2). The claims of a user, the provider's metadata
+/// and its keys are JSON. Error pages, sign-outs and replies where nothing is found or a table is full are one line of text.
+/// A client that did not authenticate, and a request to UserInfo without a good token, are challenged, with status 401 (RFC
+/// 6749, 5.2; RFC 6750, 3).
+#[tactic(auto, unfolding(crate::specs::Telling::http_of))]
+pub fn op_http(alloc: Global, registry: &Registry, reply: &OpReply) -> Result<HttpReply, NoMemory>
+    ensures { IfOk result (λ h. h ≡ spec.http_of registry.now reply.now) }
+{
+    let secure = registry.secure();
+    match reply {
+        OpReply::LoginPage {
+            turn,
+            browser,
+            again,
+        } => login_shown(alloc, registry, turn, browser, *again),
+        OpReply::ConsentPage {
+            turn,
+            browser,
+            session,
+            client,
+            scopes,
+        } => consent_shown(alloc, registry, turn, browser, session, client, scopes),
+        OpReply::Answered { answer, session } => {
+            sent_to(alloc, secure, print_answer(alloc, answer)?, session)
+        }
+        OpReply::Refused { refusal, session } => {
+            sent_to(alloc, secure, print_refusal(alloc, refusal)?, session)
+        }
+        OpReply::ErrorPage { why } => error_shown(alloc, *why),
+        OpReply::Tokens { access, id } => {
+            let body = print_tokens(alloc, access, id)?;
+            Ok(token_response(alloc, 200, None, body))
+        }
+        OpReply::TokenRefused { code } => token_refused(alloc, *code),
+        OpReply::Info { claims } => json(alloc, claims.as_bytes()),
+        OpReply::InfoRefused { given } => unauthorized(alloc, bearer_challenge(*given)),
+        OpReply::SignedOut { .. } => plain(alloc, 200, "signed out"),
+        OpReply::Metadata { text } => json(alloc, text.as_str().as_bytes()),
+        OpReply::Keys => json(alloc, NO_KEYS.as_bytes()),
+        OpReply::NotHere => plain(alloc, 404, "not here"),
+        OpReply::Full => plain(alloc, 503, "full"),
+    }
+}

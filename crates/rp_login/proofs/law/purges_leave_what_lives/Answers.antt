@@ -1,0 +1,15 @@
+use Rattle.rp_login.specs.Rows.{login_name, login_begun, login_life, pending_name, pending_begun, pending_life, visit_name, visit_begun, visit_life, seen_name, seen_begun, seen_life}
+use Rattle.rp_login.proofs.RowOf.{row_of-live_rows}
+use Rattle.rp_login.proofs.law.purges_leave_what_lives.Goals as goal
+
+pub returns-clause-logins : goal.returns-clause-logins
+returns-clause-logins c = λ at state t held. row_of-live_rows login_name login_life login_begun at state t.logins held.distinct
+
+pub returns-clause-pendings : goal.returns-clause-pendings
+returns-clause-pendings c = λ at w t held. row_of-live_rows pending_name pending_life pending_begun at w t.pendings held.distinct
+
+pub returns-clause-sessions : goal.returns-clause-sessions
+returns-clause-sessions c = λ at w t held. row_of-live_rows visit_name visit_life visit_begun at w t.visits held.distinct
+
+pub returns-clause-seens : goal.returns-clause-seens
+returns-clause-seens c = λ at jti t held. row_of-live_rows seen_name seen_life seen_begun at jti t.seens held.distinct

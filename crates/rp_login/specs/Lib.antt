@@ -1,0 +1,6 @@
+pub mod Calls
+pub mod Held
+pub mod Named
+pub mod Room
+pub mod Rows
+pub mod Tables

@@ -1,0 +1,107 @@
+-- A relying party's tables as their calls see them, and what each call makes of them.
+use Rattle.std.specs.Prelude.{ℕ, Bool, true, false, not, List, [], ◌∷◌, ◌++◌, filter, length, Option}
+use Rattle.sso_base.specs.Words.{Word, Text}
+use Rattle.sso_base.specs.Rows.{without, live_rows}
+use Rattle.rp_login.specs.declared.rows.LoginRow.{LoginRow}
+use Rattle.rp_login.specs.declared.rows.PendingRow.{PendingRow}
+use Rattle.rp_login.specs.declared.rows.SessionRow.{SessionRow}
+use Rattle.rp_login.specs.declared.rows.SeenRow.{SeenRow}
+use Rattle.rp_login.specs.declared.table.RpTable.{RpTable}
+use Rattle.rp_login.specs.declared.table.RpTable.TheVariants.{Logins, Pendings, Sessions, Seen}
+use Rattle.rp_login.specs.declared.table.Reserved.{Reserved}
+use Rattle.rp_login.specs.Rows.{login_name, login_begun, login_life, pending_name, pending_begun, pending_life, visit_name, visit_begun, visit_life, seen_name, seen_begun, seen_life}
+use Rattle.rp_login.specs.Held.{IsHeld, has_room_for_one, IsFull}
+use Rattle.rp_login.specs.Named.{is_meant}
+
+-- the held rows of each table in the order in which they were added, and for which tables room for one more row is
+-- reserved
+pub record Tables : Type 0 where
+  pub logins : List LoginRow
+  pub pendings : List PendingRow
+  pub visits : List SessionRow
+  pub seens : List SeenRow
+  pub reserved : Reserved
+
+abbrev pub no_tables : Tables
+no_tables = record {
+  logins = [];
+  pendings = [];
+  visits = [];
+  seens = [];
+  reserved = record { logins = false; pendings = false; visits = false; seens = false };
+}
+
+-- ---- what each table keeps: at most 65,536 rows, no two of one name, in the order of the moments from which they live
+
+abbrev pub AreLogins : List LoginRow → Type 0
+AreLogins rows = IsHeld login_name login_begun rows
+
+abbrev pub ArePendings : List PendingRow → Type 0
+ArePendings rows = IsHeld pending_name pending_begun rows
+
+abbrev pub AreVisits : List SessionRow → Type 0
+AreVisits rows = IsHeld visit_name visit_begun rows
+
+abbrev pub AreSeens : List SeenRow → Type 0
+AreSeens rows = IsHeld seen_name seen_begun rows
+
+-- ---- room
+
+abbrev pub with_room : Tables → Tables
+with_room t = record t { reserved = record { logins = true; pendings = true; visits = true; seens = true } }
+
+-- the rows whose life has ended at the moment are gone
+abbrev pub purged : ℕ → Tables → Tables
+purged at t = record t {
+  logins = live_rows login_life login_begun at t.logins;
+  pendings = live_rows pending_life pending_begun at t.pendings;
+  visits = live_rows visit_life visit_begun at t.visits;
+  seens = live_rows seen_life seen_begun at t.seens;
+}
+
+-- fewer rows of the table live at the moment than it may hold
+abbrev pub has_room : RpTable → ℕ → Tables → Bool
+has_room Logins at t = has_room_for_one login_life login_begun at t.logins
+has_room Pendings at t = has_room_for_one pending_life pending_begun at t.pendings
+has_room Sessions at t = has_room_for_one visit_life visit_begun at t.visits
+has_room Seen at t = has_room_for_one seen_life seen_begun at t.seens
+
+-- 65,536 rows of the table are held, and a purge at the moment would take out none of them
+abbrev pub IsFullTable : RpTable → ℕ → Tables → Type 0
+IsFullTable Logins at t = IsFull login_life login_begun at t.logins
+IsFullTable Pendings at t = IsFull pending_life pending_begun at t.pendings
+IsFullTable Sessions at t = IsFull visit_life visit_begun at t.visits
+IsFullTable Seen at t = IsFull seen_life seen_begun at t.seens
+
+-- ---- one row more; its room is used
+
+abbrev pub with_login : LoginRow → Tables → Tables
+with_login row t = record t { logins = t.logins ++ row ∷ []; reserved = record t.reserved { logins = false } }
+
+abbrev pub with_pending : PendingRow → Tables → Tables
+with_pending row t = record t { pendings = t.pendings ++ row ∷ []; reserved = record t.reserved { pendings = false } }
+
+abbrev pub with_visit : SessionRow → Tables → Tables
+with_visit row t = record t { visits = t.visits ++ row ∷ []; reserved = record t.reserved { visits = false } }
+
+abbrev pub with_seen : SeenRow → Tables → Tables
+with_seen row t = record t { seens = t.seens ++ row ∷ []; reserved = record t.reserved { seens = false } }
+
+-- ---- rows that end
+
+abbrev pub login_ended : Word → Tables → Tables
+login_ended state t = record t { logins = without login_name state t.logins }
+
+abbrev pub pending_ended : Word → Tables → Tables
+pending_ended w t = record t { pendings = without pending_name w t.pendings }
+
+abbrev pub visit_ended : Word → Tables → Tables
+visit_ended w t = record t { visits = without visit_name w t.visits }
+
+-- The sessions that equal each given part end.
+abbrev pub named_ended : Option Text → Option Text → Tables → Tables
+named_ended sub sid t = record t { visits = filter (λ visit. not (is_meant sub sid visit)) t.visits }
+
+-- how many they are
+abbrev pub named_count : Option Text → Option Text → Tables → ℕ
+named_count sub sid t = length (filter (is_meant sub sid) t.visits)

@@ -1,0 +1,79 @@
+// What holds of the tables, for the crates above.
+
+ghost use Rattle.std.specs.Prelude.{◌≡◌, ◌<◌, ◌+◌, ℕ, true, false, List, ◌++◌, length, Option, Some, None, option_and_then};
+ghost use Rattle.std.specs.Str.{bytes_eq};
+ghost use Rattle.sso_base.specs.Words.{Word, Text};
+ghost use Rattle.sso_base.specs.Rows.{row_of, if_lives};
+ghost use Rattle.rp_login.specs.declared.rows.LoginRow.{LoginRow};
+ghost use Rattle.rp_login.specs.declared.rows.PendingRow.{PendingRow};
+ghost use Rattle.rp_login.specs.declared.rows.SessionRow.{SessionRow};
+ghost use Rattle.rp_login.specs.declared.rows.SeenRow.{SeenRow};
+ghost use Rattle.rp_login.specs.declared.table.RpTable.TheVariants as table;
+ghost use Rattle.rp_login.specs.Held.{most_rows};
+ghost use Rattle.rp_login.specs.Named.{is_meant, IsMeant};
+ghost use Rattle.rp_login.specs.Rows.{login_name, login_begun, login_life, pending_name, pending_begun, pending_life, visit_name, visit_begun, visit_life, seen_name, seen_begun, seen_life};
+ghost use Rattle.rp_login.specs.Tables.{Tables, AreLogins, ArePendings, AreVisits, AreSeens, has_room, named_count};
+ghost use Rattle.rp_login.specs.Calls as calls;
+
+/// A row that was added is found by its name, where its name was new. The rows of other names are found as before.
+pub fn added_rows_are_found()
+    ensures login { (row : LoginRow) (t : Tables) → row_of login_name row.state t.logins ≡ None → row_of login_name row.state (calls.after (calls.add_login row) t).logins ≡ Some row }
+    ensures pending { (row : PendingRow) (t : Tables) → row_of pending_name row.word t.pendings ≡ None → row_of pending_name row.word (calls.after (calls.add_pending row) t).pendings ≡ Some row }
+    ensures session { (row : SessionRow) (t : Tables) → row_of visit_name row.word t.visits ≡ None → row_of visit_name row.word (calls.after (calls.add_session row) t).visits ≡ Some row }
+    ensures seen { (row : SeenRow) (t : Tables) → row_of seen_name row.jti t.seens ≡ None → row_of seen_name row.jti (calls.after (calls.add_seen row) t).seens ≡ Some row }
+    ensures other_logins { (state : Word) (row : LoginRow) (t : Tables) → bytes_eq row.state state ≡ false → row_of login_name state (calls.after (calls.add_login row) t).logins ≡ row_of login_name state t.logins }
+    ensures other_pendings { (w : Word) (row : PendingRow) (t : Tables) → bytes_eq row.word w ≡ false → row_of pending_name w (calls.after (calls.add_pending row) t).pendings ≡ row_of pending_name w t.pendings }
+    ensures other_sessions { (w : Word) (row : SessionRow) (t : Tables) → bytes_eq row.word w ≡ false → row_of visit_name w (calls.after (calls.add_session row) t).visits ≡ row_of visit_name w t.visits }
+    ensures other_seens { (jti : Text) (row : SeenRow) (t : Tables) → bytes_eq row.jti jti ≡ false → row_of seen_name jti (calls.after (calls.add_seen row) t).seens ≡ row_of seen_name jti t.seens }
+{}
+
+/// A row that was ended is gone, and the rows of other names stay.
+pub fn ended_rows_are_gone()
+    ensures login { (state : Word) (t : Tables) → row_of login_name state (calls.after (calls.end_login state) t).logins ≡ None }
+    ensures pending { (w : Word) (t : Tables) → row_of pending_name w (calls.after (calls.end_pending w) t).pendings ≡ None }
+    ensures session { (w : Word) (t : Tables) → row_of visit_name w (calls.after (calls.end_session w) t).visits ≡ None }
+    ensures other_logins { (v w : Word) (t : Tables) → bytes_eq v w ≡ false → row_of login_name w (calls.after (calls.end_login v) t).logins ≡ row_of login_name w t.logins }
+    ensures other_pendings { (v w : Word) (t : Tables) → bytes_eq v w ≡ false → row_of pending_name w (calls.after (calls.end_pending v) t).pendings ≡ row_of pending_name w t.pendings }
+    ensures other_sessions { (v w : Word) (t : Tables) → bytes_eq v w ≡ false → row_of visit_name w (calls.after (calls.end_session v) t).visits ≡ row_of visit_name w t.visits }
+{}
+
+/// A row that is gone stays gone, through all calls that do not add its name anew: a login that was ended is found no
+/// more, so its callback counts once.
+pub fn rows_come_back_by_adds_alone()
+    ensures login { (state : Word) (steps : List calls.Call) (t : Tables) → row_of login_name state t.logins ≡ None → calls.NoneAdds (calls.adds_login state) steps → row_of login_name state (calls.after_all steps t).logins ≡ None }
+    ensures pending { (w : Word) (steps : List calls.Call) (t : Tables) → row_of pending_name w t.pendings ≡ None → calls.NoneAdds (calls.adds_pending w) steps → row_of pending_name w (calls.after_all steps t).pendings ≡ None }
+    ensures session { (w : Word) (steps : List calls.Call) (t : Tables) → row_of visit_name w t.visits ≡ None → calls.NoneAdds (calls.adds_session w) steps → row_of visit_name w (calls.after_all steps t).visits ≡ None }
+{}
+
+/// A purge leaves of each name the row that lives, and takes out what does not.
+pub fn purges_leave_what_lives()
+    ensures logins { (at : ℕ) (state : Word) (t : Tables) → AreLogins t.logins → row_of login_name state (calls.after (calls.purge at) t).logins ≡ option_and_then (if_lives login_life login_begun at) (row_of login_name state t.logins) }
+    ensures pendings { (at : ℕ) (w : Word) (t : Tables) → ArePendings t.pendings → row_of pending_name w (calls.after (calls.purge at) t).pendings ≡ option_and_then (if_lives pending_life pending_begun at) (row_of pending_name w t.pendings) }
+    ensures sessions { (at : ℕ) (w : Word) (t : Tables) → AreVisits t.visits → row_of visit_name w (calls.after (calls.purge at) t).visits ≡ option_and_then (if_lives visit_life visit_begun at) (row_of visit_name w t.visits) }
+    ensures seens { (at : ℕ) (jti : Text) (t : Tables) → AreSeens t.seens → row_of seen_name jti (calls.after (calls.purge at) t).seens ≡ option_and_then (if_lives seen_life seen_begun at) (row_of seen_name jti t.seens) }
+{}
+
+/// Where a table has room at a moment, fewer rows than it may hold are left by a purge at that moment.
+pub fn purges_make_the_room()
+    ensures logins { (at : ℕ) (t : Tables) → has_room table.Logins at t ≡ true → length (calls.after (calls.purge at) t).logins < most_rows }
+    ensures pendings { (at : ℕ) (t : Tables) → has_room table.Pendings at t ≡ true → length (calls.after (calls.purge at) t).pendings < most_rows }
+    ensures sessions { (at : ℕ) (t : Tables) → has_room table.Sessions at t ≡ true → length (calls.after (calls.purge at) t).visits < most_rows }
+    ensures seens { (at : ℕ) (t : Tables) → has_room table.Seen at t ≡ true → length (calls.after (calls.purge at) t).seens < most_rows }
+{}
+
+/// A logout token that was seen is found through all calls but a purge 661 seconds later, or later still: it is not
+/// accepted twice (OpenID Connect Back-Channel Logout 1.0, 2.6).
+pub fn seen_tokens_are_remembered()
+    ensures { (row : SeenRow) (steps : List calls.Call) (t : Tables) → row_of seen_name row.jti t.seens ≡ Some row → calls.AllLeaveSeen row.accepted steps → row_of seen_name row.jti (calls.after_all steps t).seens ≡ Some row }
+{}
+
+/// The sessions that equal each given part end, and no others; those stay in their order, and the number is that of the
+/// sessions that ended (OpenID Connect Back-Channel Logout 1.0, 2.7).
+pub fn named_sessions_are_ended()
+    ensures meant { (sub sid : Option Text) (visit : SessionRow) → is_meant sub sid visit ≡ true → IsMeant sub sid visit }
+    ensures all_meant { (sub sid : Option Text) (visit : SessionRow) → IsMeant sub sid visit → is_meant sub sid visit ≡ true }
+    ensures ended { (sub sid : Option Text) (w : Word) (visit : SessionRow) (t : Tables) → AreVisits t.visits → row_of visit_name w t.visits ≡ Some visit → IsMeant sub sid visit → row_of visit_name w (calls.after (calls.end_named sub sid) t).visits ≡ None }
+    ensures others { (sub sid : Option Text) (w : Word) (visit : SessionRow) (t : Tables) → row_of visit_name w t.visits ≡ Some visit → (IsMeant sub sid visit → ⊥) → row_of visit_name w (calls.after (calls.end_named sub sid) t).visits ≡ Some visit }
+    ensures order { (sub sid : Option Text) (front rest : List SessionRow) (t : Tables) → t.visits ≡ front ++ rest → (calls.after (calls.end_named sub sid) t).visits ≡ (calls.after (calls.end_named sub sid) (record t { visits = front })).visits ++ (calls.after (calls.end_named sub sid) (record t { visits = rest })).visits }
+    ensures count { (sub sid : Option Text) (t : Tables) → named_count sub sid t + length (calls.after (calls.end_named sub sid) t).visits ≡ length t.visits }
+{}

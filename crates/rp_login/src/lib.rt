@@ -1,0 +1,38 @@
+//! A relying party's tables: the logins that it began, the exchanges that wait for an answer, its sessions, and the logout
+//! tokens that it has seen (OpenID Connect Core 1.0, 3.1.2.1 and 3.1.3; OpenID Connect Back-Channel Logout 1.0, 2.6).
+//!
+//! Each table is seen as the list of its held rows in the order in which they were added. Only [`Logins::new`] and
+//! [`Logins::reserve`] take memory.
+//!
+//! | Module | What it has |
+//! |---|---|
+//! | `tables` | [`Logins`], all tables: made, reserved, purged |
+//! | `logins`, `pendings`, `sessions`, `seens` | the calls of `Logins` on one table each |
+//! | `rows` | [`LoginRow`], [`PendingRow`] with its [`Stage`], [`SessionRow`], [`SeenRow`] |
+//! | `table` | [`RpTable`] names a table |
+//! | `held` | the held rows of one table, of any kind |
+//! | `law` | what holds of the tables, for the crates above |
+#![tactic(auto)]
+
+mod held;
+mod law;
+mod logins;
+mod pendings;
+mod rows;
+mod seens;
+mod sessions;
+mod table;
+mod tables;
+#[cfg(test)]
+mod tests;
+
+pub use law::{
+    added_rows_are_found, ended_rows_are_gone, named_sessions_are_ended, purges_leave_what_lives,
+    purges_make_the_room, rows_come_back_by_adds_alone, seen_tokens_are_remembered,
+};
+pub use rows::{
+    LOGIN_LIFE, LoginRow, PENDING_LIFE, PendingRow, SEEN_LIFE, SESSION_LIFE, SeenRow, SessionRow,
+    Stage,
+};
+pub use table::RpTable;
+pub use tables::Logins;

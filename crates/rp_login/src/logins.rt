@@ -1,0 +1,72 @@
+// The logins of a relying party.
+
+ghost use Rattle.std.specs.Prelude.{◌≡◌, ◌<◌, ◌≤◌, true, length, None};
+ghost use Rattle.std.specs.List.{list_any};
+ghost use Rattle.std.specs.Option.{option_copied};
+ghost use Rattle.std.specs.Str.{bytes_eq};
+ghost use Rattle.sso_base.specs.Rows.{row_of, live_rows};
+ghost use Rattle.rp_login.specs.declared.rows.LoginRow.{LoginRow};
+ghost use Rattle.rp_login.specs.Held.{none_after, most_rows};
+ghost use Rattle.rp_login.specs.Rows.{login_name, login_begun, login_life};
+ghost use Rattle.rp_login.specs.Tables as spec;
+
+use crate::held::Held;
+use crate::rows::{LOGIN_LIFE, LoginRow};
+use crate::tables::Logins;
+use sso_base::{Moment, Word, is_live};
+
+// Whether one of the logins lives at the moment and is of this browser.
+fn is_browser(logins: &[LoginRow], browser: Word, at: Moment) -> bool
+    ensures { result ≡ list_any (λ (login : LoginRow). bytes_eq login.browser browser) (live_rows login_life login_begun at logins.now) }
+{
+    for login in logins {
+        if is_live(LOGIN_LIFE, login.begun, at) && login.browser == browser {
+            return true;
+        }
+    }
+    false
+}
+
+impl Held<LoginRow> {
+    fn has_browser(&self, browser: Word, at: Moment) -> bool
+        ensures { result ≡ list_any (λ (login : LoginRow). bytes_eq login.browser browser) (live_rows login_life login_begun at self.now.rows) }
+    {
+        is_browser(&self.rows, browser, at)
+    }
+}
+
+impl Logins {
+    /// Adds a login.
+    pub fn add_login(&mut self, row: LoginRow)
+        requires reserved { self.old.reserved.logins ≡ true }
+        requires few { length self.old.logins < most_rows }
+        requires unnamed { row_of login_name row.state self.old.logins ≡ None }
+        requires latest { none_after login_begun row.begun self.old.logins ≡ true }
+        ensures { self.new ≡ spec.with_login row self.old }
+    {
+        self.reserved.logins = false;
+        self.logins.add(row);
+    }
+
+    /// Whether a held login that lives at the moment has that browser word.
+    pub fn has_browser(&self, browser: Word, at: Moment) -> bool
+        ensures { result ≡ list_any (λ (login : LoginRow). bytes_eq login.browser browser) (live_rows login_life login_begun at self.now.logins) }
+    {
+        self.logins.has_browser(browser, at)
+    }
+
+    /// The login of that state; None exactly where no held login has it. Its life may have ended.
+    pub fn login(&self, state: Word) -> Option<&LoginRow>
+        ensures row { option_copied result ≡ row_of login_name state self.now.logins }
+        ensures held { spec.AreLogins self.now.logins }
+    {
+        self.logins.find(&state.bytes())
+    }
+
+    /// Takes out the login of that state. Where no held login has it, nothing changes.
+    pub fn end_login(&mut self, state: Word)
+        ensures { self.new ≡ spec.login_ended state self.old }
+    {
+        self.logins.remove(&state.bytes());
+    }
+}

@@ -1,0 +1,41 @@
+// The pending exchanges of a relying party.
+
+ghost use Rattle.std.specs.Prelude.{◌≡◌, ◌<◌, true, length, None};
+ghost use Rattle.std.specs.Option.{option_copied};
+ghost use Rattle.sso_base.specs.Rows.{row_of};
+ghost use Rattle.rp_login.specs.Held.{none_after, most_rows};
+ghost use Rattle.rp_login.specs.Rows.{pending_name, pending_begun};
+ghost use Rattle.rp_login.specs.Tables as spec;
+
+use crate::rows::PendingRow;
+use crate::tables::Logins;
+use sso_base::Word;
+
+impl Logins {
+    /// Adds a pending exchange.
+    pub fn add_pending(&mut self, row: PendingRow)
+        requires reserved { self.old.reserved.pendings ≡ true }
+        requires few { length self.old.pendings < most_rows }
+        requires unnamed { row_of pending_name row.word self.old.pendings ≡ None }
+        requires latest { none_after pending_begun row.since self.old.pendings ≡ true }
+        ensures { self.new ≡ spec.with_pending row self.old }
+    {
+        self.reserved.pendings = false;
+        self.pendings.add(row);
+    }
+
+    /// The pending exchange of that word; None exactly where no held one has it. Its life may have ended.
+    pub fn pending(&self, word: Word) -> Option<&PendingRow>
+        ensures row { option_copied result ≡ row_of pending_name word self.now.pendings }
+        ensures held { spec.ArePendings self.now.pendings }
+    {
+        self.pendings.find(&word.bytes())
+    }
+
+    /// Takes out the pending exchange of that word. Where no held one has it, nothing changes.
+    pub fn end_pending(&mut self, word: Word)
+        ensures { self.new ≡ spec.pending_ended word self.old }
+    {
+        self.pendings.remove(&word.bytes());
+    }
+}

@@ -1,0 +1,159 @@
+// The rows of a relying party's tables.
+
+ghost use Rattle.std.specs.Prelude.{◌≡◌};
+ghost use Rattle.std.specs.Str.{bytes_eq};
+
+use crate::held::Row;
+use sso_base::{Moment, Text, Word};
+
+/// How many seconds a login lives.
+pub const LOGIN_LIFE: u32 = 600;
+
+/// How many seconds a pending exchange lives from its question on.
+pub const PENDING_LIFE: u32 = 120;
+
+/// How many seconds a session lives.
+pub const SESSION_LIFE: u32 = 28_800;
+
+/// How many seconds a logout token is remembered.
+pub const SEEN_LIFE: u32 = 661;
+
+/// A login that a browser began, until its callback (OpenID Connect Core 1.0, 3.1.2.1). It lives for 600 seconds.
+#[derive(Clone, Copy, Debug, PartialEq, Eq)]
+pub struct LoginRow {
+    /// The `state` of the authorization request, which names the login.
+    pub state: Word,
+    /// The cookie of the browser that began it.
+    pub browser: Word,
+    pub nonce: Word,
+    pub begun: Moment,
+}
+
+/// What a pending exchange waits for: the answer of the token endpoint (OpenID Connect Core 1.0, 3.1.3) or of the UserInfo
+/// endpoint (5.3).
+#[derive(Clone, Copy, Debug, PartialEq, Eq)]
+pub enum Stage {
+    Tokens,
+    Info,
+}
+
+/// A pending exchange: a question to the provider that waits for its answer. It lives for 120 seconds from `since`.
+#[derive(Debug, Drop)]
+pub struct PendingRow {
+    pub word: Word,
+    /// The nonce of its login.
+    pub nonce: Word,
+    /// When its login began.
+    pub begun: Moment,
+    /// When the question was asked.
+    pub since: Moment,
+    /// The subject of the last ID Token so far.
+    pub sub: Option<Text>,
+    /// The `sid` of that token (OpenID Connect Front-Channel Logout 1.0, 3).
+    pub sid: Option<Text>,
+    /// The code of its callback.
+    pub code: Option<Text>,
+    pub stage: Stage,
+}
+
+/// A session: a login that a relying party let in. It lives for 28,800 seconds.
+#[derive(Debug, Drop)]
+pub struct SessionRow {
+    /// The cookie of the browser.
+    pub word: Word,
+    /// The nonce of its login.
+    pub nonce: Word,
+    /// The subject of its last ID Token.
+    pub sub: Text,
+    /// The `sid` of that token (OpenID Connect Front-Channel Logout 1.0, 3).
+    pub sid: Option<Text>,
+    pub entered: Moment,
+}
+
+/// A logout token that was accepted (OpenID Connect Back-Channel Logout 1.0, 2.6). It is remembered for 661 seconds.
+#[derive(Debug, Drop)]
+pub struct SeenRow {
+    /// The token's `jti`, which names it (RFC 7519, 4.1.7).
+    pub jti: Text,
+    /// The place in the party's history, counted from 1, at which it was accepted.
+    pub place: u64,
+    pub accepted: Moment,
+}
+
+fn is_word(word: Word, given: &[u8]) -> bool
+    ensures { result ≡ bytes_eq word given.now }
+{
+    word.bytes().as_slice() == given
+}
+
+impl Row for LoginRow {
+    ghost name = { λ row. row.state };
+
+    ghost begun = { λ row. row.begun };
+
+    ghost LIFE = { 600 };
+
+    const LIFE: u32 = LOGIN_LIFE;
+
+    fn is_named(&self, given: &[u8]) -> bool {
+        is_word(self.state, given)
+    }
+
+    fn begun(&self) -> Moment {
+        self.begun
+    }
+}
+
+impl Row for PendingRow {
+    ghost name = { λ row. row.word };
+
+    ghost begun = { λ row. row.since };
+
+    ghost LIFE = { 120 };
+
+    const LIFE: u32 = PENDING_LIFE;
+
+    fn is_named(&self, given: &[u8]) -> bool {
+        is_word(self.word, given)
+    }
+
+    fn begun(&self) -> Moment {
+        self.since
+    }
+}
+
+impl Row for SessionRow {
+    ghost name = { λ row. row.word };
+
+    ghost begun = { λ row. row.entered };
+
+    ghost LIFE = { 28800 };
+
+    const LIFE: u32 = SESSION_LIFE;
+
+    fn is_named(&self, given: &[u8]) -> bool {
+        is_word(self.word, given)
+    }
+
+    fn begun(&self) -> Moment {
+        self.entered
+    }
+}
+
+impl Row for SeenRow {
+    ghost name = { λ row. row.jti };
+
+    ghost begun = { λ row. row.accepted };
+
+    ghost LIFE = { 661 };
+
+    const LIFE: u32 = SEEN_LIFE;
+
+    fn is_named(&self, given: &[u8]) -> bool {
+        self.jti.as_str().as_bytes() == given
+    }
+
+    fn begun(&self) -> Moment {
+        self.accepted
+    }
+}

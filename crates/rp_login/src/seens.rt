@@ -1,0 +1,33 @@
+// The logout tokens that a relying party has seen.
+
+ghost use Rattle.std.specs.Prelude.{◌≡◌, ◌<◌, true, length, None};
+ghost use Rattle.std.specs.Option.{option_copied};
+ghost use Rattle.sso_base.specs.Rows.{row_of};
+ghost use Rattle.rp_login.specs.Held.{none_after, most_rows};
+ghost use Rattle.rp_login.specs.Rows.{seen_name, seen_begun};
+ghost use Rattle.rp_login.specs.Tables as spec;
+
+use crate::rows::SeenRow;
+use crate::tables::Logins;
+
+impl Logins {
+    /// Adds a logout token that was accepted.
+    pub fn add_seen(&mut self, row: SeenRow)
+        requires reserved { self.old.reserved.seens ≡ true }
+        requires few { length self.old.seens < most_rows }
+        requires unnamed { row_of seen_name row.jti self.old.seens ≡ None }
+        requires latest { none_after seen_begun row.accepted self.old.seens ≡ true }
+        ensures { self.new ≡ spec.with_seen row self.old }
+    {
+        self.reserved.seens = false;
+        self.seens.add(row);
+    }
+
+    /// The logout token of that `jti`; None exactly where no held one has it. It may have been accepted too long ago.
+    pub fn seen(&self, jti: &[u8]) -> Option<&SeenRow>
+        ensures row { option_copied result ≡ row_of seen_name jti.now self.now.seens }
+        ensures held { spec.AreSeens self.now.seens }
+    {
+        self.seens.find(jti)
+    }
+}

@@ -1,0 +1,96 @@
+-- Cookies as a user agent reads them (RFC 6265, 5.2), and the names that they may have (4.1.1).
+use Rattle.std.specs.Prelude.{ℕ, ◌==◌, nat_lt, ◌&&◌, ◌||◌, not, Bool, true, false, List, [], ◌∷◌, codes, map, Option, Some, None, if◌then◌else◌}
+use Rattle.std.specs.List.{list_any, list_all, slice_split}
+use Rattle.sso_base.specs.Words.{Word, Text, word_text}
+
+-- ---- names: a token is visible characters without the separators (RFC 2616, 2.2)
+
+abbrev pub is_separator : ℕ → Bool
+is_separator b = list_any (λ c. b == c) (codes "()<>@,;:\\\"/[]?={}")
+
+abbrev pub is_token_byte : ℕ → Bool
+is_token_byte b = nat_lt 32 b && nat_lt b 127 && not (is_separator b)
+
+abbrev pub is_cookie_name : Text → Bool
+is_cookie_name [] = false
+is_cookie_name (b ∷ t) = list_all is_token_byte (b ∷ t)
+
+-- ---- where a text is cut
+
+abbrev pub is_semicolon : ℕ → Bool
+is_semicolon b = b == 59
+
+abbrev pub is_equals : ℕ → Bool
+is_equals b = b == 61
+
+-- what stands before the first `=`, or all where there is none
+abbrev pub before_equals : Text → Text
+before_equals [] = []
+before_equals (b ∷ t) = if is_equals b then [] else b ∷ before_equals t
+
+-- what stands after it, or nothing where there is none
+abbrev pub after_equals : Text → Text
+after_equals [] = []
+after_equals (b ∷ t) = if is_equals b then t else after_equals t
+
+-- ---- blanks at the start and at the end are dropped
+
+abbrev pub is_blank : ℕ → Bool
+is_blank b = b == 32 || b == 9
+
+abbrev pub without_leading : Text → Text
+without_leading [] = []
+without_leading (b ∷ t) = if is_blank b then without_leading t else b ∷ t
+
+abbrev pub onto_kept : ℕ → Text → Text
+onto_kept b [] = if is_blank b then [] else b ∷ []
+onto_kept b (c ∷ t) = b ∷ c ∷ t
+
+abbrev pub without_trailing : Text → Text
+without_trailing [] = []
+without_trailing (b ∷ t) = onto_kept b (without_trailing t)
+
+abbrev pub trimmed : Text → Text
+trimmed t = without_trailing (without_leading t)
+
+-- ---- what is read
+
+-- the name of an attribute, and its value, which is empty where it has none
+abbrev pub Attribute : Type 0
+Attribute = Text × Text
+
+pub record SetCookie : Type 0 where
+  pub name : Text
+  pub value : Text
+  pub attributes : List Attribute
+
+abbrev pub attribute_read : Text → Attribute
+attribute_read t = (trimmed (before_equals t), trimmed (after_equals t))
+
+-- a cookie without a name is ignored
+abbrev pub named : Text → Text → List Attribute → Option SetCookie
+named [] value attributes = None
+named (b ∷ t) value attributes = Some (record { name = b ∷ t; value = value; attributes = attributes })
+
+-- the first part has a name and a value, else all is ignored; each other one has an attribute
+abbrev pub parts_read : List Text → Option SetCookie
+parts_read [] = None
+parts_read (pair ∷ attributes) =
+    if list_any is_equals pair then named (trimmed (before_equals pair)) (trimmed (after_equals pair)) (map attribute_read attributes) else None
+
+abbrev pub cookie_read : Text → Option SetCookie
+cookie_read t = parts_read (slice_split is_semicolon t)
+
+-- ---- a cookie that holds a word
+
+abbrev pub secure_attribute : Bool → List Attribute
+secure_attribute true = (codes "Secure", []) ∷ []
+secure_attribute false = []
+
+abbrev pub set_cookie : Bool → Text → Word → SetCookie
+set_cookie secure name word =
+    record {
+      name = name;
+      value = word_text word;
+      attributes = (codes "Path", codes "/") ∷ (codes "HttpOnly", []) ∷ (codes "SameSite", codes "Lax") ∷ secure_attribute secure;
+    }
