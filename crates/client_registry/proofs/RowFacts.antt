@@ -85,10 +85,14 @@ hex_kept r d key least most h =
     ap (λ bs. is_within least most (length bs)) bytes ∙ p.passed
 
 -- a number that is needed is within its bounds
+-- a number that breaks no rule
+pub number_in : (least most : ℕ) (d : Data) → breach (kind.Number least most) d ≡ None → Passing (is_within least most) (as_natural d)
+number_in least most d h = passing (is_within least most) (as_natural d) (met (passes (is_within least most) (as_natural d)) WrongKind h)
+
 pub number_kept : (r : Row) (d : Data) (key : List ℕ) (least most : ℕ) → version.required r d key (kind.Number least most) ≡ [] → Passing (is_within least most) (natural_at key d)
 number_kept r d key least most h =
     let k : Kept (kind.Number least most) (get key d) = kept_at (path_text r key) (kind.Number least most) (get key d) h in
-    let p : Passing (is_within least most) (as_natural k.value) = passing (is_within least most) (as_natural k.value) (met (passes (is_within least most) (as_natural k.value)) WrongKind k.kept) in
+    let p : Passing (is_within least most) (as_natural k.value) = number_in least most k.value k.kept in
     record { value = p.value; there = ap (option_and_then as_natural) k.there ∙ p.there; passed = p.passed }
 
 -- the texts of the redirection URIs
@@ -159,10 +163,10 @@ optional_text_at path other rule (Some d) fine h =
 pub optional_text_kept : (r : Row) (d : Data) (key other : List ℕ) (rule : TextRule) → text_keeps rule other ≡ true → version.optional r d key (kind.Text rule) ≡ [] → text_keeps rule (text_or key other d) ≡ true
 optional_text_kept r d key other rule fine h = optional_text_at (path_text r key) other rule (get key d) fine h
 
--- a URL that is optional
-pub optional_url_at : (path : List ℕ) (o : Option Data) → version.optional_value path kind.Url o ≡ [] → (o ≡ None) ⊎ Kept kind.Url o
-optional_url_at path None h = inl refl
-optional_url_at path (Some d) h = inr (record { value = d; there = refl; kept = unbreached path (breach kind.Url d) h })
+-- a value that is optional
+pub optional_at : (path : List ℕ) (k : Kind) (o : Option Data) → version.optional_value path k o ≡ [] → (o ≡ None) ⊎ Kept k o
+optional_at path k None h = inl refl
+optional_at path k (Some d) h = inr (record { value = d; there = refl; kept = unbreached path (breach k d) h })
 
 -- an issuer
 pub record KeptIssuer (o : Option (List ℕ)) : Type 0 where

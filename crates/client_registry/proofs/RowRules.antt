@@ -4,6 +4,7 @@ use Rattle.std.specs.List.{AllByRecursion}
 use Rattle.std.proofs.lemmas.Bool.{ltb-false}
 use Rattle.std.proofs.lemmas.Bool.Decides.{nat_tests}
 use Rattle.toml.specs.Data.{Data, get, as_str}
+use Rattle.configuration_rows.specs.Values.{as_natural}
 use Rattle.registered_url.specs.Rule.{url_of}
 use Rattle.configuration_rows.specs.declared.no.RegNo.{RegNo}
 use Rattle.configuration_rows.specs.declared.no.RegNo.TheVariants as no
@@ -14,7 +15,7 @@ use Rattle.configuration_rows.specs.declared.kind.Alphabet.TheVariants.{UserId, 
 use Rattle.configuration_rows.specs.Refusals.{each}
 use Rattle.configuration_rows.specs.Paths.{path_text}
 use Rattle.configuration_rows.specs.Values.{text_at, natural_at, hex_at, texts_at, url_at, rows_at, table_at}
-use Rattle.configuration_rows.specs.Kinds.{is_within, is_name, are_urls, has_text}
+use Rattle.configuration_rows.specs.Kinds.{is_within, is_name, are_urls, has_text, is_prompt}
 use Rattle.registered_url.specs.declared.web_url.WebUrl.{WebUrl}
 use Rattle.configuration_rows.specs.Version1 as version
 use Rattle.configuration_rows.specs.Version1.{rows_refusals}
@@ -22,9 +23,9 @@ use Rattle.client_registry.specs.declared.records.User.{User}
 use Rattle.client_registry.specs.declared.records.Client.{Client}
 use Rattle.client_registry.specs.Records.{no_url, rounds_of, user_of, client_of_row, party_of, urls_of}
 use Rattle.client_registry.specs.Rules as rule
-use Rattle.client_registry.specs.Registered.{IsUser, IsClient, IsParty, is_url_or_none}
+use Rattle.client_registry.specs.Registered.{IsUser, IsClient, IsParty, is_url_or_none, is_prompt_or_none, is_age_or_none}
 use Rattle.client_registry.proofs.Guiltless.{front_nil, back_nil, unmet, either_false, each_nil, all_weaker, all_rows}
-use Rattle.client_registry.proofs.RowFacts.{Passing, Kept, KeptUrl, UrlAt, url_found, optional_text_kept, text_kept, hex_kept, number_kept, urls_kept, url_kept, url_there, optional_url_at}
+use Rattle.client_registry.proofs.RowFacts.{Passing, Kept, KeptUrl, UrlAt, url_found, optional_text_kept, text_kept, hex_kept, number_kept, number_in, urls_kept, url_kept, url_there, optional_at}
 
 second_true : (a b : Bool) → (a && b) ≡ true → b ≡ true
 second_true true b h = h
@@ -106,7 +107,7 @@ client_row parties i d h =
       redirects = uris.0;
       urls = uris.1;
       kept = refl;
-      logout = logout_at (get (codes "logout_uri") d) (optional_url_at (path_text r (codes "logout_uri")) (get (codes "logout_uri") d) (back_nil (s ++ t) l stl));
+      logout = logout_at (get (codes "logout_uri") d) (optional_at (path_text r (codes "logout_uri")) kind.Url (get (codes "logout_uri") d) (back_nil (s ++ t) l stl));
       logout_kept = refl;
     }
 
@@ -139,6 +140,8 @@ pub record PartyLists (clients : List Data) (i : ℕ) (d : Data) : Type 0 where
   pub type : version.optional (row.Party i) d (codes "response_type") (kind.Text text.ResponseType) ≡ []
   pub has_type : version.type_rule clients (row.Party i) d ≡ []
   pub scope : version.optional (row.Party i) d (codes "scope") (kind.Text text.Scope) ≡ []
+  pub prompt : version.optional (row.Party i) d (codes "prompt") (kind.Text text.Prompt) ≡ []
+  pub age : version.optional (row.Party i) d (codes "max_age") (kind.Number 0 999999999) ≡ []
 
 pub party_lists : (clients : List Data) (i : ℕ) (d : Data) → version.party_row clients i d ≡ [] → PartyLists clients i d
 party_lists clients i d h =
@@ -159,7 +162,8 @@ party_lists clients i d h =
     let requests : (((t ++ l) ++ s) ++ m) ++ n ≡ [] = back_nil ((((a ++ b) ++ c) ++ e) ++ f) ((((t ++ l) ++ s) ++ m) ++ n) rest in
     let abce : ((a ++ b) ++ c) ++ e ≡ [] = front_nil (((a ++ b) ++ c) ++ e) f names in
     let abc : (a ++ b) ++ c ≡ [] = front_nil ((a ++ b) ++ c) e abce in
-    let tls : (t ++ l) ++ s ≡ [] = front_nil ((t ++ l) ++ s) m (front_nil (((t ++ l) ++ s) ++ m) n requests) in
+    let tlsm : ((t ++ l) ++ s) ++ m ≡ [] = front_nil (((t ++ l) ++ s) ++ m) n requests in
+    let tls : (t ++ l) ++ s ≡ [] = front_nil ((t ++ l) ++ s) m tlsm in
     let tl : t ++ l ≡ [] = front_nil (t ++ l) s tls in
     record {
       name = front_nil a b (front_nil (a ++ b) c abc);
@@ -170,7 +174,19 @@ party_lists clients i d h =
       type = front_nil t l tl;
       has_type = back_nil t l tl;
       scope = back_nil (t ++ l) s tls;
+      prompt = back_nil ((t ++ l) ++ s) m tlsm;
+      age = back_nil (((t ++ l) ++ s) ++ m) n requests;
     }
+
+prompt_at : (o : Option (List ℕ)) → is_prompt (unwrap_or o (codes "login")) ≡ true → is_prompt_or_none o ≡ true
+prompt_at None h = refl
+prompt_at (Some t) h = h
+
+age_at : (o : Option Data) → (o ≡ None) ⊎ Kept (kind.Number 0 999999999) o → is_age_or_none (option_and_then as_natural o) ≡ true
+age_at o (inl none) = ap (λ q. is_age_or_none (option_and_then as_natural q)) none
+age_at o (inr k) =
+    let p : Passing (is_within 0 999999999) (as_natural k.value) = number_in 0 999999999 k.value k.kept in
+    ap (λ q. is_age_or_none (option_and_then as_natural q)) k.there ∙ ap is_age_or_none p.there ∙ p.passed
 
 party_row : (known : List Client) (clients : List Data) (i : ℕ) (d : Data) → version.party_row clients i d ≡ [] → IsParty (party_of known d)
 unfolding party_of
@@ -187,6 +203,8 @@ party_row known clients i d h =
       path = ap (λ (o : Option WebUrl). has_text (unwrap_or o no_url).path version.own_paths) u.url_there ∙ w.path;
       names = ap (λ (o : Option WebUrl). version.has_answer_name (unwrap_or o no_url)) u.url_there ∙ w.names;
       scope = optional_text_kept r d (codes "scope") (codes "openid") text.Scope refl l.scope;
+      prompt = prompt_at (text_at (codes "prompt") d) (optional_text_kept r d (codes "prompt") (codes "login") text.Prompt refl l.prompt);
+      age = age_at (get (codes "max_age") d) (optional_at (path_text r (codes "max_age")) (kind.Number 0 999999999) (get (codes "max_age") d) l.age);
     }
 
 -- ---- all rows

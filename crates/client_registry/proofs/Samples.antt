@@ -213,6 +213,12 @@ not_a_client-of_a_short_secret h = absurd (omega (arith, h.long_secret))
 not_a_party-at_its_own_path : IsParty (party (codes "shop") 0 (codes "/leave")) → ⊥
 not_a_party-at_its_own_path h = true≢false h.path
 
+not_a_party-of_an_unknown_prompt : IsParty (record (party (codes "shop") 0 (codes "/cb")) { prompt = Some (codes "register") }) → ⊥
+not_a_party-of_an_unknown_prompt h = true≢false (sym h.prompt)
+
+not_a_party-of_an_age_of_a_thousand_million : IsParty (record (party (codes "shop") 0 (codes "/cb")) { max_age = Some 1000000000 }) → ⊥
+not_a_party-of_an_age_of_a_thousand_million h = true≢false (sym h.age)
+
 fits-shop : FitsClient (party (codes "shop") 0 (codes "/cb")) shop
 fits-shop = record { redirect = refl; logout = refl; number = 0; types = refl; has_type = refl }
 

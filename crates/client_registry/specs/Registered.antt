@@ -10,7 +10,7 @@ use Rattle.client_registry.specs.declared.records.User.{User}
 use Rattle.client_registry.specs.declared.records.Client.{Client}
 use Rattle.client_registry.specs.declared.records.Party.{Party}
 use Rattle.configuration_rows.specs.declared.kind.Alphabet.TheVariants.{UserId, ClientId, PartyName, Visible}
-use Rattle.configuration_rows.specs.Kinds.{has_text, is_name, is_within, is_scope, are_urls}
+use Rattle.configuration_rows.specs.Kinds.{has_text, is_name, is_within, is_scope, is_prompt, are_urls}
 use Rattle.configuration_rows.specs.Version1.{own_paths, has_path, has_answer_name}
 use Rattle.client_registry.specs.Records.{urls_of, types_of_number}
 use Rattle.client_registry.specs.Rules.{has_two_hosts}
@@ -77,6 +77,15 @@ pub record IsClient (k : Client) : Type 0 where
   pub logout_kept : k.logout_url ≡ option_and_then url_of k.logout
   pub one_host : (k.pairwise && has_two_hosts k.redirect_urls) ≡ false
 
+-- a text, where there is one, has words of `prompt`; a number, where there is one, is that of an age in seconds
+abbrev pub is_prompt_or_none : Option (List ℕ) → Bool
+is_prompt_or_none None = true
+is_prompt_or_none (Some t) = is_prompt t
+
+abbrev pub is_age_or_none : Option ℕ → Bool
+is_age_or_none None = true
+is_age_or_none (Some n) = is_within 0 999999999 n
+
 -- a party keeps the rules of its row: the path of its redirection URI is none that it serves itself, its query has none
 -- of the names of an answer, and its scope has the word `openid`
 pub record IsParty (p : Party) : Type 0 where
@@ -86,6 +95,8 @@ pub record IsParty (p : Party) : Type 0 where
   pub path : has_text p.redirect_url.path own_paths ≡ false
   pub names : has_answer_name p.redirect_url ≡ false
   pub scope : is_scope p.scope ≡ true
+  pub prompt : is_prompt_or_none p.prompt ≡ true
+  pub age : is_age_or_none p.max_age ≡ true
 
 -- a party fits its client: its redirection URI is one of the client's, at another path than the client's logout URI, and
 -- its response type is one that the client has

@@ -4,7 +4,7 @@ use Rattle.client_registry.specs.Configuration.{Configuration}
 use Rattle.code_grant.specs.Tables.{Tables, no_tables}
 use Rattle.code_grant.proofs.Sets.{granted_to-none}
 use Rattle.op_answer.specs.Past.{OpPair}
-use Rattle.op_core.specs.Agreeing.{KeepsTables, Keeps}
+use Rattle.op_core.specs.Keeps.{KeepsTables, Keeps}
 
 none_kept : (c : Configuration) → KeepsTables c [] no_tables
 none_kept c =

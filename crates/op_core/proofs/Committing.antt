@@ -16,11 +16,12 @@ use Rattle.op_answer.specs.Turns.{turns, turn_made}
 use Rattle.op_answer.specs.Sessions.{sessions, session_made}
 use Rattle.op_answer.specs.Codes.{codes_issued, code_made}
 use Rattle.op_answer.specs.Answering.{op_answer}
-use Rattle.op_core.specs.Agreeing.{KeepsPast, Keeps, is_own_turn, is_own_session, is_own_code}
-use Rattle.op_core.specs.Keeping.{FollowsPair}
+use Rattle.op_tables.specs.Agreeing.{is_own_turn, is_own_session, is_own_code}
+use Rattle.op_core.specs.Keeps.{KeepsPast, Keeps}
+use Rattle.op_tables.specs.Keeping.{FollowsPair}
 use Rattle.op_core.specs.Outcome.{Brings}
 use Rattle.op_core.specs.Providing.{Providing, past_of}
-use Rattle.op_core.specs.Taking.{TakesUp}
+use Rattle.op_tables.specs.Taking.{TakesUp}
 use Rattle.op_core.proofs.Stepping.{own_carried, keeps_more}
 
 -- room changes no row

@@ -1,25 +1,13 @@
-pub mod Lookups
 pub mod Beginning
 pub mod LiveInBoth
-pub mod Leaving
 pub mod RoomFor
-pub mod TextsSoFar
-pub mod KeptRows
-pub mod KeptTables
-pub mod Carried
-pub mod ConsentsKept
-pub mod AnswerTells
-pub mod Finding
-pub mod LiveRows
 pub mod MadeSessions
 pub mod MadeRows
 pub mod Ranges
 pub mod Places
 mod MakingSamples
+mod OutcomeSamples
 pub mod Outcomes
 pub mod Stepping
 pub mod Committing
-pub mod TakenRows
-pub mod TakenSessions
-pub mod TakenUp
 pub mod Journals

@@ -28,7 +28,7 @@ use Rattle.op_answer.specs.Answering.{op_answer}
 use Rattle.op_answer.specs.Causes.{AnsweredCause, TokensCause}
 use Rattle.op_core.specs.Making.{wish_found, session_found, client_found, session_with, session_put_by, code_put, access_put_by, access_put}
 use Rattle.op_answer.proofs.KeptNames.{session_names}
-use Rattle.op_core.proofs.LiveRows.{row_that_lives}
+use Rattle.op_tables.proofs.LiveRows.{row_that_lives}
 use Rattle.op_core.proofs.MadeSessions.{turn_stands, wish_same, session_makes}
 use Rattle.op_answer.proofs.Answers.{answers_have_a_cause}
 use Rattle.op_answer.proofs.TokenResponses.{tokens_have_a_cause}

@@ -28,8 +28,8 @@ use Rattle.op_answer.specs.Answering.{op_answer}
 use Rattle.op_answer.specs.Causes.{is_own, ConsentPageCause, AnsweredCause, RefusedCause}
 use Rattle.op_core.specs.Making.{wish_found, client_found, session_with, session_put_by, session_put}
 use Rattle.op_answer.proofs.KeptNames.{some_same, session_names}
-use Rattle.op_core.proofs.Lookups.{found_live}
-use Rattle.op_core.proofs.LiveRows.{if_some, row_that_lives}
+use Rattle.op_tables.proofs.Lookups.{found_live}
+use Rattle.op_tables.proofs.LiveRows.{if_some, row_that_lives}
 use Rattle.op_answer.proofs.Standing.{own_replies_stand}
 use Rattle.op_answer.proofs.Pages.{consent_pages_have_a_cause}
 use Rattle.op_answer.proofs.Answers.{answers_have_a_cause}

@@ -14,7 +14,7 @@ use Rattle.code_grant.specs.Rows.{session_name}
 use Rattle.code_grant.specs.Held.{most_rows}
 use Rattle.op_answer.specs.Room.{is_full, sessions_beside}
 use Rattle.code_grant.proofs.HeldLaws.{filter_short}
-use Rattle.op_core.proofs.Leaving.{without_absent, length-without}
+use Rattle.op_tables.proofs.Leaving.{without_absent, length-without}
 
 module _ {R : Type 0} (name : R → Word) (w : Word) (lives : List R) where
   full_by : (room : Bool) → room ≡ nat_lt (length lives) most_rows → is_full name w lives ≡ (not room || is_some (row_of name w lives))

@@ -20,10 +20,11 @@ use Rattle.op_answer.specs.Sessions.{sessions, session_made, session_kept}
 use Rattle.op_answer.specs.Codes.{codes_issued, code_made, code_kept}
 use Rattle.op_answer.specs.Answering.{op_answer}
 use Rattle.op_answer.specs.Legal.{IsLegalOp}
-use Rattle.op_core.specs.Agreeing.{AreOwn, KeepsPast, Keeps, is_own_turn, is_own_session, is_own_code}
-use Rattle.op_core.specs.Keeping.{FollowsPair}
-use Rattle.op_core.proofs.KeptRows.{all_good_after}
-use Rattle.op_core.proofs.Carried.{turn_wish_kept, session_user_kept, code_keeps, agrees_carried, is_begun_carried}
+use Rattle.op_tables.specs.Agreeing.{AreOwn, is_own_turn, is_own_session, is_own_code}
+use Rattle.op_core.specs.Keeps.{KeepsPast, Keeps}
+use Rattle.op_tables.specs.Keeping.{FollowsPair}
+use Rattle.op_tables.proofs.KeptRows.{all_good_after}
+use Rattle.op_tables.proofs.Carried.{turn_wish_kept, session_user_kept, code_keeps, agrees_carried, is_begun_carried}
 
 -- ---- the weight
 

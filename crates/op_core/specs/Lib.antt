@@ -1,8 +1,6 @@
-pub mod Agreeing
+pub mod Keeps
 pub mod Providing
-pub mod Keeping
 pub mod Making
-pub mod Taking
 pub mod Outcome
 pub mod Beginnings
 pub mod Redeemed

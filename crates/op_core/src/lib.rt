@@ -10,12 +10,11 @@
 //! | `answering`, `replying`, `redeeming` | the reply, by the rows that live |
 //! | `questions`, `room` | what is asked of the tables, and whether they have room |
 //! | `outcome`, `making` | what a reply brings: rows, the session that it used, the client that it answered |
-//! | `taking`, `keeping` | how the tables take a pair up |
-//! | `values` | asks hold values of their types |
+//!
+//! How the tables take a pair up stands in the crate `op_tables`.
 #![tactic(auto)]
 
 mod answering;
-mod keeping;
 mod making;
 mod outcome;
 mod questions;
@@ -24,9 +23,7 @@ mod replying;
 mod room;
 mod state;
 mod step;
-mod taking;
 #[cfg(test)]
 mod tests;
-mod values;
 
 pub use state::OpCore;

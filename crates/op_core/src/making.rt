@@ -1,6 +1,6 @@
 // The rows that an ask and its reply make. They take memory, so they are made before anything changes.
 
-ghost use Rattle.std.specs.Prelude.{◌≡◌, ◌<◌, ◌≤◌, true, false, None, length, IfOk, IfSome, option_map};
+ghost use Rattle.std.specs.Prelude.{◌≡◌, ◌<◌, ◌≤◌, true, false, length, IfOk, IfSome, option_map};
 ghost use Rattle.std.specs.Option.{option_copied};
 ghost use Rattle.sso_base.specs.Words.{word_of_text};
 ghost use Rattle.sso_base.specs.Legal.{last_moment};
@@ -8,10 +8,9 @@ ghost use Rattle.code_grant.specs.declared.rows.TurnRow.{TurnRow};
 ghost use Rattle.op_exchange.specs.Asks.{is_prepared, is_prepared_wish};
 ghost use Rattle.op_exchange.specs.Clients.{is_user};
 ghost use Rattle.op_core.specs.Providing.{past_of};
-ghost use Rattle.op_core.specs.Agreeing.{is_own_turn, is_own_session, is_own_code};
+ghost use Rattle.op_tables.specs.Agreeing.{is_own_turn, is_own_session, is_own_code};
 ghost use Rattle.op_core.specs.Making as spec;
 ghost use Rattle.op_answer.specs.Turns as turns;
-ghost use Rattle.op_answer.specs.Sessions as sessions;
 ghost use Rattle.op_answer.specs.Codes as codes;
 ghost use Rattle.op_answer.specs.AccessTokens as tokens;
 ghost use Rattle.op_answer.specs.Replies.{session_after};
@@ -20,32 +19,10 @@ use crate::state::OpCore;
 use auth_request::{Verdict, Wish};
 use code_grant::{Clients, CodeRow, SessionRow, TokenRow, TurnRow};
 use op_exchange::{OpAsk, OpReply};
+use op_tables::{Made, session_set};
 use sso_base::{Entry, Moment, NoMemory, Word};
 use std::alloc::Global;
 use token_endpoint::Grant;
-
-/// The rows that an ask and its reply make: at most one of each kind.
-#[derive(Drop)]
-pub(crate) struct Made {
-    pub turn: Option<TurnRow>,
-    pub session: Option<SessionRow>,
-    pub code: Option<CodeRow>,
-    pub token: Option<TokenRow>,
-}
-
-impl Made {
-    /// No row.
-    pub(crate) fn none() -> Made
-        ensures { result ≡ record { turn = None; session = None; code = None; token = None } }
-    {
-        Made {
-            turn: None,
-            session: None,
-            code: None,
-            token: None,
-        }
-    }
-}
 
 // A turn that begins with a page.
 fn turn_begun(
@@ -66,21 +43,6 @@ fn turn_begun(
         in_turn: false,
         begun: at,
     })
-}
-
-/// The word of the session that a right password left.
-pub(crate) fn session_set(ask: &OpAsk, reply: &OpReply) -> Option<Word>
-    ensures { result ≡ sessions.session_set ask.now reply.now }
-{
-    let OpAsk::Login { .. } = ask else {
-        return None;
-    };
-    match reply {
-        OpReply::ConsentPage { session, .. }
-        | OpReply::Answered { session, .. }
-        | OpReply::Refused { session, .. } => *session,
-        _ => None,
-    }
 }
 
 /// The code of a response.

@@ -3,13 +3,13 @@
 ghost use Rattle.std.specs.Prelude.{◌≡◌, ◌<◌, ◌≤◌, true, IfOk, IfSome};
 ghost use Rattle.sso_base.specs.Legal.{last_moment};
 ghost use Rattle.op_answer.specs.Answering.{op_answer};
-ghost use Rattle.op_core.specs.Agreeing.{is_own_turn, is_own_session, is_own_code};
+ghost use Rattle.op_tables.specs.Agreeing.{is_own_turn, is_own_session, is_own_code};
 ghost use Rattle.op_core.specs.Outcome as spec;
 ghost use Rattle.op_core.specs.Providing.{past_of};
 
-use crate::making::{Made, session_set};
 use crate::state::OpCore;
 use op_exchange::{OpAsk, OpReply};
+use op_tables::{Made, session_set};
 use sso_base::{Entry, NoMemory, Word};
 use std::alloc::Global;
 

@@ -6,7 +6,7 @@ ghost use Rattle.sso_base.specs.Legal.{last_moment};
 ghost use Rattle.code_grant.specs.Rows.{turn_name, session_name, code_name, access_name};
 ghost use Rattle.op_exchange.specs.Clients.{is_client, is_user};
 ghost use Rattle.op_core.specs.Providing.{past_of};
-ghost use Rattle.op_core.specs.Agreeing.{is_own_turn, is_own_session, is_own_code};
+ghost use Rattle.op_tables.specs.Agreeing.{is_own_turn, is_own_session, is_own_code};
 ghost use Rattle.op_answer.specs.Turns as turns;
 ghost use Rattle.op_answer.specs.Sessions as sessions;
 ghost use Rattle.op_answer.specs.Codes as codes;

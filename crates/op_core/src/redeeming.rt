@@ -6,7 +6,7 @@ ghost use Rattle.op_exchange.specs.Asks.{is_prepared};
 ghost use Rattle.op_exchange.specs.declared.ask.OpAsk.TheVariants as ask;
 ghost use Rattle.code_grant.specs.declared.redeem.Redeem.TheVariants as redeem;
 ghost use Rattle.code_grant.specs.Redeeming.{redeem_of};
-ghost use Rattle.op_core.specs.Agreeing.{is_own_code};
+ghost use Rattle.op_tables.specs.Agreeing.{is_own_code};
 ghost use Rattle.op_core.specs.Redeemed.{is_redeemed};
 ghost use Rattle.op_core.specs.Providing.{past_of};
 ghost use Rattle.op_answer.specs.Replies as spec;

@@ -7,7 +7,7 @@ ghost use Rattle.sso_base.specs.Legal.{last_moment};
 ghost use Rattle.op_exchange.specs.Asks.{is_prepared_wish, is_prepared_verdict};
 ghost use Rattle.op_exchange.specs.declared.reply.OpReply.TheVariants as reply;
 ghost use Rattle.op_exchange.specs.Clients.{is_user};
-ghost use Rattle.op_core.specs.Agreeing.{is_own_turn, is_own_session};
+ghost use Rattle.op_tables.specs.Agreeing.{is_own_turn, is_own_session};
 ghost use Rattle.op_core.specs.Providing.{past_of};
 ghost use Rattle.op_answer.specs.Replies as spec;
 ghost use Rattle.request_need.specs.Need.{needed};

@@ -2,7 +2,7 @@
 
 ghost use Rattle.std.specs.Prelude.{◌≡◌, [], IfOk};
 ghost use Rattle.sso_base.specs.Legal.{last_moment};
-ghost use Rattle.op_core.specs.Agreeing.{Agrees};
+ghost use Rattle.op_tables.specs.Agreeing.{Agrees};
 ghost use Rattle.op_core.specs.Providing.{past_of};
 
 use client_registry::Registry;
@@ -28,7 +28,7 @@ impl Model for OpCore {
 
     ghost view = { λ c. record { registry = c.registry; history = c.history.items } };
 
-    ghost use Rattle.op_core.specs.Agreeing.{Keeps};
+    ghost use Rattle.op_core.specs.Keeps.{Keeps};
 
     ghost invariant = { λ c. Keeps c.registry c.history.items c.weight c.grants };
 }

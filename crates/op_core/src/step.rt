@@ -6,15 +6,14 @@ ghost use Rattle.sso_base.specs.Journal.{entry_moment, entry_of, history_weight,
 ghost use Rattle.op_exchange.specs.Values.{IsOpAsk};
 ghost use Rattle.op_exchange.specs.Weight as weights;
 ghost use Rattle.op_answer.specs.Answering.{op_answer};
-ghost use Rattle.op_core.specs.Agreeing.{is_own_turn, is_own_session, is_own_code};
+ghost use Rattle.op_tables.specs.Agreeing.{is_own_turn, is_own_session, is_own_code};
 ghost use Rattle.op_core.specs.Outcome.{Brings};
 ghost use Rattle.op_core.specs.Providing.{past_of};
 
 use crate::outcome::Outcome;
 use crate::state::OpCore;
-use crate::taking::take_up;
-use crate::values::is_entry;
-use op_exchange::{OpAsk, OpReply, ask_weight};
+use op_exchange::{OpAsk, OpReply, ask_weight, is_entry};
+use op_tables::take_up;
 use sso_base::{Core, CoreNo, Entry, Moment, NoMemory, Pair, Word};
 use std::alloc::Global;
 

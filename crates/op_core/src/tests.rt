@@ -3,7 +3,7 @@
 use crate::OpCore;
 use client_registry::{Registry, read_registry};
 use op_exchange::{OpAsk, OpReply};
-use sso_base::{Core, CoreNo, Moment, Word};
+use sso_base::{Core, Moment, Word};
 use std::alloc::Global;
 use std::test::Fail;
 
@@ -21,6 +21,10 @@ fn registry(alloc: Global) -> Result<Registry, Fail> {
     }
 }
 
+fn begin(alloc: Global) -> Result<OpCore, Fail> {
+    Ok(OpCore::new(alloc, registry(alloc)?)?)
+}
+
 fn words() -> [Word; 4] {
     [
         Word::new([1; 32]),
@@ -30,12 +34,18 @@ fn words() -> [Word; 4] {
     ]
 }
 
-fn has_keys(reply: &Result<OpReply, CoreNo>) -> bool {
-    matches!(reply, Ok(OpReply::Keys))
+// The reply to an ask at moment 1000.
+fn reply_to(core: &mut OpCore, alloc: Global, ask: OpAsk) -> Result<OpReply, Fail> {
+    let at = Moment::new(1000).ok_or("a moment")?;
+    match core.step(alloc, at, words(), ask) {
+        Ok(reply) => Ok(reply),
+        Err(_refusal) => Err("no step".into()),
+    }
 }
 
-fn is_not_here(reply: &Result<OpReply, CoreNo>) -> bool {
-    matches!(reply, Ok(OpReply::NotHere))
+fn gets_keys(core: &mut OpCore, alloc: Global) -> Result<bool, Fail> {
+    let reply = reply_to(core, alloc, OpAsk::Keys)?;
+    Ok(matches!(reply, OpReply::Keys))
 }
 
 // A login of a user that the registry lacks.
@@ -48,24 +58,23 @@ fn login_of_nobody() -> OpAsk {
     }
 }
 
+fn finds_nothing(core: &mut OpCore, alloc: Global) -> Result<bool, Fail> {
+    let reply = reply_to(core, alloc, login_of_nobody())?;
+    Ok(matches!(reply, OpReply::NotHere))
+}
+
 #[test]
 fn keys_are_answered(rt: HostRuntime) -> Result<(), Fail> {
-    let alloc = rt.alloc();
-    let at = Moment::new(1000).ok_or("a moment")?;
-    let mut core = OpCore::new(alloc, registry(alloc)?)?;
-    let reply = core.step(alloc, at, words(), OpAsk::Keys);
-    assert!(rt; has_keys(&reply));
+    let mut core = begin(rt.alloc())?;
+    assert!(rt; gets_keys(&mut core, rt.alloc())?);
     assert_eq!(rt; core.count(), 1);
     Ok(())
 }
 
 #[test]
 fn asks_that_no_request_gives_find_nothing(rt: HostRuntime) -> Result<(), Fail> {
-    let alloc = rt.alloc();
-    let at = Moment::new(1000).ok_or("a moment")?;
-    let mut core = OpCore::new(alloc, registry(alloc)?)?;
-    let reply = core.step(alloc, at, words(), login_of_nobody());
-    assert!(rt; is_not_here(&reply));
+    let mut core = begin(rt.alloc())?;
+    assert!(rt; finds_nothing(&mut core, rt.alloc())?);
     assert_eq!(rt; core.count(), 1);
     Ok(())
 }

@@ -1,2 +1,3 @@
 pub mod Sample
 mod Told
+mod TextsSoFar

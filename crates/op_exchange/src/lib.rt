@@ -6,9 +6,11 @@ mod messages;
 mod reply;
 #[cfg(test)]
 mod tests;
+mod values;
 mod weight;
 
 pub use ask::OpAsk;
 pub use messages::Messages;
 pub use reply::OpReply;
+pub use values::is_entry;
 pub use weight::ask_weight;

@@ -38,11 +38,11 @@ phone = codes "phone"
 -- ---- rows that began at a moment
 
 abbrev login : Word → ℕ → LoginRow
-login state at = record { state = state; browser = third; nonce = state; begun = at }
+login state at = record { state = state; browser = third; nonce = state; begun = at; by = 0 }
 
 -- a question that was asked 100 seconds after its login began
 abbrev pending : Word → ℕ → PendingRow
-pending w at = record { word = w; nonce = first; begun = at; since = at + 100; sub = None; sid = None; code = Some phone; stage = stage.Tokens }
+pending w at = record { word = w; nonce = first; begun = at; since = at + 100; sub = None; sid = None; code = Some phone; stage = stage.Tokens; by = 0 }
 
 abbrev visit : Word → Text → Option Text → ℕ → SessionRow
 visit w sub sid at = record { word = w; nonce = first; sub = sub; sid = sid; entered = at }

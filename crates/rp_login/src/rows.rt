@@ -27,6 +27,8 @@ pub struct LoginRow {
     pub browser: Word,
     pub nonce: Word,
     pub begun: Moment,
+    /// The place in the party's history, counted from 0, of the pair that began it.
+    pub by: u64,
 }
 
 /// What a pending exchange waits for: the answer of the token endpoint (OpenID Connect Core 1.0, 3.1.3) or of the UserInfo
@@ -54,6 +56,8 @@ pub struct PendingRow {
     /// The code of its callback.
     pub code: Option<Text>,
     pub stage: Stage,
+    /// The place in the party's history, counted from 0, of the pair that began its login.
+    pub by: u64,
 }
 
 /// A session: a login that a relying party let in. It lives for 28,800 seconds.

@@ -56,6 +56,7 @@ fn login(byte: u8, begun: u64) -> Result<LoginRow, Fail> {
         browser: word(9),
         nonce: word(8),
         begun: moment(begun)?,
+        by: 7,
     })
 }
 
@@ -80,6 +81,7 @@ fn add_pending(alloc: Global, logins: &mut Logins, byte: u8, begun: u64) -> Resu
         sid: None,
         code: Some(Text::new(alloc, "c")?),
         stage: Stage::Tokens,
+        by: 7,
     };
     logins.reserve()?;
     if logins.pendings.admits(&row.word.bytes(), row.since) {

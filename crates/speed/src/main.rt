@@ -1,11 +1,13 @@
-//! Runs MACs and password proofs, to be timed.
+//! Runs MACs, password proofs and logins, to be timed.
 //!
 //! - `speed mac COUNT` prints the last of so many MACs of 200 bytes, in hex.
 //! - `speed proof ROUNDS` prints the proof of one password at so many rounds, in hex. None is one.
-//! - Other words, or none, are a short run of both.
+//! - `speed logins COUNT` makes so many logins at a provider, and prints how many ended with tokens.
+//! - Other words, or none, are a short run of all three.
 #![tactic(auto)]
 
 mod chain;
+mod logins;
 
 use std::rt::Runtime;
 use std::{env, io};
@@ -20,15 +22,24 @@ fn print_proof<R: Runtime>(rt: &R, rounds: u32) -> io::Result<()> {
     println!(rt; "{}", hex::encode(rt.alloc(), &proof)?)
 }
 
+fn print_logins(rt: &HostRuntime, count: u32) -> io::Result<()> {
+    match logins::logins(rt.alloc(), count) {
+        Some(tokens) => println!(rt; "{}", tokens),
+        None => println!(rt; "no memory"),
+    }
+}
+
 fn main(rt: HostRuntime) -> io::Result<()> {
     let words: Vec<String> = env::args(&rt)?.skip(1).collect(rt.alloc())?;
     let count = words.get(1).and_then(|word| word.parse::<u32>().ok());
     match (words.first().map(|word| word.as_str()), count) {
         (Some("mac"), Some(count)) => print_macs(&rt, count),
         (Some("proof"), Some(rounds)) => print_proof(&rt, rounds),
+        (Some("logins"), Some(count)) => print_logins(&rt, count),
         _ => {
             print_macs(&rt, 1000)?;
-            print_proof(&rt, 1)
+            print_proof(&rt, 1)?;
+            print_logins(&rt, 2)
         }
     }
 }

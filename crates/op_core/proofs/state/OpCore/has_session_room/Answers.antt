@@ -3,7 +3,8 @@ use Rattle.sso_base.specs.Rows.{row_of}
 use Rattle.code_grant.specs.Rows.{session_name}
 use Rattle.op_core.specs.Providing.{past_of}
 use Rattle.op_answer.specs.Sessions.{live_sessions}
-use Rattle.op_core.proofs.LiveInBoth.{sessions_room, sessions_full, session_named, sessions_distinct}
+use Rattle.op_tables.proofs.NamedRows.{session_named, sessions_distinct}
+use Rattle.op_core.proofs.LiveInBoth.{sessions_room, sessions_full}
 use Rattle.op_core.proofs.RoomFor.{found_one, beside_room, beside_if_other, beside_if_same, beside_if_none}
 use Rattle.op_core.proofs.state.OpCore.has_session_room.Goals as goal
 

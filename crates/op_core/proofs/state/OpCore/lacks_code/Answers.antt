@@ -3,7 +3,8 @@ use Rattle.sso_base.specs.Rows.{row_of}
 use Rattle.code_grant.specs.Rows.{code_name}
 use Rattle.op_core.specs.Providing.{past_of}
 use Rattle.op_answer.specs.Codes.{held_codes}
-use Rattle.op_core.proofs.LiveInBoth.{codes_room, code_named}
+use Rattle.op_tables.proofs.NamedRows.{code_named}
+use Rattle.op_core.proofs.LiveInBoth.{codes_room}
 use Rattle.op_core.proofs.RoomFor.{full_without_room, full_if_named, found_one}
 use Rattle.op_core.proofs.state.OpCore.lacks_code.Goals as goal
 

@@ -4,7 +4,7 @@ use Rattle.code_grant.specs.Rows.{session_name}
 use Rattle.op_core.specs.Providing.{past_of}
 use Rattle.op_answer.specs.Sessions.{live_sessions}
 use Rattle.op_answer.specs.Room.{sessions_beside}
-use Rattle.op_core.proofs.LiveInBoth.{session_named}
+use Rattle.op_tables.proofs.NamedRows.{session_named}
 use Rattle.op_core.proofs.RoomFor.{found_one, full_if_named, beside_named}
 use Rattle.op_core.proofs.state.OpCore.lacks_session_word.Goals as goal
 

@@ -3,7 +3,8 @@ use Rattle.sso_base.specs.Rows.{row_of}
 use Rattle.code_grant.specs.Rows.{turn_name}
 use Rattle.op_core.specs.Providing.{past_of}
 use Rattle.op_answer.specs.Turns.{live_turns}
-use Rattle.op_core.proofs.LiveInBoth.{turns_room, turn_named}
+use Rattle.op_tables.proofs.NamedRows.{turn_named}
+use Rattle.op_core.proofs.LiveInBoth.{turns_room}
 use Rattle.op_core.proofs.RoomFor.{full_without_room, full_if_named, found_one}
 use Rattle.op_core.proofs.state.OpCore.lacks_turn.Goals as goal
 

@@ -1,6 +1,6 @@
 use Rattle.std.proofs.Common.{None, sym, subst}
 use Rattle.op_answer.specs.Turns.{turn_started}
-use Rattle.op_core.specs.declared.making.Made.{Made}
+use Rattle.op_tables.specs.declared.made.Made.{Made}
 use Rattle.op_core.specs.Making.{client_found, session_put, code_put, access_put}
 use Rattle.op_core.specs.Outcome.{used_found, Brings}
 use Rattle.op_core.specs.Providing.{past_of}

@@ -1,0 +1,57 @@
+-- What the consent of a first login brings, and what a provider keeps, by computation.
+use Rattle.std.proofs.Common.{◌≡◌, ℕ, true, false, [], ◌∷◌, Some, None, refl, arith}
+use Rattle.code_grant.specs.declared.redeem.Redeem.TheVariants.{Redeemed, Spent}
+use Rattle.code_grant.specs.Tables.{no_tables}
+use Rattle.op_tables.proofs.Samples.{taken, alice_code, before_consent, they_agree, they_are_begun, they_are_own}
+use Rattle.op_core.specs.Keeps.{KeepsPast, Keeps}
+use Rattle.op_core.specs.Outcome.{used_found, Brings}
+use Rattle.op_core.specs.Redeemed.{is_redeemed}
+use Rattle.op_core.proofs.Beginning.{begins}
+use Rattle.op_exchange.proofs.Sample.{word, sample}
+use Rattle.op_answer.proofs.FirstLogin.{pair_of, past_consent, consent_entry, late_consent, code_answer, past_code}
+use Rattle.op_answer.proofs.Sessions.{again, answer_again, alice_entry, alice_answer, fresh_turn}
+
+-- ---- the session of a reply that answers: presented, left by a login, or the live turn's
+
+the_presented_one_is_used : used_found past_code (again 1001) (again 1001).ask answer_again ≡ Some (word 9)
+the_presented_one_is_used = refl
+
+the_one_that_a_login_left_is_used : used_found fresh_turn alice_entry alice_entry.ask alice_answer ≡ Some (word 9)
+the_one_that_a_login_left_is_used = refl
+
+the_turns_one_is_used : used_found past_consent consent_entry consent_entry.ask code_answer ≡ Some (word 9)
+the_turns_one_is_used = refl
+
+none_of_an_old_turn_is_used : used_found past_consent late_consent late_consent.ask code_answer ≡ None
+none_of_an_old_turn_is_used = refl
+
+-- ---- what a pair brings
+
+a_consent_brings_a_code : Brings past_consent (pair_of consent_entry code_answer) None None (Some alice_code) None (Some (word 9)) (Some 0)
+a_consent_brings_a_code =
+    record { turn_is = refl; session_is = refl; code_is = refl; token_is = refl; client_is = refl; used_is = λ n is. refl }
+
+it_does_not_bring_nothing : Brings past_consent (pair_of consent_entry code_answer) None None None None (Some (word 9)) (Some 0) → ⊥
+it_does_not_bring_nothing brings = (let k : None ≡ Some alice_code = brings.code_is in cc)
+
+-- ---- redemptions
+
+a_redeemed_code : is_redeemed Redeemed ≡ true
+a_redeemed_code = refl
+
+a_spent_code : is_redeemed Spent ≡ false
+a_spent_code = refl
+
+-- ---- what a provider keeps
+
+the_tables_are_kept : KeepsPast sample past_consent before_consent
+the_tables_are_kept = record { agrees = they_agree; begun = they_are_begun; own = they_are_own }
+
+not_without_the_turn : KeepsPast sample past_consent no_tables → ⊥
+not_without_the_turn keeps = (let k : [] ≡ taken ∷ [] = keeps.agrees.turns in cc)
+
+it_begins_without_weight : Keeps sample [] 0 no_tables
+it_begins_without_weight = begins sample [] no_tables refl refl
+
+not_with_the_weight_of_an_ask : Keeps sample [] 1024 no_tables → ⊥
+not_with_the_weight_of_an_ask keeps = (let k : ◌≡◌ {A = ℕ} 1024 0 = keeps.weight_is in absurd (omega arith))

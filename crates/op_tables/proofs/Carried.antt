@@ -1,0 +1,225 @@
+-- The agreement of the tables with the past is carried by one more pair, and so is what holds of every held row.
+use Rattle.std.proofs.Common.{◌≡◌, ◌≤◌, ℕ, Bool, true, false, not, ◌&&◌, nat_le, cond, List, ◌∷◌, length, filter_map, Option, Some, None, Ok, refl, sym, ◌∙◌, ap, arith}
+use Rattle.std.proofs.lemmas.Bool.{le-leb}
+use Rattle.sso_base.specs.Words.{Word, is_word, word_of_text}
+use Rattle.sso_base.specs.Rows.{put, live_rows}
+use Rattle.sso_base.proofs.Lives.{live_later, live_more}
+use Rattle.scope_claims.specs.declared.scopes.Scopes.{Scopes}
+use Rattle.scope_claims.specs.Claims.{joined}
+use Rattle.auth_request.specs.declared.wish.Wish.{Wish}
+use Rattle.auth_request.specs.declared.wish.Verdict.TheVariants as verdict
+use Rattle.code_grant.specs.declared.rows.TurnRow.{TurnRow}
+use Rattle.code_grant.specs.declared.rows.SessionRow.{SessionRow}
+use Rattle.code_grant.specs.declared.rows.CodeRow.{CodeRow}
+use Rattle.code_grant.specs.declared.rows.TokenRow.{TokenRow}
+use Rattle.code_grant.specs.Rows.{turn_name, turn_begun, turn_life, session_name, session_begun, session_life, code_name, code_begun, code_life, access_name, access_begun, access_life}
+use Rattle.code_grant.specs.Held.{none_after}
+use Rattle.code_grant.specs.Tables.{Tables}
+use Rattle.op_exchange.specs.declared.ask.OpAsk.{OpAsk}
+use Rattle.op_exchange.specs.declared.ask.OpAsk.TheVariants as ask
+use Rattle.op_exchange.specs.declared.reply.OpReply.{OpReply}
+use Rattle.op_exchange.specs.declared.reply.OpReply.TheVariants as reply
+use Rattle.op_exchange.specs.Replied.{ends_turn}
+use Rattle.op_answer.specs.Past.{OpPair, OpPast}
+use Rattle.op_answer.specs.Turns.{turns, turn_named, turn_started, turn_made, turn_taken, turn_kept}
+use Rattle.op_answer.specs.Sessions.{sessions, session_set, signed_user, session_by, live_in, ends_session, session_used, and_client, client_answered, session_made_by, session_made, session_kept, session_of, wish_by}
+use Rattle.op_answer.specs.Codes.{codes_issued, code_issued, code_in, code_made_by, code_made, code_named, is_tokens, found_spent, code_kept, code_of}
+use Rattle.op_answer.specs.AccessTokens.{accesses, access_issued, access_answered, access_redeemed, access_given, access_made, is_for_code, access_kept}
+use Rattle.op_answer.specs.Consents.{granted_by, turn_agreed}
+use Rattle.op_tables.specs.Agreeing.{Agrees, IsBegun}
+use Rattle.op_tables.specs.Keeping.{FollowsPair}
+use Rattle.op_answer.proofs.KeptNames.{some_same}
+use Rattle.op_tables.proofs.Lookups.{same_later}
+use Rattle.op_tables.proofs.KeptRows.{all_good_after, none_after_later}
+
+-- ---- what no pair changes in a row that it keeps
+
+module _ {R X : Type 0} (f : R → X) where
+  dropped_keeps : (b : Bool) (row after : R) → cond b None (Some row) ≡ Some after → f after ≡ f row
+  dropped_keeps true row after h = cc
+  dropped_keeps false row after h = ap f (sym (some_same row after h))
+
+  changed_keeps : (b : Bool) (row changed after : R) → f changed ≡ f row → cond b (Some changed) (Some row) ≡ Some after → f after ≡ f row
+  changed_keeps true row changed after e h = ap f (sym (some_same changed after h)) ∙ e
+  changed_keeps false row changed after e h = ap f (sym (some_same row after h))
+
+  taken_keeps : (other ends : Bool) (row taken after : R) → f taken ≡ f row → cond other (Some row) (cond ends None (Some taken)) ≡ Some after → f after ≡ f row
+  taken_keeps true ends row taken after e h = ap f (sym (some_same row after h))
+  taken_keeps false true row taken after e h = cc
+  taken_keeps false false row taken after e h = ap f (sym (some_same taken after h)) ∙ e
+
+  used_keeps : (ends uses : Bool) (row used after : R) → f used ≡ f row → cond ends None (cond uses (Some used) (Some row)) ≡ Some after → f after ≡ f row
+  used_keeps true uses row used after e h = cc
+  used_keeps false uses row used after e h = changed_keeps uses row used after e h
+
+-- whatever of a turn is neither its session nor whether the user logged in
+pub turn_keeps : {X : Type 0} (f : TurnRow → X) → ((asked : OpAsk) (told : OpReply) (row : TurnRow) → f (turn_taken asked told row) ≡ f row)
+    → (past : OpPast) (p : OpPair) (row after : TurnRow) → turn_kept past p row ≡ Some after → f after ≡ f row
+turn_keeps f same past p row after h =
+    taken_keeps f (not (is_word (turn_named p.entry.ask) row.word)) (ends_turn p.reply) row (turn_taken p.entry.ask p.reply row) after (same p.entry.ask p.reply row) h
+
+taken_begun : (asked : OpAsk) (told : OpReply) (row : TurnRow) → turn_begun (turn_taken asked told row) ≡ turn_begun row
+taken_begun (ask.Login turn signed b presented) (reply.ConsentPage w browser (Some session) client scopes) row = refl
+taken_begun asked told row = refl
+
+taken_client : (asked : OpAsk) (told : OpReply) (row : TurnRow) → (turn_taken asked told row).wish ≡ row.wish
+taken_client (ask.Login turn signed b presented) (reply.ConsentPage w browser (Some session) client scopes) row = refl
+taken_client asked told row = refl
+
+pub turn_begun_kept : (past : OpPast) (p : OpPair) (row after : TurnRow) → turn_kept past p row ≡ Some after → turn_begun after ≡ turn_begun row
+turn_begun_kept past p row after h = turn_keeps turn_begun taken_begun past p row after h
+
+pub turn_wish_kept : (past : OpPast) (p : OpPair) (row after : TurnRow) → turn_kept past p row ≡ Some after → after.wish ≡ row.wish
+turn_wish_kept past p row after h = turn_keeps (λ (r : TurnRow). r.wish) taken_client past p row after h
+
+-- whatever of a session is not its clients
+pub session_keeps : {X : Type 0} (f : SessionRow → X) → ((row : SessionRow) (clients : List Bool) → f (record row { clients = clients }) ≡ f row)
+    → (past : OpPast) (p : OpPair) (row after : SessionRow) → session_kept past p row ≡ Some after → f after ≡ f row
+session_keeps f same past p row after h =
+    used_keeps f (ends_session p.entry.ask p.reply row.word) (is_word (session_used past p.entry.ask p.reply) row.word) row
+    (record row { clients = and_client (client_answered past p) row.clients }) after (same row (and_client (client_answered past p) row.clients)) h
+
+pub session_begun_kept : (past : OpPast) (p : OpPair) (row after : SessionRow) → session_kept past p row ≡ Some after → session_begun after ≡ session_begun row
+session_begun_kept past p row after h = session_keeps session_begun (λ row clients. refl) past p row after h
+
+pub session_user_kept : (past : OpPast) (p : OpPair) (row after : SessionRow) → session_kept past p row ≡ Some after → after.user ≡ row.user
+session_user_kept past p row after h = session_keeps (λ (r : SessionRow). r.user) (λ row clients. refl) past p row after h
+
+-- whatever of a code is not whether it is spent
+pub code_keeps : {X : Type 0} (f : CodeRow → X) → ((row : CodeRow) (spent : Bool) → f (record row { spent = spent }) ≡ f row)
+    → (past : OpPast) (p : OpPair) (row after : CodeRow) → code_kept past p row ≡ Some after → f after ≡ f row
+code_keeps f same past p row after h =
+    changed_keeps f (is_word (code_named p.entry.ask) row.word && is_tokens p.reply) row (record row { spent = true }) after (same row true) h
+
+pub code_begun_kept : (past : OpPast) (p : OpPair) (row after : CodeRow) → code_kept past p row ≡ Some after → code_begun after ≡ code_begun row
+code_begun_kept past p row after h = code_keeps code_begun (λ row spent. refl) past p row after h
+
+-- an access token is kept as it is
+pub access_keeps : {X : Type 0} (f : TokenRow → X) (past : OpPast) (p : OpPair) (row after : TokenRow) → access_kept past p row ≡ Some after → f after ≡ f row
+access_keeps f past p row after h =
+    dropped_keeps f (is_for_code row.code (code_named p.entry.ask) && found_spent past p.entry.at p.entry.ask) row after h
+
+pub access_begun_kept : (past : OpPast) (p : OpPair) (row after : TokenRow) → access_kept past p row ≡ Some after → access_begun after ≡ access_begun row
+access_begun_kept past p row after h = access_keeps access_begun past p row after h
+
+-- ---- what a pair makes begins at its moment
+
+started_begun : (at : ℕ) (asked : OpAsk) (told : OpReply) (row : TurnRow) → turn_started at asked told ≡ Some row → turn_begun row ≡ at
+started_begun at (ask.Authorize (verdict.Grant wish) b session) (reply.LoginPage w browser again) row h =
+    let made : TurnRow = record { word = w; browser = browser; wish = wish; session = None; in_turn = false; begun = at } in
+    ap turn_begun (sym (some_same made row h))
+started_begun at (ask.Authorize (verdict.Grant wish) b session) (reply.ConsentPage w browser given client scopes) row h =
+    let made : TurnRow = record { word = w; browser = browser; wish = wish; session = session; in_turn = false; begun = at } in
+    ap turn_begun (sym (some_same made row h))
+started_begun at asked told row h = cc
+
+pub turn_made_begun : (held : List TurnRow) (past : OpPast) (p : OpPair) (row : TurnRow) → turn_made held past p ≡ Some row → turn_begun row ≡ p.entry.at
+turn_made_begun held past p row h = started_begun p.entry.at p.entry.ask p.reply row h
+
+set_begun : (held : List SessionRow) (past : OpPast) (p : OpPair) (w : Option Word) (user : Option ℕ) (row : SessionRow) → session_made_by held past p w user ≡ Some row → session_begun row ≡ p.entry.at
+set_begun held past p (Some w) (Some user) row h = ap session_begun (sym (some_same (session_by past p (live_in p.entry.at w held) w user) row h))
+set_begun held past p (Some w) None row h = cc
+set_begun held past p None user row h = cc
+
+pub session_made_begun : (held : List SessionRow) (past : OpPast) (p : OpPair) (row : SessionRow) → session_made held past p ≡ Some row → session_begun row ≡ p.entry.at
+session_made_begun held past p row h = set_begun held past p (session_set p.entry.ask p.reply) (signed_user p.entry.ask) row h
+
+code_by_begun : (by at : ℕ) (w : Option Word) (wish : Option Wish) (session : Option SessionRow) (row : CodeRow) → code_made_by by at w wish session ≡ Some row → code_begun row ≡ at
+code_by_begun by at (Some w) (Some wish) (Some session) row h = ap code_begun (sym (some_same (code_issued by at w wish session) row h))
+code_by_begun by at (Some w) (Some wish) None row h = cc
+code_by_begun by at (Some w) None session row h = cc
+code_by_begun by at None wish session row h = cc
+
+pub code_made_begun : (held : List CodeRow) (past : OpPast) (p : OpPair) (row : CodeRow) → code_made held past p ≡ Some row → code_begun row ≡ p.entry.at
+code_made_begun held past p row h =
+    let at : ℕ = p.entry.at in
+    let w : Option Word = code_in p.reply in
+    let wish : Option Wish = wish_by past p.entry.ask in
+    let session : Option SessionRow = session_of (p ∷ past) (session_used past p.entry.ask p.reply) in
+    code_by_begun (length past) at w wish session row h
+
+answered_begun : (by at : ℕ) (w : Option Word) (wish : Option Wish) (session : Option SessionRow) (row : TokenRow) → access_answered by at w wish session ≡ Some row → access_begun row ≡ at
+answered_begun by at (Some w) (Some wish) (Some session) row h = ap access_begun (sym (some_same (access_issued by at w None wish session.user) row h))
+answered_begun by at (Some w) (Some wish) None row h = cc
+answered_begun by at (Some w) None session row h = cc
+answered_begun by at None wish session row h = cc
+
+redeemed_begun : (by at : ℕ) (w : Word) (code : Option CodeRow) (row : TokenRow) → access_redeemed by at w code ≡ Some row → access_begun row ≡ at
+redeemed_begun by at w None row h = cc
+redeemed_begun by at w (Some code) row h = ap access_begun (sym (some_same (access_issued by at w (Some code.word) code.wish code.user) row h))
+
+given_begun : (past : OpPast) (p : OpPair) (asked : OpAsk) (told : OpReply) (row : TokenRow) → access_given past p asked told ≡ Some row → access_begun row ≡ p.entry.at
+given_begun past p (ask.Token (Ok grant)) (reply.Tokens w id) row h = redeemed_begun (length past) p.entry.at w (code_of past (word_of_text grant.code)) row h
+given_begun past p asked (reply.Answered answer given) row h =
+    answered_begun (length past) p.entry.at answer.access (wish_by past asked) (session_of (p ∷ past) (session_used past asked (reply.Answered answer given))) row h
+given_begun past p asked told row h = cc
+
+pub access_made_begun : (held : List TokenRow) (past : OpPast) (p : OpPair) (row : TokenRow) → access_made held past p ≡ Some row → access_begun row ≡ p.entry.at
+access_made_begun held past p row h = given_begun past p p.entry.ask p.reply row h
+
+-- ---- one more pair
+
+module _ {R : Type 0} (name : R → Word) (life : ℕ) (begun : R → ℕ) (before at : ℕ) (k : R → Option R) (m : Option R) (held after : List R) where
+  -- what lived of the table, as the pair leaves it, and what it makes
+  abbrev Follows : Type 0
+  Follows = after ≡ put name m (filter_map k (live_rows life begun at held))
+
+  rows_carried : before ≤ at → ((r s : R) → k r ≡ Some s → begun s ≡ begun r) → (rows : List R) → live_rows life begun before held ≡ live_rows life begun before rows
+      → Follows → live_rows life begun at after ≡ live_rows life begun at (put name m (filter_map k rows))
+  rows_carried order same rows agrees follows =
+      let L : List R → List R = λ xs. live_rows life begun at xs in
+      let now : at ≤ at = omega arith in
+      ap L follows
+      ∙ live_more name life begun at at k m (live_rows life begun at held) rows now same
+      (live_later life begun at at now held ∙ same_later name life begun before at order held rows agrees)
+
+  begun_carried : before ≤ at → ((r s : R) → k r ≡ Some s → begun s ≡ begun r) → ((r : R) → m ≡ Some r → begun r ≡ at) → none_after begun before held ≡ true
+      → Follows → none_after begun at after ≡ true
+  begun_carried order same made low follows =
+      let good : R → Bool = λ r. nat_le (begun r) at in
+      let N : ℕ → Bool = λ n. nat_le n at in
+      let A : List R → Bool = λ xs. none_after begun at xs in
+      let now : at ≤ at = omega arith in
+      let keeps : (r s : R) → k r ≡ Some s → good r ≡ true → good s ≡ true = λ r s kept here. ap N (same r s kept) ∙ here in
+      let last : (r : R) → m ≡ Some r → good r ≡ true = λ r e. ap N (made r e) ∙ le-leb at at now in
+      ap A follows ∙ all_good_after good name life begun at k m held keeps last (none_after_later begun before at order held low)
+
+pub agrees_carried : (t u : Tables) (past : OpPast) (p : OpPair) (before : ℕ) → before ≤ p.entry.at → Agrees t past before → FollowsPair t u past p → Agrees u (p ∷ past) p.entry.at
+agrees_carried t u past p before order agrees follows =
+    let at : ℕ = p.entry.at in
+    let one = rows_carried turn_name turn_life turn_begun before at (turn_kept past p) (turn_made (turns past) past p) t.turns u.turns order (turn_begun_kept past p) (turns past) agrees.turns follows.turns_are in
+    let two =
+    rows_carried session_name session_life session_begun before at (session_kept past p) (session_made (sessions past) past p) t.sessions u.sessions order (session_begun_kept past p) (sessions past)
+    agrees.sessions follows.sessions_are in
+    let three =
+    rows_carried code_name code_life code_begun before at (code_kept past p) (code_made (codes_issued past) past p) t.codes u.codes order (code_begun_kept past p) (codes_issued past) agrees.codes
+    follows.codes_are in
+    let four =
+    rows_carried access_name access_life access_begun before at (access_kept past p) (access_made (accesses past) past p) t.tokens u.tokens order (access_begun_kept past p) (accesses past) agrees.tokens
+    follows.tokens_are in
+    record {
+      turns = one;
+      sessions = two;
+      codes = three;
+      tokens = four;
+      granted = λ user client low few.
+          let J : Scopes → Scopes = λ s. joined s (granted_by past user client (turn_agreed past p.entry.ask p.reply)) in
+          follows.grants_are user client low few ∙ ap J (agrees.granted user client low few);
+    }
+
+pub is_begun_carried : (t u : Tables) (past : OpPast) (p : OpPair) (before : ℕ) → before ≤ p.entry.at → IsBegun t before → FollowsPair t u past p → IsBegun u p.entry.at
+is_begun_carried t u past p before order low follows =
+    let at : ℕ = p.entry.at in
+    let one =
+    begun_carried turn_name turn_life turn_begun before at (turn_kept past p) (turn_made (turns past) past p) t.turns u.turns order (turn_begun_kept past p) (turn_made_begun (turns past) past p) low.turns
+    follows.turns_are in
+    let two =
+    begun_carried session_name session_life session_begun before at (session_kept past p) (session_made (sessions past) past p) t.sessions u.sessions order (session_begun_kept past p)
+    (session_made_begun (sessions past) past p) low.sessions follows.sessions_are in
+    let three =
+    begun_carried code_name code_life code_begun before at (code_kept past p) (code_made (codes_issued past) past p) t.codes u.codes order (code_begun_kept past p) (code_made_begun (codes_issued past) past p)
+    low.codes follows.codes_are in
+    let four =
+    begun_carried access_name access_life access_begun before at (access_kept past p) (access_made (accesses past) past p) t.tokens u.tokens order (access_begun_kept past p)
+    (access_made_begun (accesses past) past p) low.tokens follows.tokens_are in
+    record { turns = one; sessions = two; codes = three; tokens = four }

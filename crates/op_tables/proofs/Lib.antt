@@ -1,0 +1,14 @@
+pub mod Lookups
+pub mod NamedRows
+pub mod Leaving
+pub mod LiveRows
+pub mod KeptRows
+pub mod KeptTables
+pub mod ConsentsKept
+pub mod AnswerTells
+pub mod Finding
+pub mod Carried
+pub mod TakenRows
+pub mod TakenSessions
+pub mod TakenUp
+pub mod Samples

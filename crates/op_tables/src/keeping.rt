@@ -1,0 +1,307 @@
+// What a pair changes in the tables, so that they stay in agreement with the past. It takes no memory.
+
+ghost use Rattle.std.specs.Prelude.{◌≡◌, ◌<◌, ◌≤◌, ℕ, filter_map, Some, IfSome, option_map};
+ghost use Rattle.std.specs.Option.{option_copied};
+ghost use Rattle.sso_base.specs.Words.{Word, word_of_text};
+ghost use Rattle.sso_base.specs.Rows.{put, row_of};
+ghost use Rattle.scope_claims.specs.Claims.{joined};
+ghost use Rattle.code_grant.specs.Rows.{turn_name, turn_begun, session_name, session_begun, code_name, code_begun, access_name, access_begun};
+ghost use Rattle.code_grant.specs.Consents.{granted_to};
+ghost use Rattle.op_answer.specs.Past.{OpPast};
+ghost use Rattle.op_answer.specs.Turns as turns;
+ghost use Rattle.op_answer.specs.Sessions as sessions;
+ghost use Rattle.op_answer.specs.Codes as codes;
+ghost use Rattle.op_answer.specs.AccessTokens as tokens;
+ghost use Rattle.op_answer.specs.Consents as consents;
+ghost use Rattle.op_tables.specs.Keeping as spec;
+ghost use Rattle.op_exchange.specs.Replied as replied;
+
+use code_grant::{CodeRow, Grants, SessionRow, TokenRow, TurnRow};
+use op_exchange::{OpAsk, OpReply};
+use request_need::needed_scopes;
+use scope_claims::Scopes;
+use sso_base::{Moment, Pair, Word};
+use token_endpoint::Grant;
+
+// ---- turns
+
+fn ends_turn(reply: &OpReply) -> bool
+    ensures { result ≡ replied.ends_turn reply.now }
+{
+    matches!(reply, OpReply::Answered { .. } | OpReply::Refused { .. })
+}
+
+// The turn that a form was posted for.
+fn turn_named(ask: &OpAsk) -> Option<Word>
+    ensures { result ≡ turns.turn_named ask.now }
+{
+    match ask {
+        OpAsk::Login { turn, .. } | OpAsk::Consent { turn, .. } => *turn,
+        _ => None,
+    }
+}
+
+// The session that a consent page after a login gives its turn.
+fn session_taken(ask: &OpAsk, reply: &OpReply) -> Option<Word>
+    ensures { result ≡ spec.session_taken ask.now reply.now }
+{
+    match (ask, reply) {
+        (OpAsk::Login { .. }, OpReply::ConsentPage { session, .. }) => *session,
+        _ => None,
+    }
+}
+
+fn move_turn(grants: &mut Grants, turn: Option<Word>, ends: bool, taken: Option<Word>)
+    ensures { grants.new ≡ spec.turn_moved turn ends taken grants.old }
+{
+    let Some(turn) = turn else {
+        return;
+    };
+    if ends {
+        grants.end_turn(turn);
+    } else if let Some(session) = taken {
+        grants.set_turn(turn, session, true);
+    }
+}
+
+/// Leaves the turns as the pair does: that of a form is ended where the form was answered or refused, and has the login's
+/// session after a consent page.
+pub(crate) fn keep_turns(grants: &mut Grants, pair: &Pair<OpAsk, OpReply>)
+    ensures { (past : OpPast) → grants.new ≡ record grants.old { turns = filter_map (turns.turn_kept past pair.now) grants.old.turns } }
+{
+    let turn = turn_named(&pair.entry.ask);
+    let taken = session_taken(&pair.entry.ask, &pair.reply);
+    move_turn(grants, turn, ends_turn(&pair.reply), taken);
+}
+
+// ---- sessions
+
+/// The word of the session that a right password left.
+pub fn session_set(ask: &OpAsk, reply: &OpReply) -> Option<Word>
+    ensures { result ≡ sessions.session_set ask.now reply.now }
+{
+    let OpAsk::Login { .. } = ask else {
+        return None;
+    };
+    match reply {
+        OpReply::ConsentPage { session, .. }
+        | OpReply::Answered { session, .. }
+        | OpReply::Refused { session, .. } => *session,
+        _ => None,
+    }
+}
+
+// The presented session, where a login left another.
+fn session_replaced(presented: &Option<Word>, left: &Option<Word>) -> Option<Word>
+    ensures { result ≡ spec.session_replaced presented.now left.now }
+{
+    let (Some(presented), Some(left)) = (presented, left) else {
+        return None;
+    };
+    if presented == left {
+        return None;
+    }
+    Some(*presented)
+}
+
+// The session that a sign-out ends, or a login.
+fn session_ended(ask: &OpAsk, reply: &OpReply) -> Option<Word>
+    ensures { result ≡ spec.session_ended ask.now reply.now }
+{
+    match ask {
+        OpAsk::SignOut { session } => match reply {
+            OpReply::SignedOut { .. } => *session,
+            _ => None,
+        },
+        OpAsk::Login { session, .. } => session_replaced(session, &session_set(ask, reply)),
+        _ => None,
+    }
+}
+
+fn end_if(grants: &mut Grants, word: Option<Word>)
+    ensures { grants.new ≡ spec.ended_if word grants.old }
+{
+    if let Some(word) = word {
+        grants.end_session(word);
+    }
+}
+
+fn visit_if(grants: &mut Grants, used: Option<Word>, client: Option<u32>)
+    requires { IfSome client (λ n. n < 128) }
+    ensures { grants.new ≡ spec.visited_if used client grants.old }
+{
+    if let (Some(used), Some(client)) = (used, client) {
+        grants.visit(used, client);
+    }
+}
+
+/// Leaves the sessions as the pair does, which used a session and answered a client: the presented one is ended in favour
+/// of another that a login left, and by a sign-out; the one that was used has the client.
+pub(crate) fn keep_sessions(
+    grants: &mut Grants,
+    pair: &Pair<OpAsk, OpReply>,
+    used: Option<Word>,
+    client: Option<u32>,
+)
+    requires { IfSome client (λ n. n < 128) }
+    ensures { (past : OpPast) → ((n : ℕ) → client ≡ Some n → sessions.session_used past pair.now.entry.ask pair.now.reply ≡ used) → sessions.client_answered past pair.now ≡ client → grants.new ≡ record grants.old { sessions = filter_map (sessions.session_kept past pair.now) grants.old.sessions } }
+{
+    end_if(grants, session_ended(&pair.entry.ask, &pair.reply));
+    visit_if(grants, used, client);
+}
+
+// ---- codes
+
+// The token request that got tokens or was refused.
+fn grant_answered<'a>(ask: &'a OpAsk, reply: &OpReply) -> Option<&'a Grant>
+    ensures { option_copied result ≡ spec.grant_answered ask.now reply.now }
+{
+    let OpAsk::Token { grant: Ok(grant) } = ask else {
+        return None;
+    };
+    match reply {
+        OpReply::Tokens { .. } | OpReply::TokenRefused { .. } => Some(grant),
+        _ => None,
+    }
+}
+
+// A client asks tokens for a code. A client that no code can be of gets nothing.
+fn ask_code(grants: &mut Grants, grant: &Grant, at: Moment)
+    ensures { grants.new ≡ spec.code_asked (word_of_text grant.now.code) grant.now at grants.old }
+{
+    let Some(code) = Word::read(grant.code.as_str().as_bytes()) else {
+        return;
+    };
+    let _held = grants.code(code);
+    if grant.client < 128 {
+        let _ = grants.redeem(code, grant.client, grant.redirect.as_str().as_bytes(), at);
+    }
+}
+
+/// Leaves the codes and the access tokens as the pair does: a token request that got tokens spends its code, and one that
+/// found its code spent ends the tokens that came for it (RFC 6749, 4.1.2).
+pub(crate) fn keep_codes(grants: &mut Grants, pair: &Pair<OpAsk, OpReply>)
+    ensures { (past : OpPast) → spec.FindsCode grants.old.codes past pair.now.entry.at pair.now.entry.ask → spec.TellsRedemption past pair.now.entry.at pair.now.entry.ask pair.now.reply → grants.new ≡ record grants.old { codes = filter_map (codes.code_kept past pair.now) grants.old.codes; tokens = filter_map (tokens.access_kept past pair.now) grants.old.tokens } }
+{
+    if let Some(grant) = grant_answered(&pair.entry.ask, &pair.reply) {
+        ask_code(grants, grant, pair.entry.at);
+    }
+}
+
+// ---- rows that are put
+
+fn put_turn(grants: &mut Grants, row: Option<TurnRow>)
+    requires { IfSome row (λ r. spec.MayAdd turn_name turn_begun grants.old.reserved.turns grants.old.turns r × (r.wish.client < 128)) }
+    ensures { grants.new ≡ spec.turn_put row grants.old }
+{
+    if let Some(row) = row {
+        grants.start_turn(row);
+    }
+}
+
+// The session of that word is ended first.
+fn put_session(grants: &mut Grants, row: Option<SessionRow>)
+    requires { IfSome row (λ r. spec.MayPut session_name session_begun grants.old.reserved.sessions grants.old.sessions r × (r.user < 512)) }
+    ensures { grants.new ≡ spec.session_put row grants.old }
+{
+    if let Some(row) = row {
+        grants.end_session(row.word);
+        grants.start_session(row);
+    }
+}
+
+fn put_code(grants: &mut Grants, row: Option<CodeRow>)
+    requires { IfSome row (λ r. spec.MayAdd code_name code_begun grants.old.reserved.codes grants.old.codes r × (r.user < 512) × (r.wish.client < 128)) }
+    ensures { grants.new ≡ spec.code_put row grants.old }
+{
+    if let Some(row) = row {
+        grants.issue_code(row);
+    }
+}
+
+fn put_token(grants: &mut Grants, row: Option<TokenRow>)
+    requires { IfSome row (λ r. spec.MayAdd access_name access_begun grants.old.reserved.tokens grants.old.tokens r × (r.user < 512) × (r.client < 128)) }
+    ensures { grants.new ≡ spec.token_put row grants.old }
+{
+    if let Some(row) = row {
+        grants.issue_token(row);
+    }
+}
+
+/// Puts at most one row in each table. A session takes the place of one of its word.
+pub(crate) fn put_rows(
+    grants: &mut Grants,
+    turn: Option<TurnRow>,
+    session: Option<SessionRow>,
+    code: Option<CodeRow>,
+    token: Option<TokenRow>,
+)
+    requires turn { IfSome turn (λ r. spec.MayAdd turn_name turn_begun grants.old.reserved.turns grants.old.turns r × (r.wish.client < 128)) }
+    requires session { IfSome session (λ r. spec.MayPut session_name session_begun grants.old.reserved.sessions grants.old.sessions r × (r.user < 512)) }
+    requires code { IfSome code (λ r. spec.MayAdd code_name code_begun grants.old.reserved.codes grants.old.codes r × (r.user < 512) × (r.wish.client < 128)) }
+    requires token { IfSome token (λ r. spec.MayAdd access_name access_begun grants.old.reserved.tokens grants.old.tokens r × (r.user < 512) × (r.client < 128)) }
+    ensures turns { grants.new.turns ≡ put turn_name turn grants.old.turns }
+    ensures sessions { grants.new.sessions ≡ put session_name session grants.old.sessions }
+    ensures codes { grants.new.codes ≡ put code_name code grants.old.codes }
+    ensures tokens { grants.new.tokens ≡ put access_name token grants.old.tokens }
+    ensures consents { grants.new.consents ≡ grants.old.consents }
+{
+    put_turn(grants, turn);
+    put_session(grants, session);
+    put_code(grants, code);
+    put_token(grants, token);
+}
+
+// ---- what users have granted
+
+/// What is granted, to which client, and by which user.
+#[derive(Clone, Copy)]
+pub(crate) struct Agreement {
+    user: u32,
+    client: u32,
+    scopes: Scopes,
+}
+
+// The turn of a consent form that agreed and was answered or refused.
+fn agreed_turn(ask: &OpAsk, reply: &OpReply) -> Option<Word>
+    ensures { result ≡ spec.agreed_turn ask.now reply.now }
+{
+    let OpAsk::Consent {
+        turn,
+        agree: true,
+        ..
+    } = ask
+    else {
+        return None;
+    };
+    match reply {
+        OpReply::Answered { .. } | OpReply::Refused { .. } => *turn,
+        _ => None,
+    }
+}
+
+// The user of the turn's session grants what the turn's consent page was about.
+fn agreement_of(grants: &Grants, turn: Option<Word>) -> Option<Agreement>
+    ensures agreement { result ≡ spec.agreement_of grants.now (spec.turn_in grants.now turn) }
+    ensures in_range { IfSome result (λ a. (a.user < 512) × (a.client < 128)) }
+{
+    let turn = grants.turn(turn?)?;
+    let session = grants.session(turn.session?)?;
+    Some(Agreement {
+        user: session.user,
+        client: turn.wish.client,
+        scopes: needed_scopes(&turn.wish),
+    })
+}
+
+/// The consent that a form gave is granted.
+pub(crate) fn grant_agreed(grants: &mut Grants, pair: &Pair<OpAsk, OpReply>)
+    ensures granted { (past : OpPast) → spec.FindsAgreement grants.old past pair.now.entry.ask pair.now.reply → (user client : ℕ) → user < 512 → client < 128 → granted_to user client grants.new.consents ≡ joined (granted_to user client grants.old.consents) (consents.granted_by past user client (consents.turn_agreed past pair.now.entry.ask pair.now.reply)) }
+    ensures others { grants.new ≡ record grants.old { consents = grants.new.consents } }
+{
+    let agreed = agreement_of(grants, agreed_turn(&pair.entry.ask, &pair.reply));
+    if let Some(agreed) = agreed {
+        let _before = grants.granted(agreed.user, agreed.client);
+        grants.grant(agreed.user, agreed.client, agreed.scopes);
+    }
+}

@@ -1,0 +1,50 @@
+// A pair is taken up by the tables.
+
+ghost use Rattle.std.specs.Prelude.{◌≡◌, ◌<◌, ◌≤◌, ℕ, true, length, IfSome};
+ghost use Rattle.client_registry.specs.Configuration.{Configuration};
+ghost use Rattle.code_grant.specs.Held.{most_rows};
+ghost use Rattle.op_answer.specs.Past.{OpPast};
+ghost use Rattle.op_tables.specs.Keeping.{FollowsPair};
+ghost use Rattle.op_tables.specs.Taking.{TakesUp};
+
+use crate::keeping::{grant_agreed, keep_codes, keep_sessions, keep_turns, put_rows};
+use crate::made::Made;
+use code_grant::{Grants, SessionRow};
+use op_exchange::{OpAsk, OpReply};
+use sso_base::{Pair, Word};
+
+// No more sessions are held than a table may hold. A look-up says so.
+fn sessions_fit(grants: &Grants, session: &Option<SessionRow>)
+    ensures { IfSome session.now (λ row. length grants.now.sessions ≤ most_rows) }
+{
+    if let Some(session) = session {
+        let _held = grants.session(session.word);
+    }
+}
+
+/// Takes a pair up: what has ended leaves the tables, the pair changes what is held, and its rows are put. It takes no
+/// memory.
+pub fn take_up(
+    grants: &mut Grants,
+    pair: &Pair<OpAsk, OpReply>,
+    made: Made,
+    used: Option<Word>,
+    client: Option<u32>,
+)
+    requires may { (c : Configuration) × (past : OpPast) × (before : ℕ) × TakesUp grants.old pair.now made.turn made.session made.code made.token used client c past before }
+    requires reserved { grants.old.reserved ≡ record { turns = true; sessions = true; codes = true; tokens = true } }
+    requires client { IfSome client (λ n. n < 128) }
+    requires turn { IfSome made.turn (λ r. r.wish.client < 128) }
+    requires session { IfSome made.session (λ r. r.user < 512) }
+    requires code { IfSome made.code (λ r. (r.user < 512) × (r.wish.client < 128)) }
+    requires token { IfSome made.token (λ r. (r.user < 512) × (r.client < 128)) }
+    ensures { (c : Configuration) (past : OpPast) (before : ℕ) → TakesUp grants.old pair.now made.turn made.session made.code made.token used client c past before → FollowsPair grants.old grants.new past pair.now }
+{
+    sessions_fit(grants, &made.session);
+    grants.purge(pair.entry.at);
+    grant_agreed(grants, pair);
+    keep_turns(grants, pair);
+    keep_sessions(grants, pair, used, client);
+    keep_codes(grants, pair);
+    put_rows(grants, made.turn, made.session, made.code, made.token);
+}
