@@ -2,7 +2,7 @@
 //!
 //! Memory runs out here only where `rt try --test --fail-alloc N -- memory` has the Nth allocation fail.
 
-use crate::runs::{Request, Run, all_held, begin, count, is_told, reply_to, request_of};
+use crate::runs::{Request, Run, all_held, begin, count, expect, is_told, reply_to, request_of};
 use op_exchange::OpReply;
 use std::alloc::Global;
 use std::test::Fail;
@@ -40,19 +40,23 @@ fn is_told_at_last(alloc: Global, reply: &OpReply, told: &str) -> Result<bool, F
     }
 }
 
-fn plays_at_last(run: &mut Run, alloc: Global, text: &str) -> Result<bool, Fail> {
+fn play_at_last(run: &mut Run, alloc: Global, text: &str) -> Result<(), Fail> {
     let (request, told) = text.split_once(" => ").ok_or("a reply")?;
     let request = request_of(alloc, request)?;
     let reply = reply_at_last(run, alloc, &request)?;
-    is_told_at_last(alloc, &reply, told)
+    expect(is_told_at_last(alloc, &reply, told)?, text)
+}
+
+fn play_all_at_last(run: &mut Run, alloc: Global, lines: &str) -> Result<(), Fail> {
+    for text in lines.split('\n') {
+        play_at_last(run, alloc, text)?;
+    }
+    Ok(())
 }
 
 #[test]
 fn what_found_no_memory_is_answered_when_sent_again(rt: HostRuntime) -> Result<(), Fail> {
     let alloc = rt.alloc();
     let mut run = begin(alloc)?;
-    for text in A_LOGIN.split('\n') {
-        assert!(rt; plays_at_last(&mut run, alloc, text)?);
-    }
-    Ok(())
+    play_all_at_last(&mut run, alloc, A_LOGIN)
 }

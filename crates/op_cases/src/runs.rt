@@ -241,6 +241,19 @@ pub(crate) fn first_other_of<'a>(alloc: Global, lines: &'a str) -> Result<Option
     first_other(&mut run, alloc, lines)
 }
 
+/// Fails with the first line whose request gets another reply.
+pub(crate) fn play(run: &mut Run, alloc: Global, lines: &str) -> Result<(), Fail> {
+    match first_other(run, alloc, lines)? {
+        Some(line) => Err(Fail::new(line)),
+        None => Ok(()),
+    }
+}
+
+/// Fails where this is not so.
+pub(crate) fn expect(is_so: bool, what: &str) -> Result<(), Fail> {
+    if is_so { Ok(()) } else { Err(Fail::new(what)) }
+}
+
 /// Whether the provider's tables hold a code.
 pub(crate) fn holds_code(run: &Run, number: u8) -> bool {
     run.core.tables().code(word(number)).is_some()

@@ -1,0 +1,9 @@
+pub mod AsciiTexts
+pub mod KnownWords
+pub mod Costs
+pub mod PartyRows
+pub mod Sealable
+pub mod Printed
+pub mod Asked
+pub mod Apart
+mod Samples

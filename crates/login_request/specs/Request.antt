@@ -1,0 +1,74 @@
+-- The authorization request by which a relying party begins a login (OpenID Connect Core 1.0, 3.1.2.1, 3.2.2.1, 3.3.2.1 and
+-- 6.1).
+use Rattle.std.specs.Prelude.{Bool, [], ◌∷◌, ◌++◌, Some, None, option_map, codes, decimal, if◌then◌else◌}
+use Rattle.sso_base.specs.Words.{Word, Text, word_text}
+use Rattle.client_registry.specs.declared.records.Types.{Types}
+use Rattle.client_registry.specs.declared.records.Client.{Client}
+use Rattle.client_registry.specs.declared.records.Party.{Party}
+use Rattle.client_registry.specs.declared.records.Provider.{Provider}
+use Rattle.request_params.specs.declared.params.Params.{Params}
+use Rattle.request_params.specs.Printing.{request_location}
+use Rattle.request_object.specs.Request.{request_text}
+
+-- ---- the response type, its words in the order `code`, `id_token`, `token`
+
+abbrev pub and_word : Text → Text → Text
+and_word [] word = word
+and_word (b ∷ text) word = (b ∷ text) ++ 32 ∷ word
+
+abbrev pub word_if : Bool → Text → Text → Text
+word_if flag word text = if flag then and_word text word else text
+
+abbrev pub types_text : Types → Text
+types_text types = word_if types.token (codes "token") (word_if types.id_token (codes "id_token") (word_if types.code (codes "code") []))
+
+-- ---- the parameters
+
+-- those of a login with this state and nonce
+abbrev pub login_params : Client → Party → Word → Word → Params
+login_params client party state nonce =
+    record {
+      response_type = Some (types_text party.types);
+      client_id = Some client.id;
+      redirect_uri = Some party.redirect;
+      scope = Some party.scope;
+      state = Some (word_text state);
+      nonce = Some (word_text nonce);
+      response_mode = None;
+      prompt = party.prompt;
+      max_age = option_map decimal party.max_age;
+      claims = None;
+      request = None;
+      request_uri = None;
+      registration = None;
+    }
+
+-- those that stand beside a request object, since OAuth 2.0 and OpenID Connect need them outside (Core 6.1)
+abbrev pub outer_params : Client → Party → Text → Params
+outer_params client party request =
+    record {
+      response_type = Some (types_text party.types);
+      client_id = Some client.id;
+      redirect_uri = Some party.redirect;
+      scope = Some (codes "openid");
+      state = None;
+      nonce = None;
+      response_mode = None;
+      prompt = None;
+      max_age = None;
+      claims = None;
+      request = Some request;
+      request_uri = None;
+      registration = None;
+    }
+
+-- a party whose requests are signed sends them in a request object
+abbrev pub sent_params : Client → Party → Provider → Word → Word → Params
+sent_params client party provider state nonce =
+    if party.signed
+    then outer_params client party (request_text client provider.issuer (login_params client party state nonce))
+    else login_params client party state nonce
+
+-- where the browser is sent
+unfoldable pub login_location : Client → Party → Provider → Word → Word → Text
+login_location client party provider state nonce = request_location provider.authorize (sent_params client party provider state nonce)

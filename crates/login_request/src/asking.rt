@@ -1,0 +1,128 @@
+// Where the browser is sent to begin a login.
+
+ghost use Rattle.std.specs.Prelude.{◌≡◌, ◌≤◌, ◌<◌, length, IfOk};
+ghost use Rattle.sso_base.specs.Words.{IsWord};
+ghost use Rattle.claim_set.specs.Reading.{claims_text};
+ghost use Rattle.request_object.specs.Request.{request_members, request_text};
+ghost use Rattle.login_request.specs.Parties.{party_row as row_of, client_row as client_of, MayAsk};
+ghost use Rattle.login_request.specs.Request as spec;
+
+use crate::params::{login_params, outer_params};
+use client_registry::{Client, Party, Provider, Registry};
+use request_object::seal_request;
+use request_params::{Params, print_request};
+use sso_base::{NoMemory, Text, Word};
+use std::alloc::Global;
+
+// The row of a party.
+fn party_row(registry: &Registry, party: u32) -> &Party
+    requires { party < length registry.now.parties }
+    ensures { result.now ≡ row_of registry.now party }
+{
+    registry.party(party)
+}
+
+// The row of the client that a party is. That the registry keeps its rules is known of its count.
+fn client_row(registry: &Registry, party: u32) -> &Client
+    requires { party < length registry.now.parties }
+    ensures { result.now ≡ client_of registry.now party }
+{
+    let _parties = registry.parties();
+    let number = party_row(registry, party).client;
+    registry.client(number)
+}
+
+// The bytes of a word. That there are 32, each below 256, is said for the proof of `bounds_of`.
+fn bytes_of(word: &Word) -> [u8; 32]
+    ensures { IsWord word.now }
+{
+    word.bytes()
+}
+
+// The response types of a client. That there are six is said for the proof of `bounds_of`.
+fn types_of(types: [bool; 6]) -> [bool; 6]
+    ensures { length types ≡ 6 }
+{
+    types
+}
+
+// What the size of the claims rests on, said for the proof of `sent_params`: each registry keeps its rules, and words have
+// bounds.
+fn bounds_of(registry: &Registry, party: u32, provider: &Provider, state: &Word, nonce: &Word)
+    requires party { party < length registry.now.parties }
+    requires issuer { length provider.now.issuer ≤ 200 }
+    ensures { MayAsk registry.now party provider.now.issuer state.now nonce.now }
+{
+    let _parties = registry.parties();
+    let client = client_row(registry, party);
+    let _types = types_of(client.types);
+    let _issuer = provider.issuer.as_str();
+    let _state = bytes_of(state);
+    let _nonce = bytes_of(nonce);
+}
+
+// The request object of a login.
+fn request_for(
+    alloc: Global,
+    client: &Client,
+    party: &Party,
+    issuer: &Text,
+    state: &Word,
+    nonce: &Word,
+) -> Result<Text, NoMemory>
+    requires { length (claims_text (request_members client.now issuer.now (spec.login_params client.now party.now state.now nonce.now))) ≤ 6000 }
+    ensures { IfOk result (λ t. t ≡ request_text client.now issuer.now (spec.login_params client.now party.now state.now nonce.now)) }
+{
+    let params = login_params(alloc, client, party, state, nonce)?;
+    seal_request(alloc, client, issuer, &params)
+}
+
+// The parameters that stand in the location.
+fn sent_params(
+    alloc: Global,
+    registry: &Registry,
+    party: u32,
+    provider: &Provider,
+    state: &Word,
+    nonce: &Word,
+) -> Result<Params, NoMemory>
+    requires party { party < length registry.now.parties }
+    requires issuer { length provider.now.issuer ≤ 200 }
+    ensures { IfOk result (λ p. p ≡ spec.sent_params (client_of registry.now party) (row_of registry.now party) provider.now state.now nonce.now) }
+{
+    let row = party_row(registry, party);
+    let client = client_row(registry, party);
+    if !row.signed {
+        return login_params(alloc, client, row, state, nonce);
+    }
+    bounds_of(registry, party, provider, state, nonce);
+    let object = request_for(alloc, client, row, &provider.issuer, state, nonce)?;
+    outer_params(alloc, client, row, object)
+}
+
+/// The location to which a browser is sent to begin a login of a party of the registry: the authorization endpoint of the
+/// provider, with the authorization request in its query (OpenID Connect Core 1.0, 3.1.2.1, 3.2.2.1 and 3.3.2.1; RFC 6749,
+/// 4.1.1).
+///
+/// The request has the party's response type, client, redirection URI, scope, `prompt` and `max_age`, and the texts of the
+/// two words as `state` and `nonce`. A party whose requests are signed sends all of them in a request object, sealed under
+/// its client's secret for the provider, and beside it `response_type`, `client_id`, `redirect_uri` and the scope `openid`
+/// (OpenID Connect Core 1.0, 6.1).
+///
+/// The issuer of the provider has at most 200 bytes: then the claims of a request object are never too long.
+#[tactic(auto, unfolding(crate::specs::Request::login_location))]
+pub fn login_request(
+    alloc: Global,
+    registry: &Registry,
+    party: u32,
+    provider: &Provider,
+    state: &Word,
+    nonce: &Word,
+) -> Result<Text, NoMemory>
+    requires party { party < length registry.now.parties }
+    requires issuer { length provider.now.issuer ≤ 200 }
+    ensures { IfOk result (λ t. t ≡ spec.login_location (client_of registry.now party) (row_of registry.now party) provider.now state.now nonce.now) }
+{
+    let params = sent_params(alloc, registry, party, provider, state, nonce)?;
+    print_request(alloc, &provider.authorize, &params)
+}

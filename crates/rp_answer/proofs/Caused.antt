@@ -1,0 +1,20 @@
+-- The cause of each reply, by the reply. A reply that there is without regard to room is never the refusal Full.
+use Rattle.sso_base.specs.declared.history.Entry.{Entry}
+use Rattle.rp_exchange.specs.declared.ask.RpAsk.{RpAsk}
+use Rattle.rp_exchange.specs.declared.no.RpNo.TheVariants as no
+use Rattle.rp_exchange.specs.declared.reply.RpReply.{RpReply}
+use Rattle.rp_exchange.specs.declared.reply.RpReply.TheVariants.{Ask, Exchange, Entered, User, Nobody, Refused, NotHere}
+use Rattle.rp_answer.specs.Past.{RpPast}
+use Rattle.rp_answer.specs.Setup.{PartySetup}
+use Rattle.rp_answer.specs.Causes.{AskCause, ExchangeCause, EnteredCause, UserCause, NobodyCause, RefusedCause}
+
+abbrev pub Caused : PartySetup → RpPast → Entry RpAsk → RpAsk → RpReply → Type 0
+Caused s past e asked (Ask to browser) = AskCause s past e asked to browser
+Caused s past e asked (Exchange w message) = ExchangeCause s past e asked w message
+Caused s past e asked (Entered w sub) = EnteredCause s past e asked w sub
+Caused s past e asked (User sub) = UserCause s past e asked sub
+Caused s past e asked Nobody = NobodyCause s past e asked
+Caused s past e asked (Refused (no.Full table)) = ⊥
+Caused s past e asked (Refused why) = RefusedCause s past e asked why
+Caused s past e asked NotHere = Unit {0}
+Caused s past e asked other = ⊥

@@ -1,0 +1,21 @@
+pub mod Stood
+pub mod Caused
+pub mod Responses
+pub mod TokenResponses
+pub mod Answers
+pub mod Refusals
+pub mod Sample
+pub mod FirstVisit
+pub mod FrontLogin
+pub mod EachRefusal
+pub mod RowSamples
+mod ReplySamples
+mod Legality
+mod CauseSamples
+pub mod KeptNames
+pub mod Drawn
+pub mod Entering
+pub mod Counting
+pub mod LoginsOnce
+mod LegalLogins
+mod NoCause

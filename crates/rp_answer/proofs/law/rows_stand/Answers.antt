@@ -1,0 +1,16 @@
+use Rattle.sso_base.proofs.Literal.{stands-row_of, row_of-stands}
+use Rattle.rp_login.specs.Rows.{login_name, pending_name, visit_name}
+use Rattle.rp_answer.specs.Logins.{login_made, login_kept}
+use Rattle.rp_answer.specs.Pendings.{pending_made, pending_kept}
+use Rattle.rp_answer.specs.Visits.{visit_made, visit_kept}
+use Rattle.rp_answer.proofs.KeptNames.{login_names, pending_names, visit_names}
+use Rattle.rp_answer.proofs.law.rows_stand.Goals as goal
+
+pub returns-clause-logins : goal.returns-clause-logins
+returns-clause-logins c = λ past w row. (stands-row_of login_name login_made login_kept login_names w past row, row_of-stands login_name login_made login_kept login_names w past row)
+
+pub returns-clause-pendings : goal.returns-clause-pendings
+returns-clause-pendings c = λ types past w row. (stands-row_of pending_name (pending_made types) pending_kept pending_names w past row, row_of-stands pending_name (pending_made types) pending_kept pending_names w past row)
+
+pub returns-clause-visits : goal.returns-clause-visits
+returns-clause-visits c = λ types past w row. (stands-row_of visit_name (visit_made types) visit_kept visit_names w past row, row_of-stands visit_name (visit_made types) visit_kept visit_names w past row)

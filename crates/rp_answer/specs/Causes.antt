@@ -1,0 +1,238 @@
+-- What a reply of a relying party says of the past and of the ask that led to it.
+use Rattle.std.specs.Prelude.{◌≡◌, ℕ, Bool, true, false, Option, Some, None, Result, Ok, Err, ◌⊎◌}
+use Rattle.sso_base.specs.Words.{Word, Text, is_word, fresh_word}
+use Rattle.sso_base.specs.declared.history.Entry.{Entry}
+use Rattle.id_token.specs.declared.claims.IdClaims.{IdClaims}
+use Rattle.id_token.specs.declared.no.IdNo.{IdNo}
+use Rattle.id_token.specs.declared.rules.IdRules.{IdRules}
+use Rattle.id_token.specs.Judging.{id_judged}
+use Rattle.auth_request.specs.declared.wish.AuthError.{AuthError}
+use Rattle.auth_answer.specs.declared.heard.Heard.{Heard}
+use Rattle.auth_answer.specs.declared.no.AnswerNo.TheVariants as answer_no
+use Rattle.token_endpoint.specs.declared.reading.Tokens.{Tokens}
+use Rattle.token_endpoint.specs.declared.no.TokensNo.{TokensNo}
+use Rattle.token_endpoint.specs.Request.{token_message}
+use Rattle.sso_base.specs.declared.message.Message.{Message}
+use Rattle.login_request.specs.Request.{login_location}
+use Rattle.rp_login.specs.declared.rows.LoginRow.{LoginRow}
+use Rattle.rp_login.specs.declared.rows.PendingRow.{PendingRow}
+use Rattle.rp_login.specs.declared.rows.SessionRow.{SessionRow}
+use Rattle.rp_login.specs.declared.table.RpTable.{RpTable}
+use Rattle.rp_exchange.specs.declared.ask.RpAsk.{RpAsk}
+use Rattle.rp_exchange.specs.declared.ask.RpAsk.TheVariants as ask
+use Rattle.rp_exchange.specs.declared.no.Part.{Part}
+use Rattle.rp_exchange.specs.declared.no.Part.TheVariants as part
+use Rattle.rp_exchange.specs.declared.no.RpNo.{RpNo}
+use Rattle.rp_exchange.specs.declared.no.RpNo.TheVariants as no
+use Rattle.rp_exchange.specs.declared.reply.RpReply.{RpReply}
+use Rattle.rp_exchange.specs.declared.reply.RpReply.TheVariants.{Refused, NotHere}
+use Rattle.rp_exchange.specs.Asks.{is_prepared}
+use Rattle.rp_answer.specs.Past.{RpPast}
+use Rattle.rp_answer.specs.Setup.{PartySetup, party_of, client_of}
+use Rattle.rp_answer.specs.Asked.{if_wanted}
+use Rattle.rp_answer.specs.Logins.{live_login}
+use Rattle.rp_answer.specs.Pendings.{live_pending}
+use Rattle.rp_answer.specs.Visits.{live_visit}
+use Rattle.rp_answer.specs.Replies.{login_browser, front_code, front_rules, back_rules, part_missing, is_other}
+use Rattle.rp_answer.specs.Room.{table_lacking}
+use Rattle.rp_answer.specs.Answering.{rp_reply}
+
+-- ---- every reply but NotHere and the refusal Full: a request gives the ask, and there was room
+
+abbrev pub is_own : RpReply → Bool
+is_own NotHere = false
+is_own (Refused (no.Full table)) = false
+is_own other = true
+
+pub record Stood (s : PartySetup) (past : RpPast) (e : Entry RpAsk) (reply : RpReply) : Type 0 where
+  pub prepared : is_prepared e.ask ≡ true
+  pub room : table_lacking (party_of s).types past e reply ≡ None
+  pub reply_is : rp_reply s past e e.ask ≡ reply
+
+-- the refusal Full: a request gives the ask, and this table has no room for what the reply would make
+pub record NoRoom (s : PartySetup) (past : RpPast) (e : Entry RpAsk) (table : RpTable) : Type 0 where
+  pub prepared : is_prepared e.ask ≡ true
+  pub wanted : RpReply
+  pub wanted_is : rp_reply s past e e.ask ≡ wanted
+  pub lacking : table_lacking (party_of s).types past e wanted ≡ Some table
+
+-- ---- what the replies to authorization responses have in common
+
+-- the response has the state of a live login, and came from the login's own browser
+pub record OwnLogin (past : RpPast) (e : Entry RpAsk) (heard : Heard) (browser : Option Word) (login : LoginRow) : Type 0 where
+  pub live : live_login past e.at heard.state ≡ Some login
+  pub same_browser : is_word browser login.browser ≡ true
+
+-- so it is, and it is no error and has all parts of its type
+pub record WholeResponse (s : PartySetup) (past : RpPast) (e : Entry RpAsk) (heard : Heard) (browser : Option Word) (login : LoginRow) : Type 0 where
+  pub own : OwnLogin past e heard browser login
+  pub no_error : heard.error ≡ None
+  pub whole : part_missing (party_of s).types heard ≡ None
+
+-- the claims of an ID Token were read and judged good by these rules
+pub record GoodClaims (rules : IdRules) (at : ℕ) (id : Option (Result IdClaims IdNo)) (claims : IdClaims) : Type 0 where
+  pub read : id ≡ Some (Ok claims)
+  pub good : Unit {0}
+  pub judged : id_judged rules claims at ≡ Ok good
+
+-- an ID Token was refused: it could not be read, or its claims are not good by these rules
+pub record BadClaims (rules : IdRules) (at : ℕ) (claims : IdClaims) (why : IdNo) : Type 0 where
+  pub judged : id_judged rules claims at ≡ Err why
+
+abbrev pub IdRefused : IdRules → ℕ → Option (Result IdClaims IdNo) → IdNo → Type 0
+IdRefused rules at None why = ⊥
+IdRefused rules at (Some (Err read)) why = read ≡ why
+IdRefused rules at (Some (Ok claims)) why = BadClaims rules at claims why
+
+-- the ID Token of a response was accepted, where its type has one
+abbrev pub IfGood : IdRules → ℕ → Option (Result IdClaims IdNo) → Type 0
+IfGood rules at None = Unit {0}
+IfGood rules at (Some (Err why)) = ⊥
+IfGood rules at (Some (Ok claims)) = GoodClaims rules at (Some (Ok claims)) claims
+
+-- ---- an authorization request: a login begins
+
+pub record LoginBegun (s : PartySetup) (past : RpPast) (e : Entry RpAsk) (presented : Option Word) (to : Text) (browser : Word) : Type 0 where
+  pub location : login_location (client_of s) (party_of s) s.provider (fresh_word e.fresh 1) (fresh_word e.fresh 2) ≡ to
+  pub browser_is : login_browser past e presented ≡ browser
+
+abbrev pub AskCause : PartySetup → RpPast → Entry RpAsk → RpAsk → Text → Word → Type 0
+AskCause s past e (ask.Begin presented) to browser = LoginBegun s past e presented to browser
+AskCause s past e other to browser = ⊥
+
+-- ---- a token request: a whole response of a live login, from its browser, whose ID Token was accepted where it has one
+
+pub record CodeExchanged (s : PartySetup) (past : RpPast) (e : Entry RpAsk) (heard : Heard) (id : Option (Result IdClaims IdNo)) (browser : Option Word) (w : Word) (message : Message) : Type 0 where
+  pub login : LoginRow
+  pub response : WholeResponse s past e heard browser login
+  pub accepted : IfGood (front_rules s login heard) e.at (if_wanted (party_of s).types.id_token id)
+  pub code : Text
+  pub code_is : front_code s heard ≡ Some code
+  pub drawn : fresh_word e.fresh 0 ≡ w
+  pub message_is : token_message (client_of s) s.provider.token code (party_of s).redirect ≡ message
+
+abbrev pub ExchangeCause : PartySetup → RpPast → Entry RpAsk → RpAsk → Word → Message → Type 0
+ExchangeCause s past e (ask.Callback (Ok heard) id browser) w message = CodeExchanged s past e heard id browser w message
+ExchangeCause s past e other w message = ⊥
+
+-- ---- a session: the same without a code, or an accepted ID Token for a live exchange
+
+pub record EnteredAtOnce (s : PartySetup) (past : RpPast) (e : Entry RpAsk) (heard : Heard) (id : Option (Result IdClaims IdNo)) (browser : Option Word) (w : Word) (sub : Text) : Type 0 where
+  pub login : LoginRow
+  pub response : WholeResponse s past e heard browser login
+  pub claims : IdClaims
+  pub accepted : GoodClaims (front_rules s login heard) e.at (if_wanted (party_of s).types.id_token id) claims
+  pub no_code : front_code s heard ≡ None
+  pub drawn : fresh_word e.fresh 1 ≡ w
+  pub sub_is : claims.sub ≡ sub
+
+pub record EnteredAfterExchange (s : PartySetup) (past : RpPast) (e : Entry RpAsk) (pending : Word) (came : Tokens) (id : Option (Result IdClaims IdNo)) (w : Word) (sub : Text) : Type 0 where
+  pub exchange : PendingRow
+  pub live : live_pending (party_of s).types past e.at pending ≡ Some exchange
+  pub claims : IdClaims
+  pub accepted : GoodClaims (back_rules s exchange came) e.at id claims
+  pub same_subject : is_other exchange.sub claims.sub ≡ false
+  pub drawn : fresh_word e.fresh 1 ≡ w
+  pub sub_is : claims.sub ≡ sub
+
+abbrev pub EnteredCause : PartySetup → RpPast → Entry RpAsk → RpAsk → Word → Text → Type 0
+EnteredCause s past e (ask.Callback (Ok heard) id browser) w sub = EnteredAtOnce s past e heard id browser w sub
+EnteredCause s past e (ask.Tokens pending (Ok came) id) w sub = EnteredAfterExchange s past e pending came id w sub
+EnteredCause s past e other w sub = ⊥
+
+-- ---- who is logged in
+
+pub record LiveVisit (s : PartySetup) (past : RpPast) (e : Entry RpAsk) (session : Option Word) (sub : Text) : Type 0 where
+  pub visit : SessionRow
+  pub live : live_visit (party_of s).types past e.at session ≡ Some visit
+  pub sub_is : visit.sub ≡ sub
+
+abbrev pub UserCause : PartySetup → RpPast → Entry RpAsk → RpAsk → Text → Type 0
+UserCause s past e (ask.Visit session) sub = LiveVisit s past e session sub
+UserCause s past e other sub = ⊥
+
+abbrev pub NobodyCause : PartySetup → RpPast → Entry RpAsk → RpAsk → Type 0
+NobodyCause s past e (ask.Visit session) = live_visit (party_of s).types past e.at session ≡ None
+NobodyCause s past e other = ⊥
+
+-- ---- the refusals of an authorization response
+
+pub record StaleState (past : RpPast) (e : Entry RpAsk) (heard : Heard) : Type 0 where
+  pub state : Word
+  pub given : heard.state ≡ Some state
+  pub stale : live_login past e.at (Some state) ≡ None
+
+pub record OtherBrowser (past : RpPast) (e : Entry RpAsk) (heard : Heard) (browser : Option Word) : Type 0 where
+  pub login : LoginRow
+  pub live : live_login past e.at heard.state ≡ Some login
+  pub other : is_word browser login.browser ≡ false
+
+pub record ProviderRefused (past : RpPast) (e : Entry RpAsk) (heard : Heard) (browser : Option Word) (code : AuthError) : Type 0 where
+  pub login : LoginRow
+  pub own : OwnLogin past e heard browser login
+  pub error : heard.error ≡ Some code
+
+pub record PartMissing (s : PartySetup) (past : RpPast) (e : Entry RpAsk) (heard : Heard) (browser : Option Word) (missing : Part) : Type 0 where
+  pub login : LoginRow
+  pub own : OwnLogin past e heard browser login
+  pub no_error : heard.error ≡ None
+  pub lacks : part_missing (party_of s).types heard ≡ Some missing
+
+-- a response type with neither a code nor an ID Token, which no client has
+pub record NothingToEnterBy (s : PartySetup) (past : RpPast) (e : Entry RpAsk) (heard : Heard) (id : Option (Result IdClaims IdNo)) (browser : Option Word) (missing : Part) : Type 0 where
+  pub login : LoginRow
+  pub response : WholeResponse s past e heard browser login
+  pub no_code : front_code s heard ≡ None
+  pub no_id : if_wanted (party_of s).types.id_token id ≡ None
+  pub part_is : missing ≡ part.Id
+
+pub record FrontTokenRefused (s : PartySetup) (past : RpPast) (e : Entry RpAsk) (heard : Heard) (id : Option (Result IdClaims IdNo)) (browser : Option Word) (why : IdNo) : Type 0 where
+  pub login : LoginRow
+  pub response : WholeResponse s past e heard browser login
+  pub refused : IdRefused (front_rules s login heard) e.at (if_wanted (party_of s).types.id_token id) why
+
+abbrev pub ResponseRefused : PartySetup → RpPast → Entry RpAsk → Heard → Option (Result IdClaims IdNo) → Option Word → RpNo → Type 0
+ResponseRefused s past e heard id browser no.NoState = heard.state ≡ None
+ResponseRefused s past e heard id browser no.StaleLogin = StaleState past e heard
+ResponseRefused s past e heard id browser no.WrongBrowser = OtherBrowser past e heard browser
+ResponseRefused s past e heard id browser (no.Provider code) = ProviderRefused past e heard browser code
+ResponseRefused s past e heard id browser (no.Missing missing) = PartMissing s past e heard browser missing ⊎ NothingToEnterBy s past e heard id browser missing
+ResponseRefused s past e heard id browser (no.Id why) = FrontTokenRefused s past e heard id browser why
+ResponseRefused s past e heard id browser (no.Full table) = NoRoom s past e table
+ResponseRefused s past e heard id browser other = ⊥
+
+-- ---- the refusals of a token response
+
+pub record ExchangeFailed (s : PartySetup) (past : RpPast) (e : Entry RpAsk) (pending : Word) (came why : TokensNo) : Type 0 where
+  pub exchange : PendingRow
+  pub live : live_pending (party_of s).types past e.at pending ≡ Some exchange
+  pub failed : came ≡ why
+
+pub record BackTokenRefused (s : PartySetup) (past : RpPast) (e : Entry RpAsk) (pending : Word) (came : Tokens) (id : Option (Result IdClaims IdNo)) (why : IdNo) : Type 0 where
+  pub exchange : PendingRow
+  pub live : live_pending (party_of s).types past e.at pending ≡ Some exchange
+  pub refused : IdRefused (back_rules s exchange came) e.at id why
+
+pub record AnotherSubject (s : PartySetup) (past : RpPast) (e : Entry RpAsk) (pending : Word) (came : Tokens) (id : Option (Result IdClaims IdNo)) : Type 0 where
+  pub exchange : PendingRow
+  pub live : live_pending (party_of s).types past e.at pending ≡ Some exchange
+  pub claims : IdClaims
+  pub accepted : GoodClaims (back_rules s exchange came) e.at id claims
+  pub other : is_other exchange.sub claims.sub ≡ true
+
+abbrev pub TokensRefused : PartySetup → RpPast → Entry RpAsk → Word → Result Tokens TokensNo → Option (Result IdClaims IdNo) → RpNo → Type 0
+TokensRefused s past e pending came id no.StalePending = live_pending (party_of s).types past e.at pending ≡ None
+TokensRefused s past e pending (Err came) id (no.Tokens why) = ExchangeFailed s past e pending came why
+TokensRefused s past e pending (Ok came) id (no.Id why) = BackTokenRefused s past e pending came id why
+TokensRefused s past e pending (Ok came) id no.SubjectDiffers = AnotherSubject s past e pending came id
+TokensRefused s past e pending came id (no.Full table) = NoRoom s past e table
+TokensRefused s past e pending came id other = ⊥
+
+-- ---- all refusals
+
+abbrev pub RefusedCause : PartySetup → RpPast → Entry RpAsk → RpAsk → RpNo → Type 0
+RefusedCause s past e (ask.Begin presented) (no.Full table) = NoRoom s past e table
+RefusedCause s past e (ask.Callback (Err (answer_no.Twice name)) id browser) why = why ≡ no.Twice name
+RefusedCause s past e (ask.Callback (Ok heard) id browser) why = ResponseRefused s past e heard id browser why
+RefusedCause s past e (ask.Tokens pending came id) why = TokensRefused s past e pending came id why
+RefusedCause s past e other why = ⊥

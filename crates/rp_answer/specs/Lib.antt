@@ -1,0 +1,11 @@
+pub mod Past
+pub mod Setup
+pub mod Asked
+pub mod Logins
+pub mod Pendings
+pub mod Visits
+pub mod Replies
+pub mod Room
+pub mod Answering
+pub mod Causes
+pub mod Legal

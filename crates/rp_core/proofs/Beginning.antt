@@ -1,0 +1,20 @@
+-- Before any ask nothing is held, and so it agrees with the past.
+use Rattle.std.proofs.Common.{◌≡◌, List, [], refl, sym, subst, arith}
+use Rattle.rp_login.specs.Tables.{Tables, no_tables}
+use Rattle.rp_answer.specs.Past.{RpPair}
+use Rattle.rp_answer.specs.Setup.{PartySetup, party_of}
+use Rattle.rp_core.specs.Relying.{MayServe}
+use Rattle.rp_core.specs.Agreeing.{KeepsPast, Keeps}
+
+none_kept : (s : PartySetup) → KeepsPast (party_of s).types [] no_tables
+none_kept s =
+    record {
+      agrees = record { logins = refl; pendings = refl; visits = refl; seens = refl };
+      begun = record { logins = refl; pendings = refl; visits = refl };
+    }
+
+pub begins : (s : PartySetup) (history : List RpPair) (t : Tables) → history ≡ [] → t ≡ no_tables → MayServe s → Keeps s history 0 t
+begins s history t none empty serves =
+    let H : List RpPair → Type 0 = λ h. Keeps s h 0 t in
+    let T : Tables → Type 0 = λ u. Keeps s [] 0 u in
+    subst H (sym none) (subst T (sym empty) (record { tables = none_kept s; weight_is = refl; light = omega arith; legal = tt; serves = serves }))

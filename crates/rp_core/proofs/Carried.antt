@@ -1,0 +1,100 @@
+-- One more pair: what agreed before it agrees after it.
+use Rattle.std.proofs.Common.{◌≡◌, ◌≤◌, ℕ, ◌∷◌, List, length, Option, Some, None, option_map, option_and_then, sym, ap}
+use Rattle.sso_base.specs.Words.{Word, fresh_word}
+use Rattle.id_token.specs.declared.claims.IdClaims.{IdClaims}
+use Rattle.client_registry.specs.declared.records.Types.{Types}
+use Rattle.rp_login.specs.declared.rows.LoginRow.{LoginRow}
+use Rattle.rp_login.specs.declared.rows.PendingRow.{PendingRow}
+use Rattle.rp_login.specs.declared.rows.SessionRow.{SessionRow}
+use Rattle.rp_login.specs.Rows.{login_name, login_begun, login_life, pending_name, pending_begun, pending_life, visit_name, visit_begun, visit_life}
+use Rattle.rp_login.specs.Tables.{Tables}
+use Rattle.rp_exchange.specs.declared.ask.RpAsk.{RpAsk}
+use Rattle.rp_exchange.specs.declared.ask.RpAsk.TheVariants as ask
+use Rattle.rp_exchange.specs.declared.reply.RpReply.{RpReply}
+use Rattle.rp_exchange.specs.declared.reply.RpReply.TheVariants as reply
+use Rattle.rp_answer.specs.Past.{RpPair, RpPast}
+use Rattle.rp_answer.specs.Asked.{state_named, claims_judged}
+use Rattle.rp_answer.specs.Logins.{logins, login_started, login_made, login_kept, login_of}
+use Rattle.rp_answer.specs.Pendings.{pendings, pending_started, pending_by, pending_made, pending_kept}
+use Rattle.rp_answer.specs.Visits.{visits, nonce_by, visit_of, visit_by, visit_made, visit_kept}
+use Rattle.rp_answer.proofs.KeptNames.{some_same, login_same, pending_same, visit_same}
+use Rattle.row_laws.proofs.Added.{rows_carried, begun_carried}
+use Rattle.rp_core.specs.Agreeing.{Agrees, IsBegun}
+use Rattle.rp_core.specs.Keeping.{FollowsPair}
+
+-- ---- a pair keeps the moment from which a row lives
+
+pub login_begun_kept : (past : RpPast) (p : RpPair) (row after : LoginRow) → login_kept past p row ≡ Some after → login_begun after ≡ login_begun row
+login_begun_kept past p row after h = ap login_begun (login_same past p row after h)
+
+pub pending_begun_kept : (past : RpPast) (p : RpPair) (row after : PendingRow) → pending_kept past p row ≡ Some after → pending_begun after ≡ pending_begun row
+pending_begun_kept past p row after h = ap pending_begun (pending_same past p row after h)
+
+pub visit_begun_kept : (past : RpPast) (p : RpPair) (row after : SessionRow) → visit_kept past p row ≡ Some after → visit_begun after ≡ visit_begun row
+visit_begun_kept past p row after h = ap visit_begun (visit_same past p row after h)
+
+-- ---- what a pair makes begins at its moment
+
+started_begun : (by at : ℕ) (fresh : List Word) (asked : RpAsk) (told : RpReply) (row : LoginRow) → login_started by at fresh asked told ≡ Some row → login_begun row ≡ at
+started_begun by at fresh (ask.Begin presented) (reply.Ask to browser) row h =
+    let made : LoginRow = record { state = fresh_word fresh 1; nonce = fresh_word fresh 2; browser = browser; begun = at; by = by } in
+    ap login_begun (sym (some_same made row h))
+started_begun by at fresh asked told row h = cc
+
+pub login_made_begun : (held : List LoginRow) (past : RpPast) (p : RpPair) (row : LoginRow) → login_made held past p ≡ Some row → login_begun row ≡ p.entry.at
+login_made_begun held past p row h = started_begun (length past) p.entry.at p.entry.fresh p.entry.ask p.reply row h
+
+pending_of_begun : (types : Types) (at : ℕ) (asked : RpAsk) (w : Word) (found : Option LoginRow) (row : PendingRow) → option_map (pending_started types at asked w) found ≡ Some row → pending_begun row ≡ at
+pending_of_begun types at asked w None row h = cc
+pending_of_begun types at asked w (Some login) row h = ap pending_begun (sym (some_same (pending_started types at asked w login) row h))
+
+pending_by_begun : (types : Types) (at : ℕ) (past : RpPast) (asked : RpAsk) (told : RpReply) (row : PendingRow) → pending_by types at past asked told ≡ Some row → pending_begun row ≡ at
+pending_by_begun types at past asked (reply.Exchange w message) row h = pending_of_begun types at asked w (login_of past (state_named asked)) row h
+pending_by_begun types at past asked told row h = cc
+
+pub pending_made_begun : (types : Types) (held : List PendingRow) (past : RpPast) (p : RpPair) (row : PendingRow) → pending_made types held past p ≡ Some row → pending_begun row ≡ p.entry.at
+pending_made_begun types held past p row h = pending_by_begun types p.entry.at past p.entry.ask p.reply row h
+
+visit_for_begun : (at : ℕ) (w nonce : Word) (claims : Option IdClaims) (row : SessionRow) → option_map (visit_of at w nonce) claims ≡ Some row → visit_begun row ≡ at
+visit_for_begun at w nonce None row h = cc
+visit_for_begun at w nonce (Some claims) row h = ap visit_begun (sym (some_same (visit_of at w nonce claims) row h))
+
+visit_with_begun : (at : ℕ) (w : Word) (nonce : Option Word) (claims : Option IdClaims) (row : SessionRow) → option_and_then (λ n. option_map (visit_of at w n) claims) nonce ≡ Some row → visit_begun row ≡ at
+visit_with_begun at w None claims row h = cc
+visit_with_begun at w (Some nonce) claims row h = visit_for_begun at w nonce claims row h
+
+visit_by_begun : (types : Types) (at : ℕ) (past : RpPast) (asked : RpAsk) (told : RpReply) (row : SessionRow) → visit_by types at past asked told ≡ Some row → visit_begun row ≡ at
+visit_by_begun types at past asked (reply.Entered w sub) row h = visit_with_begun at w (nonce_by types past asked) (claims_judged types asked) row h
+visit_by_begun types at past asked told row h = cc
+
+pub visit_made_begun : (types : Types) (held : List SessionRow) (past : RpPast) (p : RpPair) (row : SessionRow) → visit_made types held past p ≡ Some row → visit_begun row ≡ p.entry.at
+visit_made_begun types held past p row h = visit_by_begun types p.entry.at past p.entry.ask p.reply row h
+
+-- ---- the tables
+
+pub agrees_carried : (types : Types) (t u : Tables) (past : RpPast) (p : RpPair) (before : ℕ) → before ≤ p.entry.at → Agrees types t past before → FollowsPair types t u past p → Agrees types u (p ∷ past) p.entry.at
+agrees_carried types t u past p before order agrees follows =
+    let at : ℕ = p.entry.at in
+    record {
+      logins = rows_carried login_name login_life login_begun before at (login_kept past p) (login_made (logins past) past p) t.logins u.logins order (login_begun_kept past p) (logins past) agrees.logins follows.logins_are;
+      pendings =
+          rows_carried pending_name pending_life pending_begun before at (pending_kept past p) (pending_made types (pendings types past) past p) t.pendings u.pendings order (pending_begun_kept past p)
+          (pendings types past) agrees.pendings follows.pendings_are;
+      visits = rows_carried visit_name visit_life visit_begun before at (visit_kept past p) (visit_made types (visits types past) past p) t.visits u.visits order (visit_begun_kept past p) (visits types past) agrees.visits follows.visits_are;
+      seens = follows.seens_are;
+    }
+
+pub is_begun_carried : (types : Types) (t u : Tables) (past : RpPast) (p : RpPair) (before : ℕ) → before ≤ p.entry.at → IsBegun t before → FollowsPair types t u past p → IsBegun u p.entry.at
+is_begun_carried types t u past p before order low follows =
+    let at : ℕ = p.entry.at in
+    record {
+      logins =
+          begun_carried login_name login_life login_begun before at (login_kept past p) (login_made (logins past) past p) t.logins u.logins order (login_begun_kept past p) (login_made_begun (logins past) past p) low.logins
+          follows.logins_are;
+      pendings =
+          begun_carried pending_name pending_life pending_begun before at (pending_kept past p) (pending_made types (pendings types past) past p) t.pendings u.pendings order (pending_begun_kept past p)
+          (pending_made_begun types (pendings types past) past p) low.pendings follows.pendings_are;
+      visits =
+          begun_carried visit_name visit_life visit_begun before at (visit_kept past p) (visit_made types (visits types past) past p) t.visits u.visits order (visit_begun_kept past p)
+          (visit_made_begun types (visits types past) past p) low.visits follows.visits_are;
+    }

@@ -1,0 +1,11 @@
+mod LiveInBoth
+mod KeptRows
+mod KeptTables
+mod Carried
+mod RoomFor
+mod TakenUp
+mod MadeRows
+mod Places
+mod Beginning
+mod Committing
+mod Samples

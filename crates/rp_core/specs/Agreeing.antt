@@ -1,0 +1,42 @@
+-- A relying party's tables and the questions of its past: what lives in both at a moment is the same.
+use Rattle.std.specs.Prelude.{◌≡◌, ◌≤◌, ℕ, true, List, [], reverse}
+use Rattle.sso_base.specs.Rows.{live_rows}
+use Rattle.sso_base.specs.Legal.{last_moment}
+use Rattle.sso_base.specs.Journal.{most_weight, history_weight}
+use Rattle.client_registry.specs.declared.records.Types.{Types}
+use Rattle.rp_login.specs.Rows.{login_life, login_begun, pending_life, pending_begun, visit_life, visit_begun}
+use Rattle.rp_login.specs.Held.{none_after}
+use Rattle.rp_login.specs.Tables.{Tables}
+use Rattle.rp_exchange.specs.Weight.{ask_weight}
+use Rattle.rp_answer.specs.Past.{RpPair, RpPast}
+use Rattle.rp_answer.specs.Setup.{PartySetup, party_of}
+use Rattle.rp_answer.specs.Logins.{live_logins}
+use Rattle.rp_answer.specs.Pendings.{live_pendings}
+use Rattle.rp_answer.specs.Visits.{live_visits}
+use Rattle.rp_core.specs.Relying.{IsLegalHistory, MayServe}
+
+-- no logout token is accepted so far, so none is remembered
+pub record Agrees (types : Types) (t : Tables) (past : RpPast) (at : ℕ) : Type 0 where
+  pub logins : live_rows login_life login_begun at t.logins ≡ live_logins past at
+  pub pendings : live_rows pending_life pending_begun at t.pendings ≡ live_pendings types past at
+  pub visits : live_rows visit_life visit_begun at t.visits ≡ live_visits types past at
+  pub seens : t.seens ≡ []
+
+-- no held row begins after the moment
+pub record IsBegun (t : Tables) (at : ℕ) : Type 0 where
+  pub logins : none_after login_begun at t.logins ≡ true
+  pub pendings : none_after pending_begun at t.pendings ≡ true
+  pub visits : none_after visit_begun at t.visits ≡ true
+
+-- what the party keeps beside its history, by its past
+pub record KeepsPast (types : Types) (past : RpPast) (t : Tables) : Type 0 where
+  pub agrees : Agrees types t past (last_moment past)
+  pub begun : IsBegun t (last_moment past)
+
+-- the history's weight is told, and is one that a history may have; each reply is the answer after what came before it
+pub record Keeps (s : PartySetup) (history : List RpPair) (weight : ℕ) (t : Tables) : Type 0 where
+  pub tables : KeepsPast (party_of s).types (reverse history) t
+  pub weight_is : weight ≡ history_weight ask_weight history
+  pub light : weight ≤ most_weight
+  pub legal : IsLegalHistory s history
+  pub serves : MayServe s

@@ -1,0 +1,5 @@
+pub mod Relying
+pub mod Agreeing
+pub mod Making
+pub mod Keeping
+pub mod Beginnings

@@ -1,0 +1,41 @@
+-- The rows that an entry and its reply bring, by what lives: those that the definitions make, where the reply is the answer.
+use Rattle.std.specs.Prelude.{◌≡◌, Option, None, option_map, option_and_then}
+use Rattle.sso_base.specs.Words.{Word}
+use Rattle.sso_base.specs.declared.history.Entry.{Entry}
+use Rattle.client_registry.specs.declared.records.Types.{Types}
+use Rattle.rp_login.specs.declared.rows.LoginRow.{LoginRow}
+use Rattle.rp_login.specs.declared.rows.PendingRow.{PendingRow}
+use Rattle.rp_login.specs.declared.rows.SessionRow.{SessionRow}
+use Rattle.rp_exchange.specs.declared.ask.RpAsk.{RpAsk}
+use Rattle.rp_exchange.specs.declared.ask.RpAsk.TheVariants.{Callback, Tokens}
+use Rattle.rp_exchange.specs.declared.reply.RpReply.{RpReply}
+use Rattle.rp_exchange.specs.declared.reply.RpReply.TheVariants.{Exchange, Entered}
+use Rattle.rp_answer.specs.Past.{RpPair, RpPast}
+use Rattle.rp_answer.specs.Asked.{state_named, claims_judged}
+use Rattle.rp_answer.specs.Logins.{logins, login_made, live_login}
+use Rattle.rp_answer.specs.Pendings.{pendings, pending_started, pending_made, live_pending}
+use Rattle.rp_answer.specs.Visits.{visits, visit_of, visit_made}
+
+-- the pending exchange of the live login whose response is exchanged
+abbrev pub pending_found : Types → RpPast → Entry RpAsk → RpReply → Option PendingRow
+pending_found types past e (Exchange w message) =
+    option_map (pending_started types e.at e.ask w) (live_login past e.at (state_named e.ask))
+pending_found types past e reply = None
+
+-- the nonce of the live login, or of the live exchange, that an ask is about
+abbrev pub nonce_found : Types → RpPast → Entry RpAsk → RpAsk → Option Word
+nonce_found types past e (Callback heard id browser) =
+    option_map (λ (login : LoginRow). login.nonce) (live_login past e.at (state_named (Callback heard id browser)))
+nonce_found types past e (Tokens w came id) = option_map (λ (pending : PendingRow). pending.nonce) (live_pending types past e.at w)
+nonce_found types past e asked = None
+
+abbrev pub visit_found : Types → RpPast → Entry RpAsk → RpReply → Option SessionRow
+visit_found types past e (Entered w sub) =
+    option_and_then (λ nonce. option_map (visit_of e.at w nonce) (claims_judged types e.ask)) (nonce_found types past e e.ask)
+visit_found types past e reply = None
+
+-- these are the rows that the definitions make
+pub record Brings (types : Types) (past : RpPast) (p : RpPair) (login : Option LoginRow) (pending : Option PendingRow) (visit : Option SessionRow) : Type 0 where
+  pub login_is : login ≡ login_made (logins past) past p
+  pub pending_is : pending ≡ pending_made types (pendings types past) past p
+  pub visit_is : visit ≡ visit_made types (visits types past) past p

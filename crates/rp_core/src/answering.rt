@@ -1,0 +1,57 @@
+// What a relying party replies.
+
+ghost use Rattle.std.specs.Prelude.{◌≡◌, ◌≤◌, IfOk};
+ghost use Rattle.sso_base.specs.Legal.{last_moment};
+ghost use Rattle.rp_answer.specs.Answering as spec;
+ghost use Rattle.rp_exchange.specs.Asks as asks;
+ghost use Rattle.rp_core.specs.Relying.{past_of};
+
+use crate::prepared::is_prepared;
+use crate::state::RpCore;
+use rp_exchange::{RpAsk, RpNo, RpReply};
+use sso_base::{Entry, NoMemory};
+use std::alloc::Global;
+
+impl RpCore {
+    // The reply, were there always room.
+    fn reply(&self, alloc: Global, entry: &Entry<RpAsk>) -> Result<RpReply, NoMemory>
+        requires { last_moment (past_of self.now) ≤ entry.now.at }
+        ensures { IfOk result (λ r. r ≡ spec.rp_reply self.now.setup (past_of self.now) entry.now entry.now.ask) }
+    {
+        match &entry.ask {
+            RpAsk::Begin { browser } => self.begin(alloc, entry, *browser),
+            RpAsk::Callback { heard, id, browser } => {
+                self.callback(alloc, entry, heard, id, *browser)
+            }
+            RpAsk::Tokens {
+                pending,
+                tokens,
+                id,
+            } => self.tokens(alloc, entry, *pending, tokens, id),
+            RpAsk::Visit { session } => self.visit(alloc, entry, *session),
+            RpAsk::Fragment
+            | RpAsk::Info { .. }
+            | RpAsk::Leave { .. }
+            | RpAsk::Logout { .. }
+            | RpAsk::NotHere => Ok(RpReply::NotHere),
+        }
+    }
+
+    // The reply: an ask that no request gives finds nothing here, and without room nothing changes.
+    #[tactic(auto, unfolding(rp_answer::specs::Answering::rp_answer))]
+    pub(crate) fn answer(&self, alloc: Global, entry: &Entry<RpAsk>) -> Result<RpReply, NoMemory>
+        requires { last_moment (past_of self.now) ≤ entry.now.at }
+        ensures { IfOk result (λ r. r ≡ spec.rp_answer self.now.setup (past_of self.now) entry.now) }
+    {
+        if !is_prepared(&entry.ask) {
+            return Ok(RpReply::NotHere);
+        }
+        let reply = self.reply(alloc, entry)?;
+        match self.table_lacking(entry, &reply) {
+            Some(table) => Ok(RpReply::Refused {
+                why: RpNo::Full(table),
+            }),
+            None => Ok(reply),
+        }
+    }
+}

@@ -1,0 +1,93 @@
+// A relying party: what it was set up with, its history, and the tables that answer for the history.
+
+ghost use Rattle.std.specs.Prelude.{◌≡◌, ◌≤◌, true, [], length, IfOk};
+ghost use Rattle.sso_base.specs.Legal.{last_moment};
+ghost use Rattle.rp_exchange.specs.Parties.{is_served_at};
+ghost use Rattle.rp_answer.specs.Setup.{party_of, client_of};
+ghost use Rattle.rp_core.specs.Agreeing.{Agrees};
+ghost use Rattle.rp_core.specs.Relying.{setup_of, past_of};
+
+use client_registry::{Client, Party, Provider, Registry};
+use rp_exchange::{RpAsk, RpReply};
+use rp_login::Logins;
+use sso_base::{NoMemory, Pair};
+use std::alloc::Global;
+use std::marker::Model;
+
+/// A relying party (OpenID Connect Core 1.0, 3), seen as its setup, which is a registry, the number of a party of it and the
+/// provider that the party trusts, and its history, oldest first.
+#[derive(Drop)]
+pub struct RpCore {
+    pub(crate) registry: Registry,
+    pub(crate) number: u32,
+    pub(crate) provider: Provider,
+    pub(crate) history: Vec<Pair<RpAsk, RpReply>>,
+    pub(crate) weight: u64,
+    pub(crate) logins: Logins,
+}
+
+impl Model for RpCore {
+    ghost use Rattle.rp_core.specs.Relying.{Relying, setup_of};
+
+    ghost Value = { Relying };
+
+    ghost use Rattle.std.specs.Coded.{codes};
+    ghost use Rattle.claim_set.specs.MembersCode.{members_code};
+
+    ghost coded = { Prim.hlevel (codes, members_code) };
+
+    ghost view = { λ c. record { setup = setup_of c.registry c.number c.provider; history = c.history.items } };
+
+    ghost use Rattle.rp_core.specs.Agreeing.{Keeps};
+
+    ghost invariant = { λ c. Keeps (setup_of c.registry c.number c.provider) c.history.items c.weight c.logins };
+}
+
+impl RpCore {
+    /// A relying party that was asked nothing: the party of this number in the registry, which trusts this provider.
+    ///
+    /// So far the response type of the party is `code` or `id_token token`, and it asks for no UserInfo. The provider's issuer
+    /// has at most 200 bytes, as that of a registry has: then each request object can be sealed.
+    pub fn new(
+        alloc: Global,
+        registry: Registry,
+        number: u32,
+        provider: Provider,
+    ) -> Result<RpCore, NoMemory>
+        requires served { is_served_at registry number ≡ true }
+        requires issuer { length provider.issuer ≤ 200 }
+        ensures { IfOk result (λ c. c ≡ record { setup = setup_of registry number provider; history = [] }) }
+    {
+        Ok(RpCore {
+            registry,
+            number,
+            provider,
+            history: Vec::new(alloc),
+            weight: 0,
+            logins: Logins::new(alloc)?,
+        })
+    }
+
+    /// The tables: what lives in them at the moment of the last entry is exactly what lives after the history.
+    pub fn tables(&self) -> &Logins
+        ensures { Agrees (party_of self.now.setup).types result.now (past_of self.now) (last_moment (past_of self.now)) }
+    {
+        &self.logins
+    }
+
+    /// The party.
+    pub(crate) fn party(&self) -> &Party
+        ensures { result.now ≡ party_of self.now.setup }
+    {
+        self.registry.party(self.number)
+    }
+
+    /// The client that the party is.
+    pub(crate) fn client(&self) -> &Client
+        ensures { result.now ≡ client_of self.now.setup }
+    {
+        // A count says what every registry keeps: that the client of each of its parties is there.
+        let _parties = self.registry.parties();
+        self.registry.client(self.party().client)
+    }
+}

@@ -1,0 +1,5 @@
+pub mod Parties
+pub mod Sample
+mod Told
+mod Samples
+mod TextsSoFar

@@ -1,0 +1,131 @@
+-- The definitions computed on small cases: what each accepts, and what it refuses.
+use Rattle.std.proofs.Common.{◌≡◌, true, false, [], Some, None, Ok, Err, codes, refl}
+use Rattle.claim_set.specs.declared.no.ClaimNo.TheVariants as claim_no
+use Rattle.claim_set.proofs.OnLiterals.{claims_on_literals}
+use Rattle.jws_compact.specs.declared.no.JwsNo.TheVariants as jws_no
+use Rattle.id_token.specs.declared.no.IdNo.TheVariants as id_no
+use Rattle.logout_token.specs.declared.claims.LogoutClaims.{LogoutClaims}
+use Rattle.logout_token.specs.declared.no.LogoutNo.TheVariants as logout_no
+use Rattle.auth_answer.specs.declared.heard.Heard.{Heard}
+use Rattle.auth_answer.specs.declared.no.AnswerNo.TheVariants as answer_no
+use Rattle.token_endpoint.specs.declared.reading.Tokens.{Tokens}
+use Rattle.token_endpoint.specs.declared.no.TokensNo.TheVariants as tokens_no
+use Rattle.userinfo.specs.declared.no.InfoNo.TheVariants as info_no
+use Rattle.rp_exchange.specs.declared.ask.RpAsk.TheVariants as ask
+use Rattle.rp_exchange.specs.Asks.{is_prepared}
+use Rattle.rp_exchange.specs.Parties.{secret_at, name_at, is_served, is_served_at}
+use Rattle.rp_exchange.specs.Weight.{ask_weight}
+use Rattle.rp_exchange.proofs.Sample.{word, shop, shop_client, sample, alice}
+
+-- ---- parties
+
+secret_of_the_shop : secret_at sample 0 ≡ shop_client.secret
+secret_of_the_shop = refl
+
+secret_of_nobody : secret_at sample 2 ≡ []
+secret_of_nobody = refl
+
+name_of_the_news : name_at sample 1 ≡ codes "news"
+name_of_the_news = refl
+
+name_of_nobody : name_at sample 2 ≡ []
+name_of_nobody = refl
+
+shop_is_served : is_served_at sample 0 ≡ true
+shop_is_served = refl
+
+news_is_served : is_served_at sample 1 ≡ true
+news_is_served = refl
+
+nobody_is_not : is_served_at sample 2 ≡ false
+nobody_is_not = refl
+
+one_with_userinfo_is_not : is_served (record shop { userinfo = true }) ≡ false
+one_with_userinfo_is_not = refl
+
+a_hybrid_is_not : is_served (record shop { types = record { code = true; id_token = true; token = false } }) ≡ false
+a_hybrid_is_not = refl
+
+-- ---- asks that are given
+
+abbrev heard : Heard
+heard = record { state = Some (word 2); error = None; code = Some (codes "x"); access = None; id = None }
+
+abbrev with_token : Heard
+with_token = record heard { id = Some (codes "h.p.m") }
+
+abbrev tokens : Tokens
+tokens = record { access = codes "a"; id = codes "h.p.m" }
+
+abbrev logout : LogoutClaims
+logout = record { iss = codes "i"; aud = []; iat = 1000; exp = 1120; jti = codes "j"; sub = Some (codes "alice"); sid = None }
+
+a_code_is_given : is_prepared (ask.Callback (Ok heard) None None) ≡ true
+a_code_is_given = refl
+
+a_token_is_read : is_prepared (ask.Callback (Ok with_token) (Some (Ok alice)) None) ≡ true
+a_token_is_read = refl
+
+a_refused_token_is_read : is_prepared (ask.Callback (Ok with_token) (Some (Err (id_no.Jws jws_no.BadMac))) None) ≡ true
+a_refused_token_is_read = refl
+
+an_unread_token_is_not_given : is_prepared (ask.Callback (Ok with_token) None None) ≡ false
+an_unread_token_is_not_given = refl
+
+a_token_from_nowhere_is_not_given : is_prepared (ask.Callback (Ok heard) (Some (Ok alice)) None) ≡ false
+a_token_from_nowhere_is_not_given = refl
+
+want_of_memory_inside_is_not_given : is_prepared (ask.Callback (Ok with_token) (Some (Err (id_no.Claims claim_no.NoMemory))) None) ≡ false
+want_of_memory_inside_is_not_given = refl
+
+a_name_twice_is_given : is_prepared (ask.Callback (Err (answer_no.Twice (codes "state"))) None None) ≡ true
+a_name_twice_is_given = refl
+
+want_of_memory_is_not_given : is_prepared (ask.Callback (Err answer_no.NoMemory) None None) ≡ false
+want_of_memory_is_not_given = refl
+
+tokens_are_given : is_prepared (ask.Tokens (word 5) (Ok tokens) (Some (Err (id_no.Missing (codes "iss"))))) ≡ true
+tokens_are_given = refl
+
+tokens_without_their_token_are_not : is_prepared (ask.Tokens (word 5) (Ok tokens) None) ≡ false
+tokens_without_their_token_are_not = refl
+
+refused_tokens_are_given : is_prepared (ask.Tokens (word 5) (Err (tokens_no.Status 400)) None) ≡ true
+refused_tokens_are_given = refl
+
+refused_tokens_have_no_token : is_prepared (ask.Tokens (word 5) (Err (tokens_no.Status 400)) (Some (Ok alice))) ≡ false
+refused_tokens_have_no_token = refl
+
+a_subject_is_given : is_prepared (ask.Info (word 5) (Ok (codes "alice"))) ≡ true
+a_subject_is_given = refl
+
+no_memory_for_a_subject_is_not : is_prepared (ask.Info (word 5) (Err info_no.NoMemory)) ≡ false
+no_memory_for_a_subject_is_not = refl
+
+a_logout_is_given : is_prepared (ask.Logout (Ok logout)) ≡ true
+a_logout_is_given = refl
+
+a_logout_of_nobody_is_not : is_prepared (ask.Logout (Ok (record logout { sub = None }))) ≡ false
+a_logout_of_nobody_is_not = refl
+
+a_refused_logout_is_given : is_prepared (ask.Logout (Err logout_no.NamesNobody)) ≡ true
+a_refused_logout_is_given = refl
+
+-- ---- weights
+
+weight_of_a_begin : ask_weight (ask.Begin (Some (word 1))) ≡ 1024
+weight_of_a_begin = refl
+
+weight_of_a_code : ask_weight (ask.Callback (Ok heard) None (Some (word 1))) ≡ 1025
+weight_of_a_code = refl
+
+-- the code has 1 byte, the token 5, the fields of its claims 37, and the empty set of the others is written in 2
+weight_of_a_token : ask_weight (ask.Callback (Ok with_token) (Some (Ok alice)) None) ≡ 1069
+unfolding claims_on_literals
+weight_of_a_token = refl
+
+weight_of_a_refusal : ask_weight (ask.Tokens (word 5) (Err (tokens_no.Claims (claim_no.WrongKind (codes "id_token")))) None) ≡ 1032
+weight_of_a_refusal = refl
+
+weight_of_a_logout : ask_weight (ask.Logout (Ok logout)) ≡ 1031
+weight_of_a_logout = refl

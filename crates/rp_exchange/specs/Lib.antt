@@ -1,0 +1,4 @@
+pub mod Parties
+pub mod Asks
+pub mod Values
+pub mod Weight

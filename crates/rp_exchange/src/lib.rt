@@ -1,0 +1,30 @@
+//! What a relying party is asked, and what it replies (OpenID Connect Core 1.0, 3; OpenID Connect Back-Channel Logout 1.0, 2).
+//!
+//! | Module | What it has |
+//! |---|---|
+//! | `ask` | [`RpAsk`], what a relying party is asked |
+//! | `reply` | [`RpReply`], what it replies |
+//! | `no` | [`RpNo`], why it refuses |
+//! | `copies` | equal refusals |
+//! | `serving` | [`is_served`], which relying parties can be served |
+//! | `values` | asks hold values of their types |
+//! | `weight` | [`ask_weight`], what an ask weighs |
+#![tactic(auto)]
+
+mod ask;
+mod copies;
+mod no;
+mod reply;
+mod serving;
+#[cfg(test)]
+mod tests;
+mod values;
+mod weight;
+
+pub use ask::RpAsk;
+pub use copies::{copied_id, copied_tokens};
+pub use no::{Part, RpNo};
+pub use reply::RpReply;
+pub use serving::is_served;
+pub use values::is_entry;
+pub use weight::ask_weight;

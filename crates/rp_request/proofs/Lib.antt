@@ -1,0 +1,7 @@
+pub mod Parties
+pub mod Refused
+pub mod Routing
+pub mod Callbacks
+pub mod TokenAnswers
+pub mod PreparedAsks
+mod Samples

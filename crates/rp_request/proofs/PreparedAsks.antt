@@ -1,0 +1,50 @@
+-- What is prepared is an ask that requests and answers give.
+use Rattle.std.proofs.Common.{◌≡◌, ℕ, List, true, ◌&&◌, Option, Some, None, option_map, Result, Ok, Err, refl, ap}
+use Rattle.std.specs.Prelude.{IfErr}
+use Rattle.sso_base.specs.Words.{Word, Text}
+use Rattle.sso_base.specs.declared.http.Ask.{Ask}
+use Rattle.sso_base.specs.declared.message.Answered.{Answered}
+use Rattle.client_registry.specs.Configuration.{Configuration}
+use Rattle.id_token.specs.Reading.{id_read}
+use Rattle.auth_answer.specs.declared.heard.Heard.{Heard}
+use Rattle.auth_answer.specs.declared.no.AnswerNo.{AnswerNo}
+use Rattle.auth_answer.specs.declared.no.AnswerNo.TheVariants as answer_no
+use Rattle.auth_answer.specs.Reading.{answer_read}
+use Rattle.auth_answer.proofs.HeardParts.{answer_refused}
+use Rattle.token_endpoint.specs.declared.reading.Tokens.{Tokens}
+use Rattle.token_endpoint.specs.declared.no.TokensNo.{TokensNo}
+use Rattle.token_endpoint.specs.Answer.{tokens_read}
+use Rattle.rp_exchange.specs.Asks.{is_read_of, is_tokens_refusal, is_prepared}
+use Rattle.rp_exchange.specs.Parties.{secret_at}
+use Rattle.rp_request.specs.declared.routes.Endpoint.{Endpoint}
+use Rattle.rp_request.specs.declared.routes.Endpoint.TheVariants as endpoint
+use Rattle.rp_request.specs.Prepared.{response_in, callback_asked, asked_at, endpoint_at, prepared, tokens_asked, tokens_prepared}
+use Rattle.rp_request.proofs.Refused.{id_is_read, tokens_refused}
+
+read_if_there : (secret : Text) (o : Option Text) → is_read_of o (option_map (id_read secret) o) ≡ true
+read_if_there secret None = refl
+read_if_there secret (Some text) = id_is_read secret text
+
+callback_prepared : (secret : Text) (browser : Option Word) (form : List ℕ) (r : Result Heard AnswerNo) → answer_read form ≡ r → is_prepared (callback_asked secret browser r) ≡ true
+callback_prepared secret browser form (Ok heard) is = read_if_there secret heard.id
+callback_prepared secret browser form (Err (answer_no.Twice name)) is = refl
+callback_prepared secret browser form (Err answer_no.NoMemory) is = absurd (answer_refused form answer_no.NoMemory is)
+
+prepared_at : (secret : Text) (request : Ask) (o : Option Endpoint) → is_prepared (asked_at secret request o) ≡ true
+prepared_at secret request None = refl
+prepared_at secret request (Some endpoint.Login) = refl
+prepared_at secret request (Some endpoint.Home) = refl
+prepared_at secret request (Some endpoint.Redirection) =
+    let form = response_in request.method request in callback_prepared secret request.first form (answer_read form) refl
+
+pub always_prepared : (c : Configuration) (n : ℕ) (request : Ask) → is_prepared (prepared c n request) ≡ true
+unfolding prepared
+always_prepared c n request = prepared_at (secret_at c n) request (endpoint_at c n request)
+
+answer_prepared : (secret : Text) (pending : Word) (r : Result Tokens TokensNo) → IfErr r (λ e. is_tokens_refusal e ≡ true) → is_prepared (tokens_asked secret pending r) ≡ true
+answer_prepared secret pending (Ok tokens) h = id_is_read secret tokens.id
+answer_prepared secret pending (Err why) h = ap (λ b. b && true) h
+
+pub always_answered : (c : Configuration) (n : ℕ) (pending : Word) (answer : Answered) → is_prepared (tokens_prepared c n pending answer) ≡ true
+unfolding tokens_prepared
+always_answered c n pending answer = answer_prepared (secret_at c n) pending (tokens_read answer) (tokens_refused answer)

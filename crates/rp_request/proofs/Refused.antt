@@ -1,0 +1,174 @@
+-- No definition of reading refuses for want of memory.
+use Rattle.std.proofs.Common.{◌≡◌, ◌≢◌, ◌==◌, ℕ, List, [], ◌∷◌, ◌++◌, length, Bool, true, false, not, nat_lt, Option, Some, None, Result, Ok, Err, IsOk, refl, sym, ap, ◌∙◌, subst, true≢false, arith}
+use Rattle.std.specs.Prelude.{IfErr}
+use Rattle.std.specs.List.{AllByRecursion}
+use Rattle.std.specs.Str.{bytes_eq}
+use Rattle.std.proofs.lemmas.Bool.Decides.{nat_tests}
+use Rattle.serde_json.specs.Data.{Data, Members}
+use Rattle.serde_json.specs.Find.{as_object}
+use Rattle.hmac256.specs.Hmac.{hmac_of}
+use Rattle.sso_base.specs.Base64Url.{unb64u, unb64u_32}
+use Rattle.sso_base.specs.Refusals.{first_refusal, demand, forbid}
+use Rattle.sso_base.specs.declared.message.Answered.{Answered}
+use Rattle.claim_set.specs.declared.no.ClaimNo.{ClaimNo}
+use Rattle.claim_set.specs.declared.no.ClaimNo.TheVariants as claim_no
+use Rattle.claim_set.specs.Reading.{first_float, if_whole, if_members, if_read, json_in, Reads, claims_read}
+use Rattle.claim_set.proofs.Parsing.{read_reads}
+use Rattle.jws_compact.specs.declared.no.JwsNo.{JwsNo}
+use Rattle.jws_compact.specs.declared.no.JwsNo.TheVariants as jws_no
+use Rattle.jws_compact.specs.declared.unsealing.Unsealed.{Unsealed}
+use Rattle.jws_compact.specs.Jws.{three_parts, read_object, is_hs256, has_crit, verdict}
+use Rattle.id_token.specs.declared.claims.IdClaims.{IdClaims}
+use Rattle.id_token.specs.declared.no.IdNo.{IdNo}
+use Rattle.id_token.specs.declared.no.IdNo.TheVariants as id_no
+use Rattle.id_token.specs.Token.{id_refusals}
+use Rattle.id_token.proofs.Refused.{id_of-refused, id_of-accepted}
+use Rattle.id_token.specs.Reading as id_token
+use Rattle.token_endpoint.specs.declared.reading.Tokens.{Tokens}
+use Rattle.token_endpoint.specs.declared.no.TokensNo.{TokensNo}
+use Rattle.token_endpoint.specs.declared.no.TokensNo.TheVariants as tokens_no
+use Rattle.token_endpoint.specs.Answer as tokens
+use Rattle.token_endpoint.proofs.Responses.{other_status, unread, refused, accepted}
+use Rattle.rp_exchange.specs.Asks.{is_id_refusal, is_tokens_refusal, is_id_read}
+
+-- ---- what each refusal keeps
+
+if_err : {A E : Type 0} (P : E → Type 0) (r : Result A E) → ((x : E) → r ≡ Err x → P x) → IfErr r P
+if_err P (Ok a) each = tt
+if_err P (Err e) each = each e refl
+
+demand_keeps : {A B E : Type 0} (P : E → Type 0) (e : E) (o : Option A) (f : A → Result B E) (x : E) → demand e o f ≡ Err x → P e → ((a : A) → f a ≡ Err x → P x) → P x
+demand_keeps P e None f x h p rest = let same : e ≡ x = cc in subst P same p
+demand_keeps P e (Some a) f x h p rest = rest a h
+
+forbid_keeps : {B E : Type 0} (P : E → Type 0) (e : E) (b : Bool) (r : Result B E) (x : E) → forbid e b r ≡ Err x → P e → (r ≡ Err x → P x) → P x
+forbid_keeps P e true r x h p rest = let same : e ≡ x = cc in subst P same p
+forbid_keeps P e false r x h p rest = rest h
+
+abbrev ok_of : {B E : Type 0} → B → Result B E
+ok_of v = Ok v
+
+ok_keeps : {B E : Type 0} (P : E → Type 0) (v : B) (x : E) → ok_of v ≡ Err x → P x
+ok_keeps P v x h = absurd (cc)
+
+is_ok_keeps : {A E : Type 0} (P : E → Type 0) (r : Result A E) → IsOk r → IfErr r P
+is_ok_keeps P (Ok a) h = tt
+is_ok_keeps P (Err e) h = absurd (true≢false (sym h))
+
+-- the first of these refusals
+first_keeps : {E : Type 0} (P : E → Type 0) (cs : List (Bool × E)) → AllByRecursion (λ (c : Bool × E). P c.1) cs → IfErr (first_refusal cs) P
+first_keeps P [] all = tt
+first_keeps P ((true, e) ∷ cs) all = all.0
+first_keeps P ((false, e) ∷ cs) all = first_keeps P cs all.1
+
+-- ---- claims
+
+module _ (P : ClaimNo → Type 0) (not_json : P claim_no.NotJson) (not_object : P claim_no.NotObject) (wrong_kind : (name : List ℕ) → P (claim_no.WrongKind name)) where
+  whole_refused : (o : Option (List ℕ)) (ms : Members) → IfErr (if_whole o ms) P
+  whole_refused None ms = tt
+  whole_refused (Some name) ms = wrong_kind name
+
+  members_refused : (o : Option Members) → IfErr (if_members o) P
+  members_refused None = not_object
+  members_refused (Some ms) = whole_refused (first_float ms) ms
+
+  json_refused : (o : Option Data) → IfErr (if_read o) P
+  json_refused None = not_json
+  json_refused (Some d) = members_refused (as_object d)
+
+  claims_refused : (b : List ℕ) → IfErr (claims_read b) P
+  claims_refused b = json_refused (json_in b)
+
+-- ---- sealed texts
+
+abbrev IsJwsRefusal : JwsNo → Type 0
+IsJwsRefusal e = is_id_refusal (id_no.Jws e) ≡ true
+
+jws_at : (k t : List ℕ) (x : JwsNo) → verdict k t ≡ Err x → IsJwsRefusal x
+unfolding verdict
+jws_at k t x e =
+    forbid_keeps IsJwsRefusal jws_no.TooLong (nat_lt 8192 (length t)) _ x e refl (λ short.
+    demand_keeps IsJwsRefusal jws_no.NotThreeParts (three_parts t) _ x short refl (λ s three.
+    demand_keeps IsJwsRefusal jws_no.HeaderSpelling (unb64u s.0) _ x three refl (λ h header.
+    demand_keeps IsJwsRefusal jws_no.PayloadSpelling (unb64u s.1) _ x header refl (λ p payload.
+    demand_keeps IsJwsRefusal jws_no.MacSpelling (unb64u_32 s.2) _ x payload refl (λ m mac.
+    demand_keeps IsJwsRefusal jws_no.HeaderNotObject (read_object h) _ x mac refl (λ d object.
+    forbid_keeps IsJwsRefusal jws_no.AlgNotHs256 (not (is_hs256 d)) _ x object refl (λ alg.
+    forbid_keeps IsJwsRefusal jws_no.Crit (has_crit d) _ x alg refl (λ crit.
+    forbid_keeps IsJwsRefusal jws_no.BadMac (not (bytes_eq m (hmac_of k (s.0 ++ 46 ∷ s.1)))) _ x crit refl (λ good.
+    ok_keeps IsJwsRefusal _ x good)))))))))
+
+jws_refused : (k t : List ℕ) → IfErr (verdict k t) IsJwsRefusal
+jws_refused k t = if_err IsJwsRefusal (verdict k t) (jws_at k t)
+
+-- ---- ID Tokens
+
+abbrev IsIdRefusal : IdNo → Type 0
+IsIdRefusal e = is_id_refusal e ≡ true
+
+abbrev InId : ClaimNo → Type 0
+InId e = is_id_refusal (id_no.Claims e) ≡ true
+
+id_of_at : (ms : Members) (r : Result (Unit {0}) IdNo) → first_refusal (id_refusals ms) ≡ r → IfErr r IsIdRefusal → IfErr (id_token.id_of ms) IsIdRefusal
+id_of_at ms (Ok u) is p = is_ok_keeps IsIdRefusal (id_token.id_of ms) (id_of-accepted ms is)
+id_of_at ms (Err e) is p = subst (λ (r : Result IdClaims IdNo). IfErr r IsIdRefusal) (sym (id_of-refused ms e is)) p
+
+id_of_refused : (ms : Members) → IfErr (id_token.id_of ms) IsIdRefusal
+id_of_refused ms =
+    id_of_at ms (first_refusal (id_refusals ms)) refl
+    (first_keeps IsIdRefusal (id_refusals ms) (refl, (refl, (refl, (refl, (refl, (refl, (refl, (refl, (refl, (refl, (refl, (refl, (refl, (refl, (refl, (refl, tt)))))))))))))))))
+
+read_refused : (r : Result Members ClaimNo) → IfErr r InId → IfErr (id_token.if_claims r) IsIdRefusal
+read_refused (Ok ms) h = id_of_refused ms
+read_refused (Err e) h = h
+
+opened_refused : (r : Result Unsealed JwsNo) → IfErr r IsJwsRefusal → IfErr (id_token.if_opened r) IsIdRefusal
+opened_refused (Ok u) h = read_refused (claims_read u.payload) (claims_refused InId refl refl (λ n. refl) u.payload)
+opened_refused (Err e) h = h
+
+id_refused : (k t : List ℕ) → IfErr (id_token.id_read k t) IsIdRefusal
+unfolding id_token.id_read
+id_refused k t = opened_refused (verdict k t) (jws_refused k t)
+
+is_read_at : (r : Result IdClaims IdNo) → IfErr r IsIdRefusal → is_id_read r ≡ true
+is_read_at (Ok claims) h = refl
+is_read_at (Err why) h = h
+
+pub id_is_read : (k t : List ℕ) → is_id_read (id_token.id_read k t) ≡ true
+id_is_read k t = is_read_at (id_token.id_read k t) (id_refused k t)
+
+-- ---- token responses
+
+abbrev IsTokensRefusal : TokensNo → Type 0
+IsTokensRefusal e = is_tokens_refusal e ≡ true
+
+abbrev InTokens : ClaimNo → Type 0
+InTokens e = is_tokens_refusal (tokens_no.Claims e) ≡ true
+
+is_200 : (n : ℕ) → (n == 200) ≡ true → n ≡ 200
+is_200 n h = grind (arith, nat_tests)
+
+not_200 : (n : ℕ) → (n == 200) ≡ false → n ≢ 200
+not_200 n h = λ e. true≢false (sym (ap (λ m. m == 200) e) ∙ h)
+
+module _ (a : Answered) where
+  abbrev TokensAreRefused : Result Tokens TokensNo → Type 0
+  TokensAreRefused r = IfErr r IsTokensRefusal
+
+  members_at : (ms : Members) (r : Result (Unit {0}) TokensNo) → a.status ≡ 200 → Reads a.body ms → first_refusal (tokens.token_refusals ms) ≡ r → IfErr r IsTokensRefusal → TokensAreRefused (tokens.tokens_read a)
+  members_at ms (Ok u) ok reads is p = is_ok_keeps IsTokensRefusal (tokens.tokens_read a) (accepted a ms ok reads is)
+  members_at ms (Err e) ok reads is p = subst TokensAreRefused (sym (refused a ms e ok reads is)) p
+
+  body_at : (r : Result Members ClaimNo) → a.status ≡ 200 → claims_read a.body ≡ r → IfErr r InTokens → TokensAreRefused (tokens.tokens_read a)
+  body_at (Ok ms) ok is p =
+      members_at ms (first_refusal (tokens.token_refusals ms)) ok (read_reads a.body ms is) refl
+      (first_keeps IsTokensRefusal (tokens.token_refusals ms) (refl, (refl, (refl, (refl, (refl, (refl, (refl, tt))))))))
+  body_at (Err e) ok is p = subst TokensAreRefused (sym (unread a e ok is)) p
+
+  status_at : (b : Bool) → (a.status == 200) ≡ b → TokensAreRefused (tokens.tokens_read a)
+  status_at true is =
+      body_at (claims_read a.body) (is_200 a.status is) refl (claims_refused InTokens refl refl (λ n. refl) a.body)
+  status_at false is = subst TokensAreRefused (sym (other_status a (not_200 a.status is))) refl
+
+  pub tokens_refused : IfErr (tokens.tokens_read a) (λ e. is_tokens_refusal e ≡ true)
+  tokens_refused = status_at (a.status == 200) refl

@@ -1,0 +1,161 @@
+-- Requests are told apart by their method and path.
+use Rattle.std.proofs.Common.{◌≡◌, inl, inr, ℕ, List, [], ◌∷◌, Bool, true, false, cond, Option, Some, None, Result, Ok, Err, option_and_then, slice_get, refl, sym, ◌∙◌, ap, subst}
+use Rattle.std.specs.List.{AllByRecursion}
+use Rattle.std.specs.Str.{bytes_eq}
+use Rattle.std.proofs.lemmas.Slice.Eq.{bytes_eq-Decides}
+use Rattle.sso_base.specs.Words.{Text}
+use Rattle.sso_base.specs.declared.http.Method.{Method}
+use Rattle.sso_base.specs.declared.http.Method.TheVariants.{Get, Post, Other}
+use Rattle.sso_base.specs.declared.http.Ask.{Ask}
+use Rattle.client_registry.specs.declared.records.Party.{Party}
+use Rattle.client_registry.specs.Configuration.{Configuration}
+use Rattle.client_registry.specs.Registered.{IsRegistry}
+use Rattle.auth_answer.specs.declared.heard.Heard.{Heard}
+use Rattle.auth_answer.specs.declared.no.AnswerNo.{AnswerNo}
+use Rattle.auth_answer.specs.Reading.{answer_read}
+use Rattle.rp_exchange.specs.declared.ask.RpAsk.TheVariants as ask
+use Rattle.rp_exchange.specs.Parties.{secret_at}
+use Rattle.rp_request.specs.declared.routes.Endpoint.{Endpoint}
+use Rattle.rp_request.specs.declared.routes.Endpoint.TheVariants as endpoint
+use Rattle.rp_request.specs.Routes.{Route, get_routes, post_routes, routes_of, endpoint_of, endpoint_asked}
+use Rattle.rp_request.specs.Prepared.{response_in, callback_asked, asked_at, endpoint_at, prepared}
+use Rattle.rp_request.specs.Requests.{IsListed, IsTo, own_endpoint, HasCookies}
+use Rattle.rp_request.proofs.Parties.{HasOtherPath, redirects_elsewhere}
+
+-- ---- the listed paths
+
+text_same : (t : Text) → bytes_eq t t ≡ true
+text_same t = (bytes_eq-Decides t t).1 refl
+
+one_endpoint : (d e : Endpoint) → Some d ≡ Some e → d ≡ e
+one_endpoint d e h = cc
+
+same_route : (r : Route) (path : Text) (e : Endpoint) → r.0 ≡ path → r.1 ≡ e → r ≡ (path, e)
+same_route r path e p q = λ i. (p i, q i)
+
+listed_at : (r : Route) (rs : List Route) (path : Text) (e : Endpoint) (b : Bool) → bytes_eq path r.0 ≡ b → (endpoint_of rs path ≡ Some e → IsListed (path, e) rs)
+    → cond b (Some r.1) (endpoint_of rs path) ≡ Some e → IsListed (path, e) (r ∷ rs)
+listed_at r rs path e true is later h = inl (same_route r path e (sym ((bytes_eq-Decides path r.0).0 is)) (one_endpoint r.1 e h))
+listed_at r rs path e false is later h = inr (later h)
+
+found_listed : (rs : List Route) (path : Text) (e : Endpoint) → endpoint_of rs path ≡ Some e → IsListed (path, e) rs
+found_listed [] path e h = absurd (cc)
+found_listed (r ∷ rs) path e h = listed_at r rs path e (bytes_eq path r.0) refl (found_listed rs path e) h
+
+-- a path that is listed is one of some endpoint
+
+cond_found : (b : Bool) (d : Endpoint) (o : Option Endpoint) → ¬ (o ≡ None) → ¬ (cond b (Some d) o ≡ None)
+cond_found true d o later = λ h. cc
+cond_found false d o later = later
+
+first_found : (b : Bool) (d : Endpoint) (o : Option Endpoint) → b ≡ true → ¬ (cond b (Some d) o ≡ None)
+first_found true d o is = λ h. cc
+first_found false d o is = absurd (cc)
+
+listed_some : (rs : List Route) (p : Route) → IsListed p rs → ¬ (endpoint_of rs p.0 ≡ None)
+listed_some [] p h = absurd h
+listed_some (r ∷ rs) p (inl is) =
+    first_found (bytes_eq p.0 r.0) r.1 (endpoint_of rs p.0) (ap (λ (q : Route). bytes_eq p.0 q.0) is ∙ text_same p.0)
+listed_some (r ∷ rs) p (inr later) = cond_found (bytes_eq p.0 r.0) r.1 (endpoint_of rs p.0) (listed_some rs p later)
+
+-- each of the routes is the first of its path
+abbrev AreFirst : List Route → List Route → Type 0
+AreFirst all rs = AllByRecursion (λ (r : Route). endpoint_of all r.0 ≡ Some r.1) rs
+
+listed_found : (all rs : List Route) → AreFirst all rs → (p : Route) → IsListed p rs → endpoint_of all p.0 ≡ Some p.1
+listed_found all [] first p h = absurd h
+listed_found all (r ∷ rs) first p (inl is) = subst (λ (q : Route). endpoint_of all q.0 ≡ Some q.1) is first.0
+listed_found all (r ∷ rs) first p (inr later) = listed_found all rs first.1 p later
+
+got_first : (party : Party) → HasOtherPath party → AreFirst (get_routes party.redirect_url.path) (get_routes party.redirect_url.path)
+got_first party other = (refl, (refl, (rw (other.login, other.home, text_same party.redirect_url.path) refl, tt)))
+
+posted_first : (party : Party) → AreFirst (post_routes party.redirect_url.path) (post_routes party.redirect_url.path)
+posted_first party = (rw (text_same party.redirect_url.path) refl, tt)
+
+found : (m : Method) (party : Party) → HasOtherPath party → (p : Route) → IsListed p (routes_of m party.redirect_url.path) → endpoint_of (routes_of m party.redirect_url.path) p.0 ≡ Some p.1
+found Get party other p h = listed_found (get_routes party.redirect_url.path) (get_routes party.redirect_url.path) (got_first party other) p h
+found Post party other p h = listed_found (post_routes party.redirect_url.path) (post_routes party.redirect_url.path) (posted_first party) p h
+found Other party other p h = absurd h
+
+-- ---- the endpoint of a request
+
+module _ (c : Configuration) (n : ℕ) (request : Ask) where
+  at_party : (party : Party) → slice_get c.parties n ≡ Some party → endpoint_at c n request ≡ endpoint_asked party.redirect_url.path request
+  at_party party there = ap (option_and_then (λ (p : Party). endpoint_asked p.redirect_url.path request)) there
+
+  pub to_asked : (e : Endpoint) → IsRegistry c → IsTo c n request e → endpoint_at c n request ≡ Some e
+  to_asked e r to =
+      at_party to.party to.there
+      ∙ found request.method to.party (redirects_elsewhere c n to.party r to.there) (request.path, e) to.listed
+
+  to_some : (e : Endpoint) → IsTo c n request e → ¬ (endpoint_at c n request ≡ None)
+  to_some e to = λ none. listed_some (routes_of request.method to.party.redirect_url.path) (request.path, e) to.listed (sym (at_party to.party to.there) ∙ none)
+
+  asked_by : (o : Option Party) (e : Endpoint) → slice_get c.parties n ≡ o → option_and_then (λ (p : Party). endpoint_asked p.redirect_url.path request) o ≡ Some e → IsTo c n request e
+  asked_by None e is h = absurd (cc)
+  asked_by (Some party) e is h =
+      record { party = party; there = is; listed = found_listed (routes_of request.method party.redirect_url.path) request.path e h }
+
+  pub asked_to : (e : Endpoint) → endpoint_at c n request ≡ Some e → IsTo c n request e
+  asked_to e h = asked_by (slice_get c.parties n) e refl h
+
+  pub prepared_at : (e : Endpoint) → IsRegistry c → IsTo c n request e → prepared c n request ≡ asked_at (secret_at c n) request (Some e)
+  unfolding prepared
+  prepared_at e r to = ap (asked_at (secret_at c n) request) (to_asked e r to)
+
+  -- ---- no endpoint
+
+  nowhere : (o : Option Endpoint) → endpoint_at c n request ≡ o → ((e : Endpoint) → ¬ IsTo c n request e) → asked_at (secret_at c n) request o ≡ ask.NotHere
+  nowhere None is none = refl
+  nowhere (Some e) is none = absurd (none e (asked_to e is))
+
+  pub not_here : ((e : Endpoint) → ¬ IsTo c n request e) → prepared c n request ≡ ask.NotHere
+  unfolding prepared
+  not_here none = nowhere (endpoint_at c n request) refl none
+
+  heard_somewhere : (secret : Text) (r : Result Heard AnswerNo) → ¬ (callback_asked secret request.first r ≡ ask.NotHere)
+  heard_somewhere secret (Ok heard) = λ h. cc
+  heard_somewhere secret (Err why) = λ h. cc
+
+  none_at : (o : Option Endpoint) → asked_at (secret_at c n) request o ≡ ask.NotHere → o ≡ None
+  none_at None h = refl
+  none_at (Some endpoint.Login) h = absurd (cc)
+  none_at (Some endpoint.Home) h = absurd (cc)
+  none_at (Some endpoint.Redirection) h = absurd (heard_somewhere (secret_at c n) (answer_read (response_in request.method request)) h)
+
+  pub not_here_to_none : prepared c n request ≡ ask.NotHere → (e : Endpoint) → ¬ IsTo c n request e
+  unfolding prepared
+  not_here_to_none h e = λ to. to_some e to (none_at (endpoint_at c n request) h)
+
+  -- ---- the endpoint of an ask
+
+  heard_own : (secret : Text) (r : Result Heard AnswerNo) (e : Endpoint) → own_endpoint (callback_asked secret request.first r) ≡ Some e → Some endpoint.Redirection ≡ Some e
+  heard_own secret (Ok heard) e h = h
+  heard_own secret (Err why) e h = h
+
+  own_at : (o : Option Endpoint) (e : Endpoint) → own_endpoint (asked_at (secret_at c n) request o) ≡ Some e → o ≡ Some e
+  own_at None e h = absurd (cc)
+  own_at (Some endpoint.Login) e h = h
+  own_at (Some endpoint.Home) e h = h
+  own_at (Some endpoint.Redirection) e h = heard_own (secret_at c n) (answer_read (response_in request.method request)) e h
+
+  pub own_to : (e : Endpoint) → own_endpoint (prepared c n request) ≡ Some e → IsTo c n request e
+  unfolding prepared
+  own_to e h = asked_to e (own_at (endpoint_at c n request) e h)
+
+  -- ---- cookies
+
+  heard_cookies : (secret : Text) (r : Result Heard AnswerNo) → HasCookies request (callback_asked secret request.first r)
+  heard_cookies secret (Ok heard) = refl
+  heard_cookies secret (Err why) = refl
+
+  cookies_at : (o : Option Endpoint) → HasCookies request (asked_at (secret_at c n) request o)
+  cookies_at None = tt
+  cookies_at (Some endpoint.Login) = refl
+  cookies_at (Some endpoint.Home) = refl
+  cookies_at (Some endpoint.Redirection) = heard_cookies (secret_at c n) (answer_read (response_in request.method request))
+
+  pub has_cookies : HasCookies request (prepared c n request)
+  unfolding prepared
+  has_cookies = cookies_at (endpoint_at c n request)

@@ -1,0 +1,55 @@
+-- What a request to a relying party is and what it asks, in plain words.
+use Rattle.std.specs.Prelude.{◌≡◌, ◌⊎◌, ℕ, List, [], ◌∷◌, Option, Some, None, Result, Ok, Err, slice_get}
+use Rattle.sso_base.specs.Words.{Text}
+use Rattle.sso_base.specs.declared.http.Ask.{Ask}
+use Rattle.client_registry.specs.declared.records.Party.{Party}
+use Rattle.client_registry.specs.Configuration.{Configuration}
+use Rattle.id_token.specs.declared.claims.IdClaims.{IdClaims}
+use Rattle.id_token.specs.declared.no.IdNo.{IdNo}
+use Rattle.id_token.specs.Token.{IsIdToken}
+use Rattle.rp_exchange.specs.declared.ask.RpAsk.{RpAsk}
+use Rattle.rp_exchange.specs.declared.ask.RpAsk.TheVariants as ask
+use Rattle.rp_request.specs.declared.routes.Endpoint.{Endpoint}
+use Rattle.rp_request.specs.declared.routes.Endpoint.TheVariants as endpoint
+use Rattle.rp_request.specs.Routes.{Route, routes_of}
+
+-- ---- where a request goes
+
+abbrev pub IsListed : Route → List Route → Type 0
+IsListed route [] = ⊥
+IsListed route (first ∷ routes) = (first ≡ route) ⊎ IsListed route routes
+
+-- the request is to this endpoint of the party of this number: its path is listed for its method, or is that of the party's
+-- redirection URI
+pub record IsTo (c : Configuration) (n : ℕ) (request : Ask) (e : Endpoint) : Type 0 where
+  pub party : Party
+  pub there : slice_get c.parties n ≡ Some party
+  pub listed : IsListed (request.path, e) (routes_of request.method party.redirect_url.path)
+
+-- the endpoint to which an ask belongs
+abbrev pub own_endpoint : RpAsk → Option Endpoint
+own_endpoint (ask.Begin browser) = Some endpoint.Login
+own_endpoint (ask.Callback heard id browser) = Some endpoint.Redirection
+own_endpoint (ask.Visit session) = Some endpoint.Home
+own_endpoint other = None
+
+-- ---- ID Tokens
+
+-- What was read of a text: the claims of the ID Token that it is under this secret, or a refusal where it is none. Nothing was
+-- read exactly where there is no text.
+abbrev pub IsOpened : Text → Option Text → Option (Result IdClaims IdNo) → Type 0
+IsOpened secret None None = Unit {0}
+IsOpened secret None (Some id) = ⊥
+IsOpened secret (Some text) None = ⊥
+IsOpened secret (Some text) (Some (Ok claims)) = IsIdToken secret text claims
+IsOpened secret (Some text) (Some (Err why)) = (claims : IdClaims) → ¬ IsIdToken secret text claims
+
+-- ---- cookies
+
+-- the ask has the words of the request's cookies: the first is the browser's, the second the session's
+abbrev pub HasCookies : Ask → RpAsk → Type 0
+HasCookies request (ask.Begin browser) = browser ≡ request.first
+HasCookies request (ask.Callback heard id browser) = browser ≡ request.first
+HasCookies request (ask.Visit session) = session ≡ request.second
+HasCookies request (ask.Leave session) = session ≡ request.second
+HasCookies request other = Unit {0}

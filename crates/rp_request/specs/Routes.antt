@@ -1,0 +1,33 @@
+-- Which endpoint of a relying party a request is to, by its method and its path. The paths are this party's own, but for that of
+-- its redirection URI.
+use Rattle.std.specs.Prelude.{List, [], ◌∷◌, codes, Option, Some, None, if◌then◌else◌}
+use Rattle.std.specs.Str.{bytes_eq}
+use Rattle.sso_base.specs.Words.{Text}
+use Rattle.sso_base.specs.declared.http.Method.{Method}
+use Rattle.sso_base.specs.declared.http.Method.TheVariants.{Get, Post, Other}
+use Rattle.sso_base.specs.declared.http.Ask.{Ask}
+use Rattle.rp_request.specs.declared.routes.Endpoint.{Endpoint}
+use Rattle.rp_request.specs.declared.routes.Endpoint.TheVariants.{Login, Home, Redirection}
+
+abbrev pub Route : Type 0
+Route = Text × Endpoint
+
+abbrev pub get_routes : Text → List Route
+get_routes redirection = (codes "/login", Login) ∷ (codes "/", Home) ∷ (redirection, Redirection) ∷ []
+
+abbrev pub post_routes : Text → List Route
+post_routes redirection = (redirection, Redirection) ∷ []
+
+abbrev pub routes_of : Method → Text → List Route
+routes_of Get redirection = get_routes redirection
+routes_of Post redirection = post_routes redirection
+routes_of Other redirection = []
+
+-- the endpoint of this path
+abbrev pub endpoint_of : List Route → Text → Option Endpoint
+endpoint_of [] path = None
+endpoint_of (route ∷ routes) path = if bytes_eq path route.0 then Some route.1 else endpoint_of routes path
+
+-- the endpoint that a request is to, where the redirection URI has this path
+abbrev pub endpoint_asked : Text → Ask → Option Endpoint
+endpoint_asked redirection request = endpoint_of (routes_of request.method redirection) request.path

@@ -1,0 +1,76 @@
+// What holds of the asks that requests and answers give.
+
+ghost use Rattle.std.specs.Prelude.{◌≡◌, ℕ, true, Option, Some, None, option_map, Result, Ok, Err};
+ghost use Rattle.sso_base.specs.Words.{Word, Text};
+ghost use Rattle.sso_base.specs.declared.http.Ask.{Ask};
+ghost use Rattle.sso_base.specs.declared.message.Answered.{Answered};
+ghost use Rattle.client_registry.specs.Configuration.{Configuration};
+ghost use Rattle.client_registry.specs.Registered.{IsRegistry};
+ghost use Rattle.id_token.specs.declared.claims.IdClaims.{IdClaims};
+ghost use Rattle.id_token.specs.declared.no.IdNo.{IdNo};
+ghost use Rattle.id_token.specs.Token.{IsIdToken};
+ghost use Rattle.id_token.specs.Reading.{id_read};
+ghost use Rattle.auth_answer.specs.declared.heard.Heard.{Heard};
+ghost use Rattle.auth_answer.specs.declared.no.AnswerNo.{AnswerNo};
+ghost use Rattle.auth_answer.specs.Reading.{HasAnswer, RefusesAnswer};
+ghost use Rattle.token_endpoint.specs.declared.reading.Tokens.{Tokens};
+ghost use Rattle.token_endpoint.specs.declared.no.TokensNo.{TokensNo};
+ghost use Rattle.token_endpoint.specs.Answer.{tokens_read, HasTokens};
+ghost use Rattle.rp_exchange.specs.declared.ask.RpAsk.TheVariants as ask;
+ghost use Rattle.rp_exchange.specs.Asks.{is_prepared};
+ghost use Rattle.rp_exchange.specs.Parties.{secret_at};
+ghost use Rattle.rp_request.specs.declared.routes.Endpoint.{Endpoint};
+ghost use Rattle.rp_request.specs.declared.routes.Endpoint.TheVariants as endpoint;
+ghost use Rattle.rp_request.specs.Prepared.{response_in, prepared, tokens_prepared};
+ghost use Rattle.rp_request.specs.Requests.{IsTo, own_endpoint, IsOpened, HasCookies};
+
+/// A request finds nothing here exactly where it is to no endpoint: its path is neither one that is listed for its method nor that of
+/// the redirection URI. Any other ask is that of the endpoint that the request is to.
+pub fn requests_are_told_by_method_and_path()
+    ensures elsewhere { (c : Configuration) (n : ℕ) (request : Ask) → ((e : Endpoint) → ¬ IsTo c n request e) → prepared c n request ≡ ask.NotHere }
+    ensures nothing { (c : Configuration) (n : ℕ) (request : Ask) (e : Endpoint) → prepared c n request ≡ ask.NotHere → ¬ IsTo c n request e }
+    ensures own { (c : Configuration) (n : ℕ) (request : Ask) (e : Endpoint) → own_endpoint (prepared c n request) ≡ Some e → IsTo c n request e }
+{}
+
+/// An authorization response is the form in the query of a GET, or in the body of a POST, of the redirection URI. Its parts are heard
+/// exactly where no name of a part stands twice in the form, and it is refused with the first such name elsewhere (RFC 6749, 3.1).
+pub fn callbacks_are_read_from_forms()
+    ensures heard { (c : Configuration) (n : ℕ) (request : Ask) (heard : Heard) (id : Option (Result IdClaims IdNo)) (browser : Option Word) → prepared c n request ≡ ask.Callback (Ok heard) id browser → HasAnswer (response_in request.method request) heard }
+    ensures hears { (c : Configuration) (n : ℕ) (request : Ask) (heard : Heard) → IsRegistry c → IsTo c n request endpoint.Redirection → HasAnswer (response_in request.method request) heard → prepared c n request ≡ ask.Callback (Ok heard) (option_map (id_read (secret_at c n)) heard.id) request.first }
+    ensures refused { (c : Configuration) (n : ℕ) (request : Ask) (why : AnswerNo) (id : Option (Result IdClaims IdNo)) (browser : Option Word) → prepared c n request ≡ ask.Callback (Err why) id browser → RefusesAnswer (response_in request.method request) why }
+    ensures refuses { (c : Configuration) (n : ℕ) (request : Ask) (why : AnswerNo) → IsRegistry c → IsTo c n request endpoint.Redirection → RefusesAnswer (response_in request.method request) why → prepared c n request ≡ ask.Callback (Err why) None request.first }
+{}
+
+/// What is read of the ID Token in an authorization response are its claims, exactly where it is an ID Token under the secret of the
+/// client that the party is (OpenID Connect Core 1.0, 3.1.3.7, step 8; 10.1). Nothing is read exactly where there is none.
+pub fn id_tokens_are_opened_by_the_secret()
+    ensures opened { (c : Configuration) (n : ℕ) (request : Ask) (heard : Heard) (id : Option (Result IdClaims IdNo)) (browser : Option Word) → prepared c n request ≡ ask.Callback (Ok heard) id browser → IsOpened (secret_at c n) heard.id id }
+    ensures accepted { (c : Configuration) (n : ℕ) (request : Ask) (heard : Heard) (id : Option (Result IdClaims IdNo)) (browser : Option Word) (text : Text) (claims : IdClaims) → prepared c n request ≡ ask.Callback (Ok heard) id browser → heard.id ≡ Some text → IsIdToken (secret_at c n) text claims → id ≡ Some (Ok claims) }
+{}
+
+/// What the token endpoint answers is asked of the exchange that waits for it. Its tokens are those of a successful response, exactly
+/// where it is one (Core 3.1.3.3), and else it is refused for the first reason, with no ID Token.
+pub fn token_answers_are_read_for_their_exchange()
+    ensures read { (c : Configuration) (n : ℕ) (pending w : Word) (answer : Answered) (tokens : Tokens) (id : Option (Result IdClaims IdNo)) → tokens_prepared c n pending answer ≡ ask.Tokens w (Ok tokens) id → (w ≡ pending) × HasTokens answer tokens }
+    ensures reads { (c : Configuration) (n : ℕ) (pending : Word) (answer : Answered) (tokens : Tokens) → HasTokens answer tokens → tokens_prepared c n pending answer ≡ ask.Tokens pending (Ok tokens) (Some (id_read (secret_at c n) tokens.id)) }
+    ensures refuses { (c : Configuration) (n : ℕ) (pending : Word) (answer : Answered) (why : TokensNo) → tokens_read answer ≡ Err why → tokens_prepared c n pending answer ≡ ask.Tokens pending (Err why) None }
+{}
+
+/// What is read of the ID Token among the tokens are its claims, exactly where it is an ID Token under the secret of the client that
+/// the party is.
+pub fn token_answers_have_opened_id_tokens()
+    ensures opened { (c : Configuration) (n : ℕ) (pending w : Word) (answer : Answered) (tokens : Tokens) (id : Option (Result IdClaims IdNo)) → tokens_prepared c n pending answer ≡ ask.Tokens w (Ok tokens) id → IsOpened (secret_at c n) (Some tokens.id) id }
+    ensures accepted { (c : Configuration) (n : ℕ) (pending w : Word) (answer : Answered) (tokens : Tokens) (id : Option (Result IdClaims IdNo)) (claims : IdClaims) → tokens_prepared c n pending answer ≡ ask.Tokens w (Ok tokens) id → IsIdToken (secret_at c n) tokens.id claims → id ≡ Some (Ok claims) }
+{}
+
+/// An ask has the words of the request's cookies: the browser's is the first, the session's the second.
+pub fn asks_have_the_cookies()
+    ensures { (c : Configuration) (n : ℕ) (request : Ask) → HasCookies request (prepared c n request) }
+{}
+
+/// What is prepared is an ask that requests and answers give: something is read of an ID Token exactly where there is one, and no
+/// want of memory is inside.
+pub fn prepared_asks_are_given_by_requests()
+    ensures request { (c : Configuration) (n : ℕ) (request : Ask) → is_prepared (prepared c n request) ≡ true }
+    ensures answer { (c : Configuration) (n : ℕ) (pending : Word) (answer : Answered) → is_prepared (tokens_prepared c n pending answer) ≡ true }
+{}

@@ -1,0 +1,6 @@
+pub mod Pieces
+pub mod CookieNames
+pub mod CookieLaws
+pub mod ReplyLaws
+pub mod LineLaws
+mod Samples

@@ -1,0 +1,11 @@
+use Rattle.rp_response.proofs.CookieLaws.{cookies_read, browser_set_if_given, session_set_if_given}
+use Rattle.rp_response.proofs.law.cookies_hold_the_words_of_replies.Goals as goal
+
+pub returns-clause-read : goal.returns-clause-read
+returns-clause-read c = cookies_read
+
+pub returns-clause-browser : goal.returns-clause-browser
+returns-clause-browser c = browser_set_if_given
+
+pub returns-clause-session : goal.returns-clause-session
+returns-clause-session c = session_set_if_given

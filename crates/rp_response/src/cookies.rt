@@ -1,0 +1,50 @@
+// The cookies of replies.
+
+ghost use Rattle.std.specs.Prelude.{◌≡◌, ◌++◌, [], ◌∷◌, IfOk};
+ghost use Rattle.word_cookie.specs.Cookies.{cookie};
+ghost use Rattle.rp_response.specs.Cookies as spec;
+
+use crate::joining::phrase;
+use sso_base::{NoMemory, Text, Texts, Word};
+use std::alloc::Global;
+use word_cookie::cookie;
+
+// The cookie alone whose name is the party's and then this ending.
+fn one_cookie(
+    alloc: Global,
+    secure: bool,
+    party: &Text,
+    ending: &str,
+    word: &Word,
+) -> Result<Texts, NoMemory>
+    ensures { IfOk result (λ t. t ≡ cookie secure (party.now ++ ending.now) word.now ∷ []) }
+{
+    let name = phrase(alloc, party.as_str(), ending)?;
+    let mut cookies = Texts::new(alloc);
+    cookies.push(cookie(alloc, secure, name.as_str(), word)?)?;
+    Ok(cookies)
+}
+
+// The browser's cookie alone, at the party of this name.
+pub(crate) fn browser_cookies(
+    alloc: Global,
+    secure: bool,
+    party: &Text,
+    browser: &Word,
+) -> Result<Texts, NoMemory>
+    ensures { IfOk result (λ t. t ≡ cookie secure (spec.browser_cookie party.now) browser.now ∷ []) }
+{
+    one_cookie(alloc, secure, party, "_b", browser)
+}
+
+// The session's cookie alone, at the party of this name.
+pub(crate) fn session_cookies(
+    alloc: Global,
+    secure: bool,
+    party: &Text,
+    session: &Word,
+) -> Result<Texts, NoMemory>
+    ensures { IfOk result (λ t. t ≡ cookie secure (spec.session_cookie party.now) session.now ∷ []) }
+{
+    one_cookie(alloc, secure, party, "_s", session)
+}

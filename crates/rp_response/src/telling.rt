@@ -1,0 +1,162 @@
+// Replies are told in HTTP.
+
+ghost use Rattle.std.specs.Prelude.{◌≡◌, ◌<◌, length, IfOk};
+ghost use Rattle.rp_response.specs.Telling as spec;
+
+use crate::cookies::{browser_cookies, session_cookies};
+use crate::joining::{joined, phrase};
+use crate::page::fragment_page;
+use crate::refusals::refusal_line;
+use client_registry::Registry;
+use rp_exchange::{RpNo, RpReply};
+use sso_base::{Blob, HttpReply, Kind, NoMemory, Text, Texts, Word};
+use std::alloc::Global;
+
+fn html(alloc: Global, page: Blob) -> HttpReply
+    ensures { result ≡ spec.html page }
+{
+    HttpReply {
+        status: 200,
+        pragma: false,
+        location: None,
+        cookies: Texts::new(alloc),
+        challenge: None,
+        kind: Kind::Html,
+        body: page,
+    }
+}
+
+// A line of text, and its line feed.
+fn plain(alloc: Global, status: u16, line: &str) -> Result<HttpReply, NoMemory>
+    ensures { IfOk result (λ h. h ≡ spec.plain status line.now) }
+{
+    Ok(HttpReply {
+        status,
+        pragma: false,
+        location: None,
+        cookies: Texts::new(alloc),
+        challenge: None,
+        kind: Kind::Plain,
+        body: Blob::from_vec(joined(alloc, &[line, "\n"])?.into_bytes()),
+    })
+}
+
+// A reply with nothing in it.
+fn empty(alloc: Global) -> HttpReply
+    ensures { result ≡ spec.empty }
+{
+    HttpReply {
+        status: 200,
+        pragma: false,
+        location: None,
+        cookies: Texts::new(alloc),
+        challenge: None,
+        kind: Kind::Empty,
+        body: Blob::from_vec(Vec::new(alloc)),
+    }
+}
+
+// The user agent is sent to this location, with these cookies.
+fn sent_to(alloc: Global, location: Text, cookies: Texts) -> HttpReply
+    ensures { result ≡ spec.sent_to location cookies }
+{
+    HttpReply {
+        status: 303,
+        pragma: false,
+        location: Some(location),
+        cookies,
+        challenge: None,
+        kind: Kind::Empty,
+        body: Blob::from_vec(Vec::new(alloc)),
+    }
+}
+
+fn asked(
+    alloc: Global,
+    secure: bool,
+    party: &Text,
+    to: &Text,
+    browser: &Word,
+) -> Result<HttpReply, NoMemory>
+    ensures { IfOk result (λ h. h ≡ spec.asked secure party.now to.now browser.now) }
+{
+    let cookies = browser_cookies(alloc, secure, party, browser)?;
+    Ok(sent_to(alloc, to.copy(alloc)?, cookies))
+}
+
+fn entered(alloc: Global, secure: bool, party: &Text, session: &Word) -> Result<HttpReply, NoMemory>
+    ensures { IfOk result (λ h. h ≡ spec.entered secure party.now session.now) }
+{
+    let cookies = session_cookies(alloc, secure, party, session)?;
+    Ok(sent_to(alloc, Text::new(alloc, "/")?, cookies))
+}
+
+fn fragment(alloc: Global) -> Result<HttpReply, NoMemory>
+    ensures { IfOk result (λ h. h ≡ spec.fragment) }
+{
+    let page = fragment_page(alloc)?;
+    Ok(html(alloc, page))
+}
+
+fn user(alloc: Global, sub: &Text) -> Result<HttpReply, NoMemory>
+    ensures { IfOk result (λ h. h ≡ spec.user sub.now) }
+{
+    let line = phrase(alloc, "user ", sub.as_str())?;
+    plain(alloc, 200, line.as_str())
+}
+
+// The status of a refusal.
+fn refused_status(why: &RpNo) -> u16
+    ensures { result ≡ spec.refused_status why.now }
+{
+    match why {
+        RpNo::Full(_) => 503,
+        _ => 400,
+    }
+}
+
+fn refused(alloc: Global, why: &RpNo) -> Result<HttpReply, NoMemory>
+    ensures { IfOk result (λ h. h ≡ spec.refused why.now) }
+{
+    let line = refusal_line(alloc, why)?;
+    plain(alloc, refused_status(why), line.as_str())
+}
+
+/// What this reply is in HTTP, at the party of this number in the registry.
+///
+/// An authorization request and a session send the user agent on, with status 303, to the provider and to `/`. The former sets
+/// the browser's cookie `NAME_b` and the latter the session's `NAME_s`, where `NAME` is that of the party. A cookie is a word's
+/// text, for every path, `HttpOnly`, `SameSite=Lax` and, where the issuer is https, `Secure` (RFC 6265, 4.1).
+///
+/// A fragment is read by a page in HTML, which posts it to its own location. A logout that was accepted is empty, with status
+/// 200 (OpenID Connect Back-Channel Logout 1.0, 2.8). Who is logged in, and that a session is over, is one line of text. A
+/// refusal is its line, with status 400, or 503 where a table is full. Where nothing is found, the status is 404.
+///
+/// What waits for an answer of the provider is told as one that is pending, with status 502, and without its message.
+///
+/// The party's number is below the count of the registry's parties, as a condition.
+#[tactic(auto, unfolding(crate::specs::Telling::http_of))]
+pub fn rp_http(
+    alloc: Global,
+    registry: &Registry,
+    party: u32,
+    reply: &RpReply,
+) -> Result<HttpReply, NoMemory>
+    requires { party < length registry.now.parties }
+    ensures { IfOk result (λ h. h ≡ spec.http_of registry.now party reply.now) }
+{
+    let secure = registry.secure();
+    let name = &registry.party(party).name;
+    match reply {
+        RpReply::Ask { to, browser } => asked(alloc, secure, name, to, browser),
+        RpReply::Fragment => fragment(alloc),
+        RpReply::Exchange { .. } | RpReply::Fetch { .. } => plain(alloc, 502, "pending"),
+        RpReply::Entered { session, .. } => entered(alloc, secure, name, session),
+        RpReply::User { sub } => user(alloc, sub),
+        RpReply::Nobody => plain(alloc, 200, "nobody"),
+        RpReply::Left { .. } => plain(alloc, 200, "left"),
+        RpReply::Ended { .. } => Ok(empty(alloc)),
+        RpReply::Refused { why } => refused(alloc, why),
+        RpReply::NotHere => plain(alloc, 404, "not here"),
+    }
+}
