@@ -11,13 +11,13 @@ use Rattle.request_params.proofs.Values.{has_value, value_of_pair}
 use Rattle.request_params.proofs.Repeated.{none_repeated, repeated_none, some_repeated, repeated_first}
 use Rattle.request_params.proofs.Lossy.{pair_read}
 use Rattle.request_params.proofs.Forms.{IsTextPair}
-use Rattle.auth_request.specs.declared.wish.AuthError.{AuthError}
+use Rattle.oidc_words.specs.declared.errors.AuthError.{AuthError}
 use Rattle.auth_answer.specs.declared.heard.Heard.{Heard}
 use Rattle.auth_answer.specs.declared.no.AnswerNo.{AnswerNo}
 use Rattle.auth_answer.specs.declared.no.AnswerNo.TheVariants as no
-use Rattle.auth_answer.specs.ErrorCode.{error_of, SaysError}
+use Rattle.oidc_words.specs.Errors.{error_of, SaysError}
 use Rattle.auth_answer.specs.Reading.{names_part, heard_pairs, heard_in, unless_repeated, answer_read, SaysWord, SaysText, IsPart, HasAnswer, RefusesAnswer, IsHeard}
-use Rattle.auth_answer.proofs.ErrorCodes.{error_says, says_error}
+use Rattle.oidc_words.proofs.ErrorCodes.{error_says, says_error}
 
 -- ---- one part
 

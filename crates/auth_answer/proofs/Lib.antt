@@ -1,8 +1,6 @@
-pub mod ErrorCodes
 pub mod PartNames
 pub mod TakenInOrder
 pub mod HeardParts
-pub mod Answering
 pub mod Written
 pub mod TokenParams
 pub mod OwnQueries

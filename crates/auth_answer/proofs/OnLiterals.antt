@@ -1,7 +1,7 @@
 use Rattle.std.specs.Prelude.{⊤}
 use Rattle.sso_base.proofs.OnLiterals.{base64url_on_literals}
 use Rattle.request_params.proofs.OnLiterals.{request_params_on_literals}
-use Rattle.auth_answer.specs.ErrorCode.{error_text, error_of}
+use Rattle.oidc_words.specs.Errors.{error_text, error_of}
 use Rattle.auth_answer.specs.Printing.{answer_location, refusal_location}
 use Rattle.auth_answer.specs.Reading.{answer_read}
 

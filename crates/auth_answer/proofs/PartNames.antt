@@ -3,7 +3,7 @@ use Rattle.std.proofs.Common.{◌≡◌, List, [], ◌∷◌, Bool, true, false,
 use Rattle.std.specs.List.{find, list_any}
 use Rattle.std.specs.Str.{bytes_eq}
 use Rattle.sso_base.specs.Words.{Text}
-use Rattle.configuration_rows.specs.Kinds.{has_text}
+use Rattle.sso_base.specs.Texts.{has_text}
 use Rattle.configuration_rows.specs.Version1.{answer_names}
 use Rattle.request_params.proofs.NameLaws.{same_text, found_passes}
 use Rattle.auth_answer.specs.declared.parts.PartName.{PartName}

@@ -4,48 +4,22 @@ use Rattle.sso_base.specs.Words.{Word, Text, IsWord, word_text}
 use Rattle.sso_base.proofs.Spelling.{IsBytes-from_all_bytes}
 use Rattle.std.specs.List.{list_any}
 use Rattle.registered_url.specs.Query.{form_names}
-use Rattle.configuration_rows.specs.Kinds.{has_text}
+use Rattle.sso_base.specs.Texts.{has_text}
 use Rattle.configuration_rows.specs.Version1.{answer_names}
 use Rattle.request_params.specs.Reading.{RepeatsFirst}
-use Rattle.auth_request.specs.declared.wish.AuthError.TheVariants.{AccessDenied, LoginRequired, InvalidScope, Other}
-use Rattle.auth_request.specs.declared.wish.Refusal.{Refusal}
+use Rattle.oidc_words.specs.declared.errors.AuthError.TheVariants.{AccessDenied, Other}
+use Rattle.oidc_words.specs.declared.errors.Refusal.{Refusal}
 use Rattle.auth_answer.specs.declared.answer.Answer.{Answer}
 use Rattle.auth_answer.specs.declared.heard.Heard.{Heard}
 use Rattle.auth_answer.specs.declared.no.AnswerNo.{AnswerNo}
 use Rattle.auth_answer.specs.declared.no.AnswerNo.TheVariants.{Twice}
-use Rattle.auth_answer.specs.ErrorCode.{error_text, error_of, SaysError}
 use Rattle.auth_answer.specs.Printing.{answer_form, answer_location, refusal_location, refusal_form}
 use Rattle.auth_answer.specs.Reading.{heard_pairs, answer_read, HasAnswer, RefusesAnswer, IsHeard}
 use Rattle.auth_answer.specs.Sent.{answer_heard, refusal_heard, StatesWord}
 use Rattle.auth_answer.proofs.OnLiterals.{auth_answer_on_literals}
-use Rattle.auth_answer.proofs.ErrorCodes.{error_says, says_error}
 use Rattle.auth_answer.proofs.HeardParts.{read-answer, answer-read, answer_refused, refused_answer}
 use Rattle.auth_answer.proofs.Written.{answer_read_back, refusal_read_back}
 use Rattle.auth_answer.proofs.OwnQueries.{own_query_ignored}
-
--- ---- error codes
-
-text-of_a_code : error_text InvalidScope ≡ codes "invalid_scope"
-unfolding auth_answer_on_literals
-text-of_a_code = refl
-
-code-of_a_text : error_of (codes "login_required") ≡ LoginRequired
-unfolding auth_answer_on_literals
-code-of_a_text = refl
-
-code-of_another_text : error_of (codes "Login_required") ≡ Other
-unfolding auth_answer_on_literals
-code-of_another_text = refl
-
-code-of_the_empty_text : error_of [] ≡ Other
-unfolding auth_answer_on_literals
-code-of_the_empty_text = refl
-
-says-a_code : SaysError (codes "login_required") LoginRequired
-says-a_code = error_says (codes "login_required") LoginRequired code-of_a_text
-
-says-not_another : SaysError (codes "login_required") Other → ⊥
-says-not_another h = (let no : Other ≡ LoginRequired = sym (says_error (codes "login_required") Other h) ∙ code-of_a_text in cc)
 
 -- ---- locations
 

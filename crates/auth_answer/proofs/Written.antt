@@ -8,17 +8,19 @@ use Rattle.sso_base.proofs.WordTexts.{word_of_text-word_text}
 use Rattle.request_params.specs.Form.{Pair, form_text}
 use Rattle.request_params.specs.Location.{with_query, with_fragment}
 use Rattle.request_params.proofs.Forms.{AreTextPairs, form_pairs-form_text}
-use Rattle.request_params.proofs.Utf8Bytes.{IsUtf8-are_ascii}
-use Rattle.auth_request.specs.declared.wish.AuthError.{AuthError}
-use Rattle.auth_request.specs.declared.wish.Refusal.{Refusal}
+use Rattle.sso_base.proofs.Utf8Bytes.{IsUtf8-are_ascii}
+use Rattle.oidc_words.specs.declared.errors.AuthError.{AuthError}
+use Rattle.oidc_words.specs.declared.errors.Refusal.{Refusal}
+use Rattle.oidc_words.specs.Lives.{access_life_text}
 use Rattle.auth_answer.specs.declared.answer.Answer.{Answer}
 use Rattle.auth_answer.specs.declared.heard.Heard.{Heard}
 use Rattle.auth_answer.specs.declared.no.AnswerNo.{AnswerNo}
-use Rattle.auth_answer.specs.ErrorCode.{error_text, error_of}
+use Rattle.oidc_words.specs.Errors.{error_text, error_of}
 use Rattle.auth_answer.specs.Printing.{Param, pair_if, pairs_of, answer_params, refusal_params, answer_form, refusal_form, located, answer_location, refusal_location, answer_mark}
 use Rattle.auth_answer.specs.Reading.{names_part, pairs_read, answer_read}
 use Rattle.auth_answer.specs.Sent.{answer_heard, refusal_heard, StatesWord}
-use Rattle.auth_answer.proofs.ErrorCodes.{error_of-error_text, IsUtf8-error_text}
+use Rattle.oidc_words.proofs.ErrorCodes.{error_of-error_text}
+use Rattle.oidc_words.proofs.ErrorTexts.{IsUtf8-error_text}
 use Rattle.sso_base.proofs.WordUtf8.{IsUtf8-word_text_if}
 
 -- ---- the parameters are texts
@@ -50,7 +52,7 @@ answer_texts a state id = (
     (
       (IsUtf8-are_ascii (codes "token_type") refl, text_if (codes "Bearer") (option_map word_text a.access) (IsUtf8-are_ascii (codes "Bearer") refl)),
       (
-        (IsUtf8-are_ascii (codes "expires_in") refl, text_if (codes "3600") (option_map word_text a.access) (IsUtf8-are_ascii (codes "3600") refl)),
+        (IsUtf8-are_ascii (codes "expires_in") refl, text_if access_life_text (option_map word_text a.access) (IsUtf8-are_ascii access_life_text refl)),
         (
           (IsUtf8-are_ascii (codes "id_token") refl, id),
           (

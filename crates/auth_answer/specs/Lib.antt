@@ -1,4 +1,3 @@
-pub mod ErrorCode
 pub mod Printing
 pub mod Params
 pub mod Reading

@@ -11,7 +11,7 @@ use Rattle.auth_answer.specs.declared.parts.Parts.{Parts}
 use Rattle.auth_answer.specs.declared.heard.Heard.{Heard}
 use Rattle.auth_answer.specs.declared.no.AnswerNo.{AnswerNo}
 use Rattle.auth_answer.specs.declared.no.AnswerNo.TheVariants.{Twice}
-use Rattle.auth_answer.specs.ErrorCode.{error_of}
+use Rattle.oidc_words.specs.Errors.{error_of}
 
 -- how the name of a part is written
 abbrev pub part_text : PartName → Text

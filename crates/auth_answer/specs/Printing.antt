@@ -3,11 +3,12 @@
 -- 4.2.2.1; OAuth 2.0 Multiple Response Type Encoding Practices, 5).
 use Rattle.std.specs.Prelude.{Bool, List, [], ◌∷◌, codes, filter_map, Option, Some, option_map, if◌then◌else◌}
 use Rattle.sso_base.specs.Words.{Text, word_text}
+use Rattle.oidc_words.specs.Lives.{access_life_text}
 use Rattle.request_params.specs.Form.{Pair, form_text}
 use Rattle.request_params.specs.Location.{query_mark, with_query, with_fragment}
-use Rattle.auth_request.specs.declared.wish.Refusal.{Refusal}
+use Rattle.oidc_words.specs.declared.errors.Refusal.{Refusal}
 use Rattle.auth_answer.specs.declared.answer.Answer.{Answer}
-use Rattle.auth_answer.specs.ErrorCode.{error_text}
+use Rattle.oidc_words.specs.Errors.{error_text}
 
 -- a parameter: a name, and a value where there is one
 abbrev pub Param : Type 0
@@ -20,14 +21,14 @@ pair_if param = option_map (λ value. (param.0, value)) param.1
 abbrev pub pairs_of : List Param → List Pair
 pairs_of params = filter_map pair_if params
 
--- the parameters of an answer in which these texts stand, in order. An access token is a bearer token that lives for 3,600
--- seconds.
+-- the parameters of an answer in which these texts stand, in order. An access token is a bearer token, and its
+-- life is told.
 abbrev pub params_of : Option Text → Option Text → Option Text → Option Text → List Param
 params_of code access id state =
     (codes "code", code)
     ∷ (codes "access_token", access)
     ∷ (codes "token_type", option_map (λ _. codes "Bearer") access)
-    ∷ (codes "expires_in", option_map (λ _. codes "3600") access)
+    ∷ (codes "expires_in", option_map (λ _. access_life_text) access)
     ∷ (codes "id_token", id)
     ∷ (codes "state", state) ∷ []
 

@@ -4,14 +4,14 @@
 use Rattle.std.specs.Prelude.{◌≡◌, ℕ, Bool, List, codes, filter, Option, Some, None, option_map, option_and_then, Result, Ok, Err, IfSome}
 use Rattle.std.specs.Str.{IsUtf8}
 use Rattle.sso_base.specs.Words.{Word, Text, IsWord, word_text, word_of_text}
-use Rattle.configuration_rows.specs.Kinds.{has_text}
+use Rattle.sso_base.specs.Texts.{has_text}
 use Rattle.configuration_rows.specs.Version1.{answer_names}
 use Rattle.request_params.specs.Form.{Pair, form_pairs}
 use Rattle.request_params.specs.Reading.{value_of, first_repeated, Has, StandOnce, RepeatsFirst}
 use Rattle.auth_answer.specs.declared.heard.Heard.{Heard}
 use Rattle.auth_answer.specs.declared.no.AnswerNo.{AnswerNo}
 use Rattle.auth_answer.specs.declared.no.AnswerNo.TheVariants.{Twice, NoMemory}
-use Rattle.auth_answer.specs.ErrorCode.{error_of, SaysError}
+use Rattle.oidc_words.specs.Errors.{error_of, SaysError}
 
 -- the name is one of `state`, `error`, `code`, `access_token` and `id_token`
 abbrev pub names_part : Pair → Bool

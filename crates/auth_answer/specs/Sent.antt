@@ -1,7 +1,7 @@
 -- What is heard of an answer and of a refusal that were sent.
 use Rattle.std.specs.Prelude.{◌≡◌, Option, Some, None, option_map, IfSome}
 use Rattle.sso_base.specs.Words.{Word, Text, IsWord, word_text}
-use Rattle.auth_request.specs.declared.wish.Refusal.{Refusal}
+use Rattle.oidc_words.specs.declared.errors.Refusal.{Refusal}
 use Rattle.auth_answer.specs.declared.answer.Answer.{Answer}
 use Rattle.auth_answer.specs.declared.heard.Heard.{Heard}
 

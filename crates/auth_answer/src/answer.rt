@@ -19,6 +19,7 @@ pub struct Answer {
     pub access: Option<Word>,
     /// The ID Token.
     pub id: Option<Text>,
+    /// The request's state (RFC 6749, 4.1.2).
     pub state: Option<Text>,
 }
 

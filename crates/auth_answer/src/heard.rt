@@ -1,6 +1,6 @@
 // What a relying party hears.
 
-use auth_request::AuthError;
+use oidc_words::AuthError;
 use sso_base::{Text, Word};
 
 /// An authorization response, as far as its parts are there (OpenID Connect Core 1.0, 3.1.2.5, 3.1.2.6, 3.2.2.5 and

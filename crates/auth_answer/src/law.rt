@@ -5,25 +5,19 @@ ghost use Rattle.std.specs.List.{list_any};
 ghost use Rattle.std.specs.Str.{IsUtf8};
 ghost use Rattle.sso_base.specs.Words.{Word, Text, word_of_text};
 ghost use Rattle.registered_url.specs.Query.{form_names};
-ghost use Rattle.configuration_rows.specs.Kinds.{has_text};
+ghost use Rattle.sso_base.specs.Texts.{has_text};
 ghost use Rattle.configuration_rows.specs.Version1.{answer_names};
+ghost use Rattle.oidc_words.specs.Lives.{access_life_text};
 ghost use Rattle.request_params.specs.Reading.{value_of};
-ghost use Rattle.auth_request.specs.declared.wish.AuthError.{AuthError};
-ghost use Rattle.auth_request.specs.declared.wish.Refusal.{Refusal};
+ghost use Rattle.oidc_words.specs.declared.errors.AuthError.{AuthError};
+ghost use Rattle.oidc_words.specs.declared.errors.Refusal.{Refusal};
 ghost use Rattle.auth_answer.specs.declared.answer.Answer.{Answer};
 ghost use Rattle.auth_answer.specs.declared.heard.Heard.{Heard};
 ghost use Rattle.auth_answer.specs.declared.no.AnswerNo.{AnswerNo};
-ghost use Rattle.auth_answer.specs.ErrorCode.{error_text, error_of, SaysError};
+ghost use Rattle.oidc_words.specs.Errors.{error_text, error_of, SaysError};
 ghost use Rattle.auth_answer.specs.Printing.{pairs_of, answer_params, answer_form, answer_location, answer_mark, refusal_form, refusal_location};
 ghost use Rattle.auth_answer.specs.Reading.{answer_read, HasAnswer, RefusesAnswer, IsHeard};
 ghost use Rattle.auth_answer.specs.Sent.{answer_heard, refusal_heard, StatesWord};
-
-/// Each error code is read from its text, and any text that is no code's is that of another code.
-pub fn error_codes_have_texts()
-    ensures read { (code : AuthError) → error_of (error_text code) ≡ code }
-    ensures says { (t : Text) (code : AuthError) → error_of t ≡ code → SaysError t code }
-    ensures said { (t : Text) (code : AuthError) → SaysError t code → error_of t ≡ code }
-{}
 
 /// A response is its redirection URI, a mark and its form.
 pub fn responses_stand_behind_redirection_uris()
@@ -31,10 +25,10 @@ pub fn responses_stand_behind_redirection_uris()
     ensures refusal { (r : Refusal) → refusal_location r ≡ r.redirect ++ answer_mark r.redirect r.fragment ++ refusal_form r }
 {}
 
-/// Exactly beside an access token an answer says that it is a bearer token, and that it lives for 3,600 seconds.
+/// Exactly beside an access token an answer says that it is a bearer token, and how many seconds it lives.
 pub fn access_tokens_have_their_type_and_life()
     ensures token_type { (a : Answer) → value_of (codes "token_type") (pairs_of (answer_params a)) ≡ option_map (λ _. codes "Bearer") a.access }
-    ensures expires_in { (a : Answer) → value_of (codes "expires_in") (pairs_of (answer_params a)) ≡ option_map (λ _. codes "3600") a.access }
+    ensures expires_in { (a : Answer) → value_of (codes "expires_in") (pairs_of (answer_params a)) ≡ option_map (λ _. access_life_text) a.access }
 {}
 
 /// A form is read exactly where no name of a part stands twice in it, and as what the values of these names say. What is

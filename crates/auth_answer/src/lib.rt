@@ -3,7 +3,6 @@
 //!
 //! | Module | What it has |
 //! |---|---|
-//! | `error_code` | the texts of the error codes: [`error_text`] and [`read_error`], over [`ERROR_CODES`] |
 //! | `answer` | [`Answer`], what a provider gives to a client |
 //! | `printing` | [`print_answer`] and [`print_refusal`] write the location of a response |
 //! | `heard` | [`Heard`], what a relying party hears |
@@ -14,23 +13,19 @@
 #![tactic(auto)]
 
 mod answer;
-mod error_code;
 mod heard;
 mod law;
 mod no;
 mod parts;
 mod printing;
 mod reading;
-#[cfg(test)]
-mod tests;
 
 pub use answer::Answer;
-pub use error_code::{ERROR_CODES, error_text, read_error};
 pub use heard::Heard;
 pub use law::{
-    access_tokens_have_their_type_and_life, error_codes_have_texts, forms_have_their_answers,
-    own_queries_are_ignored, refused_answers_repeat_a_name,
-    responses_stand_behind_redirection_uris, written_answers_are_read, written_refusals_are_read,
+    access_tokens_have_their_type_and_life, forms_have_their_answers, own_queries_are_ignored,
+    refused_answers_repeat_a_name, responses_stand_behind_redirection_uris,
+    written_answers_are_read, written_refusals_are_read,
 };
 pub use no::AnswerNo;
 pub use printing::{print_answer, print_refusal};

@@ -7,14 +7,10 @@ ghost use Rattle.auth_answer.specs.Params.{param_text};
 ghost use Rattle.auth_answer.specs.Printing as spec;
 
 use crate::answer::Answer;
-use crate::error_code::error_text;
-use auth_request::Refusal;
+use oidc_words::{EXPIRES_IN, Refusal, error_text};
 use request_params::{with_fragment, with_query};
 use sso_base::{NoMemory, Text, Word};
 use std::alloc::Global;
-
-// How long an access token lives, in seconds.
-const EXPIRES_IN: &str = "3600";
 
 // The text of a word, where there is one.
 fn word_text(alloc: Global, word: &Option<Word>) -> Result<Option<Text>, NoMemory>
@@ -105,7 +101,7 @@ fn answer_pairs<'a>(
 /// a `?` already, a form of `code`, `access_token`, `token_type`, `expires_in`, `id_token` and `state`, in this order and as
 /// far as they are there.
 ///
-/// Exactly beside an access token `token_type` is `Bearer` and `expires_in` is 3600, in seconds (RFC 6749, 4.2.2).
+/// Exactly beside an access token `token_type` is `Bearer` and `expires_in` is its life, in seconds (RFC 6749, 4.2.2).
 #[tactic(auto, unfolding(crate::specs::Printing::answer_location))]
 pub fn print_answer(alloc: Global, answer: &Answer) -> Result<Text, NoMemory>
     ensures { IfOk result (λ t. t ≡ spec.answer_location answer.now) }

@@ -5,16 +5,15 @@ ghost use Rattle.sso_base.specs.Words.{word_of_text};
 ghost use Rattle.request_params.specs.Form.{form_pairs};
 ghost use Rattle.auth_answer.specs.declared.heard.Heard.{Heard};
 ghost use Rattle.auth_answer.specs.declared.no.AnswerNo.{AnswerNo};
-ghost use Rattle.auth_answer.specs.ErrorCode.{error_of};
+ghost use Rattle.oidc_words.specs.Errors.{error_of};
 ghost use Rattle.auth_answer.specs.Reading.{answer_read, HasAnswer, RefusesAnswer, IsHeard};
 ghost use Rattle.auth_answer.specs.Parts.{heard_of_parts, with_pair, with_pairs};
 
-use crate::error_code::read_error;
 use crate::heard::Heard;
 use crate::no::AnswerNo;
 use crate::parts::{PartName, Parts};
-use auth_request::AuthError;
 use form_urlencoded::parse;
+use oidc_words::{AuthError, read_error};
 use sso_base::{Text, Word};
 use std::alloc::Global;
 

@@ -9,8 +9,8 @@ use Rattle.serde_json.specs.Data.{Data, null, boolean, number, string, array, ob
 use Rattle.serde_json.specs.Find.{get, get_member, as_object}
 use Rattle.serde_json.specs.Read.{read}
 use Rattle.claim_set.proofs.Fitting.{skips}
-use Rattle.configuration_rows.specs.Kinds.{has_text}
-use Rattle.scope_claims.specs.Claims.{is_standard_claim}
+use Rattle.sso_base.specs.Texts.{has_text}
+use Rattle.oidc_words.specs.Claims.{is_standard_claim}
 use Rattle.auth_request.specs.ClaimsParameter.{is_claims_request, standard_names, names_of, claims_of}
 
 and_none : (b : Bool) → (b && false) ≡ false

@@ -5,8 +5,8 @@ use Rattle.client_registry.specs.declared.records.Client.{Client}
 use Rattle.client_registry.specs.Configuration.{Configuration}
 use Rattle.request_params.specs.declared.params.Params.{Params}
 use Rattle.auth_request.specs.declared.wish.Wish.{Wish}
-use Rattle.auth_request.specs.declared.wish.Refusal.{Refusal}
-use Rattle.auth_request.specs.declared.wish.AuthError.{AuthError}
+use Rattle.oidc_words.specs.declared.errors.Refusal.{Refusal}
+use Rattle.oidc_words.specs.declared.errors.AuthError.{AuthError}
 use Rattle.auth_request.specs.declared.wish.PageNo.{PageNo}
 use Rattle.auth_request.specs.declared.wish.PageNo.TheVariants.{Client as NoClient, Redirect as NoRedirect}
 use Rattle.auth_request.specs.declared.wish.Verdict.{Verdict}

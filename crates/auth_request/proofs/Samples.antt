@@ -3,52 +3,28 @@ use Rattle.std.proofs.Common.{◌≡◌, ℕ, Bool, List, [], ◌∷◌, replica
 use Rattle.serde_json.specs.Data.{Data, null, boolean, number, unsigned, string, array, object, no_items, item, no_members, member}
 use Rattle.serde_json.specs.Read.{read}
 use Rattle.serde_json.proofs.OnLiterals.{serde_json_on_literals}
-use Rattle.scope_claims.specs.Claims.{is_claim_of, profile_claims, email_claims, address_claims, phone_claims}
+use Rattle.oidc_words.specs.Claims.{is_claim_of, profile_claims, email_claims, address_claims, phone_claims}
 use Rattle.sso_base.specs.Refusals.{NoneHolds}
-use Rattle.configuration_rows.specs.Kinds.{spellings, has_text}
+use Rattle.oidc_words.specs.Types.{spellings}
+use Rattle.sso_base.specs.Texts.{has_text}
+use Rattle.oidc_words.specs.Words.{parameter_words}
 use Rattle.client_registry.specs.declared.records.Client.{Client}
 use Rattle.client_registry.specs.Records.{provider_of}
 use Rattle.client_registry.specs.Configuration.{Configuration}
 use Rattle.request_params.specs.declared.params.Params.{Params}
 use Rattle.auth_request.specs.declared.wish.Wish.{Wish}
-use Rattle.auth_request.specs.declared.wish.AuthError.{AuthError}
-use Rattle.auth_request.specs.declared.wish.AuthError.TheVariants.{InvalidRequest, UnauthorizedClient, UnsupportedResponseType, InvalidScope, InvalidRequestObject, RequestUriNotSupported, RegistrationNotSupported}
+use Rattle.oidc_words.specs.declared.errors.AuthError.{AuthError}
+use Rattle.oidc_words.specs.declared.errors.AuthError.TheVariants.{InvalidRequest, UnauthorizedClient, UnsupportedResponseType, InvalidScope, InvalidRequestObject, RequestUriNotSupported, RegistrationNotSupported}
 use Rattle.auth_request.specs.declared.wish.PageNo.TheVariants.{Client as NoClient, Redirect as NoRedirect}
 use Rattle.auth_request.specs.declared.wish.Verdict.{Verdict}
 use Rattle.auth_request.specs.declared.wish.Verdict.TheVariants.{Page, Refuse, Grant}
-use Rattle.auth_request.specs.Words.{pieces_of, words_of, has_word, has_other}
 use Rattle.auth_request.specs.ClaimsParameter.{is_claim_request, are_claim_requests, is_part, is_claims_request, standard_names, names_at, item_texts, value_texts, values_texts, subs_of, subs_in, nothing, claims_of}
-use Rattle.auth_request.specs.Parameters.{type_of, scopes_among, prompt_among, age_in, age_of, asking_of}
-use Rattle.auth_request.specs.Judgement.{client_number, redirect_of, may_ask, is_in_fragment, is_other_mode, is_bad_nonce, errors, wish_of, judgement}
+use Rattle.auth_request.specs.Parameters.{type_of, age_in, age_of, asking_of}
+use Rattle.auth_request.specs.Judgement.{client_number, redirect_of, may_ask, is_other_mode, is_bad_nonce, errors, wish_of, judgement}
 use Rattle.auth_request.specs.Granted.{ClientsAreApart, IsRegistered, AnswersInFragment, IsWish, IsWishOf}
 use Rattle.auth_request.proofs.Wishes.{wish_of_request, wish_keeps}
 use Rattle.auth_request.proofs.AskedNames.{id_names}
 use Rattle.auth_request.proofs.Judgements.{granted_there, granted_without_errors}
-
--- ---- words
-
-pieces-with_an_empty_one : pieces_of (codes "a  b") ≡ codes "a" ∷ [] ∷ codes "b" ∷ []
-pieces-with_an_empty_one = refl
-
-words-without_empty_pieces : words_of (Some (codes " none  login ")) ≡ codes "none" ∷ codes "login" ∷ []
-unfolding words_of
-words-without_empty_pieces = refl
-
-words-of_nothing : words_of None ≡ []
-unfolding words_of
-words-of_nothing = refl
-
-has-a_word : has_word (codes "login") (codes "none" ∷ codes "login" ∷ []) ≡ true
-has-a_word = refl
-
-has-not_a_front_of_one : has_word (codes "log") (codes "none" ∷ codes "login" ∷ []) ≡ false
-has-not_a_front_of_one = refl
-
-other-than_none : has_other (codes "none") (codes "none" ∷ codes "x" ∷ []) ≡ true
-other-than_none = refl
-
-other-not_none_twice : has_other (codes "none") (codes "none" ∷ codes "none" ∷ []) ≡ false
-other-not_none_twice = refl
 
 -- ---- the parameter `claims`
 
@@ -149,15 +125,6 @@ type-not_with_two_spaces : type_of (Some (codes "code  token")) ≡ None
 unfolding spellings
 type-not_with_two_spaces = refl
 
-scopes-with_an_unknown_word : scopes_among (codes "openid" ∷ codes "x" ∷ codes "email" ∷ []) ≡ record { openid = true; profile = false; email = true; address = false; phone = false }
-scopes-with_an_unknown_word = refl
-
-prompt-to_select_an_account : prompt_among (codes "select_account" ∷ []) ≡ record { none = false; others = true; login = true; consent = false }
-prompt-to_select_an_account = refl
-
-prompt-with_an_unknown_word : prompt_among (codes "none" ∷ codes "x" ∷ []) ≡ record { none = true; others = true; login = false; consent = false }
-prompt-with_an_unknown_word = refl
-
 age-of_nine_digits : age_in (codes "000000300") ≡ Some 300
 age-of_nine_digits = refl
 
@@ -218,15 +185,6 @@ may-ask_for_its_type = refl
 may-not_ask_for_another : may_ask shop (Some 1) ≡ false
 may-not_ask_for_another = refl
 
-fragment-of_a_hybrid_type : is_in_fragment (Some 3) ≡ true
-fragment-of_a_hybrid_type = refl
-
-fragment-not_of_code : is_in_fragment (Some 0) ≡ false
-fragment-not_of_code = refl
-
-fragment-not_of_no_type : is_in_fragment None ≡ false
-fragment-not_of_no_type = refl
-
 mode-of_its_own : is_other_mode (Some 0) (Some (codes "query")) ≡ false
 mode-of_its_own = refl
 
@@ -268,7 +226,7 @@ good_wish = record {
 }
 
 judged-good : judgement shops good false ≡ Grant good_wish
-unfolding judgement errors asking_of words_of claims_of spellings
+unfolding judgement errors asking_of parameter_words claims_of spellings
 judged-good = refl
 
 judged-without_a_client : judgement shops (record good { client_id = None }) false ≡ Page NoClient
@@ -280,51 +238,51 @@ unfolding judgement
 judged-at_another_uri = refl
 
 judged-with_a_request_uri : judgement shops (record good { request_uri = Some [] }) false ≡ error RequestUriNotSupported
-unfolding judgement errors asking_of words_of claims_of spellings
+unfolding judgement errors asking_of parameter_words claims_of spellings
 judged-with_a_request_uri = refl
 
 judged-with_a_registration : judgement shops (record good { registration = Some [] }) true ≡ error RegistrationNotSupported
-unfolding judgement errors asking_of words_of claims_of spellings
+unfolding judgement errors asking_of parameter_words claims_of spellings
 judged-with_a_registration = refl
 
 judged-with_a_refused_object : judgement shops good true ≡ error InvalidRequestObject
-unfolding judgement errors asking_of words_of claims_of spellings
+unfolding judgement errors asking_of parameter_words claims_of spellings
 judged-with_a_refused_object = refl
 
 judged-without_a_type : judgement shops (record good { response_type = None }) false ≡ error InvalidRequest
-unfolding judgement errors asking_of words_of claims_of spellings
+unfolding judgement errors asking_of parameter_words claims_of spellings
 judged-without_a_type = refl
 
 judged-of_an_unknown_type : judgement shops (record good { response_type = Some (codes "token") }) false ≡ error UnsupportedResponseType
-unfolding judgement errors asking_of words_of claims_of spellings
+unfolding judgement errors asking_of parameter_words claims_of spellings
 judged-of_an_unknown_type = refl
 
 judged-of_a_type_of_others : judgement shops (record good { response_type = Some (codes "id_token") }) false ≡ Refuse (record { redirect = codes "https://a.b/cb"; fragment = true; state = Some (codes "s"); code = UnauthorizedClient })
-unfolding judgement errors asking_of words_of claims_of spellings
+unfolding judgement errors asking_of parameter_words claims_of spellings
 judged-of_a_type_of_others = refl
 
 judged-of_another_mode : judgement shops (record good { response_mode = Some (codes "fragment") }) false ≡ error InvalidRequest
-unfolding judgement errors asking_of words_of claims_of spellings
+unfolding judgement errors asking_of parameter_words claims_of spellings
 judged-of_another_mode = refl
 
 judged-without_openid : judgement shops (record good { scope = Some (codes "profile") }) false ≡ error InvalidScope
-unfolding judgement errors asking_of words_of claims_of spellings
+unfolding judgement errors asking_of parameter_words claims_of spellings
 judged-without_openid = refl
 
 judged-without_a_nonce : judgement shops (record good { response_type = Some (codes "code id_token") }) false ≡ Refuse (record { redirect = codes "https://a.b/cb"; fragment = true; state = Some (codes "s"); code = InvalidRequest })
-unfolding judgement errors asking_of words_of claims_of spellings
+unfolding judgement errors asking_of parameter_words claims_of spellings
 judged-without_a_nonce = refl
 
 judged-with_none_and_another : judgement shops (record good { prompt = Some (codes "none x") }) false ≡ error InvalidRequest
-unfolding judgement errors asking_of words_of claims_of spellings
+unfolding judgement errors asking_of parameter_words claims_of spellings
 judged-with_none_and_another = refl
 
 judged-with_a_long_age : judgement shops (record good { max_age = Some (codes "1234567890") }) false ≡ error InvalidRequest
-unfolding judgement errors asking_of words_of claims_of spellings
+unfolding judgement errors asking_of parameter_words claims_of spellings
 judged-with_a_long_age = refl
 
 judged-with_other_claims : judgement shops (record good { claims = Some (codes "[]") }) false ≡ error InvalidRequest
-unfolding judgement errors asking_of words_of claims_of spellings serde_json_on_literals
+unfolding judgement errors asking_of parameter_words claims_of spellings serde_json_on_literals
 judged-with_other_claims = refl
 
 -- ---- what judgements keep
@@ -363,7 +321,7 @@ apart-not_one_id_twice : ClientsAreApart (record shops { clients = shop ∷ shop
 apart-not_one_id_twice h = true≢false h.0
 
 none-holds_of_good : NoneHolds (errors shop good (asking_of good) false)
-unfolding errors asking_of words_of claims_of spellings
+unfolding errors asking_of parameter_words claims_of spellings
 none-holds_of_good = (refl, (refl, (refl, (refl, (refl, (refl, (refl, (refl, (refl, (refl, (refl, (refl, tt))))))))))))
 
 none-holds_not_of_a_refused_object : NoneHolds (errors shop good (asking_of good) true) → ⊥

@@ -6,14 +6,16 @@ use Rattle.std.specs.Char.{is_ascii_digit}
 use Rattle.std.proofs.lemmas.Grind.{common_steps}
 use Rattle.std.proofs.lemmas.Slice.Eq.{bytes_eq-Decides}
 use Rattle.sso_base.proofs.Refusals.{none_holds}
-use Rattle.sso_base.proofs.Decided.{not_not, above_false}
+use Rattle.std.proofs.lemmas.Bool.{leb-true}
+use Rattle.sso_base.proofs.Decided.{not_not}
 use Rattle.client_registry.specs.declared.records.Client.{Client}
-use Rattle.client_registry.specs.Records.{types_of_number}
+use Rattle.oidc_words.specs.Types.{types_of_number}
 use Rattle.client_registry.specs.Configuration.{Configuration}
 use Rattle.request_params.specs.declared.params.Params.{Params}
 use Rattle.auth_request.specs.declared.wish.Wish.{Wish}
 use Rattle.auth_request.specs.declared.wish.Verdict.TheVariants.{Grant}
-use Rattle.auth_request.specs.Words.{words_of, has_word, has_other}
+use Rattle.sso_base.specs.Texts.{has_text}
+use Rattle.oidc_words.specs.Words.{parameter_words, has_other}
 use Rattle.auth_request.specs.Parameters.{asking_of, digits_from, age_of}
 use Rattle.auth_request.specs.Judgement.{may_ask, is_bad_nonce, errors, judgement}
 use Rattle.auth_request.specs.Granted.{IsWish, IsWishOf}
@@ -43,7 +45,7 @@ nonce_there n (Some nonce) h t = refl
 
 nonce_short : (n : Option ℕ) (o : Option (List ℕ)) → is_bad_nonce n o ≡ false → IfSome o (λ t. length t ≤ 255)
 nonce_short n None h = tt
-nonce_short n (Some nonce) h = above_false (length nonce) 255 h
+nonce_short n (Some nonce) h = leb-true (length nonce) 255 (not_not (nat_le (length nonce) 255) h)
 
 -- ---- the values of `prompt`
 
@@ -62,7 +64,7 @@ differs w v true is h other =
     subst (λ u. bytes_eq w u ≡ false) one other
 differs w v false is h other = absurd (cc)
 
-has_no_other : (w : List ℕ) (ws : List (List ℕ)) → bytes_eq w (codes "none") ≡ false → has_other (codes "none") ws ≡ false → has_word w ws ≡ false
+has_no_other : (w : List ℕ) (ws : List (List ℕ)) → bytes_eq w (codes "none") ≡ false → has_other (codes "none") ws ≡ false → has_text w ws ≡ false
 has_no_other w [] other h = refl
 has_no_other w (v ∷ ws) other h =
     let parts = or_false (not (bytes_eq (codes "none") v)) (has_other (codes "none") ws) h in
@@ -114,7 +116,7 @@ wish_keeps c p b w h =
     let type = has_its_type r.client a.number (not_not _ none.1.1.1.1.1.0) in
     let nonce = none.1.1.1.1.1.1.1.1.0 in
     let alone = and_false a.prompt.none a.prompt.others none.1.1.1.1.1.1.1.1.1.0 in
-    let no = λ (w : List ℕ) (other : bytes_eq w (codes "none") ≡ false) (t : a.prompt.none ≡ true). has_no_other w (words_of p.prompt) other (alone t) in
+    let no = λ (w : List ℕ) (other : bytes_eq w (codes "none") ≡ false) (t : a.prompt.none ≡ true). has_no_other w (parameter_words p.prompt) other (alone t) in
     subst (IsWish c) is.1 (record {
       below = is_below p.client_id c.clients r.number r.found;
       client = r.client;

@@ -4,7 +4,7 @@ use Rattle.std.specs.Prelude.{ℕ, Bool, true, false, ◌&&◌, ◌||◌, List, 
 use Rattle.serde_json.specs.Data.{Data, Items, no_items, item, Members, no_members, member}
 use Rattle.serde_json.specs.Find.{get, as_null, as_object, as_str, as_array}
 use Rattle.serde_json.specs.Read.{read}
-use Rattle.scope_claims.specs.Claims.{is_standard_claim}
+use Rattle.oidc_words.specs.Claims.{is_standard_claim}
 use Rattle.auth_request.specs.declared.claims_parameter.Asked.{Asked}
 
 -- ---- its form

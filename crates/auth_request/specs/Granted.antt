@@ -1,14 +1,17 @@
 -- What every refusal that is sent back keeps, and what every granted wish does.
 use Rattle.std.specs.Prelude.{◌≡◌, ◌<◌, ◌≤◌, ◌^◌, ℕ, true, false, ◌||◌, List, length, map, codes, Some, is_some, slice_get, IfSome}
-use Rattle.configuration_rows.specs.Kinds.{has_text, is_response_type}
+use Rattle.oidc_words.specs.Prompts.{none_word, login_word, consent_word, account_word}
+use Rattle.sso_base.specs.Texts.{has_text}
+use Rattle.oidc_words.specs.Words.{parameter_words}
+use Rattle.oidc_words.specs.Types.{is_response_type, types_of_number}
 use Rattle.client_registry.specs.declared.records.Client.{Client}
-use Rattle.client_registry.specs.Records.{types_of_number}
 use Rattle.client_registry.specs.Configuration.{Configuration}
+use Rattle.client_registry.specs.Numbers.{client_at}
 use Rattle.client_registry.specs.Registered.{AreApart}
 use Rattle.request_params.specs.declared.params.Params.{Params}
 use Rattle.auth_request.specs.declared.wish.Wish.{Wish}
-use Rattle.auth_request.specs.Words.{words_of, has_word}
-use Rattle.auth_request.specs.Parameters.{type_of, age_of, scopes_among}
+use Rattle.auth_request.specs.Parameters.{type_of, age_of}
+use Rattle.oidc_words.specs.Scopes.{scopes_among}
 
 -- no two clients have one id, as in every registry
 abbrev pub ClientsAreApart : Configuration → Type 0
@@ -18,7 +21,7 @@ ClientsAreApart c = AreApart (map (λ (k : Client). k.id) c.clients)
 -- registered for it (RFC 6749, 3.1.2.2 and 3.1.2.3)
 pub record IsRegistered (c : Configuration) (p : Params) (number : ℕ) (uri : List ℕ) : Type 0 where
   pub client : Client
-  pub there : slice_get c.clients number ≡ Some client
+  pub there : client_at c number ≡ Some client
   pub named : p.client_id ≡ Some client.id
   pub asked : p.redirect_uri ≡ Some uri
   pub registered : has_text uri client.redirects ≡ true
@@ -37,7 +40,7 @@ pub record AnswersInFragment (p : Params) : Type 0 where
 pub record IsWish (c : Configuration) (w : Wish) : Type 0 where
   pub below : w.client < length c.clients
   pub client : Client
-  pub there : slice_get c.clients w.client ≡ Some client
+  pub there : client_at c w.client ≡ Some client
   pub registered : has_text w.redirect client.redirects ≡ true
   pub number : ℕ
   pub types : w.types ≡ types_of_number (Some number)
@@ -53,10 +56,10 @@ pub record IsWish (c : Configuration) (w : Wish) : Type 0 where
 pub record IsWishOf (p : Params) (w : Wish) : Type 0 where
   pub redirect : p.redirect_uri ≡ Some w.redirect
   pub types : w.types ≡ types_of_number (type_of p.response_type)
-  pub scopes : w.scopes ≡ scopes_among (words_of p.scope)
+  pub scopes : w.scopes ≡ scopes_among (parameter_words p.scope)
   pub state : w.state ≡ p.state
   pub nonce : w.nonce ≡ p.nonce
-  pub none : w.none ≡ has_word (codes "none") (words_of p.prompt)
-  pub login : w.login ≡ (has_word (codes "login") (words_of p.prompt) || has_word (codes "select_account") (words_of p.prompt))
-  pub consent : w.consent ≡ has_word (codes "consent") (words_of p.prompt)
+  pub none : w.none ≡ has_text none_word (parameter_words p.prompt)
+  pub login : w.login ≡ (has_text login_word (parameter_words p.prompt) || has_text account_word (parameter_words p.prompt))
+  pub consent : w.consent ≡ has_text consent_word (parameter_words p.prompt)
   pub max_age : w.max_age ≡ age_of p.max_age

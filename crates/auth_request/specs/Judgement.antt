@@ -1,22 +1,26 @@
 -- The judgement of an authorization request: the first row that fits (OpenID Connect Core 1.0, 3.1.2.2, 3.1.2.6, 3.2.2.1
 -- and 6; RFC 6749, 3.1.2.4 and 4.1.2.1).
-use Rattle.std.specs.Prelude.{ℕ, ◌==◌, Bool, false, not, ◌&&◌, nat_lt, List, [], ◌∷◌, length, codes, Option, Some, None, is_some, is_none, option_and_then, unwrap_or, slice_get, Result, Ok, Err, if◌then◌else◌}
+use Rattle.std.specs.Prelude.{ℕ, ◌==◌, Bool, false, not, ◌&&◌, List, [], ◌∷◌, Option, Some, None, is_some, is_none, option_and_then, unwrap_or, slice_get, Result, Ok, Err, if◌then◌else◌}
 use Rattle.std.specs.Str.{bytes_eq}
 use Rattle.sso_base.specs.Refusals.{first_refusal}
-use Rattle.configuration_rows.specs.Kinds.{has_text}
+use Rattle.sso_base.specs.Texts.{has_text}
 use Rattle.client_registry.specs.declared.records.Client.{Client}
-use Rattle.client_registry.specs.Records.{client_place, types_of_number}
+use Rattle.client_registry.specs.Records.{client_place}
+use Rattle.oidc_words.specs.Modes.{query_mode, fragment_mode}
+use Rattle.oidc_words.specs.Types.{types_of_number, is_in_fragment}
 use Rattle.client_registry.specs.Configuration.{Configuration}
+use Rattle.client_registry.specs.Numbers.{client_at}
 use Rattle.request_params.specs.declared.params.Params.{Params}
 use Rattle.auth_request.specs.declared.parameters.Asking.{Asking}
 use Rattle.auth_request.specs.declared.wish.Wish.{Wish}
-use Rattle.auth_request.specs.declared.wish.Refusal.{Refusal}
-use Rattle.auth_request.specs.declared.wish.AuthError.{AuthError}
-use Rattle.auth_request.specs.declared.wish.AuthError.TheVariants.{InvalidRequest, UnauthorizedClient, UnsupportedResponseType, InvalidScope, InvalidRequestObject, RequestUriNotSupported, RegistrationNotSupported}
+use Rattle.oidc_words.specs.declared.errors.Refusal.{Refusal}
+use Rattle.oidc_words.specs.declared.errors.AuthError.{AuthError}
+use Rattle.oidc_words.specs.declared.errors.AuthError.TheVariants.{InvalidRequest, UnauthorizedClient, UnsupportedResponseType, InvalidScope, InvalidRequestObject, RequestUriNotSupported, RegistrationNotSupported}
 use Rattle.auth_request.specs.declared.wish.PageNo.{PageNo}
 use Rattle.auth_request.specs.declared.wish.PageNo.TheVariants.{Client as NoClient, Redirect as NoRedirect}
 use Rattle.auth_request.specs.declared.wish.Verdict.{Verdict}
 use Rattle.auth_request.specs.declared.wish.Verdict.TheVariants.{Page, Refuse, Grant}
+use Rattle.auth_request.specs.Values.{is_short_nonce}
 use Rattle.auth_request.specs.Parameters.{asking_of}
 
 -- ---- conditions
@@ -35,25 +39,19 @@ abbrev pub may_ask : Client → Option ℕ → Bool
 may_ask k None = false
 may_ask k (Some n) = unwrap_or (slice_get k.types n) false
 
--- the type answers in the fragment: it is one of the five other than `code` (OAuth 2.0 Multiple Response Type Encoding
--- Practices, 3 and 5)
-abbrev pub is_in_fragment : Option ℕ → Bool
-is_in_fragment None = false
-is_in_fragment (Some n) = not (n == 0)
-
+-- where the type answers (OAuth 2.0 Multiple Response Type Encoding Practices, 2.1)
 abbrev pub mode_of : Option ℕ → List ℕ
-mode_of n = if is_in_fragment n then codes "fragment" else codes "query"
+mode_of n = if is_in_fragment (types_of_number n) then fragment_mode else query_mode
 
 -- a response mode is asked for that is not the type's own (OAuth 2.0 Multiple Response Type Encoding Practices, 2.1)
 abbrev pub is_other_mode : Option ℕ → Option (List ℕ) → Bool
 is_other_mode n None = false
 is_other_mode n (Some mode) = not (bytes_eq mode (mode_of n))
 
--- an ID Token is asked for from the authorization endpoint without a nonce (Core 3.2.2.1), or the nonce has over 255
--- bytes (own)
+-- an ID Token is asked for from the authorization endpoint without a nonce (Core 3.2.2.1), or the nonce is too long
 abbrev pub is_bad_nonce : Option ℕ → Option (List ℕ) → Bool
 is_bad_nonce n None = (types_of_number n).id_token
-is_bad_nonce n (Some nonce) = nat_lt 255 (length nonce)
+is_bad_nonce n (Some nonce) = not (is_short_nonce (Some nonce))
 
 -- ---- the rows
 
@@ -76,7 +74,7 @@ errors k p a object_refused =
 
 -- an error goes to the redirection URI, with `state`, in the fragment where the response type answers there
 abbrev pub refusal_of : List ℕ → Params → Asking → AuthError → Refusal
-refusal_of uri p a code = record { redirect = uri; fragment = is_in_fragment a.number; state = p.state; code = code }
+refusal_of uri p a code = record { redirect = uri; fragment = is_in_fragment (types_of_number a.number); state = p.state; code = code }
 
 abbrev pub wish_of : ℕ → List ℕ → Params → Asking → Wish
 wish_of n uri p a =
@@ -110,6 +108,6 @@ page_or why (Some a) f = f a
 unfoldable pub judgement : Configuration → Params → Bool → Verdict
 judgement c p object_refused =
     page_or NoClient (client_number c p) (λ n.
-    page_or NoClient (slice_get c.clients n) (λ (k : Client).
+    page_or NoClient (client_at c n) (λ (k : Client).
     page_or NoRedirect (redirect_of k p.redirect_uri) (λ uri.
     answer n uri p (asking_of p) (first_refusal (errors k p (asking_of p) object_refused)))))

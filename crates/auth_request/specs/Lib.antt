@@ -1,5 +1,5 @@
-pub mod Words
 pub mod Parameters
 pub mod ClaimsParameter
 pub mod Judgement
 pub mod Granted
+pub mod Values

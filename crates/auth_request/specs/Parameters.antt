@@ -1,39 +1,18 @@
 -- What the parameters of an authorization request say (OpenID Connect Core 1.0, 3.1.2.1).
-use Rattle.std.specs.Prelude.{ℕ, ◌+◌, ◌*◌, ◌-◌, ◌&&◌, ◌||◌, nat_le, List, [], ◌∷◌, length, codes, Option, Some, None, if◌then◌else◌}
+use Rattle.std.specs.Prelude.{ℕ, ◌+◌, ◌*◌, ◌-◌, ◌&&◌, nat_le, List, [], ◌∷◌, length, Option, Some, None, if◌then◌else◌}
 use Rattle.std.specs.Char.{is_ascii_digit}
-use Rattle.configuration_rows.specs.Kinds.{type_number}
+use Rattle.oidc_words.specs.Words.{parameter_words}
+use Rattle.oidc_words.specs.Scopes.{scopes_among}
+use Rattle.oidc_words.specs.Prompts.{prompt_among}
+use Rattle.oidc_words.specs.Types.{type_number}
 use Rattle.request_params.specs.declared.params.Params.{Params}
-use Rattle.scope_claims.specs.declared.scopes.Scopes.{Scopes}
-use Rattle.auth_request.specs.declared.parameters.Prompt.{Prompt}
 use Rattle.auth_request.specs.declared.parameters.Asking.{Asking}
-use Rattle.auth_request.specs.Words.{words_of, has_word, has_other}
 use Rattle.auth_request.specs.ClaimsParameter.{claims_of}
 
 -- the number of the response type among the six, from 0
 abbrev pub type_of : Option (List ℕ) → Option ℕ
 type_of None = None
 type_of (Some t) = type_number t
-
--- the scope values that are known; others are ignored (3.1.2.1, `scope`)
-abbrev pub scopes_among : List (List ℕ) → Scopes
-scopes_among ws =
-    record {
-      openid = has_word (codes "openid") ws;
-      profile = has_word (codes "profile") ws;
-      email = has_word (codes "email") ws;
-      address = has_word (codes "address") ws;
-      phone = has_word (codes "phone") ws;
-    }
-
--- the values of `prompt`. To select an account is to log in (own); unknown values count as `others` alone.
-abbrev pub prompt_among : List (List ℕ) → Prompt
-prompt_among ws =
-    record {
-      none = has_word (codes "none") ws;
-      others = has_other (codes "none") ws;
-      login = has_word (codes "login") ws || has_word (codes "select_account") ws;
-      consent = has_word (codes "consent") ws;
-    }
 
 -- the number whose last digits these are, after those of n
 abbrev pub digits_from : ℕ → List ℕ → Option ℕ
@@ -52,8 +31,8 @@ unfoldable pub asking_of : Params → Asking
 asking_of p =
     record {
       number = type_of p.response_type;
-      scopes = scopes_among (words_of p.scope);
-      prompt = prompt_among (words_of p.prompt);
+      scopes = scopes_among (parameter_words p.scope);
+      prompt = prompt_among (parameter_words p.prompt);
       max_age = age_of p.max_age;
       claims = claims_of p.claims;
     }

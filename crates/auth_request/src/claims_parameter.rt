@@ -6,7 +6,7 @@ ghost use Rattle.serde_json.specs.Read.{read};
 ghost use Rattle.serde_json.specs.View.{view, items_view, members_view};
 ghost use Rattle.auth_request.specs.ClaimsParameter as spec;
 
-use scope_claims::is_standard_claim;
+use oidc_words::is_standard_claim;
 use serde_json::{Map, Value};
 use sso_base::{NoMemory, Text, Texts};
 use std::alloc::Global;

@@ -3,12 +3,15 @@
 ghost use Rattle.std.specs.Prelude.{◌≡◌, IfOk, option_map};
 ghost use Rattle.std.specs.List.{list_any};
 ghost use Rattle.sso_base.specs.Refusals.{first_refusal};
-ghost use Rattle.configuration_rows.specs.Kinds.{has_text};
+ghost use Rattle.sso_base.specs.Texts.{has_text};
+ghost use Rattle.oidc_words.specs.Types.{types_of_number, is_in_fragment};
 ghost use Rattle.auth_request.specs.Judgement as spec;
+ghost use Rattle.auth_request.specs.Values as values;
 
 use crate::parameters::{Asking, asking_of};
-use crate::wish::{AuthError, PageNo, Refusal, Verdict, Wish};
-use client_registry::{Client, Registry, Types};
+use crate::wish::{PageNo, Verdict, Wish};
+use client_registry::{Client, Registry};
+use oidc_words::{AuthError, Refusal, Types};
 use request_params::Params;
 use sso_base::{NoMemory, Text, Texts, copied_text};
 use std::alloc::Global;
@@ -25,25 +28,12 @@ fn client_number(registry: &Registry, params: &Params) -> Option<u32>
     }
 }
 
-// Whether the text is in the list.
-#[tactic(auto, using(configuration_rows::proofs::Lists::drop_at))]
-fn has(texts: &Texts, text: &str) -> bool
-    ensures { result ≡ has_text text.now texts.now }
-{
-    for place in 0..texts.count() {
-        if text == texts.at(place).as_str() {
-            return true;
-        }
-    }
-    false
-}
-
 // The redirection URI, where it is exactly one of the client's (RFC 6749, 3.1.2.4).
 fn redirect_of<'a>(client: &Client, uri: &'a Option<Text>) -> Option<&'a Text>
     ensures { option_map (λ t. t.now) result ≡ spec.redirect_of client.now uri.now }
 {
     match uri {
-        Some(uri) if has(&client.redirects, uri.as_str()) => Some(uri),
+        Some(uri) if client.redirects.has(uri.as_str()) => Some(uri),
         _ => None,
     }
 }
@@ -58,20 +48,10 @@ fn may_ask(client: &Client, number: Option<usize>) -> bool
     }
 }
 
-// Whether the response type answers in the fragment.
-fn is_in_fragment(number: Option<usize>) -> bool
-    ensures { result ≡ spec.is_in_fragment number }
-{
-    match number {
-        Some(number) => number != 0,
-        None => false,
-    }
-}
-
 fn mode_of(number: Option<usize>) -> &'static str
     ensures { result.now ≡ spec.mode_of number }
 {
-    if is_in_fragment(number) {
+    if Types::of_number(number).is_in_fragment() {
         "fragment"
     } else {
         "query"
@@ -88,12 +68,22 @@ fn is_other_mode(number: Option<usize>, mode: &Option<Text>) -> bool
     }
 }
 
+/// Whether a nonce has at most 255 bytes, where there is one.
+pub fn is_short_nonce(nonce: &Option<Text>) -> bool
+    ensures { result ≡ values.is_short_nonce nonce.now }
+{
+    match nonce {
+        Some(nonce) => nonce.as_str().len() <= LONGEST_NONCE,
+        None => true,
+    }
+}
+
 // Whether a nonce is missing or too long.
 fn is_bad_nonce(number: Option<usize>, nonce: &Option<Text>) -> bool
     ensures { result ≡ spec.is_bad_nonce number nonce.now }
 {
     match nonce {
-        Some(nonce) => nonce.as_str().len() > LONGEST_NONCE,
+        Some(_) => !is_short_nonce(nonce),
         None => Types::of_number(number).id_token,
     }
 }
@@ -155,11 +145,11 @@ fn refusal_of(
     number: Option<usize>,
     code: AuthError,
 ) -> Result<Refusal, NoMemory>
-    ensures { IfOk result (λ r. r ≡ record { redirect = redirect.now; fragment = spec.is_in_fragment number; state = params.now.state; code = code }) }
+    ensures { IfOk result (λ r. r ≡ record { redirect = redirect.now; fragment = is_in_fragment (types_of_number number); state = params.now.state; code = code }) }
 {
     Ok(Refusal {
         redirect: redirect.copy(alloc)?,
-        fragment: is_in_fragment(number),
+        fragment: Types::of_number(number).is_in_fragment(),
         state: copied_text(alloc, &params.state)?,
         code,
     })

@@ -1,17 +1,18 @@
 // What holds of every judgement, for the crates above.
 
-ghost use Rattle.std.specs.Prelude.{◌≡◌, ◌⊎◌, ◌↔◌, ◌&&◌, ℕ, Bool, true, List, codes, Some, is_some, option_and_then, slice_get};
+ghost use Rattle.std.specs.Prelude.{◌≡◌, ◌⊎◌, ◌↔◌, ◌&&◌, ℕ, Bool, true, List, codes, Some, is_some, option_and_then};
 ghost use Rattle.serde_json.specs.Data.{Data};
 ghost use Rattle.serde_json.specs.Find.{get};
 ghost use Rattle.serde_json.specs.Read.{read};
 ghost use Rattle.sso_base.specs.Refusals.{NoneHolds};
-ghost use Rattle.configuration_rows.specs.Kinds.{has_text};
+ghost use Rattle.sso_base.specs.Texts.{has_text};
 ghost use Rattle.client_registry.specs.declared.records.Client.{Client};
 ghost use Rattle.client_registry.specs.Configuration.{Configuration};
-ghost use Rattle.scope_claims.specs.Claims.{is_standard_claim};
+ghost use Rattle.client_registry.specs.Numbers.{client_at};
+ghost use Rattle.oidc_words.specs.Claims.{is_standard_claim};
 ghost use Rattle.request_params.specs.declared.params.Params.{Params};
 ghost use Rattle.auth_request.specs.declared.wish.Wish.{Wish};
-ghost use Rattle.auth_request.specs.declared.wish.Refusal.{Refusal};
+ghost use Rattle.oidc_words.specs.declared.errors.Refusal.{Refusal};
 ghost use Rattle.auth_request.specs.declared.wish.PageNo.{PageNo};
 ghost use Rattle.auth_request.specs.declared.wish.PageNo.TheVariants as page;
 ghost use Rattle.auth_request.specs.declared.wish.Verdict.TheVariants as verdict;
@@ -44,7 +45,7 @@ pub fn granted_wishes_are_the_requests()
 
 /// A request with a registered redirection URI, of which no error's condition holds, is granted.
 pub fn requests_without_errors_are_granted()
-    ensures { (c : Configuration) (p : Params) (b : Bool) (n : ℕ) (k : Client) (uri : List ℕ) → ClientsAreApart c → IsRegistered c p n uri → slice_get c.clients n ≡ Some k → NoneHolds (errors k p (asking_of p) b) → judgement c p b ≡ verdict.Grant (wish_of n uri p (asking_of p)) }
+    ensures { (c : Configuration) (p : Params) (b : Bool) (n : ℕ) (k : Client) (uri : List ℕ) → ClientsAreApart c → IsRegistered c p n uri → client_at c n ≡ Some k → NoneHolds (errors k p (asking_of p) b) → judgement c p b ≡ verdict.Grant (wish_of n uri p (asking_of p)) }
 {}
 
 /// The claims that a `claims` parameter of its form asks for, in the ID Token and from the UserInfo endpoint, are exactly

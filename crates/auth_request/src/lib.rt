@@ -5,10 +5,9 @@
 //! | Module | What it has |
 //! |---|---|
 //! | `wish` | [`Wish`], what a request wishes; [`Verdict`], how it is judged |
-//! | `words` | words with spaces between |
 //! | `claims_parameter` | what the parameter `claims` asks |
 //! | `parameters` | what the parameters say |
-//! | `judging` | [`judge`], by the first row of its table that fits |
+//! | `judging` | [`judge`], by the first row of its table that fits; [`is_short_nonce`] |
 //! | `law` | what holds of every judgement, for the crates above |
 #![tactic(auto)]
 
@@ -17,12 +16,11 @@ mod judging;
 mod law;
 mod parameters;
 mod wish;
-mod words;
 
-pub use judging::judge;
+pub use judging::{is_short_nonce, judge};
 pub use law::{
     answers_go_to_registered_uris, asked_claims_are_standard_members,
     granted_wishes_are_the_requests, refusals_answer_as_the_type_does,
     requests_without_errors_are_granted,
 };
-pub use wish::{AuthError, PageNo, Refusal, Verdict, Wish};
+pub use wish::{PageNo, Verdict, Wish};

@@ -1,29 +1,16 @@
 // What the parameters of an authorization request say (OpenID Connect Core 1.0, 3.1.2.1).
 
-ghost use Rattle.std.specs.Prelude.{◌≡◌, map, IfOk};
+ghost use Rattle.std.specs.Prelude.{◌≡◌, IfOk};
 ghost use Rattle.auth_request.specs.Parameters as spec;
 
 use crate::claims_parameter::{Asked, claims_of};
-use crate::words::{has_other, has_word, words_of};
-use configuration_rows::words::number_of_type;
+use oidc_words::{Prompt, Scopes, number_of_type, parameter_words};
 use request_params::Params;
-use scope_claims::Scopes;
 use sso_base::{NoMemory, Text};
 use std::alloc::Global;
 
 // The most digits that an age may have.
 const MOST_DIGITS: usize = 9;
-
-// Which values `prompt` has.
-#[derive(Clone, Copy, Debug)]
-pub(crate) struct Prompt {
-    pub(crate) none: bool,
-    // Another value than `none`, known or not.
-    pub(crate) others: bool,
-    // `login` or `select_account`.
-    pub(crate) login: bool,
-    pub(crate) consent: bool,
-}
 
 // What the parameters say, each read once.
 #[derive(Debug, Drop)]
@@ -43,29 +30,6 @@ fn type_of(text: &Option<Text>) -> Option<usize>
     match text {
         Some(text) => number_of_type(text.as_str()),
         None => None,
-    }
-}
-
-fn scopes_among(words: &[&str]) -> Scopes
-    ensures { result ≡ spec.scopes_among (map (λ w. w.now) words.now) }
-{
-    Scopes {
-        openid: has_word(words, "openid"),
-        profile: has_word(words, "profile"),
-        email: has_word(words, "email"),
-        address: has_word(words, "address"),
-        phone: has_word(words, "phone"),
-    }
-}
-
-fn prompt_among(words: &[&str]) -> Prompt
-    ensures { result ≡ spec.prompt_among (map (λ w. w.now) words.now) }
-{
-    Prompt {
-        none: has_word(words, "none"),
-        others: has_other(words, "none"),
-        login: has_word(words, "login") || has_word(words, "select_account"),
-        consent: has_word(words, "consent"),
     }
 }
 
@@ -101,12 +65,12 @@ fn age_of(text: &Option<Text>) -> Option<u64>
 pub(crate) fn asking_of(alloc: Global, params: &Params) -> Result<Asking, NoMemory>
     ensures { IfOk result (λ a. a ≡ spec.asking_of params.now) }
 {
-    let scope = words_of(alloc, &params.scope)?;
-    let prompt = words_of(alloc, &params.prompt)?;
+    let scope = parameter_words(alloc, &params.scope)?;
+    let prompt = parameter_words(alloc, &params.prompt)?;
     Ok(Asking {
         number: type_of(&params.response_type),
-        scopes: scopes_among(&scope),
-        prompt: prompt_among(&prompt),
+        scopes: Scopes::among(&scope),
+        prompt: Prompt::among(&prompt),
         max_age: age_of(&params.max_age),
         claims: claims_of(alloc, &params.claims)?,
     })

@@ -2,8 +2,7 @@
 
 ghost use Rattle.std.specs.Prelude.{◌≡◌, IfOk};
 
-use client_registry::Types;
-use scope_claims::Scopes;
+use oidc_words::{Refusal, Scopes, Types};
 use sso_base::{NoMemory, Text, Texts, copied_text};
 use std::alloc::Global;
 
@@ -14,9 +13,13 @@ pub struct Wish {
     pub client: u32,
     /// The redirection URI: one that the client has.
     pub redirect: Text,
+    /// The response type (OpenID Connect Core 1.0, 3).
     pub types: Types,
+    /// The scope values that are known (OpenID Connect Core 1.0, 5.4).
     pub scopes: Scopes,
+    /// What the answer gives back (RFC 6749, 4.1.1).
     pub state: Option<Text>,
+    /// What the ID Token gives back (OpenID Connect Core 1.0, 3.1.2.1).
     pub nonce: Option<Text>,
     /// Whether `prompt` has the word `none`.
     pub none: bool,
@@ -34,29 +37,6 @@ pub struct Wish {
     pub info_asked: Texts,
 }
 
-/// The error codes of authorization responses (RFC 6749, 4.1.2.1; OpenID Connect Core 1.0, 3.1.2.6).
-#[derive(Clone, Copy, Debug, PartialEq, Eq)]
-pub enum AuthError {
-    InvalidRequest,
-    UnauthorizedClient,
-    AccessDenied,
-    UnsupportedResponseType,
-    InvalidScope,
-    ServerError,
-    TemporarilyUnavailable,
-    InteractionRequired,
-    LoginRequired,
-    AccountSelectionRequired,
-    ConsentRequired,
-    InvalidRequestUri,
-    InvalidRequestObject,
-    RequestNotSupported,
-    RequestUriNotSupported,
-    RegistrationNotSupported,
-    /// A code that none of these texts define.
-    Other,
-}
-
 /// Why the provider shows an error page instead of sending the browser back.
 #[derive(Clone, Copy, Debug, PartialEq, Eq)]
 pub enum PageNo {
@@ -72,22 +52,14 @@ pub enum PageNo {
     Browser,
 }
 
-/// An authorization error response (OpenID Connect Core 1.0, 3.1.2.6 and 3.2.2.6).
-#[derive(Debug, Drop)]
-pub struct Refusal {
-    /// The redirection URI that it is sent to: one that the client has.
-    pub redirect: Text,
-    /// Whether it stands in the fragment, else in the query.
-    pub fragment: bool,
-    pub state: Option<Text>,
-    pub code: AuthError,
-}
-
 /// The judgement of an authorization request.
 #[derive(Debug, Drop)]
 pub enum Verdict {
+    /// The user is shown an error page (RFC 6749, 4.1.2.1).
     Page(PageNo),
+    /// The client is told the error (OpenID Connect Core 1.0, 3.1.2.6).
     Refuse(Refusal),
+    /// The request may be answered (OpenID Connect Core 1.0, 3.1.2.5).
     Grant(Wish),
 }
 
@@ -120,20 +92,6 @@ impl Wish {
             subs: copied_texts(alloc, &self.subs)?,
             id_asked: self.id_asked.copy(alloc)?,
             info_asked: self.info_asked.copy(alloc)?,
-        })
-    }
-}
-
-impl Refusal {
-    /// An equal refusal.
-    pub fn copy(&self, alloc: Global) -> Result<Refusal, NoMemory>
-        ensures { IfOk result (λ r. r ≡ self.now) }
-    {
-        Ok(Refusal {
-            redirect: self.redirect.copy(alloc)?,
-            fragment: self.fragment,
-            state: copied_text(alloc, &self.state)?,
-            code: self.code,
         })
     }
 }

@@ -9,9 +9,10 @@ use Rattle.std.proofs.lemmas.Map.Text.{is_eq-slice_cmp}
 use Rattle.std.proofs.lemmas.Slice.Eq.{bytes_eq-Decides}
 use Rattle.serde_json.specs.Data.{Data, string, Members, no_members, member, put, depth, items_depth}
 use Rattle.serde_json.specs.Find.{get_member}
+use Rattle.sso_base.specs.Values.{AreTexts}
 use Rattle.claim_set.specs.Building.{Entry, put_if, put_all, number_value, audience}
 use Rattle.claim_set.specs.Claims.{without, text_items}
-use Rattle.claim_set.specs.Fitting.{IsBefore, Fits, ItemsFit, MembersFit, ClaimsFit, EntriesFit, AreUtf8}
+use Rattle.claim_set.specs.Fitting.{IsBefore, Fits, ItemsFit, MembersFit, ClaimsFit, EntriesFit}
 use Rattle.claim_set.proofs.Puts.{members_depth-put}
 use Rattle.claim_set.proofs.Lookups.{members_depth-without}
 
@@ -134,7 +135,7 @@ pub number_fits : (o : Option ℕ) → IfSome o (λ n. n < 2 ^ 40) → IfSome (o
 number_fits None h = tt
 number_fits (Some n) h = (below_64 n h, omega arith)
 
-items_fit : (ts : List (List ℕ)) → AreUtf8 ts → ItemsFit (text_items ts)
+items_fit : (ts : List (List ℕ)) → AreTexts ts → ItemsFit (text_items ts)
 items_fit [] h = tt
 items_fit (t ∷ ts) h = (h.0, items_fit ts h.1)
 
@@ -142,7 +143,7 @@ items_are_flat : (ts : List (List ℕ)) → items_depth (text_items ts) ≡ 0
 items_are_flat [] = refl
 items_are_flat (t ∷ ts) = rw (items_are_flat ts) refl
 
-pub audience_fits : (ts : List (List ℕ)) → AreUtf8 ts → Fits (audience ts) × (depth (audience ts) ≤ 126)
+pub audience_fits : (ts : List (List ℕ)) → AreTexts ts → Fits (audience ts) × (depth (audience ts) ≤ 126)
 audience_fits [] h = (tt, omega arith)
 audience_fits (t ∷ []) h = (h.0, omega arith)
 audience_fits (t ∷ s ∷ ts) h = (items_fit (t ∷ s ∷ ts) h, rw (items_are_flat (t ∷ s ∷ ts)) (omega arith))

@@ -16,7 +16,7 @@ pub text_found : (name : List ℕ) (v : Option (List ℕ)) → of_kind name (opt
 text_found name None = refl
 text_found name (Some s) = refl
 
-pub small : (n : ℕ) → n < 2 ^ 40 → if_small n ≡ Some n
+small : (n : ℕ) → n < 2 ^ 40 → if_small n ≡ Some n
 small n h = let test : nat_lt n (2 ^ 40) ≡ true = grind (arith, common_steps) in rw test
 
 pub number_found : (name : List ℕ) (v : Option ℕ) → IfSome v (λ n. n < 2 ^ 40) → of_kind name (option_map number_value v) small_number ≡ Ok v
@@ -128,6 +128,12 @@ after_demand n (Some a) None f cs same goes = absurd (cc)
 after_demand n (Some a) (Some d) f cs same goes = goes a
 
 -- ---- claims of a claim set, as far as they are there
+
+pub text_read : (ms : Members) (name : List ℕ) (v : Option (List ℕ)) → get_member name ms ≡ option_map string v → text_claim name ms ≡ Ok v
+text_read ms name v h = rw (h) (text_found name v)
+
+pub number_read : (ms : Members) (name : List ℕ) (v : Option ℕ) → get_member name ms ≡ option_map number_value v → IfSome v (λ n. n < 2 ^ 40) → number_claim name ms ≡ Ok v
+number_read ms name v h fits = rw (h) (number_found name v fits)
 
 pub text_there : (ms : Members) (name : List ℕ) (v : Option (List ℕ)) → text_claim name ms ≡ Ok v → get_member name ms ≡ option_map string v
 text_there ms name v h = text_stands name (get_member name ms) v h

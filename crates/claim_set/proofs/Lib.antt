@@ -8,7 +8,8 @@ pub mod Order
 pub mod PutClaims
 pub mod Building
 pub mod Sizes
+pub mod PlainTexts
+pub mod Costs
 pub mod Written
-pub mod Utf8Bytes
 pub mod OnLiterals
 mod Samples

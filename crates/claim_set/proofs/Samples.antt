@@ -7,13 +7,14 @@ use Rattle.std.specs.Cmp.Lexicographic.{slice_cmp}
 use Rattle.json.proofs.Printed.Utf8.{IsUtf8-are_ascii}
 use Rattle.serde_json.specs.Data.{Members, no_members, member, Data, null, number, unsigned, negative, string, array, object, no_items, item, put}
 use Rattle.serde_json.specs.Read.{read}
+use Rattle.sso_base.specs.Values.{AreTexts}
 use Rattle.claim_set.specs.declared.no.ClaimNo.{ClaimNo}
 use Rattle.claim_set.specs.declared.no.ClaimNo.TheVariants.{NotJson, NotObject, WrongKind}
 use Rattle.claim_set.specs.Claims.{claims_depth, without}
 use Rattle.serde_json.specs.Find.{as_str, get_member}
 use Rattle.claim_set.specs.Kinds.{is_wrong, text_claim, number_claim, flag_claim, texts_claim, member_claim}
 use Rattle.claim_set.specs.Reading.{claims_read, claims_text, Reads, IsFirstWrong}
-use Rattle.claim_set.specs.Fitting.{Fits, MembersFit, ClaimsFit, EntriesFit, AreUtf8}
+use Rattle.claim_set.specs.Fitting.{Fits, MembersFit, ClaimsFit, EntriesFit}
 use Rattle.claim_set.specs.Building.{put_all, audience, without_all, is_distinct}
 use Rattle.claim_set.proofs.Building.{without_all-put_all}
 use Rattle.claim_set.proofs.Parsing.{read_reads, reads_read}
@@ -237,12 +238,12 @@ entries_fit = (IsUtf8-are_ascii (codes "exp") refl, (omega arith, omega arith), 
 entries-not_with_two_to_64 : EntriesFit ((codes "exp", Some (whole 18446744073709551616)) ∷ []) → ⊥
 entries-not_with_two_to_64 h = fits-not_two_to_64 h.1.0
 
-texts_are_utf8 : AreUtf8 (codes "c" ∷ codes "d" ∷ [])
+texts_are_utf8 : AreTexts (codes "c" ∷ codes "d" ∷ [])
 texts_are_utf8 = (IsUtf8-are_ascii (codes "c") refl, (IsUtf8-are_ascii (codes "d") refl, tt))
 
 no_text : is_utf8 (255 ∷ []) ≡ false
 unfolding claims_on_literals
 no_text = refl
 
-texts-not_of_other_bytes : AreUtf8 ((255 ∷ []) ∷ []) → ⊥
+texts-not_of_other_bytes : AreTexts ((255 ∷ []) ∷ []) → ⊥
 texts-not_of_other_bytes h = true≢false (sym (is_utf8-from_IsUtf8 (255 ∷ []) h.0) ∙ no_text)

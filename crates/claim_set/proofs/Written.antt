@@ -14,7 +14,7 @@ use Rattle.std.proofs.lemmas.Fmt.{IsAscii-decimal}
 use Rattle.json.proofs.Printed.Utf8.{IsUtf8-quoted, IsUtf8-are_ascii}
 use Rattle.claim_set.specs.Reading.{claims_read, claims_text}
 use Rattle.claim_set.proofs.Parsing.{claims_back}
-use Rattle.claim_set.proofs.Utf8Bytes.{are_bytes, are_bytes-IsUtf8}
+use Rattle.sso_base.proofs.Utf8Bytes.{are_bytes, are_bytes-IsUtf8}
 use Rattle.json.proofs.Printed.Trees.{value-json_tokens, ArePrintable-json_tokens}
 use Rattle.json.proofs.Printed.Tokens.{tokens-print}
 use Rattle.json.specs.Lex.{tokens}

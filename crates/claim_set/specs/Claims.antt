@@ -23,6 +23,11 @@ pub record IsClaims (d : Data) : Type 0 where
 abbrev pub claims_depth : Members → ℕ
 claims_depth ms = depth (object ms)
 
+-- the names, in the order in which they stand
+abbrev pub member_names : Members → List (List ℕ)
+member_names no_members = []
+member_names (member k d ms) = k ∷ member_names ms
+
 -- the members less one name
 abbrev pub without : List ℕ → Members → Members
 without k no_members = no_members

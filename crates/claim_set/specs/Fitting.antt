@@ -51,8 +51,3 @@ pub record ClaimsFit (ms : Members) : Type 0 where
 abbrev pub EntriesFit : List Entry → Type 0
 EntriesFit [] = ⊤
 EntriesFit (e ∷ es) = IsUtf8 e.0 × IfSome e.1 (λ d. Fits d × (depth d ≤ 126)) × EntriesFit es
-
--- each text is in UTF-8
-abbrev pub AreUtf8 : List (List ℕ) → Type 0
-AreUtf8 [] = ⊤
-AreUtf8 (t ∷ ts) = IsUtf8 t × AreUtf8 ts

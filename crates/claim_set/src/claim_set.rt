@@ -6,9 +6,9 @@ ghost use Rattle.serde_json.specs.Find.{get_member};
 ghost use Rattle.serde_json.specs.View.{view};
 ghost use Rattle.serde_json.specs.Written.{has_float};
 ghost use Rattle.claim_set.specs.Building.{put_if, number_value, audience};
-ghost use Rattle.claim_set.specs.Claims.{claims_depth, without, text_items, IsClaims, members_in};
+ghost use Rattle.claim_set.specs.Claims.{claims_depth, member_names, without, text_items, IsClaims, members_in};
 
-use crate::walks::{depth_of, items_of_texts};
+use crate::walks::{depth_of, items_of_texts, names_in};
 use serde_json::{Map, Value};
 use sso_base::{NoMemory, Text, Texts};
 use std::alloc::Global;
@@ -70,6 +70,16 @@ impl ClaimSet {
         ensures { result ≡ is_some (get_member name.now self.now) }
     {
         self.value.get(name).is_some()
+    }
+
+    /// The names of the set, in the order of their bytes.
+    pub fn names(&self) -> Result<Texts, NoMemory>
+        ensures { IfOk result (λ names. names ≡ member_names self.now) }
+    {
+        let Some(map) = self.value.as_object() else {
+            unreachable!()
+        };
+        names_in(self.alloc, map)
     }
 
     /// Takes the name out. Where it is not there, nothing changes.

@@ -9,7 +9,7 @@
 //! | `claim_set` | [`ClaimSet`], and how names are set and taken out |
 //! | `kinds` | claims by name: a text, a number, a flag, texts, or a claim set inside another |
 //! | `reading` | [`read_claims`] reads the text of a claim set |
-//! | `writing` | [`write_claims`] writes it |
+//! | `writing` | [`write_claims`] and [`claims_text`] write it |
 //! | `no` | [`ClaimNo`], why a text or a claim is refused |
 //! | `walks` | walks over JSON values |
 //! | `law` | what holds of claim sets, for the crates above |
@@ -20,8 +20,6 @@ mod kinds;
 mod law;
 mod no;
 mod reading;
-#[cfg(test)]
-mod tests;
 mod walks;
 mod writing;
 
@@ -33,4 +31,4 @@ pub use law::{
 };
 pub use no::ClaimNo;
 pub use reading::read_claims;
-pub use writing::write_claims;
+pub use writing::{claims_text, write_claims};

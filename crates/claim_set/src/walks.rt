@@ -4,7 +4,7 @@ ghost use Rattle.std.specs.Prelude.{◌≡◌, ◌≤◌, ◌<◌, ◌+◌, opti
 ghost use Rattle.serde_json.specs.Data.{depth, items_depth, members_depth};
 ghost use Rattle.serde_json.specs.Written.{has_float, items_have_float, members_have_float};
 ghost use Rattle.serde_json.specs.View.{view, items_view, members_view};
-ghost use Rattle.claim_set.specs.Claims.{text_items};
+ghost use Rattle.claim_set.specs.Claims.{text_items, member_names};
 ghost use Rattle.claim_set.specs.Kinds.{data_texts, item_texts};
 ghost use Rattle.claim_set.specs.Reading.{first_float};
 
@@ -100,6 +100,17 @@ fn members_depth_of(members: &Map<String, Value>) -> u32
         most = most.max(depth_of(member));
     }
     most
+}
+
+// The names of the members.
+pub(crate) fn names_in(alloc: Global, members: &Map<String, Value>) -> Result<Texts, NoMemory>
+    ensures { IfOk result (λ names. names ≡ member_names (members_view members.now.entries)) }
+{
+    let mut names = Texts::new(alloc);
+    for (name, _value) in members.iter() {
+        names.push(Text::new(alloc, name.as_str())?)?;
+    }
+    Ok(names)
 }
 
 // The texts in a string, or in an array of strings.

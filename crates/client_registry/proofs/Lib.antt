@@ -2,7 +2,9 @@ pub mod Slashes
 pub mod TwiceRules
 pub mod Documents
 pub mod Guiltless
+pub mod KnownClaims
 pub mod HeldClaims
+pub mod SpelledBytes
 pub mod RowFacts
 pub mod RowRules
 pub mod SubjectFacts
@@ -11,3 +13,4 @@ pub mod Registering
 pub mod Numbers
 pub mod Causes
 mod Samples
+pub mod Endpoints

@@ -1,5 +1,6 @@
 -- A configuration that is guilty of nothing is a registry.
-use Rattle.std.proofs.Common.{◌≡◌, ◌≤◌, ◌<◌, ◌+◌, ◌==◌, ◌||◌, ℕ, suc, Bool, true, false, cond, List, [], ◌∷◌, ◌++◌, length, map, Option, Some, None, is_some, unwrap_or, slice_get, get_or, ◌⊎◌, inl, inr, nat_lt, codes, refl, ap, ◌∙◌, subst, arith}
+use Rattle.std.proofs.Common.{◌≡◌, ◌≤◌, ◌<◌, ◌+◌, ◌==◌, ◌||◌, ℕ, suc, Bool, true, false, cond, List, [], ◌∷◌, ◌++◌, length, map, Option, Some, None, is_some, unwrap_or, slice_get, get_or, ◌⊎◌, inl, inr, nat_lt, codes, refl, sym, ap, ◌∙◌, subst, arith}
+use Rattle.std.specs.Prelude.{IfSome}
 use Rattle.std.specs.List.{AllByRecursion, list_any, position_from}
 use Rattle.std.specs.Str.{bytes_eq}
 use Rattle.std.proofs.lemmas.Bool.{ltb-false}
@@ -12,16 +13,18 @@ use Rattle.client_registry.specs.declared.records.User.{User}
 use Rattle.client_registry.specs.declared.records.Client.{Client}
 use Rattle.client_registry.specs.declared.records.Party.{Party}
 use Rattle.configuration_rows.specs.Refusals.{note_if, each}
-use Rattle.configuration_rows.specs.Kinds.{has_text}
-use Rattle.client_registry.specs.Records.{client_place, party_of, users_of, clients_of, parties_of}
+use Rattle.sso_base.specs.Texts.{has_text}
+use Rattle.client_registry.specs.Records.{no_url, without_slash, client_place, party_of, users_of, clients_of, parties_of}
 use Rattle.client_registry.specs.Rules as rule
 use Rattle.client_registry.specs.Rules.{records_refusals, subjects_refusals}
 use Rattle.configuration_rows.specs.Values.{rows_at}
 use Rattle.client_registry.specs.Configuration.{configuration_of, provider_table, issuer_of, salt_of}
-use Rattle.client_registry.specs.Registered.{AreApart, NumbersAreApart, HasNoneOf, AreDisjoint, IsUser, AllHoldClaims, IsRegistry}
+use Rattle.client_registry.specs.Registered.{AreApart, NumbersAreApart, HasNoneOf, AreDisjoint, IsUser, AllHoldClaims, IsIssuerUrl, IsRegistry}
+use Rattle.registered_url.specs.declared.web_url.WebUrl.{WebUrl}
 use Rattle.registered_url.specs.Rule.{url_of}
 use Rattle.configuration_rows.specs.Version1.{rows_refusals}
-use Rattle.client_registry.proofs.RowFacts.{issuer_kept}
+use Rattle.client_registry.proofs.SpelledBytes.{hex_is_bytes}
+use Rattle.client_registry.proofs.RowFacts.{ProviderKept, provider_kept}
 use Rattle.client_registry.proofs.PartyFacts.{parties_fit}
 use Rattle.client_registry.proofs.SubjectFacts.{rows_of_subjects}
 use Rattle.client_registry.proofs.RowRules.{RowsKeep, rows_keep_rules, users_keep, clients_keep, parties_keep}
@@ -278,11 +281,23 @@ guiltless issuer users clients parties h =
       mixed_hosts = back_nil m8 n9 h9;
     }
 
+-- what is kept of the issuer is of its URL
+issuer_url : (root : Data) → (i : ProviderKept (provider_table root)) → IsIssuerUrl (configuration_of root) i.url
+unfolding configuration_of
+issuer_url root i = record {
+  query = i.query;
+  prefix = ap (λ (o : Option WebUrl). without_slash (unwrap_or o no_url).path) i.there;
+  secure = ap (λ (o : Option WebUrl). (unwrap_or o no_url).secure) i.there;
+}
+
+if_url : (P : WebUrl → Type 0) (o : Option WebUrl) (u : WebUrl) → o ≡ Some u → P u → IfSome o P
+if_url P o u is h = subst (λ q. IfSome q P) (sym is) h
+
 pub registered : (root : Data) → AllHoldClaims (users_of root) → rows_refusals root ≡ [] → rule.records_refusals (issuer_of root) (users_of root) (clients_of root) (parties_of root) ≡ [] → rule.subjects_refusals (salt_of root) (users_of root) (clients_of root) ≡ [] → IsRegistry (configuration_of root)
 unfolding configuration_of subjects_refusals
 registered root f r h s =
     let w : RowsKeep root = rows_keep_rules root r in
-    let i : (is_some (url_of (issuer_of root)) ≡ true) × (length (issuer_of root) ≤ 200) = issuer_kept (provider_table root) w.provider in
+    let i : ProviderKept (provider_table root) = provider_kept (provider_table root) w.provider in
     let g : Guiltless (issuer_of root) (users_of root) (clients_of root) (parties_of root) = guiltless (issuer_of root) (users_of root) (clients_of root) (parties_of root) h in
     let us : AllByRecursion IsUser (users_of root) = users_keep (rows_at (codes "user") root) w.users g.long_claims in
     let cs : AllFrom (ClientOnce (issuer_of root) (clients_of root)) 0 (clients_of root) = clients_once (issuer_of root) (clients_of root) g.client_twice in
@@ -300,13 +315,18 @@ registered root f r h s =
       party_names = party_names_apart (parties_of root) ps;
       not_op = parties_not_op (parties_of root) (parties_of root) ps;
       known = known;
-      fitting = parties_fit (rows_at (codes "party") root) (rows_at (codes "client") root) (rows_at (codes "party") root) w.clients w.parties known;
+      fitting = parties_fit (rows_at (codes "party") root) (rows_at (codes "client") root) w.clients w.parties known;
       one_party = uses_apart (parties_of root) ps;
       rows = length_mapped (rule.subjects_at (salt_of root) (users_of root)) (clients_of root);
       subjects = rows_apart (salt_of root) (users_of root) (clients_of root) s;
       subject_rules = rows_of_subjects (salt_of root) (users_of root) (clients_of root) us;
-      issuer = i.0;
-      short_issuer = i.1;
+      salt = salt_of root;
+      salted = record { within = i.salt; bytes = hex_is_bytes (codes "salt") (provider_table root); made = refl };
+      issuer = ap is_some i.issuer;
+      issuer_url = if_url (IsIssuerUrl (configuration_of root)) (url_of (issuer_of root)) i.url i.issuer (issuer_url root i);
+      short_issuer = i.short;
+      provider = refl;
+      listen = i.listen;
       user_claims = f;
       user_rules = us;
       client_rules = clients_keep (rows_at (codes "party") root) (rows_at (codes "client") root) w.clients g.short_secrets g.mixed_hosts;

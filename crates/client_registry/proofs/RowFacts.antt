@@ -16,9 +16,9 @@ use Rattle.configuration_rows.specs.declared.kind.Breach.{Breach}
 use Rattle.configuration_rows.specs.declared.kind.Breach.TheVariants.{WrongKind, BadUrl}
 use Rattle.configuration_rows.specs.Paths.{path_text}
 use Rattle.configuration_rows.specs.Values.{as_natural, as_texts, hex_bytes, text_at, text_or, natural_at, hex_at, texts_at, url_at}
-use Rattle.configuration_rows.specs.Kinds.{passes, unless, is_within, text_keeps, breach, are_urls, urls_breach, url_breach, issuer_breach, issuer_text_breach}
+use Rattle.configuration_rows.specs.Kinds.{passes, unless, is_within, is_name, text_keeps, breach, are_urls, urls_breach, url_breach, issuer_breach, issuer_text_breach}
 use Rattle.configuration_rows.specs.Version1 as version
-use Rattle.client_registry.proofs.Guiltless.{front_nil}
+use Rattle.client_registry.proofs.Guiltless.{front_nil, back_nil}
 
 no_cons : {A B : Type 0} (x : A) (xs : List A) → x ∷ xs ≡ [] → B
 no_cons x xs h = absurd (cc)
@@ -169,31 +169,55 @@ optional_at path k None h = inl refl
 optional_at path k (Some d) h = inr (record { value = d; there = refl; kept = unbreached path (breach k d) h })
 
 -- an issuer
-pub record KeptIssuer (o : Option (List ℕ)) : Type 0 where
-  pub value : List ℕ
-  pub there : o ≡ Some value
-  pub url : is_some (url_of value) ≡ true
-  pub short : length value ≤ 200
+record KeptIssuer (t : List ℕ) (u : WebUrl) : Type 0 where
+  url : url_of t ≡ Some u
+  short : length t ≤ 200
+  query : u.query ≡ None
 
-both_true : (a b : Bool) → (a && b) ≡ true → a ≡ true
-both_true true b h = refl
+no_query : (o : Option (List ℕ)) → not (is_some o) ≡ true → o ≡ None
+no_query None h = refl
+no_query (Some q) h = absurd (true≢false (sym h))
+
+both_true : (a b : Bool) → (a && b) ≡ true → (a ≡ true) × (b ≡ true)
+both_true true b h = (refl, h)
 both_true false b h = absurd (true≢false (sym h))
 
-issuer_url : (t : List ℕ) (o : Option WebUrl) → url_of t ≡ o → issuer_breach t o ≡ None → (is_some (url_of t) ≡ true) × (length t ≤ 200)
+issuer_url : (t : List ℕ) (o : Option WebUrl) → url_of t ≡ o → issuer_breach t o ≡ None → (u : WebUrl) × KeptIssuer t u
 issuer_url t None is h = some_not_none BadUrl h
 issuer_url t (Some u) is h =
-    (ap is_some is, leb-true (length t) 200 (both_true (nat_le (length t) 200) (not (is_some u.query)) (met (nat_le (length t) 200 && not (is_some u.query)) WrongKind h)))
+    let halves = both_true (nat_le (length t) 200) (not (is_some u.query)) (met (nat_le (length t) 200 && not (is_some u.query)) WrongKind h) in
+    (u, record { url = is; short = leb-true (length t) 200 halves.0; query = no_query u.query halves.1 })
 
-issuer_there : (o : Option (List ℕ)) → issuer_text_breach o ≡ None → KeptIssuer o
+issuer_there : (o : Option (List ℕ)) → issuer_text_breach o ≡ None → (t : List ℕ) × (u : WebUrl) × (o ≡ Some t) × KeptIssuer t u
 issuer_there None h = some_not_none WrongKind h
-issuer_there (Some t) h = let u : (is_some (url_of t) ≡ true) × (length t ≤ 200) = issuer_url t (url_of t) refl h in record { value = t; there = refl; url = u.0; short = u.1 }
+issuer_there (Some t) h = let u = issuer_url t (url_of t) refl h in (t, u.0, refl, u.1)
 
-pub issuer_kept : (d : Data) → version.provider_row d ≡ [] → (is_some (url_of (text_or (codes "issuer") [] d)) ≡ true) × (length (text_or (codes "issuer") [] d) ≤ 200)
-issuer_kept d h =
+-- what the provider's row says, where nothing is noted of it
+pub record ProviderKept (d : Data) : Type 0 where
+  pub url : WebUrl
+  pub issuer : url_of (text_or (codes "issuer") [] d) ≡ Some url
+  pub there : url_at (codes "issuer") d ≡ Some url
+  pub short : length (text_or (codes "issuer") [] d) ≤ 200
+  pub query : url.query ≡ None
+  pub listen : is_name Visible 1 64 (text_or (codes "listen") [] d) ≡ true
+  pub salt : is_within 16 64 (length (hex_at (codes "salt") d)) ≡ true
+
+pub provider_kept : (d : Data) → version.provider_row d ≡ [] → ProviderKept d
+provider_kept d h =
     let a : List RegNo = version.required row.Provider d (codes "issuer") kind.Issuer in
     let b : List RegNo = version.required row.Provider d (codes "listen") (kind.Text (text.Name Visible 1 64)) in
     let c : List RegNo = version.required row.Provider d (codes "salt") (kind.Text (text.Hex 16 64)) in
-    let k : Kept kind.Issuer (get (codes "issuer") d) = kept_at (path_text row.Provider (codes "issuer")) kind.Issuer (get (codes "issuer") d) (front_nil a b (front_nil (a ++ b) c h)) in
-    let u : KeptIssuer (as_str k.value) = issuer_there (as_str k.value) k.kept in
-    let same : text_or (codes "issuer") [] d ≡ u.value = or_else (text_at (codes "issuer") d) u.value [] (ap (option_and_then as_str) k.there ∙ u.there) in
-    (ap (λ t. is_some (url_of t)) same ∙ u.url, subst (λ t. length t ≤ 200) (sym same) u.short)
+    let ab : a ++ b ≡ [] = front_nil (a ++ b) c h in
+    let k : Kept kind.Issuer (get (codes "issuer") d) = kept_at (path_text row.Provider (codes "issuer")) kind.Issuer (get (codes "issuer") d) (front_nil a b ab) in
+    let u = issuer_there (as_str k.value) k.kept in
+    let there : text_at (codes "issuer") d ≡ Some u.0 = ap (option_and_then as_str) k.there ∙ u.2 in
+    let same : text_or (codes "issuer") [] d ≡ u.0 = or_else (text_at (codes "issuer") d) u.0 [] there in
+    record {
+      url = u.1;
+      issuer = ap url_of same ∙ u.3.url;
+      there = ap (option_and_then url_of) there ∙ u.3.url;
+      short = subst (λ t. length t ≤ 200) (sym same) u.3.short;
+      query = u.3.query;
+      listen = text_kept row.Provider d (codes "listen") (text.Name Visible 1 64) (back_nil a b ab);
+      salt = hex_kept row.Provider d (codes "salt") 16 64 (back_nil (a ++ b) c h);
+    }

@@ -3,8 +3,10 @@ use Rattle.std.proofs.Common.{◌≡◌, ◌≤◌, ◌==◌, ◌&&◌, ℕ, Boo
 use Rattle.std.specs.List.{AllByRecursion}
 use Rattle.std.proofs.lemmas.Bool.{ltb-false}
 use Rattle.std.proofs.lemmas.Bool.Decides.{nat_tests}
+use Rattle.base64.specs.GeneralPurpose.{IsBytes}
 use Rattle.toml.specs.Data.{Data, get, as_str}
 use Rattle.configuration_rows.specs.Values.{as_natural}
+use Rattle.configuration_rows.specs.Values.{text_at, natural_at, hex_at, texts_at, url_at, rows_at, table_at}
 use Rattle.registered_url.specs.Rule.{url_of}
 use Rattle.configuration_rows.specs.declared.no.RegNo.{RegNo}
 use Rattle.configuration_rows.specs.declared.no.RegNo.TheVariants as no
@@ -14,8 +16,9 @@ use Rattle.configuration_rows.specs.declared.kind.TextRule.TheVariants as text
 use Rattle.configuration_rows.specs.declared.kind.Alphabet.TheVariants.{UserId, ClientId, PartyName, Visible}
 use Rattle.configuration_rows.specs.Refusals.{each}
 use Rattle.configuration_rows.specs.Paths.{path_text}
-use Rattle.configuration_rows.specs.Values.{text_at, natural_at, hex_at, texts_at, url_at, rows_at, table_at}
-use Rattle.configuration_rows.specs.Kinds.{is_within, is_name, are_urls, has_text, is_prompt}
+use Rattle.configuration_rows.specs.Kinds.{is_within, is_name, are_urls}
+use Rattle.sso_base.specs.Texts.{has_text}
+use Rattle.oidc_words.specs.Prompts.{is_prompt}
 use Rattle.registered_url.specs.declared.web_url.WebUrl.{WebUrl}
 use Rattle.configuration_rows.specs.Version1 as version
 use Rattle.configuration_rows.specs.Version1.{rows_refusals}
@@ -25,6 +28,7 @@ use Rattle.client_registry.specs.Records.{no_url, rounds_of, user_of, client_of_
 use Rattle.client_registry.specs.Rules as rule
 use Rattle.client_registry.specs.Registered.{IsUser, IsClient, IsParty, is_url_or_none, is_prompt_or_none, is_age_or_none}
 use Rattle.client_registry.proofs.Guiltless.{front_nil, back_nil, unmet, either_false, each_nil, all_weaker, all_rows}
+use Rattle.client_registry.proofs.SpelledBytes.{hex_is_bytes, proof_is_bytes}
 use Rattle.client_registry.proofs.RowFacts.{Passing, Kept, KeptUrl, UrlAt, url_found, optional_text_kept, text_kept, hex_kept, number_kept, number_in, urls_kept, url_kept, url_there, optional_at}
 
 second_true : (a b : Bool) → (a && b) ≡ true → b ≡ true
@@ -47,8 +51,10 @@ proof_at false bytes is = refl
 record UserRow (u : User) : Type 0 where
   pub id : is_name UserId 1 64 u.id ≡ true
   pub salt : is_within 1 64 (length u.salt) ≡ true
+  pub salt_bytes : IsBytes u.salt
   pub rounds : is_within 1 1000000 u.rounds ≡ true
   pub proof : length u.proof ≡ 32
+  pub proof_bytes : IsBytes u.proof
 
 user_row : (i : ℕ) (d : Data) → version.user_row i d ≡ [] → UserRow (user_of d)
 user_row i d h =
@@ -62,8 +68,10 @@ user_row i d h =
     record {
       id = text_kept (row.User i) d (codes "id") (text.Name UserId 1 64) (front_nil a b ab);
       salt = hex_kept (row.User i) d (codes "salt") 1 64 (back_nil a b ab);
+      salt_bytes = hex_is_bytes (codes "salt") d;
       rounds = rounds_within (natural_at (codes "rounds") d) (number_kept (row.User i) d (codes "rounds") 1 1000000 (back_nil (a ++ b) c abc));
       proof = proof_at (length (hex_at (codes "proof") d) == 32) (hex_at (codes "proof") d) refl;
+      proof_bytes = proof_is_bytes (hex_at (codes "proof") d) (hex_is_bytes (codes "proof") d);
     }
 
 -- ---- clients
@@ -72,6 +80,7 @@ record ClientRow (k : Client) : Type 0 where
   pub id : is_name ClientId 1 64 k.id ≡ true
   pub secret : is_name Visible 0 128 k.secret ≡ true
   pub redirects : is_within 1 16 (length k.redirects) ≡ true
+  pub types : length k.types ≡ 6
   pub urls : are_urls k.redirects ≡ true
   pub kept : k.redirect_urls ≡ urls_of k.redirects
   pub logout : is_url_or_none k.logout ≡ true
@@ -83,8 +92,16 @@ logout_at o (inr k) =
     let u : KeptUrl (as_str k.value) = url_there (as_str k.value) k.kept in
     ap (λ q. is_url_or_none (option_and_then as_str q)) k.there ∙ ap is_url_or_none u.there ∙ u.url
 
-client_row : (parties : List Data) (i : ℕ) (d : Data) → version.client_row parties i d ≡ [] → ClientRow (client_of_row d)
-client_row parties i d h =
+-- what the row of a client says, where nothing is noted of it
+pub record ClientLists (parties : List Data) (i : ℕ) (d : Data) : Type 0 where
+  pub id : version.required (row.Client i) d (codes "id") (kind.Text (text.Name ClientId 1 64)) ≡ []
+  pub secret : version.required (row.Client i) d (codes "secret") (kind.Text (text.Name Visible 0 128)) ≡ []
+  pub redirects : version.required (row.Client i) d (codes "redirect_uris") kind.Urls ≡ []
+  pub logout : version.optional (row.Client i) d (codes "logout_uri") kind.Url ≡ []
+  pub logout_fits : version.logout_rule parties (row.Client i) d ≡ []
+
+pub client_lists : (parties : List Data) (i : ℕ) (d : Data) → version.client_row parties i d ≡ [] → ClientLists parties i d
+client_lists parties i d h =
     let r = row.Client i in
     let a : List RegNo = version.required r d (codes "id") (kind.Text (text.Name ClientId 1 64)) in
     let b : List RegNo = version.required r d (codes "secret") (kind.Text (text.Name Visible 0 128)) in
@@ -99,15 +116,28 @@ client_row parties i d h =
     let settings : (((s ++ t) ++ l) ++ m) ++ n ≡ [] = back_nil (((a ++ b) ++ c) ++ e) ((((s ++ t) ++ l) ++ m) ++ n) h in
     let abc : (a ++ b) ++ c ≡ [] = front_nil ((a ++ b) ++ c) e names in
     let ab : a ++ b ≡ [] = front_nil (a ++ b) c abc in
-    let stl : (s ++ t) ++ l ≡ [] = front_nil ((s ++ t) ++ l) m (front_nil (((s ++ t) ++ l) ++ m) n settings) in
-    let uris : (is_within 1 16 (length (texts_at (codes "redirect_uris") d)) ≡ true) × (are_urls (texts_at (codes "redirect_uris") d) ≡ true) = urls_kept r d (codes "redirect_uris") (back_nil (a ++ b) c abc) in
+    let stlm : ((s ++ t) ++ l) ++ m ≡ [] = front_nil (((s ++ t) ++ l) ++ m) n settings in
     record {
-      id = text_kept r d (codes "id") (text.Name ClientId 1 64) (front_nil a b ab);
-      secret = text_kept r d (codes "secret") (text.Name Visible 0 128) (back_nil a b ab);
+      id = front_nil a b ab;
+      secret = back_nil a b ab;
+      redirects = back_nil (a ++ b) c abc;
+      logout = back_nil (s ++ t) l (front_nil ((s ++ t) ++ l) m stlm);
+      logout_fits = back_nil ((s ++ t) ++ l) m stlm;
+    }
+
+client_row : (parties : List Data) (i : ℕ) (d : Data) → version.client_row parties i d ≡ [] → ClientRow (client_of_row d)
+client_row parties i d h =
+    let r = row.Client i in
+    let l : ClientLists parties i d = client_lists parties i d h in
+    let uris : (is_within 1 16 (length (texts_at (codes "redirect_uris") d)) ≡ true) × (are_urls (texts_at (codes "redirect_uris") d) ≡ true) = urls_kept r d (codes "redirect_uris") l.redirects in
+    record {
+      id = text_kept r d (codes "id") (text.Name ClientId 1 64) l.id;
+      secret = text_kept r d (codes "secret") (text.Name Visible 0 128) l.secret;
       redirects = uris.0;
+      types = refl;
       urls = uris.1;
       kept = refl;
-      logout = logout_at (get (codes "logout_uri") d) (optional_at (path_text r (codes "logout_uri")) kind.Url (get (codes "logout_uri") d) (back_nil (s ++ t) l stl));
+      logout = logout_at (get (codes "logout_uri") d) (optional_at (path_text r (codes "logout_uri")) kind.Url (get (codes "logout_uri") d) l.logout);
       logout_kept = refl;
     }
 
@@ -227,7 +257,7 @@ records_keep f P xs keep h = all_rows P 0 xs (all_weaker (λ i x. f i x ≡ []) 
 pub users_keep : (rows : List Data) → each version.user_row rows ≡ [] → each rule.long_claims (map user_of rows) ≡ [] → AllByRecursion IsUser (map user_of rows)
 users_keep rows h c =
     joined UserRow (λ u. length u.claims ≤ 2048) IsUser (map user_of rows)
-    (λ u r s. record { id = r.id; salt = r.salt; rounds = r.rounds; proof = r.proof; claims = s })
+    (λ u r s. record { id = r.id; salt = r.salt; salt_bytes = r.salt_bytes; rounds = r.rounds; proof = r.proof; proof_bytes = r.proof_bytes; claims = s })
     (rows_keep version.user_row user_of UserRow rows user_row h)
     (records_keep rule.long_claims (λ u. length u.claims ≤ 2048) (map user_of rows) (λ i u e. ltb-false 2048 (length u.claims) (unmet (nat_lt 2048 (length u.claims)) (no.TooMany (codes "claims")) e)) c)
 
@@ -238,7 +268,7 @@ record ClientRules (k : Client) : Type 0 where
 pub clients_keep : (parties rows : List Data) → each (version.client_row parties) rows ≡ [] → each rule.short_secret (map client_of_row rows) ≡ [] → each rule.mixed_hosts (map client_of_row rows) ≡ [] → AllByRecursion IsClient (map client_of_row rows)
 clients_keep parties rows h s m =
     joined ClientRow ClientRules IsClient (map client_of_row rows)
-    (λ k r q. record { id = r.id; secret = r.secret; long_secret = q.long_secret; redirects = r.redirects; urls = r.urls; kept = r.kept; logout = r.logout; logout_kept = r.logout_kept; one_host = q.one_host })
+    (λ k r q. record { id = r.id; secret = r.secret; long_secret = q.long_secret; redirects = r.redirects; types = r.types; urls = r.urls; kept = r.kept; logout = r.logout; logout_kept = r.logout_kept; one_host = q.one_host })
     (rows_keep (version.client_row parties) client_of_row ClientRow rows (client_row parties) h)
     (joined (λ k. 32 ≤ length k.secret) (λ k. (k.pairwise && rule.has_two_hosts k.redirect_urls) ≡ false) ClientRules (map client_of_row rows) (λ k p q. record { long_secret = p; one_host = q })
     (records_keep rule.short_secret (λ k. 32 ≤ length k.secret) (map client_of_row rows) (λ i k e. ltb-false (length k.secret) 32 (unmet (nat_lt (length k.secret) 32) (no.ShortSecret k.id) e)) s)

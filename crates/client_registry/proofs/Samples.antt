@@ -1,6 +1,8 @@
 -- The definitions computed on small cases: what each accepts, and what it refuses.
-use Rattle.std.proofs.Common.{◌≡◌, ◌<◌, ℕ, Bool, [], ◌∷◌, ◌++◌, List, replicate, codes, true, false, pos, Some, None, Result, Ok, Err, refl, sym, ap, ◌∙◌, arith, true≢false}
+use Rattle.std.proofs.Common.{◌≡◌, ◌≤◌, ◌<◌, ◌^◌, ℕ, Bool, [], ◌∷◌, ◌++◌, List, replicate, codes, true, false, is_some, pos, Option, Some, None, Result, Ok, Err, refl, sym, ap, ◌∙◌, arith, true≢false}
+use Rattle.std.specs.Prelude.{IfSome}
 use Rattle.std.specs.Str.{is_utf8, chars}
+use Rattle.base64.specs.GeneralPurpose.{IsBytes}
 use Rattle.toml.specs.Data.{Data, string, integer, array, table, no_items, item, no_members, member}
 use Rattle.toml.proofs.OnLiterals.{toml_on_literals}
 use Rattle.hex.proofs.OnLiterals.{hex_on_literals}
@@ -10,26 +12,40 @@ use Rattle.sha2.specs.Sha256.{sha256, first_words, schedule, rounds, compress, h
 use Rattle.sso_base.proofs.OnLiterals.{base64url_on_literals}
 use Rattle.serde_json.specs.Data as json
 use Rattle.claim_set.proofs.OnLiterals.{claims_on_literals}
-use Rattle.claim_set.proofs.Fitting.{ClaimsFit-none}
+use Rattle.serde_json.specs.Find.{get_member}
+use Rattle.serde_json.proofs.Views.{get_member-put}
+use Rattle.json.proofs.Printed.Utf8.{IsUtf8-are_ascii}
+use Rattle.claim_set.specs.declared.no.ClaimNo.{ClaimNo}
+use Rattle.claim_set.specs.Fitting.{ClaimsFit}
+use Rattle.claim_set.specs.Reading.{claims_read, claims_text}
+use Rattle.claim_set.proofs.Fitting.{ClaimsFit-none, ClaimsFit-put}
+use Rattle.claim_set.proofs.Written.{claims_read-claims_text}
+use Rattle.oidc_words.specs.declared.claims.ClaimKind.TheVariants as claim
+use Rattle.oidc_words.specs.Claims.{profile_claims, email_claims, address_claims, phone_claims, is_claim_of, flag_claims, seconds_claims, kind_of}
 use Rattle.registered_url.specs.declared.web_url.WebUrl.{WebUrl}
-use Rattle.registered_url.specs.Rule.{parts_of}
+use Rattle.registered_url.specs.Rule.{parts_of, url_of}
 use Rattle.configuration_rows.specs.declared.no.RegNo.{RegNo}
 use Rattle.configuration_rows.specs.declared.no.RegNo.TheVariants as no
 use Rattle.configuration_rows.specs.Refusals.{least, IsLeast, each}
-use Rattle.configuration_rows.specs.Kinds.{spellings}
+use Rattle.oidc_words.specs.Types.{spellings, types_of_number}
 use Rattle.configuration_rows.specs.Version1.{rows_refusals, lacks_type}
 use Rattle.configuration_rows.proofs.Order.{least_is}
+use Rattle.client_registry.specs.declared.records.Provider.{Provider}
 use Rattle.client_registry.specs.declared.records.User.{User}
 use Rattle.client_registry.specs.declared.records.Client.{Client}
 use Rattle.client_registry.specs.declared.records.Party.{Party}
-use Rattle.client_registry.specs.Records.{without_slash, endpoint, provider_of, rounds_of, proof_of, user_of, types_of, client_of_row, types_of_number, client_place, client_number, party_of, users_of, clients_of, parties_of}
+use Rattle.client_registry.specs.Records.{without_slash, endpoint, provider_of, rounds_of, proof_of, user_of, types_of, client_of_row, client_place, client_number, party_of, users_of, clients_of, parties_of}
 use Rattle.client_registry.specs.Rules.{is_again, user_twice, client_twice, party_twice, short_secret, long_claims, mixed_hosts, unknown_client, has_two_hosts, sector_of, text_place, records_refusals, pairwise_subject, subject_of, clashes, subjects_refusals}
-use Rattle.client_registry.specs.Registered.{AreApart, NumbersAreApart, HasNoneOf, AreDisjoint, IsUser, HoldsClaims, AllHoldClaims, IsClient, IsParty, FitsClient, IsSubject, IsRegistry}
-use Rattle.client_registry.specs.Configuration.{Configuration, subject_at, configuration_of, issuer_of, salt_of}
+use Rattle.client_registry.specs.Registered.{AreApart, NumbersAreApart, HasNoneOf, AreDisjoint, IsUser, HoldsClaims, AllHoldClaims, IsClient, IsParty, IsLogoutOf, FitsClient, IsSubject, IsIssuerUrl, AreSubjectsBy, IsRegistry}
+use Rattle.client_registry.specs.ClaimKinds.{has_kind}
+use Rattle.client_registry.specs.Configuration.{Configuration, subject_at, configuration_of, provider_table, issuer_of, salt_of}
+use Rattle.client_registry.specs.Numbers.{user_at, client_at, party_at, is_client, client_id, client_secret}
 use Rattle.client_registry.specs.Reading.{document_in, unless_refused, subjects_read, records_read, version1_read, registry_read, refusals_of, IsAccepted, IsOtherVersion}
 use Rattle.client_registry.proofs.Guiltless.{front_nil, back_nil}
 use Rattle.client_registry.proofs.HeldClaims.{holds}
+use Rattle.client_registry.proofs.SpelledBytes.{hex_is_bytes}
 use Rattle.client_registry.proofs.Registering.{registered}
+use Rattle.client_registry.proofs.Endpoints.{token_url, token_served}
 use Rattle.client_registry.proofs.SubjectFacts.{user_id_is_subject}
 use Rattle.client_registry.proofs.Causes.{version1_answer, too_long, accepted_only, version_only}
 
@@ -42,8 +58,31 @@ slash-is_gone = refl
 slash-of_a_path_without_one : without_slash (codes "/a") ≡ codes "/a"
 slash-of_a_path_without_one = refl
 
+slash-backslash_is_gone : without_slash (codes "/a\\") ≡ codes "/a"
+slash-backslash_is_gone = refl
+
+slash-one_alone_is_gone : without_slash (codes "/a//") ≡ codes "/a/"
+slash-one_alone_is_gone = refl
+
 endpoint-below_an_issuer : endpoint (codes "https://a.b/") (codes "/token") ≡ codes "https://a.b/token"
 endpoint-below_an_issuer = refl
+
+-- the URL at a.b of this path
+abbrev endpoint_at : List ℕ → Option WebUrl
+endpoint_at path = Some (record { secure = true; host = codes "a.b"; port = 443; path = path; query = None })
+
+endpoint-below_an_issuer_with_a_slash : url_of (endpoint (codes "https://a.b/op/") (codes "/token")) ≡ endpoint_at (codes "/op/token")
+unfolding url_on_literals parts_of
+endpoint-below_an_issuer_with_a_slash = refl
+
+endpoint-below_an_issuer_with_a_backslash : url_of (endpoint (codes "https://a.b/op\\") (codes "/token")) ≡ endpoint_at (codes "/op/token")
+unfolding url_on_literals parts_of
+endpoint-below_an_issuer_with_a_backslash = refl
+
+-- why a backslash is cut: behind it stands an empty segment
+url-behind_a_backslash : url_of (codes "https://a.b/op\\/token") ≡ endpoint_at (codes "/op//token")
+unfolding url_on_literals parts_of
+url-behind_a_backslash = refl
 
 rounds-at_the_bound : rounds_of (Some 1000000) ≡ 1000000
 rounds-at_the_bound = refl
@@ -210,6 +249,9 @@ not_a_user-of_no_rounds h = true≢false (sym h.rounds)
 not_a_client-of_a_short_secret : IsClient (client false (codes "shop") (codes "short") []) → ⊥
 not_a_client-of_a_short_secret h = absurd (omega (arith, h.long_secret))
 
+not_a_client-of_one_response_type : IsClient (record shop { types = true ∷ [] }) → ⊥
+not_a_client-of_one_response_type h = absurd (omega (arith, h.types))
+
 not_a_party-at_its_own_path : IsParty (party (codes "shop") 0 (codes "/leave")) → ⊥
 not_a_party-at_its_own_path h = true≢false h.path
 
@@ -220,18 +262,38 @@ not_a_party-of_an_age_of_a_thousand_million : IsParty (record (party (codes "sho
 not_a_party-of_an_age_of_a_thousand_million h = true≢false (sym h.age)
 
 fits-shop : FitsClient (party (codes "shop") 0 (codes "/cb")) shop
-fits-shop = record { redirect = refl; logout = refl; number = 0; types = refl; has_type = refl }
+fits-shop = record { redirect = refl; logout = refl; logout_of = tt; number = 0; types = refl; has_type = refl }
 
 not_fitting-another_redirection_uri : FitsClient (party (codes "shop") 0 (codes "/cb")) (record { id = codes "shop"; secret = long; redirects = []; types = []; pairwise = false; asks_consent = true; logout = None; logout_session = false; redirect_urls = []; logout_url = None }) → ⊥
 not_fitting-another_redirection_uri h = true≢false (sym h.redirect)
+
+-- a URL at the shop's host
+abbrev at_shop : ℕ → List ℕ → WebUrl
+at_shop port path = record { secure = true; host = codes "a.b"; port = port; path = path; query = None }
+
+logout-of_the_party : IsLogoutOf (party (codes "shop") 0 (codes "/cb")) (at_shop 443 (codes "/logout"))
+logout-of_the_party = record { server = refl; path = refl }
+
+not_a_logout-at_another_port : IsLogoutOf (party (codes "shop") 0 (codes "/cb")) (at_shop 444 (codes "/logout")) → ⊥
+not_a_logout-at_another_port h = true≢false (sym h.server)
+
+not_a_logout-at_the_own_path : IsLogoutOf (party (codes "shop") 0 (codes "/cb")) (at_shop 443 (codes "/leave")) → ⊥
+not_a_logout-at_the_own_path h = true≢false h.path
+
+fits-a_client_with_a_logout_uri : FitsClient (party (codes "shop") 0 (codes "/cb")) (record shop { logout_url = Some (at_shop 443 (codes "/logout")) })
+fits-a_client_with_a_logout_uri = record { redirect = refl; logout = refl; logout_of = logout-of_the_party; number = 0; types = refl; has_type = refl }
+
+not_fitting-a_logout_uri_at_another_port : FitsClient (party (codes "shop") 0 (codes "/cb")) (record shop { logout_url = Some (at_shop 444 (codes "/logout")) }) → ⊥
+not_fitting-a_logout_uri_at_another_port h = not_a_logout-at_another_port h.logout_of
 
 -- ---- a whole configuration
 
 abbrev refused : RegNo → Result Configuration RegNo
 refused e = Err e
 
-abbrev provider : Data
-provider = table (member (codes "issuer") (string (codes "https://a.b")) (member (codes "listen") (string (codes "a.b:443")) (member (codes "salt") (string (codes "00112233445566778899aabbccddeeff")) no_members)))
+-- a provider with this issuer
+abbrev provider : List ℕ → Data
+provider issuer = table (member (codes "issuer") (string issuer) (member (codes "listen") (string (codes "a.b:443")) (member (codes "salt") (string (codes "00112233445566778899aabbccddeeff")) no_members)))
 
 abbrev user_row : Data
 user_row = table (member (codes "id") (string (codes "alice")) (member (codes "salt") (string (codes "73616c74")) (member (codes "rounds") (integer (pos 1)) (member (codes "proof") (string (codes "120fb6cffcf8b32c43e7225256c4f837a86548c92ccc35480805987cb70be17b")) no_members))))
@@ -242,16 +304,34 @@ client_row secret = table (member (codes "id") (string (codes "shop")) (member (
 abbrev party_row : List ℕ → Data
 party_row client = table (member (codes "name") (string (codes "shop")) (member (codes "client") (string client) (member (codes "redirect_uri") (string (codes "https://a.b/cb")) (member (codes "listen") (string (codes "a.b:80")) no_members))))
 
--- a provider with a user, a client with this secret, and a party that names this client
+-- a provider with this issuer and a user, a client with this secret, and a party that names this client
+abbrev small_at : List ℕ → List ℕ → List ℕ → Data
+small_at issuer secret client = table (member (codes "version") (integer (pos 1)) (member (codes "provider") (provider issuer) (member (codes "user") (array (item user_row no_items)) (member (codes "client") (array (item (client_row secret) no_items)) (member (codes "party") (array (item (party_row client) no_items)) no_members)))))
+
 abbrev small : List ℕ → List ℕ → Data
-small secret client = table (member (codes "version") (integer (pos 1)) (member (codes "provider") provider (member (codes "user") (array (item user_row no_items)) (member (codes "client") (array (item (client_row secret) no_items)) (member (codes "party") (array (item (party_row client) no_items)) no_members)))))
+small secret client = small_at (codes "https://a.b") secret client
 
 abbrev good : Data
 good = small long (codes "shop")
 
+-- the same, where the issuer ends in a slash, and in a backslash
+abbrev with_slash : Data
+with_slash = small_at (codes "https://a.b/op/") long (codes "shop")
+
+abbrev with_backslash : Data
+with_backslash = small_at (codes "https://a.b/op\\") long (codes "shop")
+
 guiltless : refusals_of good ≡ []
 unfolding rows_refusals records_refusals subjects_refusals party_of lacks_type spellings url_on_literals parts_of hex_on_literals claims_on_literals
 guiltless = refl
+
+guiltless_with_slash : refusals_of with_slash ≡ []
+unfolding rows_refusals records_refusals subjects_refusals party_of lacks_type spellings url_on_literals parts_of hex_on_literals claims_on_literals
+guiltless_with_slash = refl
+
+guiltless_with_backslash : refusals_of with_backslash ≡ []
+unfolding rows_refusals records_refusals subjects_refusals party_of lacks_type spellings url_on_literals parts_of hex_on_literals claims_on_literals
+guiltless_with_backslash = refl
 
 guilty-of_two : refusals_of (small (codes "short") (codes "news")) ≡ no.ShortSecret (codes "shop") ∷ no.UnknownClient (codes "shop") ∷ []
 unfolding rows_refusals records_refusals subjects_refusals party_of lacks_type spellings url_on_literals parts_of hex_on_literals claims_on_literals
@@ -262,14 +342,37 @@ taken-by_the_definition = version1_answer good ∙ ap (λ es. unless_refused (le
 
 no_claims_held : AllHoldClaims (users_of good)
 unfolding AllHoldClaims
-no_claims_held = (holds (user_of user_row).claims json.no_members refl ClaimsFit-none, tt)
+no_claims_held = (holds user_row (user_of user_row).claims json.no_members refl refl ClaimsFit-none, tt)
+
+guiltless_registry : (root : Data) → AllHoldClaims (users_of root) → refusals_of root ≡ [] → IsRegistry (configuration_of root)
+guiltless_registry root held none =
+    let rows : List RegNo = rows_refusals root in
+    let records : List RegNo = records_refusals (issuer_of root) (users_of root) (clients_of root) (parties_of root) in
+    let subjects : List RegNo = subjects_refusals (salt_of root) (users_of root) (clients_of root) in
+    registered root held (front_nil rows records (front_nil (rows ++ records) subjects none)) (back_nil rows records (front_nil (rows ++ records) subjects none)) (back_nil (rows ++ records) subjects none)
 
 good_registry : IsRegistry (configuration_of good)
-good_registry =
-    let rows : List RegNo = rows_refusals good in
-    let records : List RegNo = records_refusals (issuer_of good) (users_of good) (clients_of good) (parties_of good) in
-    let subjects : List RegNo = subjects_refusals (salt_of good) (users_of good) (clients_of good) in
-    registered good no_claims_held (front_nil rows records (front_nil (rows ++ records) subjects guiltless)) (back_nil rows records (front_nil (rows ++ records) subjects guiltless)) (back_nil (rows ++ records) subjects guiltless)
+good_registry = guiltless_registry good no_claims_held guiltless
+
+slash_registry : IsRegistry (configuration_of with_slash)
+slash_registry = guiltless_registry with_slash no_claims_held guiltless_with_slash
+
+backslash_registry : IsRegistry (configuration_of with_backslash)
+backslash_registry = guiltless_registry with_backslash no_claims_held guiltless_with_backslash
+
+prefix-of_an_issuer_with_a_slash : (configuration_of with_slash).prefix ≡ codes "/op"
+unfolding configuration_of url_on_literals parts_of
+prefix-of_an_issuer_with_a_slash = refl
+
+prefix-of_an_issuer_with_a_backslash : (configuration_of with_backslash).prefix ≡ codes "/op"
+unfolding configuration_of url_on_literals parts_of
+prefix-of_an_issuer_with_a_backslash = refl
+
+served-below_a_slash : IfSome (url_of (configuration_of with_slash).provider.token) (λ (u : WebUrl). u.path ≡ (configuration_of with_slash).prefix ++ codes "/token")
+served-below_a_slash = token_served (configuration_of with_slash) slash_registry
+
+served-below_a_backslash : IfSome (url_of (configuration_of with_backslash).provider.token) (λ (u : WebUrl). u.path ≡ (configuration_of with_backslash).prefix ++ codes "/token")
+served-below_a_backslash = token_served (configuration_of with_backslash) backslash_registry
 
 is_user-alice : IsUser (user_of user_row)
 unfolding configuration_of
@@ -286,17 +389,167 @@ is_party-shop = good_registry.party_rules.0
 holds-not_in_nothing : HoldsClaims [] → ⊥
 holds-not_in_nothing h = cc h.text
 
+kind-of_a_text : has_kind (Some claim.Text) (json.string (codes "x")) ≡ true
+kind-of_a_text = refl
+
+kind-not_of_a_flag_in_words : has_kind (Some claim.Flag) (json.string (codes "true")) ≡ false
+kind-not_of_a_flag_in_words = refl
+
+kind-of_seconds : has_kind (Some claim.Seconds) (json.number (json.unsigned 7)) ≡ true
+kind-of_seconds = refl
+
+kind-not_of_too_many_seconds : has_kind (Some claim.Seconds) (json.number (json.unsigned (2 ^ 40))) ≡ false
+kind-not_of_too_many_seconds = refl
+
+kind-of_an_address : has_kind (Some claim.Address) (json.object (json.member (codes "country") (json.string (codes "x")) json.no_members)) ≡ true
+kind-of_an_address = refl
+
+kind-not_of_an_address_with_a_number : has_kind (Some claim.Address) (json.object (json.member (codes "country") (json.number (json.unsigned 7)) json.no_members)) ≡ false
+kind-not_of_an_address_with_a_number = refl
+
+-- a text that is written of claims that fit holds these
+claims_held : (ms : json.Members) → ClaimsFit ms → (h : HoldsClaims (claims_text ms)) → h.claims ≡ ms
+claims_held ms fits h = one_set h.claims ms (sym (claims_read-claims_text h.claims h.fits) ∙ ap claims_read (sym h.text) ∙ claims_read-claims_text ms fits)
+  where
+    one_set : (left right : json.Members) → ◌≡◌ {A = Result json.Members ClaimNo} (Ok left) (Ok right) → left ≡ right
+    one_set left right e = cc
+
+-- one claim of another kind, or of none
+holds-not_a_claim_of_another_kind : (k : List ℕ) (d : json.Data) → ClaimsFit (json.member k d json.no_members) → has_kind (kind_of k) d ≡ false → HoldsClaims (claims_text (json.member k d json.no_members)) → ⊥
+holds-not_a_claim_of_another_kind k d fits other h =
+    let is : h.claims ≡ json.member k d json.no_members = claims_held (json.member k d json.no_members) fits h in
+    true≢false (sym (h.known k d (ap (get_member k) is ∙ get_member-put k d json.no_members)) ∙ other)
+
+-- the good configuration, where the user holds this text
+abbrev holding : List ℕ → Configuration
+holding text = record (configuration_of good) { users = alice_of text ∷ [] }
+
+user_holds : (text : List ℕ) → IsRegistry (holding text) → HoldsClaims text
+unfolding AllHoldClaims
+user_holds text h = h.user_claims.0
+
+not_a_registry-whose_user_has_a_size_of_shoes : IsRegistry (holding (codes "{\"shoe_size\":38}")) → ⊥
+unfolding claims_on_literals is_claim_of profile_claims email_claims address_claims phone_claims flag_claims seconds_claims
+not_a_registry-whose_user_has_a_size_of_shoes h =
+    holds-not_a_claim_of_another_kind (codes "shoe_size") (json.number (json.unsigned 38))
+    (ClaimsFit-put (codes "shoe_size") (json.number (json.unsigned 38)) json.no_members (IsUtf8-are_ascii (codes "shoe_size") refl) (omega arith) (omega arith) ClaimsFit-none) refl
+    (user_holds (codes "{\"shoe_size\":38}") h)
+
+not_a_registry-whose_flag_is_a_word : IsRegistry (holding (codes "{\"email_verified\":\"x\"}")) → ⊥
+unfolding claims_on_literals is_claim_of profile_claims email_claims address_claims phone_claims flag_claims seconds_claims
+not_a_registry-whose_flag_is_a_word h =
+    holds-not_a_claim_of_another_kind (codes "email_verified") (json.string (codes "x"))
+    (ClaimsFit-put (codes "email_verified") (json.string (codes "x")) json.no_members (IsUtf8-are_ascii (codes "email_verified") refl) (IsUtf8-are_ascii (codes "x") refl) (omega arith) ClaimsFit-none) refl
+    (user_holds (codes "{\"email_verified\":\"x\"}") h)
+
 abbrev twins : Configuration
 twins = record { provider = provider_of []; prefix = []; listen = []; secure = true; users = alice ∷ alice ∷ []; clients = shop ∷ []; parties = []; subjects = (codes "s" ∷ codes "t" ∷ []) ∷ [] }
 
 not_a_registry-of_one_id_twice : IsRegistry twins → ⊥
 not_a_registry-of_one_id_twice h = true≢false h.user_ids.0
 
+-- ---- rows by their numbers
+
+abbrev no_user : Option User
+no_user = None
+
+abbrev no_shop : Option Client
+no_shop = None
+
+abbrev no_row : Option Party
+no_row = None
+
+-- a configuration with one party
+abbrev at_work : Configuration
+at_work = record twins { parties = party (codes "shop") 0 (codes "/cb") ∷ [] }
+
+user-of_a_number : user_at at_work 1 ≡ Some alice
+user-of_a_number = refl
+
+user-of_no_number : user_at at_work 2 ≡ no_user
+user-of_no_number = refl
+
+client-of_a_number : client_at at_work 0 ≡ Some shop
+client-of_a_number = refl
+
+client-of_no_number : client_at at_work 1 ≡ no_shop
+client-of_no_number = refl
+
+party-of_a_number : party_at at_work 0 ≡ Some (party (codes "shop") 0 (codes "/cb"))
+party-of_a_number = refl
+
+party-of_no_number : party_at at_work 1 ≡ no_row
+party-of_no_number = refl
+
+number-of_a_client : is_client at_work 0 ≡ true
+number-of_a_client = refl
+
+number-of_no_client : is_client at_work 1 ≡ false
+number-of_no_client = refl
+
+id-of_a_client : client_id at_work 0 ≡ codes "shop"
+id-of_a_client = refl
+
+id-of_no_client : client_id at_work 1 ≡ []
+id-of_no_client = refl
+
+secret-of_a_client : client_secret at_work 0 ≡ long
+secret-of_a_client = refl
+
+secret-of_no_client : client_secret at_work 1 ≡ []
+secret-of_no_client = refl
+
 subject-of_the_second_user : subject_at twins 0 1 ≡ codes "t"
 subject-of_the_second_user = refl
 
 subject-of_no_client : subject_at twins 1 0 ≡ []
 subject-of_no_client = refl
+
+issuer_url-of_the_good_one : IsIssuerUrl (configuration_of good) (at_shop 443 (codes "/"))
+unfolding configuration_of url_on_literals parts_of
+issuer_url-of_the_good_one = record { query = refl; prefix = refl; secure = refl }
+
+not_an_issuer_url-with_another_prefix : IsIssuerUrl (configuration_of good) (at_shop 443 (codes "/op")) → ⊥
+unfolding configuration_of url_on_literals parts_of
+not_an_issuer_url-with_another_prefix h = cc h.prefix
+
+subjects_by-the_salt : AreSubjectsBy (configuration_of good) (salt_of good)
+unfolding configuration_of hex_on_literals
+subjects_by-the_salt = record { within = refl; bytes = hex_is_bytes (codes "salt") (provider_table good); made = refl }
+
+not_subjects_by-a_salt_of_15_bytes : AreSubjectsBy (configuration_of good) (replicate 15 7) → ⊥
+not_subjects_by-a_salt_of_15_bytes h = true≢false (sym h.within)
+
+not_a_byte : (xs : List ℕ) → IsBytes (256 ∷ xs) → ⊥
+not_a_byte xs h = let less : 256 < 256 = h 0 in absurd (omega (arith, less))
+
+not_subjects_by-a_salt_of_no_bytes : AreSubjectsBy (configuration_of good) (256 ∷ replicate 15 7) → ⊥
+not_subjects_by-a_salt_of_no_bytes h = not_a_byte (replicate 15 7) h.bytes
+
+not_a_user-of_a_salt_of_no_bytes : IsUser (record alice { salt = 256 ∷ [] }) → ⊥
+not_a_user-of_a_salt_of_no_bytes h = not_a_byte [] h.salt_bytes
+
+not_a_user-of_a_proof_of_no_bytes : IsUser (record alice { proof = 256 ∷ replicate 31 0 }) → ⊥
+not_a_user-of_a_proof_of_no_bytes h = not_a_byte (replicate 31 0) h.proof_bytes
+
+not_a_registry-that_listens_nowhere : IsRegistry (record (configuration_of good) { listen = [] }) → ⊥
+not_a_registry-that_listens_nowhere h = true≢false (sym h.listen)
+
+not_an_issuer_url-with_a_query : IsIssuerUrl (configuration_of good) (record (at_shop 443 (codes "/")) { query = Some (codes "a=b") }) → ⊥
+not_an_issuer_url-with_a_query h = cc h.query
+
+not_an_issuer_url-of_http : IsIssuerUrl (configuration_of good) (record (at_shop 443 (codes "/")) { secure = false }) → ⊥
+unfolding configuration_of url_on_literals parts_of
+not_an_issuer_url-of_http h = true≢false h.secure
+
+not_a_registry-with_an_issuer_of_201_bytes : IsRegistry (record (configuration_of good) { provider = provider_of (replicate 201 65) }) → ⊥
+not_a_registry-with_an_issuer_of_201_bytes h = let short : 201 ≤ 200 = h.short_issuer in absurd (omega (arith, short))
+
+not_a_registry-with_no_userinfo_endpoint : IsRegistry (record (configuration_of good) { provider = record (provider_of (codes "https://a.b")) { userinfo = None } }) → ⊥
+not_a_registry-with_no_userinfo_endpoint h = cc (ap (λ (p : Provider). p.userinfo) h.provider)
+
+endpoint-keeps_the_rule : is_some (url_of (configuration_of good).provider.token) ≡ true
+endpoint-keeps_the_rule = token_url (configuration_of good) good_registry
 
 least-of_two_refusals : IsLeast (no.ShortSecret (codes "shop")) (refusals_of (small (codes "short") (codes "news")))
 least-of_two_refusals = least_is (no.ShortSecret (codes "shop")) _ (ap least guilty-of_two)

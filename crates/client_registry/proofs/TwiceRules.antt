@@ -5,7 +5,7 @@ use Rattle.configuration_rows.specs.declared.no.RegNo.TheVariants as no
 use Rattle.client_registry.specs.declared.records.Client.{Client}
 use Rattle.configuration_rows.specs.Refusals.{note_if, each_from}
 use Rattle.client_registry.specs.Rules.{redirect_place, is_again, redirects_twice}
-use Rattle.configuration_rows.proofs.Lists.{drop_at}
+use Rattle.sso_base.proofs.ListSteps.{drop_at}
 
 pub twice_next : (clients : List Client) (place : ℕ) (uris : List (List ℕ)) (n : ℕ) (uri : List ℕ) (xs ys zs : List RegNo) → slice_get uris n ≡ Some uri
     → ys ≡ xs ++ note_if (is_again place (redirect_place uri clients)) (no.Twice uri)

@@ -1,5 +1,7 @@
 pub mod Records
 pub mod Rules
 pub mod Configuration
+pub mod Numbers
+pub mod ClaimKinds
 pub mod Registered
 pub mod Reading

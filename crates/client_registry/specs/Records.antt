@@ -12,18 +12,19 @@ use Rattle.client_registry.specs.declared.records.Provider.{Provider}
 use Rattle.client_registry.specs.declared.records.User.{User}
 use Rattle.client_registry.specs.declared.records.Client.{Client}
 use Rattle.client_registry.specs.declared.records.Party.{Party}
-use Rattle.client_registry.specs.declared.records.Types.{Types}
 use Rattle.configuration_rows.specs.Values.{text_at, text_or, natural_at, flag_at, hex_at, texts_at, url_at, rows_at}
 use Rattle.configuration_rows.specs.Claims.{claims_in}
-use Rattle.configuration_rows.specs.Kinds.{type_number}
+use Rattle.oidc_words.specs.Paths.{authorize_path, token_path, userinfo_path}
+use Rattle.oidc_words.specs.Scopes.{openid_word}
+use Rattle.oidc_words.specs.Types.{code_word, types_of_number, type_number}
 use Rattle.configuration_rows.specs.Version1.{response_texts, has_type}
 
 -- ---- the provider
 
--- a text without its last slash
+-- a text without its last slash; a backslash is one, as the URL Standard reads it in URLs of http and https
 abbrev pub without_slash : List ℕ → List ℕ
 without_slash [] = []
-without_slash (x ∷ []) = if x == 47 then [] else x ∷ []
+without_slash (x ∷ []) = if x == 47 || x == 92 then [] else x ∷ []
 without_slash (x ∷ y ∷ t) = x ∷ without_slash (y ∷ t)
 
 -- the endpoint at a path below an issuer (own)
@@ -34,9 +35,9 @@ endpoint issuer path = without_slash issuer ++ path
 abbrev pub provider_of : List ℕ → Provider
 provider_of issuer = record {
   issuer = issuer;
-  authorize = endpoint issuer (codes "/authorize");
-  token = endpoint issuer (codes "/token");
-  userinfo = Some (endpoint issuer (codes "/userinfo"));
+  authorize = endpoint issuer authorize_path;
+  token = endpoint issuer token_path;
+  userinfo = Some (endpoint issuer userinfo_path);
 }
 
 abbrev pub no_url : WebUrl
@@ -91,14 +92,6 @@ client_of_row d = record {
 
 -- ---- parties
 
-abbrev pub types_of_number : Option ℕ → Types
-types_of_number None = record { code = false; id_token = false; token = false }
-types_of_number (Some n) = record {
-  code = n == 0 || n == 3 || n == 4 || n == 5;
-  id_token = n == 1 || n == 2 || n == 3 || n == 5;
-  token = n == 2 || n == 4 || n == 5;
-}
-
 -- the place of the client of this id, from 0
 abbrev pub client_place : List ℕ → List Client → Option ℕ
 client_place id clients = position_from (λ (k : Client). bytes_eq k.id id) 0 clients
@@ -113,8 +106,8 @@ party_of clients d = record {
   client = client_number (text_or (codes "client") [] d) clients;
   redirect = text_or (codes "redirect_uri") [] d;
   listen = text_or (codes "listen") [] d;
-  types = types_of_number (type_number (text_or (codes "response_type") (codes "code") d));
-  scope = text_or (codes "scope") (codes "openid") d;
+  types = types_of_number (type_number (text_or (codes "response_type") code_word d));
+  scope = text_or (codes "scope") openid_word d;
   prompt = text_at (codes "prompt") d;
   max_age = natural_at (codes "max_age") d;
   userinfo = flag_at (codes "userinfo") d;

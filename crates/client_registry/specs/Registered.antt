@@ -2,19 +2,28 @@
 use Rattle.std.specs.Prelude.{◌≡◌, ◌≤◌, ◌<◌, ℕ, ◌==◌, ◌&&◌, Bool, true, false, List, [], ◌∷◌, length, map, codes, Option, Some, None, is_some, option_and_then, slice_get, IfSome}
 use Rattle.std.specs.List.{AllByRecursion, list_any}
 use Rattle.std.specs.Str.{bytes_eq, IsAscii}
+use Rattle.base64.specs.GeneralPurpose.{IsBytes}
 use Rattle.serde_json.specs.Data.{Members}
 use Rattle.claim_set.specs.Fitting.{ClaimsFit}
 use Rattle.claim_set.specs.Reading.{claims_text}
-use Rattle.registered_url.specs.Rule.{url_of}
+use Rattle.registered_url.specs.declared.web_url.WebUrl.{WebUrl}
+use Rattle.registered_url.specs.Rule.{url_of, is_same_server}
 use Rattle.client_registry.specs.declared.records.User.{User}
 use Rattle.client_registry.specs.declared.records.Client.{Client}
 use Rattle.client_registry.specs.declared.records.Party.{Party}
 use Rattle.configuration_rows.specs.declared.kind.Alphabet.TheVariants.{UserId, ClientId, PartyName, Visible}
-use Rattle.configuration_rows.specs.Kinds.{has_text, is_name, is_within, is_scope, is_prompt, are_urls}
+use Rattle.sso_base.specs.Texts.{has_text}
+use Rattle.configuration_rows.specs.Kinds.{is_name, is_within, are_urls}
+use Rattle.oidc_words.specs.Scopes.{is_scope}
+use Rattle.oidc_words.specs.Prompts.{is_prompt}
 use Rattle.configuration_rows.specs.Version1.{own_paths, has_path, has_answer_name}
-use Rattle.client_registry.specs.Records.{urls_of, types_of_number}
-use Rattle.client_registry.specs.Rules.{has_two_hosts}
+use Rattle.client_registry.specs.Records.{urls_of, without_slash, provider_of}
+use Rattle.oidc_words.specs.Paths.{leave_path}
+use Rattle.oidc_words.specs.Types.{types_of_number}
+use Rattle.client_registry.specs.Rules.{has_two_hosts, subjects_at}
 use Rattle.client_registry.specs.Configuration.{Configuration}
+use Rattle.client_registry.specs.ClaimKinds.{AreKnown}
+use Rattle.client_registry.specs.Numbers.{client_at}
 
 -- ---- things that differ
 
@@ -46,14 +55,17 @@ AreDisjoint (ts ∷ rest) = AllByRecursion (λ us. HasNoneOf us ts) rest × AreD
 pub record IsUser (u : User) : Type 0 where
   pub id : is_name UserId 1 64 u.id ≡ true
   pub salt : is_within 1 64 (length u.salt) ≡ true
+  pub salt_bytes : IsBytes u.salt
   pub rounds : is_within 1 1000000 u.rounds ≡ true
   pub proof : length u.proof ≡ 32
+  pub proof_bytes : IsBytes u.proof
   pub claims : length u.claims ≤ 2048
 
--- the bytes are the JSON text of claims that fit, so they are read as these claims
+-- the bytes are the JSON text of claims that fit, so they are read as these claims: standard claims, each of its kind
 pub record HoldsClaims (b : List ℕ) : Type 0 where
   pub claims : Members
   pub fits : ClaimsFit claims
+  pub known : AreKnown claims
   pub text : b ≡ claims_text claims
 
 unfoldable pub AllHoldClaims : List User → Type 0
@@ -71,6 +83,7 @@ pub record IsClient (k : Client) : Type 0 where
   pub secret : is_name Visible 0 128 k.secret ≡ true
   pub long_secret : 32 ≤ length k.secret
   pub redirects : is_within 1 16 (length k.redirects) ≡ true
+  pub types : length k.types ≡ 6
   pub urls : are_urls k.redirects ≡ true
   pub kept : k.redirect_urls ≡ urls_of k.redirects
   pub logout : is_url_or_none k.logout ≡ true
@@ -98,11 +111,17 @@ pub record IsParty (p : Party) : Type 0 where
   pub prompt : is_prompt_or_none p.prompt ≡ true
   pub age : is_age_or_none p.max_age ≡ true
 
--- a party fits its client: its redirection URI is one of the client's, at another path than the client's logout URI, and
--- its response type is one that the client has
+-- a logout URI is at the server of a party's redirection URI, at another path than that of the party's own sign-out
+pub record IsLogoutOf (p : Party) (u : WebUrl) : Type 0 where
+  pub server : is_same_server u p.redirect_url ≡ true
+  pub path : bytes_eq u.path leave_path ≡ false
+
+-- a party fits its client: its redirection URI is one of the client's, at another path than the client's logout URI; its
+-- response type is one that the client has; and the client's logout URI is one for the party
 pub record FitsClient (p : Party) (k : Client) : Type 0 where
   pub redirect : has_text p.redirect k.redirects ≡ true
   pub logout : has_path p.redirect_url.path k.logout_url ≡ false
+  pub logout_of : IfSome k.logout_url (IsLogoutOf p)
   pub number : ℕ
   pub types : p.types ≡ types_of_number (Some number)
   pub has_type : slice_get k.types number ≡ Some true
@@ -112,10 +131,25 @@ pub record IsSubject (t : List ℕ) : Type 0 where
   pub within : is_within 1 255 (length t) ≡ true
   pub ascii : IsAscii t
 
+-- ---- the provider
+
+-- the issuer is this URL, which has no query (OpenID Connect Discovery 1.0, 3); its path without a last slash and whether
+-- it is https are kept
+pub record IsIssuerUrl (c : Configuration) (url : WebUrl) : Type 0 where
+  pub query : url.query ≡ None
+  pub prefix : c.prefix ≡ without_slash url.path
+  pub secure : c.secure ≡ url.secure
+
+-- the subjects of the users at each client, made with this salt (OpenID Connect Core 1.0, 8)
+pub record AreSubjectsBy (c : Configuration) (salt : List ℕ) : Type 0 where
+  pub within : is_within 16 64 (length salt) ≡ true
+  pub bytes : IsBytes salt
+  pub made : c.subjects ≡ map (subjects_at salt c.users) c.clients
+
 -- ---- the registry
 
--- a registry's sizes, and what differs in it: names, secrets, redirection URIs, the clients of the parties, and the
--- subjects of the users at one client (OpenID Connect Core 1.0, 8)
+-- a registry's sizes; what differs in it: names, secrets, redirection URIs, the clients of the parties, and the subjects
+-- of the users at one client (OpenID Connect Core 1.0, 8); and the rules of its rows
 pub record IsRegistry (c : Configuration) : Type 0 where
   pub users : length c.users ≤ 512
   pub clients : length c.clients ≤ 128
@@ -128,13 +162,18 @@ pub record IsRegistry (c : Configuration) : Type 0 where
   pub party_names : AreApart (map (λ (p : Party). p.name) c.parties)
   pub not_op : AllByRecursion (λ (p : Party). bytes_eq p.name (codes "op") ≡ false) c.parties
   pub known : AllByRecursion (λ (p : Party). p.client < length c.clients) c.parties
-  pub fitting : AllByRecursion (λ (p : Party). IfSome (slice_get c.clients p.client) (FitsClient p)) c.parties
+  pub fitting : AllByRecursion (λ (p : Party). IfSome (client_at c p.client) (FitsClient p)) c.parties
   pub one_party : NumbersAreApart (map (λ (p : Party). p.client) c.parties)
   pub rows : length c.subjects ≡ length c.clients
   pub subjects : AllByRecursion (λ row. (length row ≡ length c.users) × AreApart row) c.subjects
   pub subject_rules : AllByRecursion (AllByRecursion IsSubject) c.subjects
+  pub salt : List ℕ
+  pub salted : AreSubjectsBy c salt
   pub issuer : is_some (url_of c.provider.issuer) ≡ true
+  pub issuer_url : IfSome (url_of c.provider.issuer) (IsIssuerUrl c)
   pub short_issuer : length c.provider.issuer ≤ 200
+  pub provider : c.provider ≡ provider_of c.provider.issuer
+  pub listen : is_name Visible 1 64 c.listen ≡ true
   pub user_claims : AllHoldClaims c.users
   pub user_rules : AllByRecursion IsUser c.users
   pub client_rules : AllByRecursion IsClient c.clients

@@ -12,7 +12,7 @@ use Rattle.client_registry.specs.declared.records.User.{User}
 use Rattle.client_registry.specs.declared.records.Client.{Client}
 use Rattle.client_registry.specs.declared.records.Party.{Party}
 use Rattle.configuration_rows.specs.Refusals.{note_if, each}
-use Rattle.configuration_rows.specs.Kinds.{has_text}
+use Rattle.sso_base.specs.Texts.{has_text}
 use Rattle.client_registry.specs.Records.{client_place}
 
 -- ---- places, from 0

@@ -1,11 +1,15 @@
-// Which configurations are refused, and why: the words of their table.
+// Which configurations are refused, and why, and what holds of those that are not: the words of their table.
 
-ghost use Rattle.std.specs.Prelude.{◌≡◌, ◌<◌, ◌≤◌, ℕ, List, [], length, Some, None, Ok, Err};
+ghost use Rattle.std.specs.Prelude.{◌≡◌, ◌<◌, ◌≤◌, ℕ, true, List, [], ◌++◌, length, Some, None, is_some, IfSome, Ok, Err};
 ghost use Rattle.toml.specs.Data.{Data};
 ghost use Rattle.configuration_rows.specs.declared.no.RegNo.{RegNo};
 ghost use Rattle.configuration_rows.specs.declared.no.RegNo.TheVariants as no;
 ghost use Rattle.configuration_rows.specs.Refusals.{IsLeast};
-ghost use Rattle.client_registry.specs.Configuration.{Configuration, configuration_of};
+ghost use Rattle.registered_url.specs.Rule.{url_of};
+ghost use Rattle.oidc_words.specs.Paths.{authorize_path, token_path, userinfo_path, keys_path};
+ghost use Rattle.client_registry.specs.Records.{endpoint};
+ghost use Rattle.client_registry.specs.Configuration.{Configuration};
+ghost use Rattle.client_registry.specs.Registered.{IsRegistry};
 ghost use Rattle.client_registry.specs.Reading.{document_in, registry_read, refusals_of, IsDocument, HasVersion1, IsAccepted, IsOtherVersion};
 
 /// A configuration that is not too long, is TOML and has version 1 is refused where it is guilty of anything. Of all that
@@ -26,4 +30,20 @@ pub fn refusals_have_their_causes()
     ensures version { (b : List ℕ) → registry_read b ≡ Err no.Version → IsOtherVersion b }
     ensures refused { (b : List ℕ) (root : Data) (e : RegNo) → IsDocument b root → HasVersion1 root → registry_read b ≡ Err e → IsLeast e (refusals_of root) }
     ensures accepted { (b : List ℕ) (c : Configuration) → registry_read b ≡ Ok c → IsAccepted b c }
+{}
+
+/// Each endpoint of a registry's provider keeps the rule for URLs, and so does that of its keys.
+pub fn endpoints_keep_the_rule_for_urls()
+    ensures authorize { (c : Configuration) → IsRegistry c → is_some (url_of c.provider.authorize) ≡ true }
+    ensures token { (c : Configuration) → IsRegistry c → is_some (url_of c.provider.token) ≡ true }
+    ensures userinfo { (c : Configuration) → IsRegistry c → IfSome c.provider.userinfo (λ t. is_some (url_of t) ≡ true) }
+    ensures keys { (c : Configuration) → IsRegistry c → is_some (url_of (endpoint c.provider.issuer keys_path)) ≡ true }
+{}
+
+/// The path of each of these URLs is the one that is served: it stands below the path of the issuer without its last slash.
+pub fn advertised_paths_are_served()
+    ensures authorize { (c : Configuration) → IsRegistry c → IfSome (url_of c.provider.authorize) (λ u. u.path ≡ c.prefix ++ authorize_path) }
+    ensures token { (c : Configuration) → IsRegistry c → IfSome (url_of c.provider.token) (λ u. u.path ≡ c.prefix ++ token_path) }
+    ensures userinfo { (c : Configuration) → IsRegistry c → IfSome c.provider.userinfo (λ t. IfSome (url_of t) (λ u. u.path ≡ c.prefix ++ userinfo_path)) }
+    ensures keys { (c : Configuration) → IsRegistry c → IfSome (url_of (endpoint c.provider.issuer keys_path)) (λ u. u.path ≡ c.prefix ++ keys_path) }
 {}

@@ -1,14 +1,14 @@
 //! The registry of an OpenID provider: its users, its clients and their relying parties, read from a configuration file.
 //!
-//! What every registry keeps is one definition, `IsRegistry`: a clause of [`read_registry`], and of each call that counts
-//! rows.
+//! What every registry keeps is one definition, `IsRegistry`: a clause of [`read_registry`], of [`Registry::provider`], and
+//! of each call that counts rows.
 //!
 //! | Module | What it has |
 //! |---|---|
 //! | `reading` | [`read_registry`] reads a configuration |
 //! | `registry` | [`Registry`], an accepted configuration, with its finds and subjects |
 //! | `records` | [`Provider`], [`User`], [`Client`], [`Party`] |
-//! | `rows` | the records of a configuration's rows |
+//! | `rows` | the records of a configuration's rows, and [`endpoint`], below an issuer |
 //! | `places` | the first places at which names and values stand |
 //! | `rules` | rules over the records |
 //! | `subjects` | the subjects of users at clients |
@@ -25,8 +25,11 @@ mod rules;
 mod subjects;
 
 pub use configuration_rows::RegNo;
-pub use law::{refusals_have_their_causes, refused_configurations_have_the_least};
+pub use law::{
+    advertised_paths_are_served, endpoints_keep_the_rule_for_urls, refusals_have_their_causes,
+    refused_configurations_have_the_least,
+};
 pub use reading::read_registry;
-pub use records::{Client, Party, Provider, Types, User};
+pub use records::{Client, Party, Provider, User};
 pub use registry::Registry;
 pub use rows::endpoint;

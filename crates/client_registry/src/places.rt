@@ -1,11 +1,10 @@
 // The first places, from 0, at which names and values stand.
 
 ghost use Rattle.std.specs.Prelude.{◌≡◌, ◌<◌, length, IfSome};
-ghost use Rattle.configuration_rows.specs.Kinds.{has_text};
+ghost use Rattle.sso_base.specs.Texts.{has_text};
 ghost use Rattle.client_registry.specs.Rules as spec;
 
 use crate::records::{Client, Party, User};
-use sso_base::Texts;
 
 pub(crate) fn user_place(users: &[User], id: &[u8]) -> Option<usize>
     ensures value { result ≡ spec.user_place id.now users.now }
@@ -30,25 +29,12 @@ pub(crate) fn secret_place(clients: &[Client], secret: &str) -> Option<usize>
     None
 }
 
-// Whether the text is in the list.
-#[tactic(auto, using(configuration_rows::proofs::Lists::drop_at))]
-fn has(texts: &Texts, text: &str) -> bool
-    ensures { result ≡ has_text text.now texts.now }
-{
-    for place in 0..texts.count() {
-        if text == texts.at(place).as_str() {
-            return true;
-        }
-    }
-    false
-}
-
 // The first client that has the redirection URI.
 pub(crate) fn redirect_place(clients: &[Client], uri: &str) -> Option<usize>
     ensures { result ≡ spec.redirect_place uri.now clients.now }
 {
     for (place, client) in clients.iter().enumerate() {
-        if has(&client.redirects, uri) {
+        if client.redirects.has(uri) {
             return Some(place);
         }
     }

@@ -1,8 +1,8 @@
 // What a configuration says of the provider, its users, its clients and their relying parties.
 
 ghost use Rattle.std.specs.Prelude.{◌≡◌, IfOk};
-ghost use Rattle.client_registry.specs.Records.{types_of_number};
 
+use oidc_words::Types;
 use registered_url::{WebUrl, WebUrls};
 use sso_base::{Blob, NoMemory, Text, Texts, copied_text};
 use std::alloc::Global;
@@ -10,6 +10,7 @@ use std::alloc::Global;
 /// The endpoints of an OpenID provider (OpenID Connect Discovery 1.0, 3).
 #[derive(Debug, Drop)]
 pub struct Provider {
+    /// The issuer: a URL of at most 200 bytes without a query.
     pub issuer: Text,
     /// The authorization endpoint.
     pub authorize: Text,
@@ -28,38 +29,10 @@ pub struct User {
     pub salt: Blob,
     /// From 1 to 1,000,000.
     pub rounds: u32,
+    /// What PBKDF2 makes of the password.
     pub proof: [u8; 32],
     /// The JSON text of the user's claims, of at most 2,048 bytes (OpenID Connect Core 1.0, 5.1).
     pub claims: Blob,
-}
-
-/// The words of a response type (OAuth 2.0 Multiple Response Type Encoding Practices, 3 and 5).
-#[derive(Clone, Copy, Debug, PartialEq, Eq)]
-pub struct Types {
-    pub code: bool,
-    pub id_token: bool,
-    pub token: bool,
-}
-
-impl Types {
-    /// The words of the response type of this number, from 0, in the order `code`, `id_token`, `id_token token`,
-    /// `code id_token`, `code token`, `code id_token token`. No number has no words.
-    pub fn of_number(number: Option<usize>) -> Types
-        ensures { result ≡ types_of_number number }
-    {
-        match number {
-            None => Types {
-                code: false,
-                id_token: false,
-                token: false,
-            },
-            Some(n) => Types {
-                code: n == 0 || n == 3 || n == 4 || n == 5,
-                id_token: n == 1 || n == 2 || n == 3 || n == 5,
-                token: n == 2 || n == 4 || n == 5,
-            },
-        }
-    }
 }
 
 /// A client (OpenID Connect Core 1.0, 3.1.2.1; RFC 6749, 2).
@@ -103,6 +76,7 @@ pub struct Party {
     pub types: Types,
     /// The scope that it asks for.
     pub scope: Text,
+    /// The prompts that it asks for, where it does (OpenID Connect Core 1.0, 3.1.2.1).
     pub prompt: Option<Text>,
     /// In seconds.
     pub max_age: Option<u64>,

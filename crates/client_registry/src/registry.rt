@@ -1,7 +1,8 @@
 // The registry: an accepted configuration.
 
-ghost use Rattle.std.specs.Prelude.{◌≡◌, ◌<◌, length, slice_get, Some, IfOk};
+ghost use Rattle.std.specs.Prelude.{◌≡◌, ◌<◌, length, Some, IfOk};
 ghost use Rattle.client_registry.specs.Configuration.{subject_at};
+ghost use Rattle.client_registry.specs.Numbers.{user_at, client_at, party_at};
 ghost use Rattle.client_registry.specs.Registered.{IsRegistry};
 ghost use Rattle.client_registry.specs.Records.{client_place};
 ghost use Rattle.client_registry.specs.Rules.{user_place, party_place};
@@ -41,7 +42,8 @@ impl Model for Registry {
 impl Registry {
     /// The provider's endpoints.
     pub fn provider(&self) -> &Provider
-        ensures { result.now ≡ self.now.provider }
+        ensures provider { result.now ≡ self.now.provider }
+        ensures registry { IsRegistry self.now }
     {
         &self.provider
     }
@@ -94,7 +96,7 @@ impl Registry {
     /// The user of this number.
     pub fn user(&self, index: u32) -> &User
         requires { index < length self.now.users }
-        ensures { slice_get self.now.users index ≡ Some result.now }
+        ensures { user_at self.now index ≡ Some result.now }
     {
         &self.users[index as usize]
     }
@@ -102,7 +104,7 @@ impl Registry {
     /// The client of this number.
     pub fn client(&self, index: u32) -> &Client
         requires { index < length self.now.clients }
-        ensures { slice_get self.now.clients index ≡ Some result.now }
+        ensures { client_at self.now index ≡ Some result.now }
     {
         &self.clients[index as usize]
     }
@@ -110,7 +112,7 @@ impl Registry {
     /// The party of this number.
     pub fn party(&self, index: u32) -> &Party
         requires { index < length self.now.parties }
-        ensures { slice_get self.now.parties index ≡ Some result.now }
+        ensures { party_at self.now index ≡ Some result.now }
     {
         &self.parties[index as usize]
     }

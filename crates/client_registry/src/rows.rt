@@ -6,26 +6,29 @@ ghost use Rattle.claim_set.specs.Fitting.{ClaimsFit};
 ghost use Rattle.client_registry.specs.Registered.{HoldsClaims, AllHoldClaims};
 ghost use Rattle.client_registry.specs.Records as spec;
 
-use crate::records::{Client, Party, Provider, Types, User};
+use crate::records::{Client, Party, Provider, User};
 use claim_set::{ClaimSet, write_claims};
 use configuration_rows::claims::claims_of;
 use configuration_rows::party_rules::{has_type, response_texts};
 use configuration_rows::values::{
     flag_at, hex_at, natural_at, text_at, text_or, texts_at, url_at, url_of,
 };
-use configuration_rows::words::number_of_type;
+use oidc_words::{AUTHORIZE_PATH, OPENID, TOKEN_PATH, Types, USERINFO_PATH, number_of_type};
 use registered_url::{WebUrl, WebUrls};
 use sso_base::{Blob, NoMemory, Text, Texts};
 use std::alloc::Global;
 use toml::Value;
 
-// The text without its last slash.
+// The text without its last slash; a backslash is one.
 pub(crate) fn without_slash(text: &str) -> &str
     ensures { result.now ≡ spec.without_slash text.now }
 {
     match text.strip_suffix('/') {
         Some(front) => front,
-        None => text,
+        None => match text.strip_suffix('\\') {
+            Some(front) => front,
+            None => text,
+        },
     }
 }
 
@@ -44,9 +47,9 @@ pub(crate) fn provider_of(alloc: Global, issuer: &str) -> Result<Provider, NoMem
 {
     Ok(Provider {
         issuer: Text::new(alloc, issuer)?,
-        authorize: endpoint(alloc, issuer, "/authorize")?,
-        token: endpoint(alloc, issuer, "/token")?,
-        userinfo: Some(endpoint(alloc, issuer, "/userinfo")?),
+        authorize: endpoint(alloc, issuer, AUTHORIZE_PATH)?,
+        token: endpoint(alloc, issuer, TOKEN_PATH)?,
+        userinfo: Some(endpoint(alloc, issuer, USERINFO_PATH)?),
     })
 }
 
@@ -230,7 +233,7 @@ fn party_of(alloc: Global, clients: &[Client], row: &Value) -> Result<Party, NoM
         redirect: Text::new(alloc, text_or(row, "redirect_uri", ""))?,
         listen: Text::new(alloc, text_or(row, "listen", ""))?,
         types: Types::of_number(number),
-        scope: Text::new(alloc, text_or(row, "scope", "openid"))?,
+        scope: Text::new(alloc, text_or(row, "scope", OPENID))?,
         prompt: text_of(alloc, text_at(row, "prompt"))?,
         max_age: natural_at(row, "max_age"),
         userinfo: flag_at(row, "userinfo"),

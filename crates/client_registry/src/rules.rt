@@ -45,7 +45,7 @@ fn users_twice(refusals: &mut Refusals, users: &[User]) -> Result<(), NoMemory>
     Ok(())
 }
 
-#[tactic(auto, using(configuration_rows::proofs::Lists::drop_at))]
+#[tactic(auto, using(sso_base::proofs::ListSteps::drop_at))]
 fn redirects_twice(
     refusals: &mut Refusals,
     clients: &[Client],

@@ -73,7 +73,7 @@ fn subjects_at(
 }
 
 // The first place at which the text stands.
-#[tactic(auto, using(configuration_rows::proofs::Lists::drop_at))]
+#[tactic(auto, using(sso_base::proofs::ListSteps::drop_at))]
 fn text_place(texts: &Texts, text: &str) -> Option<usize>
     ensures { result ≡ spec.text_place text.now texts.now }
 {

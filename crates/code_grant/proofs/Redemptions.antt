@@ -10,14 +10,16 @@ use Rattle.sso_base.proofs.RowLaws.{bool_cases, option_cases, bytes_same, bytes_
 use Rattle.code_grant.specs.declared.rows.CodeRow.{CodeRow}
 use Rattle.code_grant.specs.declared.redeem.Redeem.{Redeem}
 use Rattle.code_grant.specs.declared.redeem.Redeem.TheVariants.{Redeemed, Unknown, OtherClient, Spent, Expired, OtherUri}
-use Rattle.code_grant.specs.Held.{changed}
-use Rattle.code_grant.specs.Rows.{code_name, code_begun, code_life}
+use Rattle.held_rows.specs.Held.{changed}
+use Rattle.code_grant.specs.Rows.{code_name, code_begun}
+use Rattle.oidc_words.specs.Lives.{code_life}
 use Rattle.code_grant.specs.Redeeming.{redeem_of, IsRedeemable}
 use Rattle.code_grant.specs.Tables.{Tables, redemption, after_answer, code_spent, with_code, purged}
 use Rattle.code_grant.specs.Calls.{Call, reserve, purge, start_turn, start_session, issue_code, issue_token, set_turn, end_turn, end_session, renew, visit, redeem, grant, after, after_all, issues, NoneIssues, IsSpent}
-use Rattle.code_grant.proofs.HeldLaws.{all_filter, all_push, some_has}
-use Rattle.code_grant.proofs.Changing.{all_map, changed_has}
-use Rattle.code_grant.proofs.RowOf.{row_of_named, row_of-changed_other, row_of-push_other, row_of-live_rows}
+use Rattle.held_rows.proofs.HeldLaws.{all_filter, all_push, some_has}
+use Rattle.held_rows.proofs.Changing.{all_map, changed_has}
+use Rattle.held_rows.proofs.HeldLaws.{row_of_named}
+use Rattle.held_rows.proofs.RowOf.{row_of-changed_other, row_of-push_other, row_of-live_rows}
 
 -- ---- which codes are redeemed
 

@@ -3,8 +3,8 @@ use Rattle.std.proofs.Common.{◌≡◌, ◌<◌, ◌≤◌, ℕ, suc, zero, tru
 use Rattle.std.proofs.lemmas.List.{length-replicate}
 use Rattle.sso_base.specs.Words.{Word}
 use Rattle.sso_base.specs.Rows.{lives, live_rows}
-use Rattle.scope_claims.specs.declared.scopes.Scopes.{Scopes}
-use Rattle.scope_claims.specs.Claims.{no_scopes, joined}
+use Rattle.oidc_words.specs.declared.scopes.Scopes.{Scopes}
+use Rattle.oidc_words.specs.Scopes.{no_scopes, joined}
 use Rattle.auth_request.specs.declared.wish.Wish.{Wish}
 use Rattle.code_grant.specs.declared.rows.TurnRow.{TurnRow}
 use Rattle.code_grant.specs.declared.rows.SessionRow.{SessionRow}
@@ -15,8 +15,9 @@ use Rattle.code_grant.specs.declared.table.Table.TheVariants.{Turns, Sessions, C
 use Rattle.code_grant.specs.Calls.{purge, issue_code, redeem, after, after_all, NoneIssues, IsSpent, NoneIsOf}
 use Rattle.code_grant.specs.Clients.{has_client, with_client}
 use Rattle.code_grant.specs.Consents.{granted_to, with_grant}
-use Rattle.code_grant.specs.Held.{IsInOrder, IsHeld, none_after, IsFull}
-use Rattle.code_grant.specs.Rows.{turn_name, turn_begun, turn_life, session_life, code_life, code_usable, access_life}
+use Rattle.held_rows.specs.Held.{IsInOrder, IsHeld, none_after, IsFull}
+use Rattle.code_grant.specs.Rows.{turn_name, turn_begun}
+use Rattle.oidc_words.specs.Lives.{turn_life, session_life, code_life, code_usable, access_life}
 use Rattle.code_grant.specs.Redeeming.{redeem_of, IsRedeemable}
 use Rattle.code_grant.specs.Tables.{Tables, with_room, purged, has_room, IsFullTable, with_turn, with_token, turn_set, turn_with, turn_ended, session_ended, session_renewed, session_visited, redemption, code_spent}
 use Rattle.code_grant.proofs.Redemptions.{redeemed_is_redeemable}
@@ -91,7 +92,7 @@ is_held-two_turns = record {
   distinct = (refl, (refl, tt));
   ordered = ((omega arith, tt), (tt, tt));
   few = omega arith;
-  in_range = (omega arith, (omega arith, tt));
+  sound = (omega arith, (omega arith, tt));
 }
 
 is_held-not_with_two_of_one_word : IsHeld turn_name turn_begun (λ (row : TurnRow). row.wish.client < 128) (turn first 1000 ∷ turn first 1001 ∷ []) → ⊥

@@ -14,7 +14,7 @@ use Rattle.code_grant.specs.Rows.{code_name, access_name}
 use Rattle.code_grant.specs.Redeeming.{redeem_of}
 use Rattle.code_grant.specs.Tables.{Tables, after_answer}
 use Rattle.code_grant.specs.Calls.{redeem, after, NoneIsOf}
-use Rattle.code_grant.proofs.RowOf.{row_of-filter}
+use Rattle.held_rows.proofs.RowOf.{row_of-filter}
 
 none_left : (w : Word) (tokens : List TokenRow) → NoneIsOf w (filter (λ (token : TokenRow). not (is_word token.code w)) tokens)
 none_left w [] = tt

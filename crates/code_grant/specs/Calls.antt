@@ -3,7 +3,7 @@ use Rattle.std.specs.Prelude.{◌≡◌, ℕ, Bool, true, false, List, [], ◌�
 use Rattle.std.specs.Str.{bytes_eq}
 use Rattle.std.specs.List.{AllByRecursion}
 use Rattle.sso_base.specs.Words.{Word, is_word}
-use Rattle.scope_claims.specs.declared.scopes.Scopes.{Scopes}
+use Rattle.oidc_words.specs.declared.scopes.Scopes.{Scopes}
 use Rattle.code_grant.specs.declared.rows.TurnRow.{TurnRow}
 use Rattle.code_grant.specs.declared.rows.SessionRow.{SessionRow}
 use Rattle.code_grant.specs.declared.rows.CodeRow.{CodeRow}

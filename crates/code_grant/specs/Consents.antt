@@ -2,8 +2,8 @@
 -- clients below 128; user by user, there is an element for each client.
 use Rattle.std.specs.Prelude.{ℕ, ◌+◌, ◌*◌, List, replicate, slice_index_or}
 use Rattle.std.specs.List.{slice_set}
-use Rattle.scope_claims.specs.declared.scopes.Scopes.{Scopes}
-use Rattle.scope_claims.specs.Claims.{no_scopes, joined}
+use Rattle.oidc_words.specs.declared.scopes.Scopes.{Scopes}
+use Rattle.oidc_words.specs.Scopes.{no_scopes, joined}
 
 unfoldable pub no_consents : List Scopes
 no_consents = replicate 65536 no_scopes

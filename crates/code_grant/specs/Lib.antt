@@ -1,7 +1,6 @@
 pub mod Calls
 pub mod Clients
 pub mod Consents
-pub mod Held
 pub mod Redeeming
 pub mod Room
 pub mod Rows

@@ -5,7 +5,7 @@ use Rattle.sso_base.specs.Rows.{lives}
 use Rattle.code_grant.specs.declared.rows.CodeRow.{CodeRow}
 use Rattle.code_grant.specs.declared.redeem.Redeem.{Redeem}
 use Rattle.code_grant.specs.declared.redeem.Redeem.TheVariants.{Redeemed, Unknown, OtherClient, Spent, Expired, OtherUri}
-use Rattle.code_grant.specs.Rows.{code_usable}
+use Rattle.oidc_words.specs.Lives.{code_usable}
 
 -- what a client gets for a code with a redirection URI at a moment, where this is the code's row: the first that fits
 abbrev pub redeem_of : ℕ → List ℕ → ℕ → Option CodeRow → Redeem
@@ -21,5 +21,5 @@ redeem_of client redirect at (Some code) =
 pub record IsRedeemable (client : ℕ) (redirect : List ℕ) (at : ℕ) (code : CodeRow) : Type 0 where
   pub own_client : code.wish.client ≡ client
   pub unspent : code.spent ≡ false
-  pub in_time : at < code.issued + 120
+  pub in_time : at < code.issued + code_usable
   pub own_uri : code.wish.redirect ≡ redirect

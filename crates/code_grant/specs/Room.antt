@@ -1,7 +1,6 @@
 -- The view of the provider's tables, and what it means that room is reserved in them.
-use Rattle.std.specs.Prelude.{◌≡◌, ◌<◌, Bool, true, length}
 use Rattle.code_grant.specs.declared.grants.Grants.TheInside.{Inside}
-use Rattle.code_grant.specs.Held.{Rows}
+use Rattle.held_rows.specs.Held.{HasMemory}
 use Rattle.code_grant.specs.Tables.{Tables}
 
 abbrev pub tables_of : Inside → Tables
@@ -15,9 +14,6 @@ tables_of g = record {
 }
 
 -- where room is reserved, there is memory for one more row
-abbrev pub HasMemory : {R : Type 0} → Bool → Rows R → Type 0
-HasMemory reserved held = reserved ≡ true → length held.rows < held.capacity
-
 pub record IsRoomReserved (g : Inside) : Type 0 where
   pub turns : HasMemory g.reserved.turns g.turns
   pub sessions : HasMemory g.reserved.sessions g.sessions

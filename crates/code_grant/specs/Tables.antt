@@ -2,7 +2,7 @@
 use Rattle.std.specs.Prelude.{ℕ, ◌<◌, Bool, true, false, not, List, [], ◌∷◌, ◌++◌, filter, Some}
 use Rattle.sso_base.specs.Words.{Word, is_word}
 use Rattle.sso_base.specs.Rows.{without, row_of, live_rows}
-use Rattle.scope_claims.specs.declared.scopes.Scopes.{Scopes}
+use Rattle.oidc_words.specs.declared.scopes.Scopes.{Scopes}
 use Rattle.code_grant.specs.declared.rows.TurnRow.{TurnRow}
 use Rattle.code_grant.specs.declared.rows.SessionRow.{SessionRow}
 use Rattle.code_grant.specs.declared.rows.CodeRow.{CodeRow}
@@ -12,8 +12,9 @@ use Rattle.code_grant.specs.declared.redeem.Redeem.TheVariants as redeem
 use Rattle.code_grant.specs.declared.table.Table.{Table}
 use Rattle.code_grant.specs.declared.table.Table.TheVariants.{Turns, Sessions, Codes, Tokens}
 use Rattle.code_grant.specs.declared.table.Reserved.{Reserved}
-use Rattle.code_grant.specs.Rows.{turn_name, turn_begun, turn_life, session_name, session_begun, session_life, code_name, code_begun, code_life, access_name, access_begun, access_life}
-use Rattle.code_grant.specs.Held.{IsHeld, changed, moved, has_room_for_one, IsFull}
+use Rattle.code_grant.specs.Rows.{turn_name, turn_begun, session_name, session_begun, code_name, code_begun, access_name, access_begun}
+use Rattle.oidc_words.specs.Lives.{turn_life, session_life, code_life, access_life}
+use Rattle.held_rows.specs.Held.{IsHeld, changed, moved, has_room_for_one, IsFull}
 use Rattle.code_grant.specs.Clients.{with_client}
 use Rattle.code_grant.specs.Consents.{no_consents, with_grant}
 use Rattle.code_grant.specs.Redeeming.{redeem_of}
@@ -133,10 +134,14 @@ redemption w client redirect at t = redeem_of client redirect at (row_of code_na
 abbrev pub code_spent : CodeRow → CodeRow
 code_spent row = record row { spent = true }
 
+-- the access tokens that the code gave are gone
+abbrev pub tokens_of_ended : Word → Tables → Tables
+tokens_of_ended w t = record t { tokens = filter (λ token. not (is_word token.code w)) t.tokens }
+
 -- A code that is redeemed is spent. One that was spent before loses the access tokens that it gave (RFC 6749, 4.1.2).
 abbrev pub after_answer : Redeem → Word → Tables → Tables
 after_answer redeem.Redeemed w t = record t { codes = changed code_name w code_spent t.codes }
-after_answer redeem.Spent w t = record t { tokens = filter (λ token. not (is_word token.code w)) t.tokens }
+after_answer redeem.Spent w t = tokens_of_ended w t
 after_answer redeem.Unknown w t = t
 after_answer redeem.OtherClient w t = t
 after_answer redeem.Expired w t = t

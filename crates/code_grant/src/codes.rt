@@ -1,27 +1,34 @@
 // The codes of the provider.
 
-ghost use Rattle.std.specs.Prelude.{◌≡◌, ◌<◌, ◌≤◌, true, length, None, IfSome};
+ghost use Rattle.std.specs.Prelude.{◌≡◌, ◌<◌, true, length, None, IfSome, refl};
 ghost use Rattle.std.specs.Option.{option_copied};
 ghost use Rattle.sso_base.specs.Rows.{row_of};
-ghost use Rattle.code_grant.specs.Held.{changed, none_after, most_rows};
+ghost use Rattle.held_rows.specs.Held.{none_after, most_rows};
 ghost use Rattle.code_grant.specs.Rows.{code_name, code_begun};
 ghost use Rattle.code_grant.specs.Tables as spec;
 
 use crate::grants::Grants;
-use crate::held::{Held, place_of};
-use crate::redeem::{Redeem, judge};
+use crate::redeem::{Redeem, judge_code};
 use crate::rows::CodeRow;
+use held_rows::Change;
 use sso_base::{Moment, Word};
 
-impl Held<CodeRow> {
-    fn spend(&mut self, word: Word)
-        ensures rows { self.new ≡ record self.old { rows = changed code_name word spec.code_spent self.old.rows } }
-        ensures bound { length self.new.rows ≤ length self.old.rows }
-    {
-        if let Some(place) = place_of(&self.rows, word) {
-            self.rows[place].spent = true;
-        }
+// A code was redeemed.
+#[derive(Clone, Copy)]
+struct Spent;
+
+impl Change<CodeRow> for Spent {
+    ghost changed = { λ c. spec.code_spent };
+
+    fn change(&self, code: &mut CodeRow) {
+        code.spent = true;
     }
+
+    ghost names_stay = { λ c code. refl };
+
+    ghost moments_stay = { λ c code. refl };
+
+    ghost rows_stay_sound = { λ c code sound. sound };
 }
 
 impl Grants {
@@ -45,7 +52,7 @@ impl Grants {
         ensures in_range { IfSome (option_copied result) (λ row. (row.user < 512) × (row.wish.client < 128)) }
         ensures held { spec.AreCodes self.now.codes }
     {
-        self.codes.find(word)
+        self.codes.find(&word.bytes())
     }
 
     /// A client redeems a code with a redirection URI (RFC 6749, 4.1.3). `Redeemed` marks the code spent. `Spent` takes
@@ -55,10 +62,10 @@ impl Grants {
         ensures answer { result ≡ spec.redemption code client redirect.now at self.old }
         ensures effect { self.new ≡ spec.after_answer result code self.old }
     {
-        let answer = judge(self.codes.find(code), client, redirect, at);
+        let answer = judge_code(self.codes.find(&code.bytes()), client, redirect, at);
         match answer {
-            Redeem::Redeemed => self.codes.spend(code),
-            Redeem::Spent => self.tokens.end_those_of(code),
+            Redeem::Redeemed => self.codes.change(&code.bytes(), &Spent),
+            Redeem::Spent => self.end_tokens_of(code),
             Redeem::Unknown | Redeem::OtherClient | Redeem::Expired | Redeem::OtherUri => {}
         }
         answer

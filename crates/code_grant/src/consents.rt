@@ -3,7 +3,7 @@
 ghost use Rattle.std.specs.Prelude.{◌≡◌, ◌<◌, ◌+◌, ◌*◌, length, IfOk};
 ghost use Rattle.code_grant.specs.Consents as spec;
 
-use scope_claims::Scopes;
+use oidc_words::Scopes;
 use sso_base::NoMemory;
 use std::alloc::Global;
 use std::marker::Model;
@@ -19,7 +19,7 @@ pub struct Consents {
 
 impl Model for Consents {
     ghost use Rattle.std.specs.Prelude.{◌≡◌, List, length};
-    ghost use Rattle.scope_claims.specs.declared.scopes.Scopes.{Scopes};
+    ghost use Rattle.oidc_words.specs.declared.scopes.Scopes.{Scopes};
 
     ghost Value = { List Scopes };
 

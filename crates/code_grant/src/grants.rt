@@ -5,10 +5,10 @@ ghost use Rattle.code_grant.specs.Tables as spec;
 ghost use Rattle.code_grant.specs.Consents.{granted_to};
 
 use crate::consents::Consents;
-use crate::held::Held;
 use crate::rows::{CodeRow, SessionRow, TokenRow, TurnRow};
 use crate::table::{Reserved, Table};
-use scope_claims::Scopes;
+use held_rows::Held;
+use oidc_words::Scopes;
 use sso_base::{Moment, NoMemory};
 use std::alloc::Global;
 use std::marker::Model;

@@ -1,24 +1,22 @@
 // What holds of the tables, for the crates above.
 
-ghost use Rattle.std.specs.Prelude.{◌≡◌, ◌≢◌, ◌<◌, ℕ, Bool, true, false, List, length, Option, Some, None, option_map, option_and_then};
+ghost use Rattle.std.specs.Prelude.{◌≡◌, ◌≢◌, ◌<◌, ℕ, Bool, true, false, List, length, Option, Some, None, option_and_then};
 ghost use Rattle.std.specs.Str.{bytes_eq};
 ghost use Rattle.sso_base.specs.Words.{Word, is_word};
-ghost use Rattle.sso_base.specs.Rows.{row_of, live_rows, if_lives};
+ghost use Rattle.sso_base.specs.Rows.{row_of, if_lives};
 ghost use Rattle.sso_base.specs.Stands.{IsDistinct};
-ghost use Rattle.scope_claims.specs.declared.scopes.Scopes.{Scopes};
-ghost use Rattle.scope_claims.specs.Claims.{no_scopes, joined};
+ghost use Rattle.oidc_words.specs.declared.scopes.Scopes.{Scopes};
+ghost use Rattle.oidc_words.specs.Scopes.{no_scopes, joined};
 ghost use Rattle.code_grant.specs.declared.rows.CodeRow.{CodeRow};
 ghost use Rattle.code_grant.specs.declared.rows.TokenRow.{TokenRow};
 ghost use Rattle.code_grant.specs.declared.redeem.Redeem.TheVariants as answer;
 ghost use Rattle.code_grant.specs.Clients.{no_clients, has_client, with_client};
 ghost use Rattle.code_grant.specs.Consents.{no_consents, granted_to, with_grant};
-ghost use Rattle.code_grant.specs.Held.{changed};
-ghost use Rattle.code_grant.specs.Rows.{code_name, code_begun, code_life, access_name};
+ghost use Rattle.code_grant.specs.Rows.{code_name, code_begun, access_name};
+ghost use Rattle.oidc_words.specs.Lives.{code_life};
 ghost use Rattle.code_grant.specs.Redeeming.{redeem_of, IsRedeemable};
 ghost use Rattle.code_grant.specs.Tables.{Tables, redemption, with_code, purged};
 ghost use Rattle.code_grant.specs.Calls as calls;
-
-use sso_base::Named;
 
 /// A code is redeemed exactly by its own client with its own redirection URI, unspent and within 120 seconds
 /// (RFC 6749, 4.1.2 and 4.1.3).
@@ -52,19 +50,6 @@ pub fn other_codes_do_not_count()
     ensures issued { (w : Word) (client : ℕ) (redirect : List ℕ) (at : ℕ) (row : CodeRow) (t : Tables) → bytes_eq row.word w ≡ false → redemption w client redirect at (with_code row t) ≡ redemption w client redirect at t }
     ensures redeemed { (w v : Word) (client other : ℕ) (redirect elsewhere : List ℕ) (at before : ℕ) (t : Tables) → bytes_eq v w ≡ false → redemption w client redirect at (calls.after (calls.redeem v other elsewhere before) t) ≡ redemption w client redirect at t }
     ensures purged { (w : Word) (client : ℕ) (redirect : List ℕ) (at : ℕ) (t : Tables) → IsDistinct code_name t.codes → redemption w client redirect at (purged at t) ≡ redeem_of client redirect at (option_and_then (if_lives code_life code_begun at) (row_of code_name w t.codes)) }
-{}
-
-/// A purge leaves of each name the row that lives.
-pub fn purges_leave_what_lives<R: Named>()
-    ensures { (life : ℕ) (begun : R → ℕ) (at : ℕ) (w : Word) (rows : List R) → IsDistinct R.name rows → row_of R.name w (live_rows life begun at rows) ≡ option_and_then (if_lives life begun at) (row_of R.name w rows) }
-{}
-
-/// A change of the row of a name leaves the rows of other names, and where they stand.
-pub fn changes_are_of_one_row<R: Named>()
-    ensures row { (w : Word) (change : R → R) (rows : List R) → ((r : R) → R.name (change r) ≡ R.name r) → row_of R.name w (changed R.name w change rows) ≡ option_map change (row_of R.name w rows) }
-    ensures others { (w v : Word) (change : R → R) (rows : List R) → ((r : R) → R.name (change r) ≡ R.name r) → bytes_eq w v ≡ false → row_of R.name v (changed R.name w change rows) ≡ row_of R.name v rows }
-    ensures places { (w : Word) (change : R → R) (rows : List R) → length (changed R.name w change rows) ≡ length rows }
-    ensures none { (w : Word) (change : R → R) (rows : List R) → row_of R.name w rows ≡ None → changed R.name w change rows ≡ rows }
 {}
 
 /// A set of clients has those that were added, and no others.

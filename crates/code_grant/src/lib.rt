@@ -10,9 +10,8 @@
 //! | `turns`, `sessions`, `codes`, `tokens` | the calls of `Grants` on one table each |
 //! | `rows` | [`TurnRow`], [`SessionRow`], [`CodeRow`], [`TokenRow`] |
 //! | `clients` | [`Clients`], a set of clients |
-//! | `redeem` | [`Redeem`], what a client gets for a code |
+//! | `redeem` | [`judge_code`], what a client gets for a code |
 //! | `table` | [`Table`] names a table |
-//! | `held` | the held rows of one table, of any kind |
 //! | `consents` | scopes for each user and client |
 //! | `law` | what holds of the tables, for the crates above |
 #![tactic(auto)]
@@ -21,27 +20,20 @@ mod clients;
 mod codes;
 mod consents;
 mod grants;
-mod held;
 mod law;
 mod redeem;
 mod rows;
 mod sessions;
 mod table;
-#[cfg(test)]
-mod tests;
 mod tokens;
 mod turns;
 
 pub use clients::Clients;
 pub use grants::Grants;
 pub use law::{
-    changes_are_of_one_row, codes_are_redeemed_once, grants_are_joined, other_codes_do_not_count,
-    purges_leave_what_lives, redeemed_codes_are_redeemable, second_uses_end_the_tokens,
-    sets_have_what_was_added,
+    codes_are_redeemed_once, grants_are_joined, other_codes_do_not_count,
+    redeemed_codes_are_redeemable, second_uses_end_the_tokens, sets_have_what_was_added,
 };
-pub use redeem::Redeem;
-pub use rows::{
-    CODE_LIFE, CODE_USABLE, CodeRow, SESSION_LIFE, SessionRow, TOKEN_LIFE, TURN_LIFE, TokenRow,
-    TurnRow,
-};
+pub use redeem::{Redeem, judge_code};
+pub use rows::{CodeRow, SessionRow, TokenRow, TurnRow};
 pub use table::Table;

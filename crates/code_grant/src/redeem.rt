@@ -4,14 +4,15 @@ ghost use Rattle.std.specs.Prelude.{◌≡◌};
 ghost use Rattle.std.specs.Option.{option_copied};
 ghost use Rattle.code_grant.specs.Redeeming.{redeem_of};
 
-use crate::rows::{CODE_USABLE, CodeRow};
+use crate::rows::CodeRow;
+use oidc_words::CODE_USABLE;
 use sso_base::{Moment, is_live};
 
 /// What a client gets for a code with a redirection URI: the first that fits, in this order but for `Redeemed`, which is
 /// last (RFC 6749, 4.1.3; OpenID Connect Core 1.0, 3.1.3.2).
 #[derive(Clone, Copy, Debug, PartialEq, Eq)]
 pub enum Redeem {
-    /// The code is good, and is spent now.
+    /// The code is good.
     Redeemed,
     /// No held code has that word.
     Unknown,
@@ -25,8 +26,8 @@ pub enum Redeem {
     OtherUri,
 }
 
-// What a client gets for the code of this row.
-pub(crate) fn judge(row: Option<&CodeRow>, client: u32, redirect: &[u8], at: Moment) -> Redeem
+/// What a client gets for the code of this row with a redirection URI at a moment. It spends nothing.
+pub fn judge_code(row: Option<&CodeRow>, client: u32, redirect: &[u8], at: Moment) -> Redeem
     ensures { result ≡ redeem_of client redirect.now at (option_copied row.entry) }
 {
     let Some(row) = row else {

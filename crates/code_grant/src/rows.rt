@@ -1,27 +1,13 @@
 // The rows of the provider's tables.
 
-ghost use Rattle.std.specs.Prelude.{◌<◌};
+ghost use Rattle.std.specs.Prelude.{◌≡◌, ◌<◌};
+ghost use Rattle.std.specs.Str.{bytes_eq};
 
 use crate::clients::Clients;
-use crate::held::Row;
 use auth_request::Wish;
-use scope_claims::Scopes;
-use sso_base::{Moment, Named, Texts, Word};
-
-/// How many seconds a turn lives.
-pub const TURN_LIFE: u32 = 600;
-
-/// How many seconds a session lives from its last login.
-pub const SESSION_LIFE: u32 = 43_200;
-
-/// How many seconds a code is held.
-pub const CODE_LIFE: u32 = 3720;
-
-/// How many seconds a code may be used (RFC 6749, 4.1.2).
-pub const CODE_USABLE: u32 = 120;
-
-/// How many seconds an access token lives.
-pub const TOKEN_LIFE: u32 = 3600;
+use held_rows::Row;
+use oidc_words::{ACCESS_LIFE, CODE_LIFE, SESSION_LIFE, Scopes, TURN_LIFE};
+use sso_base::{Moment, Texts, Word};
 
 /// A turn: an authorization request that got a page, until it is answered or refused. It lives for 600 seconds.
 #[derive(Debug, Drop)]
@@ -86,88 +72,88 @@ pub struct TokenRow {
     pub by: u64,
 }
 
-impl Named for TurnRow {
+impl Row for TurnRow {
+    ghost use Rattle.oidc_words.specs.Lives.{turn_life};
+
     ghost name = { λ row. row.word };
 
-    fn name(&self) -> Word {
-        self.word
-    }
-}
-
-impl Row for TurnRow {
     ghost begun = { λ row. row.begun };
 
-    ghost IsInRange = { λ row. row.wish.client < 128 };
+    ghost IsSound = { λ row. row.wish.client < 128 };
 
-    ghost LIFE = { 600 };
+    ghost LIFE = { turn_life };
 
     const LIFE: u32 = TURN_LIFE;
+
+    fn is_named(&self, given: &[u8]) -> bool {
+        self.word.is(given)
+    }
 
     fn begun(&self) -> Moment {
         self.begun
     }
 }
 
-impl Named for SessionRow {
+impl Row for SessionRow {
+    ghost use Rattle.oidc_words.specs.Lives.{session_life};
+
     ghost name = { λ row. row.word };
 
-    fn name(&self) -> Word {
-        self.word
-    }
-}
-
-impl Row for SessionRow {
     ghost begun = { λ row. row.auth_time };
 
-    ghost IsInRange = { λ row. row.user < 512 };
+    ghost IsSound = { λ row. row.user < 512 };
 
-    ghost LIFE = { 43200 };
+    ghost LIFE = { session_life };
 
     const LIFE: u32 = SESSION_LIFE;
+
+    fn is_named(&self, given: &[u8]) -> bool {
+        self.word.is(given)
+    }
 
     fn begun(&self) -> Moment {
         self.auth_time
     }
 }
 
-impl Named for CodeRow {
+impl Row for CodeRow {
+    ghost use Rattle.oidc_words.specs.Lives.{code_life};
+
     ghost name = { λ row. row.word };
 
-    fn name(&self) -> Word {
-        self.word
-    }
-}
-
-impl Row for CodeRow {
     ghost begun = { λ row. row.issued };
 
-    ghost IsInRange = { λ row. (row.user < 512) × (row.wish.client < 128) };
+    ghost IsSound = { λ row. (row.user < 512) × (row.wish.client < 128) };
 
-    ghost LIFE = { 3720 };
+    ghost LIFE = { code_life };
 
     const LIFE: u32 = CODE_LIFE;
+
+    fn is_named(&self, given: &[u8]) -> bool {
+        self.word.is(given)
+    }
 
     fn begun(&self) -> Moment {
         self.issued
     }
 }
 
-impl Named for TokenRow {
+impl Row for TokenRow {
+    ghost use Rattle.oidc_words.specs.Lives.{access_life};
+
     ghost name = { λ row. row.word };
 
-    fn name(&self) -> Word {
-        self.word
-    }
-}
-
-impl Row for TokenRow {
     ghost begun = { λ row. row.issued };
 
-    ghost IsInRange = { λ row. (row.user < 512) × (row.client < 128) };
+    ghost IsSound = { λ row. (row.user < 512) × (row.client < 128) };
 
-    ghost LIFE = { 3600 };
+    ghost LIFE = { access_life };
 
-    const LIFE: u32 = TOKEN_LIFE;
+    const LIFE: u32 = ACCESS_LIFE;
+
+    fn is_named(&self, given: &[u8]) -> bool {
+        self.word.is(given)
+    }
 
     fn begun(&self) -> Moment {
         self.issued

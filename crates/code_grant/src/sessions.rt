@@ -1,42 +1,46 @@
 // The sessions of the provider.
 
-ghost use Rattle.std.specs.Prelude.{◌≡◌, ◌<◌, ◌≤◌, true, length, None, IfSome};
+ghost use Rattle.std.specs.Prelude.{◌≡◌, ◌<◌, true, length, None, IfSome, refl};
 ghost use Rattle.std.specs.Option.{option_copied};
 ghost use Rattle.sso_base.specs.Rows.{row_of};
-ghost use Rattle.code_grant.specs.Held.{changed, moved, none_after, most_rows};
+ghost use Rattle.held_rows.specs.Held.{none_after, most_rows};
 ghost use Rattle.code_grant.specs.Rows.{session_name, session_begun};
 ghost use Rattle.code_grant.specs.Tables as spec;
 
 use crate::grants::Grants;
-use crate::held::{Held, place_of};
 use crate::rows::SessionRow;
-use sso_base::{Moment, Word, find_row, remove_row};
+use held_rows::Change;
+use sso_base::{Moment, Word};
+use std::marker::Model;
 
-impl Held<SessionRow> {
-    fn renew(&mut self, word: Word, at: Moment)
-        requires { none_after session_begun at self.old.rows ≡ true }
-        ensures rows { self.new ≡ record self.old { rows = moved session_name word (spec.session_at at) self.old.rows } }
-        ensures bound { length self.new.rows ≤ length self.old.rows }
-    {
-        if let Some(row) = find_row(&self.rows, word) {
-            let renewed = SessionRow {
-                auth_time: at,
-                ..*row
-            };
-            remove_row(&mut self.rows, renewed.word);
-            self.rows.push_reserved(renewed);
-        }
+// A session has answered this client, seen as its number.
+#[derive(Drop)]
+struct WithClient {
+    client: u32,
+}
+
+impl Model for WithClient {
+    ghost use Rattle.std.specs.Prelude.{ℕ, ◌<◌};
+
+    ghost Value = { ℕ };
+
+    ghost view = { λ c. c.client };
+
+    ghost invariant = { λ c. c.client < 128 };
+}
+
+impl Change<SessionRow> for WithClient {
+    ghost changed = { λ c. spec.session_with c };
+
+    fn change(&self, session: &mut SessionRow) {
+        session.clients.add(self.client);
     }
 
-    fn visit(&mut self, word: Word, client: u32)
-        requires { client < 128 }
-        ensures rows { self.new ≡ record self.old { rows = changed session_name word (spec.session_with client) self.old.rows } }
-        ensures bound { length self.new.rows ≤ length self.old.rows }
-    {
-        if let Some(place) = place_of(&self.rows, word) {
-            self.rows[place].clients.add(client);
-        }
-    }
+    ghost names_stay = { λ c session. refl };
+
+    ghost moments_stay = { λ c session. refl };
+
+    ghost rows_stay_sound = { λ c session sound. sound };
 }
 
 impl Grants {
@@ -59,7 +63,7 @@ impl Grants {
         ensures user { IfSome (option_copied result) (λ row. row.user < 512) }
         ensures held { spec.AreSessions self.now.sessions }
     {
-        self.sessions.find(word)
+        self.sessions.find(&word.bytes())
     }
 
     /// The user of the session of that word logged in again: its `auth_time` is the moment, and it counts as issued
@@ -68,7 +72,14 @@ impl Grants {
         requires { none_after session_begun at self.old.sessions ≡ true }
         ensures { self.new ≡ spec.session_renewed word at self.old }
     {
-        self.sessions.renew(word, at);
+        let name = word.bytes();
+        if let Some(row) = self.sessions.find(&name) {
+            let renewed = SessionRow {
+                auth_time: at,
+                ..*row
+            };
+            self.sessions.put(&name, renewed);
+        }
     }
 
     /// Adds a client to those that the session of that word has answered. Where no held session has the word, nothing
@@ -77,13 +88,13 @@ impl Grants {
         requires { client < 128 }
         ensures { self.new ≡ spec.session_visited word client self.old }
     {
-        self.sessions.visit(word, client);
+        self.sessions.change(&word.bytes(), &WithClient { client });
     }
 
     /// Takes out the session of that word. Where no held session has it, nothing changes.
     pub fn end_session(&mut self, word: Word)
         ensures { self.new ≡ spec.session_ended word self.old }
     {
-        self.sessions.remove(word);
+        self.sessions.remove(&word.bytes());
     }
 }

@@ -1,40 +1,43 @@
 // The access tokens of the provider.
 
-ghost use Rattle.std.specs.Prelude.{◌≡◌, ◌<◌, ◌≤◌, true, not, length, filter, None, IfSome};
+ghost use Rattle.std.specs.Prelude.{◌≡◌, ◌<◌, true, length, None, IfSome};
 ghost use Rattle.std.specs.Option.{option_copied};
 ghost use Rattle.sso_base.specs.Words.{is_word};
 ghost use Rattle.sso_base.specs.Rows.{row_of};
-ghost use Rattle.code_grant.specs.declared.rows.TokenRow.{TokenRow};
-ghost use Rattle.code_grant.specs.Held.{none_after, most_rows};
+ghost use Rattle.held_rows.specs.Held.{none_after, most_rows};
 ghost use Rattle.code_grant.specs.Rows.{access_name, access_begun};
 ghost use Rattle.code_grant.specs.Tables as spec;
 
 use crate::grants::Grants;
-use crate::held::Held;
 use crate::rows::TokenRow;
+use held_rows::Test;
 use sso_base::Word;
 
-// Whether the token was given for the code.
-fn is_of(token: &TokenRow, code: Word) -> bool
-    ensures { result ≡ is_word token.now.code code }
-{
-    match token.code {
-        Some(word) => word == code,
-        None => false,
-    }
+// The tokens that were given for one code.
+#[derive(Clone, Copy)]
+struct OfCode {
+    code: Word,
 }
 
-impl Held<TokenRow> {
-    /// Takes out the tokens that were given for the code.
-    pub fn end_those_of(&mut self, code: Word)
-        ensures rows { self.new ≡ record self.old { rows = filter (λ (token : TokenRow). not (is_word token.code code)) self.old.rows } }
-        ensures bound { length self.new.rows ≤ length self.old.rows }
-    {
-        self.rows.retain(|token| !is_of(token, code));
+impl Test<TokenRow> for OfCode {
+    ghost passes = { λ t token. is_word token.code t.code };
+
+    fn passes(&self, token: &TokenRow) -> bool {
+        match token.code {
+            Some(word) => word == self.code,
+            None => false,
+        }
     }
 }
 
 impl Grants {
+    // Takes out the tokens that were given for the code.
+    pub(crate) fn end_tokens_of(&mut self, code: Word)
+        ensures { self.new ≡ spec.tokens_of_ended code self.old }
+    {
+        self.tokens.take_out(&OfCode { code });
+    }
+
     /// Adds an access token.
     pub fn issue_token(&mut self, row: TokenRow)
         requires reserved { self.old.reserved.tokens ≡ true }
@@ -55,6 +58,6 @@ impl Grants {
         ensures in_range { IfSome (option_copied result) (λ row. (row.user < 512) × (row.client < 128)) }
         ensures held { spec.AreTokens self.now.tokens }
     {
-        self.tokens.find(token)
+        self.tokens.find(&token.bytes())
     }
 }

@@ -1,49 +1,55 @@
 // The turns of the provider.
 
-ghost use Rattle.std.specs.Prelude.{◌≡◌, ◌<◌, ◌≤◌, true, length, None, IfSome};
+ghost use Rattle.std.specs.Prelude.{◌≡◌, ◌<◌, true, length, None, IfSome, refl};
 ghost use Rattle.std.specs.List.{list_any};
 ghost use Rattle.std.specs.Option.{option_copied};
 ghost use Rattle.std.specs.Str.{bytes_eq};
 ghost use Rattle.sso_base.specs.Rows.{row_of, live_rows};
 ghost use Rattle.code_grant.specs.declared.rows.TurnRow.{TurnRow};
-ghost use Rattle.code_grant.specs.Held.{changed, none_after, most_rows};
-ghost use Rattle.code_grant.specs.Rows.{turn_name, turn_begun, turn_life};
+ghost use Rattle.held_rows.specs.Held.{none_after, most_rows};
+ghost use Rattle.code_grant.specs.Rows.{turn_name, turn_begun};
+ghost use Rattle.oidc_words.specs.Lives.{turn_life};
 ghost use Rattle.code_grant.specs.Tables as spec;
 
 use crate::grants::Grants;
-use crate::held::{Held, place_of};
-use crate::rows::{TURN_LIFE, TurnRow};
-use sso_base::{Moment, Word, is_live};
+use crate::rows::TurnRow;
+use held_rows::{Change, Test};
+use sso_base::{Moment, Word};
 
-// Whether one of the turns lives at the moment and is of this browser.
-fn is_browser(turns: &[TurnRow], browser: Word, at: Moment) -> bool
-    ensures { result ≡ list_any (λ (turn : TurnRow). bytes_eq turn.browser browser) (live_rows turn_life turn_begun at turns.now) }
-{
-    for turn in turns {
-        if is_live(TURN_LIFE, turn.begun, at) && turn.browser == browser {
-            return true;
-        }
-    }
-    false
+// The turns of one browser.
+#[derive(Clone, Copy)]
+struct OfBrowser {
+    browser: Word,
 }
 
-impl Held<TurnRow> {
-    fn has_browser(&self, browser: Word, at: Moment) -> bool
-        ensures { result ≡ list_any (λ (turn : TurnRow). bytes_eq turn.browser browser) (live_rows turn_life turn_begun at self.now.rows) }
-    {
-        is_browser(&self.rows, browser, at)
+impl Test<TurnRow> for OfBrowser {
+    ghost passes = { λ t turn. bytes_eq turn.browser t.browser };
+
+    fn passes(&self, turn: &TurnRow) -> bool {
+        turn.browser == self.browser
+    }
+}
+
+// A turn gets this session.
+#[derive(Clone, Copy)]
+struct WithSession {
+    session: Word,
+    in_turn: bool,
+}
+
+impl Change<TurnRow> for WithSession {
+    ghost changed = { λ c. spec.turn_with c.session c.in_turn };
+
+    fn change(&self, turn: &mut TurnRow) {
+        turn.session = Some(self.session);
+        turn.in_turn = self.in_turn;
     }
 
-    fn set(&mut self, word: Word, session: Word, in_turn: bool)
-        ensures rows { self.new ≡ record self.old { rows = changed turn_name word (spec.turn_with session in_turn) self.old.rows } }
-        ensures bound { length self.new.rows ≤ length self.old.rows }
-    {
-        if let Some(place) = place_of(&self.rows, word) {
-            let turn = &mut self.rows[place];
-            turn.session = Some(session);
-            turn.in_turn = in_turn;
-        }
-    }
+    ghost names_stay = { λ c turn. refl };
+
+    ghost moments_stay = { λ c turn. refl };
+
+    ghost rows_stay_sound = { λ c turn sound. sound };
 }
 
 impl Grants {
@@ -64,7 +70,7 @@ impl Grants {
     pub fn has_browser(&self, browser: Word, at: Moment) -> bool
         ensures { result ≡ list_any (λ (turn : TurnRow). bytes_eq turn.browser browser) (live_rows turn_life turn_begun at self.now.turns) }
     {
-        self.turns.has_browser(browser, at)
+        self.turns.any_live(&OfBrowser { browser }, at)
     }
 
     /// The turn of that word; None exactly where no held turn has it. Its life may have ended.
@@ -73,7 +79,7 @@ impl Grants {
         ensures client { IfSome (option_copied result) (λ row. row.wish.client < 128) }
         ensures held { spec.AreTurns self.now.turns }
     {
-        self.turns.find(word)
+        self.turns.find(&word.bytes())
     }
 
     /// Gives the turn of that word this session, and says whether the user logged in during it. Where no held turn has
@@ -81,13 +87,14 @@ impl Grants {
     pub fn set_turn(&mut self, word: Word, session: Word, in_turn: bool)
         ensures { self.new ≡ spec.turn_set word session in_turn self.old }
     {
-        self.turns.set(word, session, in_turn);
+        self.turns
+            .change(&word.bytes(), &WithSession { session, in_turn });
     }
 
     /// Takes out the turn of that word. Where no held turn has it, nothing changes.
     pub fn end_turn(&mut self, word: Word)
         ensures { self.new ≡ spec.turn_ended word self.old }
     {
-        self.turns.remove(word);
+        self.turns.remove(&word.bytes());
     }
 }

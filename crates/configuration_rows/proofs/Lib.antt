@@ -6,4 +6,5 @@ pub mod Noting
 pub mod Addresses
 pub mod ArrayRows
 pub mod FittingClaims
+pub mod PlainTexts
 mod Samples

@@ -2,16 +2,7 @@
 use Rattle.std.proofs.Common.{◌≡◌, ◌⊎◌, inl, inr, ℕ, suc, ◌+◌, ◌<◌, ◌≤◌, Option, List, [], ◌∷◌, ◌++◌, append_assoc, drop, length, get_or, Some, None, slice_get, Bool, false, sym, ap, ◌∙◌, arith}
 use Rattle.std.specs.List.{list_any, position_from}
 use Rattle.std.proofs.lemmas.Option.{slice_get_within, get_or_from_slice_get, slice_get_cases}
-use Rattle.std.proofs.Math.Seq.{drop-cons}
-
-next : (i : ℕ) → suc i ≡ i + 1
-next i = omega arith
-
-pub drop_at : {A : Type 0} (xs : List A) (i : ℕ) (x : A) → slice_get xs i ≡ Some x → drop i xs ≡ x ∷ drop (i + 1) xs
-drop_at xs i x e =
-    drop-cons xs i x (slice_get_within xs i x e)
-    ∙ ap (λ y. y ∷ drop (suc i) xs) (get_or_from_slice_get xs i x x e)
-    ∙ ap (λ k. x ∷ drop k xs) (next i)
+use Rattle.sso_base.proofs.ListSteps.{drop_at}
 
 -- a test that fails at a place may be left out there
 pub any_rest : {A : Type 0} (f : A → Bool) (xs : List A) (i : ℕ) (x : A) (b : Bool) → slice_get xs i ≡ Some x → f x ≡ false → list_any f (drop i xs) ≡ b → list_any f (drop (i + 1) xs) ≡ b

@@ -21,8 +21,10 @@ use Rattle.configuration_rows.specs.declared.kind.Breach.TheVariants.{WrongKind,
 use Rattle.configuration_rows.specs.Refusals.{number, sooner, least, IsLeast, note_if, each}
 use Rattle.configuration_rows.specs.Paths.{path_text}
 use Rattle.configuration_rows.specs.Values.{as_natural, as_texts, hex_bytes, text_at, text_or, natural_at, flag_at, hex_at, texts_at, url_at, rows_at, table_at}
-use Rattle.configuration_rows.specs.Claims.{claims_in, claim_value, text_claims, flag_claims, Puts}
-use Rattle.configuration_rows.specs.Kinds.{allows, is_within, is_name, is_distinct, is_scope, is_prompt, type_number, spellings, breach}
+use Rattle.configuration_rows.specs.Claims.{claims_in, claim_value, Puts}
+use Rattle.oidc_words.specs.Claims.{flag_claims, seconds_claims, is_claim_of, profile_claims, email_claims, address_claims, phone_claims}
+use Rattle.configuration_rows.specs.Kinds.{allows, is_within, is_name, breach}
+use Rattle.oidc_words.specs.Types.{spellings}
 use Rattle.configuration_rows.specs.Version1.{required, optional, array_rule, uses, logout_rule, client_of, redirect_rule, response_texts, has_type, lacks_type, type_rule, user_row, client_row, party_row, rows_refusals}
 use Rattle.configuration_rows.proofs.Phases.{is_least}
 
@@ -206,24 +208,6 @@ within-both_bounds = refl
 within-not_above : is_within 1 64 65 ≡ false
 within-not_above = refl
 
-scope-of_two_words : is_scope (codes "email openid") ≡ true
-scope-of_two_words = refl
-
-scope-not_without_openid : is_scope (codes "profile") ≡ false
-scope-not_without_openid = refl
-
-scope-not_with_a_word_twice : is_scope (codes "openid openid") ≡ false
-scope-not_with_a_word_twice = refl
-
-scope-not_with_two_spaces : is_scope (codes "openid  email") ≡ false
-scope-not_with_two_spaces = refl
-
-prompt-of_two_words : is_prompt (codes "login consent") ≡ true
-prompt-of_two_words = refl
-
-prompt-not_of_an_unknown_word : is_prompt (codes "always") ≡ false
-prompt-not_of_an_unknown_word = refl
-
 name-of_a_user : is_name UserId 1 64 (codes "al.ice@b") ≡ true
 name-of_a_user = refl
 
@@ -232,20 +216,6 @@ name-not_in_capitals = refl
 
 name-not_empty : is_name UserId 1 64 [] ≡ false
 name-not_empty = refl
-
-distinct-words : is_distinct (codes "a" ∷ codes "b" ∷ []) ≡ true
-distinct-words = refl
-
-distinct-not_where_one_stands_twice : is_distinct (codes "a" ∷ codes "a" ∷ []) ≡ false
-distinct-not_where_one_stands_twice = refl
-
-type-in_another_order : type_number (codes "token id_token") ≡ Some 2
-unfolding spellings
-type-in_another_order = refl
-
-type-not_of_token_alone : type_number (codes "token") ≡ None
-unfolding spellings
-type-not_of_token_alone = refl
 
 breach-of_no_number : breach (kind.Number 1 10) (integer (pos 11)) ≡ Some WrongKind
 breach-of_no_number = refl
@@ -324,7 +294,7 @@ breach-not_of_no_types : breach kind.ResponseTypes (array no_items) ≡ none
 breach-not_of_no_types = refl
 
 breach-of_unknown_claims : breach kind.Claims (one (codes "admin") (boolean true)) ≡ Some WrongKind
-unfolding text_claims flag_claims
+unfolding flag_claims seconds_claims is_claim_of profile_claims email_claims address_claims phone_claims
 breach-of_unknown_claims = refl
 
 breach-not_of_no_claims : breach kind.Claims (table no_members) ≡ none
@@ -333,27 +303,27 @@ breach-not_of_no_claims = refl
 -- ---- claims
 
 claim-of_a_flag : claim_value (codes "email_verified") (boolean true) ≡ Some (json.boolean true)
-unfolding text_claims flag_claims
+unfolding flag_claims seconds_claims is_claim_of profile_claims email_claims address_claims phone_claims
 claim-of_a_flag = refl
 
 claim-not_of_a_text_for_a_flag : claim_value (codes "email_verified") (string (codes "true")) ≡ None
-unfolding text_claims flag_claims
+unfolding flag_claims seconds_claims is_claim_of profile_claims email_claims address_claims phone_claims
 claim-not_of_a_text_for_a_flag = refl
 
 claim-of_seconds : claim_value (codes "updated_at") (integer (pos 1099511627775)) ≡ Some (json.number (json.unsigned 1099511627775))
-unfolding text_claims flag_claims
+unfolding flag_claims seconds_claims is_claim_of profile_claims email_claims address_claims phone_claims
 claim-of_seconds = refl
 
 claim-not_of_more_seconds : claim_value (codes "updated_at") (integer (pos 1099511627776)) ≡ None
-unfolding text_claims flag_claims
+unfolding flag_claims seconds_claims is_claim_of profile_claims email_claims address_claims phone_claims
 claim-not_of_more_seconds = refl
 
 claim-of_an_address : claim_value (codes "address") (one (codes "country") (string (codes "B"))) ≡ Some (json.object (json.member (codes "country") (json.string (codes "B")) json.no_members))
-unfolding text_claims flag_claims
+unfolding flag_claims seconds_claims is_claim_of profile_claims email_claims address_claims phone_claims
 claim-of_an_address = refl
 
 claim-not_of_numbers_in_an_address : claim_value (codes "address") (one (codes "country") (integer (pos 1))) ≡ None
-unfolding text_claims flag_claims
+unfolding flag_claims seconds_claims is_claim_of profile_claims email_claims address_claims phone_claims
 claim-not_of_numbers_in_an_address = refl
 
 puts-a_value : Puts (codes "a") (Some (json.boolean true)) json.no_members (json.put (codes "a") (json.boolean true) json.no_members) true
@@ -363,11 +333,11 @@ puts-not_where_there_is_none : Puts (codes "a") None json.no_members json.no_mem
 puts-not_where_there_is_none h = true≢false h
 
 claims-of_a_name : claims_in (table (member (codes "name") (string (codes "A")) no_members)) ≡ Some (json.member (codes "name") (json.string (codes "A")) json.no_members)
-unfolding text_claims
+unfolding flag_claims seconds_claims is_claim_of profile_claims email_claims address_claims phone_claims
 claims-of_a_name = refl
 
 claims-not_of_an_unknown_name : claims_in (table (member (codes "admin") (boolean true) no_members)) ≡ None
-unfolding text_claims flag_claims
+unfolding flag_claims seconds_claims is_claim_of profile_claims email_claims address_claims phone_claims
 claims-not_of_an_unknown_name = refl
 
 -- ---- keys

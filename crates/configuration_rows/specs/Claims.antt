@@ -1,21 +1,11 @@
 -- A user's claims: what a table of the configuration says of them (OpenID Connect Core 1.0, 5.1 and 5.4).
-use Rattle.std.specs.Prelude.{ℕ, ◌^◌, Bool, true, false, ◌≡◌, List, [], ◌∷◌, nat_lt, codes, Option, Some, None, option_map, option_and_then, if◌then◌else◌}
-use Rattle.std.specs.List.{list_any}
-use Rattle.std.specs.Str.{bytes_eq}
+use Rattle.std.specs.Prelude.{ℕ, ◌^◌, Bool, true, false, ◌≡◌, List, nat_lt, Option, Some, None, option_map, option_and_then, if◌then◌else◌}
 use Rattle.toml.specs.Data.{Data, Members, no_members, member, as_str, as_bool, as_table}
 use Rattle.serde_json.specs.Data as json
+use Rattle.oidc_words.specs.declared.claims.ClaimKind.{ClaimKind}
+use Rattle.oidc_words.specs.declared.claims.ClaimKind.TheVariants.{Text, Flag, Seconds, Address}
+use Rattle.oidc_words.specs.Claims.{kind_of}
 use Rattle.configuration_rows.specs.Values.{as_natural}
-
--- claims whose value is a text
-unfoldable pub text_claims : List (List ℕ)
-text_claims = codes "name" ∷ codes "family_name" ∷ codes "given_name" ∷ codes "middle_name" ∷ codes "nickname" ∷ codes "preferred_username" ∷ codes "profile" ∷ codes "picture" ∷ codes "website" ∷ codes "gender" ∷ codes "birthdate" ∷ codes "zoneinfo" ∷ codes "locale" ∷ codes "email" ∷ codes "phone_number" ∷ []
-
--- claims whose value is true or false
-unfoldable pub flag_claims : List (List ℕ)
-flag_claims = codes "email_verified" ∷ codes "phone_number_verified" ∷ []
-
-abbrev pub is_one_of : List (List ℕ) → List ℕ → Bool
-is_one_of names name = list_any (bytes_eq name) names
 
 abbrev pub if_small : ℕ → Option ℕ
 if_small n = if nat_lt n (2 ^ 40) then Some n else None
@@ -39,14 +29,17 @@ texts_onto (member k d ms) claims = option_and_then (λ v. texts_onto ms (json.p
 abbrev pub address_value : Data → Option json.Data
 address_value d = option_map json.object (option_and_then (λ ms. texts_onto ms json.no_members) (as_table d))
 
+-- the value of a claim of this kind
+abbrev pub kind_value : Option ClaimKind → Data → Option json.Data
+kind_value None d = None
+kind_value (Some Text) d = text_value d
+kind_value (Some Flag) d = flag_value d
+kind_value (Some Seconds) d = seconds_value d
+kind_value (Some Address) d = address_value d
+
 -- the value of a claim, where the name is known and the value is of its kind
 abbrev pub claim_value : List ℕ → Data → Option json.Data
-claim_value k d =
-    if is_one_of text_claims k then text_value d
-    else if is_one_of flag_claims k then flag_value d
-    else if bytes_eq k (codes "updated_at") then seconds_value d
-    else if bytes_eq k (codes "address") then address_value d
-    else None
+claim_value k d = kind_value (kind_of k) d
 
 -- the claims of a table, set one after another
 abbrev pub claims_onto : Members → json.Members → Option json.Members

@@ -1,10 +1,13 @@
 -- What may stand at the keys of a configuration: the kinds of values, and the rules of each.
 use Rattle.std.specs.Prelude.{ℕ, Bool, true, false, not, ◌&&◌, ◌||◌, ◌==◌, List, [], ◌∷◌, length, nat_le, codes, Option, Some, None, is_some, if◌then◌else◌}
-use Rattle.std.specs.List.{list_all, list_any, slice_split, position_from}
-use Rattle.std.specs.Str.{bytes_eq}
+use Rattle.std.specs.List.{list_all}
 use Rattle.toml.specs.Data.{Data, as_str, as_bool}
 use Rattle.registered_url.specs.declared.web_url.WebUrl.{WebUrl}
 use Rattle.registered_url.specs.Rule.{is_visible, url_of}
+use Rattle.sso_base.specs.Texts.{has_text}
+use Rattle.oidc_words.specs.Scopes.{is_scope}
+use Rattle.oidc_words.specs.Prompts.{is_prompt}
+use Rattle.oidc_words.specs.Types.{is_response_type}
 use Rattle.configuration_rows.specs.declared.kind.Alphabet.{Alphabet}
 use Rattle.configuration_rows.specs.declared.kind.Alphabet.TheVariants.{UserId, ClientId, PartyName, Visible}
 use Rattle.configuration_rows.specs.declared.kind.Kind.{Kind}
@@ -40,58 +43,6 @@ is_within least most n = nat_le least n && nat_le n most
 
 abbrev pub is_name : Alphabet → ℕ → ℕ → List ℕ → Bool
 is_name alphabet least most t = is_within least most (length t) && list_all (allows alphabet) t
-
--- ---- lists of texts, and words
-
-abbrev pub has_text : List ℕ → List (List ℕ) → Bool
-has_text t ts = list_any (bytes_eq t) ts
-
--- no text stands twice
-abbrev pub is_distinct : List (List ℕ) → Bool
-is_distinct [] = true
-is_distinct (t ∷ ts) = not (has_text t ts) && is_distinct ts
-
--- the words of a text, with one space between
-abbrev pub words_of : List ℕ → List (List ℕ)
-words_of t = slice_split (λ b. b == 32) t
-
--- the scope values that are known (OpenID Connect Core 1.0, 3.1.2.1 and 5.4)
-abbrev pub scope_words : List (List ℕ)
-scope_words = codes "openid" ∷ codes "profile" ∷ codes "email" ∷ codes "address" ∷ codes "phone" ∷ []
-
--- the values of `prompt` (OpenID Connect Core 1.0, 3.1.2.1)
-abbrev pub prompt_words : List (List ℕ)
-prompt_words = codes "none" ∷ codes "login" ∷ codes "consent" ∷ codes "select_account" ∷ []
-
--- words that are known, each at most once
-abbrev pub are_words : List (List ℕ) → List (List ℕ) → Bool
-are_words known ws = list_all (λ w. has_text w known) ws && is_distinct ws
-
-abbrev pub is_scope : List ℕ → Bool
-is_scope t = are_words scope_words (words_of t) && has_text (codes "openid") (words_of t)
-
-abbrev pub is_prompt : List ℕ → Bool
-is_prompt t = are_words prompt_words (words_of t)
-
--- ---- response types (OpenID Connect Core 1.0, 3; OAuth 2.0 Multiple Response Type Encoding Practices, 3 and 5)
-
--- the spellings of each of the six, whose words may stand in any order
-unfoldable pub spellings : List (List (List ℕ))
-spellings =
-    (codes "code" ∷ [])
-    ∷ (codes "id_token" ∷ [])
-    ∷ (codes "id_token token" ∷ codes "token id_token" ∷ [])
-    ∷ (codes "code id_token" ∷ codes "id_token code" ∷ [])
-    ∷ (codes "code token" ∷ codes "token code" ∷ [])
-    ∷ (codes "code id_token token" ∷ codes "code token id_token" ∷ codes "id_token code token" ∷ codes "id_token token code" ∷ codes "token code id_token" ∷ codes "token id_token code" ∷ [])
-    ∷ []
-
--- the number of a response type among the six, from 0
-abbrev pub type_number : List ℕ → Option ℕ
-type_number t = position_from (λ ts. has_text t ts) 0 spellings
-
-abbrev pub is_response_type : List ℕ → Bool
-is_response_type t = is_some (type_number t)
 
 -- ---- breaches
 

@@ -19,7 +19,10 @@ use Rattle.configuration_rows.specs.declared.kind.Breach.TheVariants.{WrongKind,
 use Rattle.configuration_rows.specs.Refusals.{note_if, each}
 use Rattle.configuration_rows.specs.Paths.{path_text}
 use Rattle.configuration_rows.specs.Values.{text_at, text_or, texts_at, url_at, rows_at, table_at}
-use Rattle.configuration_rows.specs.Kinds.{breach, passes, has_text, type_number}
+use Rattle.configuration_rows.specs.Kinds.{breach, passes}
+use Rattle.sso_base.specs.Texts.{has_text}
+use Rattle.oidc_words.specs.Paths.{home_path, begin_path, leave_path}
+use Rattle.oidc_words.specs.Types.{code_word, type_number}
 
 -- ---- keys
 
@@ -57,7 +60,7 @@ is_elsewhere u (Some v) = not (is_same_server u v)
 -- the logout URI of a client does not fit the party, which uses the client: it has the path of the party's own sign-out,
 -- or another scheme, host or port than the party's redirection URI
 abbrev pub is_apart : List ℕ → WebUrl → Data → Bool
-is_apart id u party = uses id party && (bytes_eq u.path (codes "/leave") || is_elsewhere u (url_at (codes "redirect_uri") party))
+is_apart id u party = uses id party && (bytes_eq u.path leave_path || is_elsewhere u (url_at (codes "redirect_uri") party))
 
 abbrev pub misplaced : List Data → Option (List ℕ) → Option WebUrl → Bool
 misplaced parties None u = false
@@ -86,7 +89,7 @@ answer_names = codes "state" ∷ codes "error" ∷ codes "code" ∷ codes "acces
 
 -- the paths that a party serves itself
 abbrev pub own_paths : List (List ℕ)
-own_paths = codes "/" ∷ codes "/login" ∷ codes "/leave" ∷ []
+own_paths = home_path ∷ begin_path ∷ leave_path ∷ []
 
 abbrev pub has_answer_name : WebUrl → Bool
 has_answer_name u = list_any (λ name. has_text name answer_names) (query_names u)
@@ -109,7 +112,7 @@ redirect_rule clients row party = note_if (misdirects (client_of clients party) 
 
 -- the response types of a client, or else `code`
 abbrev pub response_texts : Data → List (List ℕ)
-response_texts client = if is_some (get (codes "response_types") client) then texts_at (codes "response_types") client else codes "code" ∷ []
+response_texts client = if is_some (get (codes "response_types") client) then texts_at (codes "response_types") client else code_word ∷ []
 
 abbrev pub is_number : ℕ → Option ℕ → Bool
 is_number n m = passes (λ k. n == k) m
@@ -127,7 +130,7 @@ lacks_type None t = false
 lacks_type (Some client) t = lacks_number (response_texts client) (type_number t)
 
 abbrev pub type_rule : List Data → Row → Data → List RegNo
-type_rule clients row party = note_if (lacks_type (client_of clients party) (text_or (codes "response_type") (codes "code") party)) (no.WrongKind (path_text row (codes "response_type")))
+type_rule clients row party = note_if (lacks_type (client_of clients party) (text_or (codes "response_type") code_word party)) (no.WrongKind (path_text row (codes "response_type")))
 
 -- ---- the rows of the table
 

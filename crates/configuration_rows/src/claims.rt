@@ -4,47 +4,14 @@ ghost use Rattle.std.specs.Prelude.{◌≡◌, IfOk, IfSome, OnOk};
 ghost use Rattle.toml.specs.View.{view, table_view};
 ghost use Rattle.serde_json.specs.Data.{no_members, put, string};
 ghost use Rattle.claim_set.specs.Fitting.{ClaimsFit};
-ghost use Rattle.configuration_rows.specs.Claims.{text_claims, flag_claims, is_one_of as is_claim_of, text_value, flag_value, seconds_value, address_value, claim_value, claims_in, claims_onto, texts_onto, Puts};
+ghost use Rattle.configuration_rows.specs.Claims.{text_value, flag_value, seconds_value, address_value, claim_value, claims_in, claims_onto, texts_onto, Puts};
 
 use crate::values::natural_of;
-use crate::words::is_one_of;
 use claim_set::ClaimSet;
+use oidc_words::{ClaimKind, kind_of_claim};
 use sso_base::NoMemory;
 use std::alloc::Global;
 use toml::{Table, Value};
-
-#[tactic(auto, unfolding(crate::specs::Claims::text_claims))]
-fn is_text_claim(name: &str) -> bool
-    ensures { result ≡ is_claim_of text_claims name.now }
-{
-    is_one_of(
-        name,
-        &[
-            "name",
-            "family_name",
-            "given_name",
-            "middle_name",
-            "nickname",
-            "preferred_username",
-            "profile",
-            "picture",
-            "website",
-            "gender",
-            "birthdate",
-            "zoneinfo",
-            "locale",
-            "email",
-            "phone_number",
-        ],
-    )
-}
-
-#[tactic(auto, unfolding(crate::specs::Claims::flag_claims))]
-fn is_flag_claim(name: &str) -> bool
-    ensures { result ≡ is_claim_of flag_claims name.now }
-{
-    is_one_of(name, &["email_verified", "phone_number_verified"])
-}
 
 // Sets a claim to this text.
 #[tactic(auto, using(crate::proofs::FittingClaims::text_fits))]
@@ -144,19 +111,13 @@ fn put_claim(
     ensures puts { IfOk result (λ taken. Puts name.now (claim_value name.now (view value.now)) claims.old claims.new taken) }
     ensures fits { IfOk result (λ taken. ClaimsFit claims.old → ClaimsFit claims.new) }
 {
-    if is_text_claim(name) {
-        return put_text(claims, name, value);
+    match kind_of_claim(name) {
+        Some(ClaimKind::Text) => put_text(claims, name, value),
+        Some(ClaimKind::Flag) => put_flag(claims, name, value),
+        Some(ClaimKind::Seconds) => put_seconds(claims, name, value),
+        Some(ClaimKind::Address) => put_address(claims, alloc, name, value),
+        None => Ok(false),
     }
-    if is_flag_claim(name) {
-        return put_flag(claims, name, value);
-    }
-    if name == "updated_at" {
-        return put_seconds(claims, name, value);
-    }
-    if name == "address" {
-        return put_address(claims, alloc, name, value);
-    }
-    Ok(false)
 }
 
 #[tactic(auto, using(crate::proofs::FittingClaims::none_fits))]

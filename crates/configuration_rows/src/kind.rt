@@ -5,11 +5,12 @@ ghost use Rattle.std.specs.List.{list_all};
 ghost use Rattle.toml.specs.View.{view};
 ghost use Rattle.registered_url.specs.Rule.{url_of as url_in};
 ghost use Rattle.configuration_rows.specs.Values.{hex_bytes, as_natural};
-ghost use Rattle.configuration_rows.specs.Kinds.{allows, is_name, is_within, has_length, is_response_type, text_keeps, passes, unless, are_urls, issuer_breach, breach as breach_in};
+ghost use Rattle.configuration_rows.specs.Kinds.{allows, is_name, is_within, has_length, text_keeps, passes, unless, are_urls, issuer_breach, breach as breach_in};
+ghost use Rattle.oidc_words.specs.Types.{is_response_type};
 
 use crate::claims::claims_of;
 use crate::values::{hex_of, natural_of, texts_of, url_of};
-use crate::words::{is_one_of, is_prompt_text, is_scope_text, number_of_type};
+use oidc_words::{is_one_of, is_prompt, is_scope, number_of_type};
 use sso_base::{NoMemory, Text};
 use std::alloc::Global;
 use toml::Value;
@@ -17,8 +18,11 @@ use toml::Value;
 /// The characters of a kind of name.
 #[derive(Clone, Copy, Debug)]
 pub enum Alphabet {
+    /// `a-z 0-9 . _ @ -`.
     UserId,
+    /// `A-Z a-z 0-9 . _ ~ -`.
     ClientId,
+    /// `a-z 0-9`.
     PartyName,
     /// Visible ASCII.
     Visible,
@@ -27,41 +31,68 @@ pub enum Alphabet {
 /// What a text has to be. Bounds are of characters, and for hexadecimal digits of the bytes that they spell.
 #[derive(Clone, Copy, Debug)]
 pub enum TextRule {
+    /// Any text.
     Any,
+    /// Characters of an alphabet alone.
     Name {
+        /// Its characters.
         alphabet: Alphabet,
+        /// The fewest.
         least: usize,
+        /// The most.
         most: usize,
     },
+    /// Hexadecimal digits, two for each byte.
     Hex {
+        /// The fewest bytes.
         least: usize,
+        /// The most bytes.
         most: usize,
     },
+    /// A response type, its words in any order (OpenID Connect Core 1.0, 3).
     ResponseType,
+    /// `public` or `pairwise` (OpenID Connect Core 1.0, 8).
     Subject,
+    /// `ask` or `given`.
     Consent,
+    /// Words of `scope`, `openid` among them.
     Scope,
+    /// Words of `prompt` (OpenID Connect Core 1.0, 3.1.2.1).
     Prompt,
 }
 
 /// What may stand at a key.
 #[derive(Clone, Copy, Debug)]
 pub enum Kind {
+    /// A text.
     Text(TextRule),
-    Number { least: u64, most: u64 },
+    /// A whole number within these bounds.
+    Number {
+        /// The least.
+        least: u64,
+        /// The greatest.
+        most: u64,
+    },
+    /// True or false.
     Flag,
+    /// A URL of at most 200 bytes without a query (OpenID Connect Discovery 1.0, 3).
     Issuer,
+    /// A URL that may be registered.
     Url,
     /// From 1 to 16 URLs.
     Urls,
+    /// An array of response types.
     ResponseTypes,
+    /// A table of standard claims, each of its kind (OpenID Connect Core 1.0, 5.1).
     Claims,
 }
 
 /// How a value breaks the rule of its key.
 #[derive(Clone, Copy, Debug)]
 pub enum Breach {
+    /// It is of another kind, or outside its rule.
     WrongKind,
+    /// It breaks the rule for URLs.
     BadUrl,
 }
 
@@ -128,8 +159,8 @@ fn keeps(alloc: Global, rule: TextRule, text: &str) -> Result<bool, NoMemory>
         TextRule::ResponseType => Ok(number_of_type(text).is_some()),
         TextRule::Subject => Ok(is_one_of(text, &["public", "pairwise"])),
         TextRule::Consent => Ok(is_one_of(text, &["ask", "given"])),
-        TextRule::Scope => is_scope_text(alloc, text),
-        TextRule::Prompt => is_prompt_text(alloc, text),
+        TextRule::Scope => is_scope(alloc, text),
+        TextRule::Prompt => is_prompt(alloc, text),
     }
 }
 

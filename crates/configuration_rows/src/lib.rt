@@ -9,7 +9,6 @@
 //! | `refusals` | refusals in their order, and the one that is answered |
 //! | `row` | the rows, and the paths of their keys |
 //! | `values` | values at keys, each of the kind that is asked for |
-//! | `words` | words of texts, and response types |
 //! | `claims` | a user's claims |
 //! | `kind` | the kinds of values, and how a value breaks the rule of its key |
 //! | `keys` | what a row is guilty of at one key |
@@ -29,7 +28,6 @@ pub mod refusals;
 pub mod row;
 pub mod values;
 pub mod version1;
-pub mod words;
 
 pub use law::the_least_is_answered;
 pub use no::RegNo;

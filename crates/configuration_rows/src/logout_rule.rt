@@ -10,6 +10,7 @@ use crate::no::RegNo;
 use crate::refusals::Refusals;
 use crate::row::Row;
 use crate::values::{text_at, url_at};
+use oidc_words::LEAVE_PATH;
 use registered_url::WebUrl;
 use sso_base::NoMemory;
 use std::alloc::Global;
@@ -42,7 +43,7 @@ fn is_apart(alloc: Global, id: &str, url: &WebUrl, party: &Value) -> Result<bool
     if !uses(id, party) {
         return Ok(false);
     }
-    if url.path.as_str() == "/leave" {
+    if url.path.as_str() == LEAVE_PATH {
         return Ok(true);
     }
     is_elsewhere(alloc, url, party)

@@ -25,8 +25,8 @@ pub enum RegNo {
     WrongKind(Text),
     /// The text at this path breaks the rule for URLs, or a party's redirection URI breaks its own.
     BadUrl(Text),
-    /// This user id, client id, party name or redirection URI stands twice; or the client of this id has the secret of
-    /// an earlier one, or is used by two parties; or a party has the name `op`.
+    /// This user id, client id, party name or redirection URI stands twice; or a client's id is the issuer; or the client
+    /// of this id has the secret of an earlier one, or is used by two parties; or a party has the name `op`.
     Twice(Text),
     /// The secret of the client of this id has fewer than 32 characters.
     ShortSecret(Text),
@@ -53,8 +53,8 @@ impl From<NoMemory> for RegNo {
 }
 
 impl RegNo {
-    /// The number of this kind of refusal, in the order in which they are answered.
-    pub fn number(&self) -> u8
+    // The number of this kind of refusal, in the order in which they are answered.
+    pub(crate) fn number(&self) -> u8
         ensures { result ≡ number self.now }
     {
         match self {

@@ -4,7 +4,9 @@ ghost use Rattle.std.specs.Prelude.{◌≡◌, ◌++◌, map, codes, Some, IfOk,
 ghost use Rattle.std.specs.List.{list_any};
 ghost use Rattle.std.specs.Str.{bytes_eq};
 ghost use Rattle.toml.specs.View.{view};
-ghost use Rattle.configuration_rows.specs.Kinds.{has_text, passes};
+ghost use Rattle.sso_base.specs.Texts.{has_text};
+ghost use Rattle.oidc_words.specs.Types.{code_word};
+ghost use Rattle.configuration_rows.specs.Kinds.{passes};
 ghost use Rattle.configuration_rows.specs.Values.{text_at as text_in, text_or as text_or_in, url_at as url_in};
 ghost use Rattle.configuration_rows.specs.Version1 as spec;
 
@@ -12,7 +14,7 @@ use crate::no::RegNo;
 use crate::refusals::Refusals;
 use crate::row::Row;
 use crate::values::{text_at, text_or, texts_at, url_at, url_of};
-use crate::words::{is_one_of, number_of_type};
+use oidc_words::{BEGIN_PATH, HOME_PATH, LEAVE_PATH, is_one_of, number_of_type};
 use registered_url::WebUrl;
 use sso_base::{NoMemory, Text, Texts};
 use std::alloc::Global;
@@ -70,7 +72,7 @@ fn is_answer_name(name: &str) -> bool
     )
 }
 
-#[tactic(auto, using(crate::proofs::Lists::drop_at))]
+#[tactic(auto, using(sso_base::proofs::ListSteps::drop_at))]
 fn has_answer_name(names: &Texts) -> bool
     ensures { result ≡ list_any (λ name. has_text name spec.answer_names) names.now }
 {
@@ -85,7 +87,7 @@ fn has_answer_name(names: &Texts) -> bool
 fn is_own_path(path: &str) -> bool
     ensures { result ≡ has_text path.now spec.own_paths }
 {
-    is_one_of(path, &["/", "/login", "/leave"])
+    is_one_of(path, &[HOME_PATH, BEGIN_PATH, LEAVE_PATH])
 }
 
 fn has_path(path: &str, url: &Option<WebUrl>) -> bool
@@ -182,7 +184,7 @@ pub fn has_type(number: usize, texts: &[Text]) -> bool
 
 #[tactic(auto, unfolding(crate::specs::Version1::lacks_type))]
 fn lacks_type(alloc: Global, clients: &[Value], party: &Value) -> Result<bool, NoMemory>
-    ensures { IfOk result (λ b. b ≡ spec.lacks_type (spec.client_of (map view clients.now) (view party.now)) (text_or_in (codes "response_type") (codes "code") (view party.now))) }
+    ensures { IfOk result (λ b. b ≡ spec.lacks_type (spec.client_of (map view clients.now) (view party.now)) (text_or_in (codes "response_type") code_word (view party.now))) }
 {
     let Some(client) = client_of(clients, party) else {
         return Ok(false);

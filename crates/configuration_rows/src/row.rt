@@ -9,9 +9,13 @@ use std::alloc::Global;
 /// A row: the provider, or a user, client or party with its place, from 0.
 #[derive(Clone, Copy, Debug)]
 pub enum Row {
+    /// The provider.
     Provider,
+    /// The user at this place.
     User(usize),
+    /// The client at this place.
     Client(usize),
+    /// The party at this place.
     Party(usize),
 }
 

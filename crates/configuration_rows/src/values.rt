@@ -13,8 +13,8 @@ use sso_base::{NoMemory, Text};
 use std::alloc::Global;
 use toml::Value;
 
-/// A whole number from 0 on.
-pub fn natural_of(value: &Value) -> Option<u64>
+// A whole number from 0 on.
+pub(crate) fn natural_of(value: &Value) -> Option<u64>
     ensures { result ≡ as_natural (view value.now) }
 {
     match value.as_integer() {
@@ -23,8 +23,8 @@ pub fn natural_of(value: &Value) -> Option<u64>
     }
 }
 
-/// The bytes of a text in hexadecimal digits, two for each.
-pub fn hex_of(alloc: Global, text: &str) -> Result<Option<Vec<u8>>, NoMemory>
+// The bytes of a text in hexadecimal digits, two for each.
+pub(crate) fn hex_of(alloc: Global, text: &str) -> Result<Option<Vec<u8>>, NoMemory>
     ensures { IfOk result (λ o. option_map (λ v. v.items) o ≡ hex_bytes text.now) }
 {
     match hex::decode(alloc, text) {
@@ -47,8 +47,8 @@ fn texts_in(alloc: Global, items: &[Value]) -> Result<Option<Vec<Text>>, NoMemor
     Ok(Some(texts))
 }
 
-/// The texts of an array that holds nothing else.
-pub fn texts_of(alloc: Global, value: &Value) -> Result<Option<Vec<Text>>, NoMemory>
+// The texts of an array that holds nothing else.
+pub(crate) fn texts_of(alloc: Global, value: &Value) -> Result<Option<Vec<Text>>, NoMemory>
     ensures { IfOk result (λ o. option_map (λ v. v.items) o ≡ as_texts (view value.now)) }
 {
     match value.as_array() {

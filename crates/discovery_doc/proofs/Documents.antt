@@ -2,6 +2,7 @@
 use Rattle.std.proofs.Common.{◌≡◌, ℕ, List, [], ◌∷◌, ◌++◌, Bool, true, false, not, Result, Ok, Err, codes, refl, ap, ◌∙◌, subst}
 use Rattle.std.specs.Str.{bytes_eq}
 use Rattle.std.proofs.lemmas.Slice.Eq.{bytes_eq-Decides}
+use Rattle.sso_base.specs.Texts.{has_text}
 use Rattle.serde_json.specs.Data.{Members}
 use Rattle.serde_json.specs.Find.{get_member}
 use Rattle.sso_base.specs.Refusals.{first_refusal, and_then}
@@ -12,7 +13,7 @@ use Rattle.claim_set.proofs.Parsing.{read_reads, reads_read}
 use Rattle.client_registry.specs.declared.records.Provider.{Provider}
 use Rattle.discovery_doc.specs.declared.no.DiscNo.{DiscNo}
 use Rattle.discovery_doc.specs.declared.no.DiscNo.TheVariants.{NotObject}
-use Rattle.discovery_doc.specs.Reading.{is_among, text_in, texts_in, absences, faults, provider_in, members_read, if_object, discovery_read}
+use Rattle.discovery_doc.specs.Reading.{text_in, texts_in, absences, faults, provider_in, members_read, if_object, discovery_read}
 use Rattle.discovery_doc.specs.Document.{IsMetadata, IsDocument}
 use Rattle.discovery_doc.proofs.Standing.{texts_are_texts, text_if_there, url_not_bad, not_bad_url, member_not_bad, text_there, texts_there, userinfo_there}
 
@@ -71,7 +72,7 @@ stands asked ms a f =
       subject_types_supported = texts_there (get_member (codes "subject_types_supported") ms) there.1.1.1.1.1.0;
       algorithms = texts_in (codes "id_token_signing_alg_values_supported") ms;
       algorithms_supported = texts_there (get_member (codes "id_token_signing_alg_values_supported") ms) there.1.1.1.1.1.1.0;
-      hs256 = not_not (is_among (codes "HS256") (texts_in (codes "id_token_signing_alg_values_supported") ms)) right.1.0;
+      hs256 = not_not (has_text (codes "HS256") (texts_in (codes "id_token_signing_alg_values_supported") ms)) right.1.0;
     }
 
 abbrev provider_ok : Provider → Result Provider DiscNo

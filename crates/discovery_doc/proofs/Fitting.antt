@@ -11,7 +11,10 @@ use Rattle.claim_set.specs.Fitting.{ItemsFit, EntriesFit, ClaimsFit}
 use Rattle.claim_set.proofs.Fitting.{ClaimsFit-put_all, ClaimsFit-none, text_fits}
 use Rattle.client_registry.specs.declared.records.Provider.{Provider}
 use Rattle.client_registry.specs.Records.{endpoint}
-use Rattle.discovery_doc.specs.Metadata.{texts, response_types, algorithms, response_modes, subject_types, auth_methods, scopes, metadata_entries, metadata}
+use Rattle.oidc_words.specs.Modes.{response_modes}
+use Rattle.discovery_doc.specs.Metadata.{texts, algorithms, subject_types, auth_methods, metadata_entries, metadata}
+use Rattle.oidc_words.specs.Types.{response_types}
+use Rattle.oidc_words.specs.Scopes.{scope_words}
 use Rattle.discovery_doc.specs.Document.{IsUrl}
 use Rattle.discovery_doc.specs.Printed.{IsPrintable}
 use Rattle.discovery_doc.proofs.Utf8.{both, IsUtf8-url, IsUtf8-endpoint}
@@ -62,7 +65,7 @@ entries_fit p h =
     flag_entry (codes "request_uri_parameter_supported") false refl (
     texts_entry (codes "response_modes_supported") response_modes refl refl (
     texts_entry (codes "response_types_supported") response_types refl refl (
-    texts_entry (codes "scopes_supported") scopes refl refl (
+    texts_entry (codes "scopes_supported") scope_words refl refl (
     texts_entry (codes "subject_types_supported") subject_types refl refl (
     text_entry (codes "token_endpoint") p.token refl (IsUtf8-url p.token h.token) (
     texts_entry (codes "token_endpoint_auth_methods_supported") auth_methods refl refl (

@@ -8,12 +8,17 @@ use Rattle.claim_set.proofs.Written.{claims_read-claims_text}
 use Rattle.claim_set.proofs.Parsing.{read_reads}
 use Rattle.client_registry.specs.declared.records.Provider.{Provider}
 use Rattle.client_registry.specs.Records.{endpoint}
-use Rattle.discovery_doc.specs.Metadata.{metadata_entries, metadata, response_types, subject_types, algorithms}
+use Rattle.client_registry.specs.Configuration.{Configuration}
+use Rattle.client_registry.specs.Registered.{IsRegistry}
+use Rattle.client_registry.proofs.Endpoints.{authorize_url, token_url, userinfo_url}
+use Rattle.discovery_doc.specs.Metadata.{metadata_entries, metadata, subject_types, algorithms}
+use Rattle.oidc_words.specs.Types.{response_types}
 use Rattle.discovery_doc.specs.Document.{IsMetadata, IsDocument}
 use Rattle.discovery_doc.specs.Printed.{IsPrintable}
 use Rattle.discovery_doc.specs.Reading.{discovery_read}
 use Rattle.discovery_doc.proofs.Documents.{document_read}
 use Rattle.discovery_doc.proofs.Fitting.{ClaimsFit-metadata}
+use Rattle.discovery_doc.proofs.Utf8.{IsUtf8-url}
 
 or_none : (o : Option Data) → or_else o None ≡ o
 or_none None = refl
@@ -53,3 +58,14 @@ printed_document p h = record {
 
 pub printed_read : (p : Provider) → IsPrintable p → discovery_read p.issuer (claims_text (metadata p)) ≡ Ok p
 printed_read p h = document_read p.issuer (claims_text (metadata p)) p (printed_document p h)
+
+-- ---- the provider of a registry
+
+pub printable : (c : Configuration) → IsRegistry c → IsPrintable c.provider
+printable c r = record { issuer = IsUtf8-url c.provider.issuer r.issuer; authorize = authorize_url c r; token = token_url c r; userinfo = userinfo_url c r }
+
+pub registry_document : (c : Configuration) → IsRegistry c → IsDocument c.provider.issuer (claims_text (metadata c.provider)) c.provider
+registry_document c r = printed_document c.provider (printable c r)
+
+pub registry_read : (c : Configuration) → IsRegistry c → discovery_read c.provider.issuer (claims_text (metadata c.provider)) ≡ Ok c.provider
+registry_read c r = printed_read c.provider (printable c r)

@@ -1,5 +1,6 @@
 -- The definitions computed on small cases: what each accepts, and what it refuses.
 use Rattle.std.proofs.Common.{◌≡◌, ℕ, List, [], ◌∷◌, true, false, codes, Option, Some, None, Result, Ok, Err, refl, sym, ◌∙◌}
+use Rattle.sso_base.specs.Texts.{has_text}
 use Rattle.json.proofs.Printed.Utf8.{IsUtf8-are_ascii}
 use Rattle.serde_json.specs.Data.{Data, string, array, number, unsigned, no_items, item, Members, no_members, member, put}
 use Rattle.serde_json.specs.Find.{as_str}
@@ -12,7 +13,7 @@ use Rattle.client_registry.specs.declared.records.Provider.{Provider}
 use Rattle.discovery_doc.specs.declared.no.DiscNo.{DiscNo}
 use Rattle.discovery_doc.specs.declared.no.DiscNo.TheVariants.{NotObject, Missing, IssuerDiffers, NoHs256, BadUrl}
 use Rattle.discovery_doc.specs.Metadata.{metadata, texts}
-use Rattle.discovery_doc.specs.Reading.{as_texts, member_as, text_in, texts_in, is_among, is_bad_url, is_bad_member, absences, faults, provider_in, members_read, discovery_read}
+use Rattle.discovery_doc.specs.Reading.{as_texts, member_as, text_in, texts_in, is_bad_url, is_bad_member, absences, faults, provider_in, members_read, discovery_read}
 use Rattle.discovery_doc.specs.Document.{IsUrl, IsMetadata, IsDocument}
 use Rattle.discovery_doc.specs.Printed.{IsPrintable}
 use Rattle.discovery_doc.proofs.Documents.{read_stands, read_document, document_read, refused}
@@ -21,7 +22,7 @@ use Rattle.discovery_doc.proofs.Printed.{printed_reads, printed_read}
 abbrev no : DiscNo → Result Provider DiscNo
 no e = Err e
 
--- ---- the provider of a issuer at this machine, and the text of its document
+-- ---- the provider of an issuer at this machine, and the text of its document
 
 abbrev here : Provider
 here = record {
@@ -85,10 +86,10 @@ texts-not_of_a_lone_string = refl
 texts-not_of_an_array_with_a_number : as_texts (array (item (string (codes "a")) (item (number (unsigned 1)) no_items))) ≡ no_texts
 texts-not_of_an_array_with_a_number = refl
 
-among-the_second : is_among (codes "HS256") (codes "RS256" ∷ codes "HS256" ∷ []) ≡ true
+among-the_second : has_text (codes "HS256") (codes "RS256" ∷ codes "HS256" ∷ []) ≡ true
 among-the_second = refl
 
-among-not_another_case : is_among (codes "HS256") (codes "RS256" ∷ codes "hs256" ∷ []) ≡ false
+among-not_another_case : has_text (codes "HS256") (codes "RS256" ∷ codes "hs256" ∷ []) ≡ false
 among-not_another_case = refl
 
 bad_member-absent : is_bad_member None ≡ false

@@ -1,5 +1,5 @@
 -- URLs and endpoints are texts in UTF-8.
-use Rattle.std.proofs.Common.{◌≡◌, ◌⊎◌, inl, inr, ◌==◌, ℕ, List, [], ◌∷◌, ◌++◌, ◌&&◌, Bool, true, false, cond, nat_lt, length, take, take_at, Option, Some, None, is_some, refl, sym, ap, ◌∙◌, subst, arith}
+use Rattle.std.proofs.Common.{◌≡◌, ℕ, List, [], ◌∷◌, ◌++◌, ◌&&◌, Bool, true, false, nat_lt, length, take, take_at, Option, Some, None, is_some, refl, ap, ◌∙◌, subst, arith}
 use Rattle.std.specs.List.{list_all}
 use Rattle.std.specs.Str.{IsUtf8}
 use Rattle.std.proofs.lemmas.Grind.{common_steps}
@@ -9,7 +9,9 @@ use Rattle.json.proofs.Printed.Utf8.{IsUtf8-are_ascii}
 use Rattle.registered_url.specs.declared.web_url.WebUrl.{WebUrl}
 use Rattle.registered_url.specs.Rule.{is_visible, url_of}
 use Rattle.registered_url.proofs.Keeping.{urls_keep}
+use Rattle.registered_url.proofs.PathBelow.{is_any_slash, IsCutFrom}
 use Rattle.client_registry.specs.Records.{without_slash, endpoint}
+use Rattle.client_registry.proofs.Slashes.{Cut, cut_of}
 use Rattle.discovery_doc.specs.Document.{IsUrl}
 
 -- ---- a text that keeps the rule for URLs is visible ASCII
@@ -37,27 +39,23 @@ IsUtf8-url t h = url_at t (url_of t) refl h
 
 -- ---- a text without its last slash
 
-lone : (x : ℕ) (b : Bool) → (x == 47) ≡ b → (cond b [] (x ∷ []) ≡ x ∷ []) ⊎ (x ∷ [] ≡ cond b [] (x ∷ []) ++ 47 ∷ [])
-lone x true is = let same : x ≡ 47 = grind (arith, nat_tests) in inr (ap (λ y. y ∷ []) same)
-lone x false is = inl refl
+before_tail : (t front tail : List ℕ) → t ≡ front ++ tail → list_all (λ b. nat_lt b 128) tail ≡ true → IsUtf8 t → IsUtf8 front
+before_tail t front tail is ascii u =
+    let cut = IsUtf8-take t (length front) u (IsCharBoundary-at_seam t front tail is (IsUtf8-are_ascii tail ascii)) in
+    subst IsUtf8 (ap (take (length front)) is ∙ take_at front tail (length front) refl) cut
 
-longer : (x : ℕ) (t : List ℕ) → (without_slash t ≡ t) ⊎ (t ≡ without_slash t ++ 47 ∷ []) → (x ∷ without_slash t ≡ x ∷ t) ⊎ (x ∷ t ≡ x ∷ without_slash t ++ 47 ∷ [])
-longer x t (inl is) = inl (ap (λ u. x ∷ u) is)
-longer x t (inr is) = inr (ap (λ u. x ∷ u) is)
+slash_is_ascii : (e : ℕ) → is_any_slash e ≡ true → nat_lt e 128 ≡ true
+slash_is_ascii e h = grind (arith, nat_tests, h)
 
-kept_or_cut : (t : List ℕ) → (without_slash t ≡ t) ⊎ (t ≡ without_slash t ++ 47 ∷ [])
-kept_or_cut [] = inl refl
-kept_or_cut (x ∷ []) = lone x (x == 47) refl
-kept_or_cut (x ∷ y ∷ t) = longer x (y ∷ t) (kept_or_cut (y ∷ t))
+cut_is_ascii : (front tail : List ℕ) → IsCutFrom front tail → list_all (λ b. nat_lt b 128) tail ≡ true
+cut_is_ascii front [] h = refl
+cut_is_ascii front (e ∷ []) h = rw (slash_is_ascii e h)
+cut_is_ascii front (e ∷ f ∷ rest) h = absurd h
 
-before_slash : (t front : List ℕ) → t ≡ front ++ 47 ∷ [] → IsUtf8 t → IsUtf8 front
-before_slash t front is u =
-    let cut = IsUtf8-take t (length front) u (IsCharBoundary-at_seam t front (47 ∷ []) is (IsUtf8-are_ascii (47 ∷ []) refl)) in
-    subst IsUtf8 (ap (take (length front)) is ∙ take_at front (47 ∷ []) (length front) refl) cut
-
-either_way : (t : List ℕ) → (without_slash t ≡ t) ⊎ (t ≡ without_slash t ++ 47 ∷ []) → IsUtf8 t → IsUtf8 (without_slash t)
-either_way t (inl is) u = subst IsUtf8 (sym is) u
-either_way t (inr is) u = before_slash t (without_slash t) is u
+IsUtf8-without_slash : (t : List ℕ) → IsUtf8 t → IsUtf8 (without_slash t)
+IsUtf8-without_slash t u =
+    let c : Cut t = cut_of t in
+    before_tail t (without_slash t) c.tail c.whole (cut_is_ascii (without_slash t) c.tail c.cut) u
 
 pub IsUtf8-endpoint : (issuer path : List ℕ) → IsUtf8 issuer → IsUtf8 path → IsUtf8 (endpoint issuer path)
-IsUtf8-endpoint issuer path u v = IsUtf8-append (without_slash issuer) path (either_way issuer (kept_or_cut issuer) u) v
+IsUtf8-endpoint issuer path u v = IsUtf8-append (without_slash issuer) path (IsUtf8-without_slash issuer u) v

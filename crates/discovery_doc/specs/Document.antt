@@ -7,7 +7,7 @@ use Rattle.claim_set.specs.Reading.{Reads}
 use Rattle.registered_url.specs.Rule.{url_of}
 use Rattle.client_registry.specs.declared.records.Provider.{Provider}
 use Rattle.discovery_doc.specs.Metadata.{texts}
-use Rattle.discovery_doc.specs.Reading.{is_among}
+use Rattle.sso_base.specs.Texts.{has_text}
 
 -- the text keeps the rule for URLs
 abbrev pub IsUrl : List ℕ → Type 0
@@ -31,7 +31,7 @@ pub record IsMetadata (asked : List ℕ) (ms : Members) (p : Provider) : Type 0 
   pub subject_types_supported : get_member (codes "subject_types_supported") ms ≡ Some (texts subject_types)
   pub algorithms : List (List ℕ)
   pub algorithms_supported : get_member (codes "id_token_signing_alg_values_supported") ms ≡ Some (texts algorithms)
-  pub hs256 : IsTrue (is_among (codes "HS256") algorithms)
+  pub hs256 : IsTrue (has_text (codes "HS256") algorithms)
 
 -- the bytes b are a discovery document of the provider p, whose issuer is the one that was asked for
 pub record IsDocument (asked b : List ℕ) (p : Provider) : Type 0 where

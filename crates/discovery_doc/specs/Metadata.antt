@@ -4,23 +4,19 @@ use Rattle.std.specs.Prelude.{true, false, List, [], ◌∷◌, ◌++◌, ℕ, S
 use Rattle.serde_json.specs.Data.{Data, string, boolean, array, Members, no_members}
 use Rattle.claim_set.specs.Claims.{text_items}
 use Rattle.claim_set.specs.Building.{Entry, put_all}
+use Rattle.oidc_words.specs.Modes.{response_modes}
+use Rattle.oidc_words.specs.Paths.{keys_path}
+use Rattle.oidc_words.specs.Scopes.{scope_words}
+use Rattle.oidc_words.specs.Types.{response_types}
 use Rattle.client_registry.specs.declared.records.Provider.{Provider}
 use Rattle.client_registry.specs.Records.{endpoint}
 
 abbrev pub texts : List (List ℕ) → Data
 texts ts = array (text_items ts)
 
--- the response types of this provider (OAuth 2.0 Multiple Response Type Encoding Practices, 3 and 5)
-abbrev pub response_types : List (List ℕ)
-response_types = codes "code" ∷ codes "id_token" ∷ codes "id_token token" ∷ codes "code id_token" ∷ codes "code token" ∷ codes "code id_token token" ∷ []
-
 -- the algorithms of ID Tokens and of request objects
 abbrev pub algorithms : List (List ℕ)
 algorithms = codes "HS256" ∷ []
-
--- where an answer stands in a redirection URI (OAuth 2.0 Multiple Response Type Encoding Practices, 2.1)
-abbrev pub response_modes : List (List ℕ)
-response_modes = codes "query" ∷ codes "fragment" ∷ []
 
 -- the kinds of subject (OpenID Connect Core 1.0, 8)
 abbrev pub subject_types : List (List ℕ)
@@ -29,10 +25,6 @@ subject_types = codes "public" ∷ codes "pairwise" ∷ []
 -- how a client may show its secret at the token endpoint (OpenID Connect Core 1.0, 9)
 abbrev pub auth_methods : List (List ℕ)
 auth_methods = codes "client_secret_basic" ∷ codes "client_secret_post" ∷ []
-
--- the scope values (OpenID Connect Core 1.0, 5.4)
-abbrev pub scopes : List (List ℕ)
-scopes = codes "openid" ∷ codes "profile" ∷ codes "email" ∷ codes "address" ∷ codes "phone" ∷ []
 
 -- the members, in the order of their names
 abbrev pub endpoint_entries : Provider → List Entry
@@ -46,7 +38,7 @@ endpoint_entries p =
 
 abbrev pub request_entries : Provider → List Entry
 request_entries p =
-    (codes "jwks_uri", Some (string (endpoint p.issuer (codes "/jwks"))))
+    (codes "jwks_uri", Some (string (endpoint p.issuer keys_path)))
     ∷ (codes "request_object_signing_alg_values_supported", Some (texts algorithms))
     ∷ (codes "request_parameter_supported", Some (boolean true))
     ∷ (codes "request_uri_parameter_supported", Some (boolean false))
@@ -55,7 +47,7 @@ request_entries p =
 
 abbrev pub token_entries : Provider → List Entry
 token_entries p =
-    (codes "scopes_supported", Some (texts scopes))
+    (codes "scopes_supported", Some (texts scope_words))
     ∷ (codes "subject_types_supported", Some (texts subject_types))
     ∷ (codes "token_endpoint", Some (string p.token))
     ∷ (codes "token_endpoint_auth_methods_supported", Some (texts auth_methods))

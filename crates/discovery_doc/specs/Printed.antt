@@ -1,4 +1,4 @@
--- The providers whose document can be read again.
+-- The providers whose document can be read again: those of registries among them.
 use Rattle.std.specs.Prelude.{IfSome}
 use Rattle.std.specs.Str.{IsUtf8}
 use Rattle.client_registry.specs.declared.records.Provider.{Provider}

@@ -1,7 +1,7 @@
 -- The provider whose document the bytes are, or why they are refused (OpenID Connect Discovery 1.0, 3 and 4.3).
 use Rattle.std.specs.Prelude.{ℕ, Bool, false, not, List, [], ◌∷◌, codes, is_none, Option, Some, None, option_and_then, unwrap_or, Result, Ok, Err}
-use Rattle.std.specs.List.{list_any}
 use Rattle.std.specs.Str.{bytes_eq}
+use Rattle.sso_base.specs.Texts.{has_text}
 use Rattle.serde_json.specs.Data.{Data, null, boolean, number, string, array, object, Members}
 use Rattle.serde_json.specs.Find.{get_member, as_str}
 use Rattle.sso_base.specs.Refusals.{first_refusal, and_then}
@@ -32,10 +32,6 @@ text_in name ms = unwrap_or (member_as as_str name ms) []
 abbrev pub texts_in : List ℕ → Members → List (List ℕ)
 texts_in name ms = unwrap_or (member_as as_texts name ms) []
 
--- the text is among the texts
-abbrev pub is_among : List ℕ → List (List ℕ) → Bool
-is_among t ts = list_any (λ s. bytes_eq s t) ts
-
 -- the text breaks the rule for URLs
 abbrev pub is_bad_url : List ℕ → Bool
 is_bad_url t = is_none (url_of t)
@@ -63,7 +59,7 @@ absences ms =
 abbrev pub faults : List ℕ → Members → List (Bool × DiscNo)
 faults issuer ms =
     (not (bytes_eq (text_in (codes "issuer") ms) issuer), IssuerDiffers)
-    ∷ (not (is_among (codes "HS256") (texts_in (codes "id_token_signing_alg_values_supported") ms)), NoHs256)
+    ∷ (not (has_text (codes "HS256") (texts_in (codes "id_token_signing_alg_values_supported") ms)), NoHs256)
     ∷ (is_bad_url (text_in (codes "authorization_endpoint") ms), BadUrl (codes "authorization_endpoint"))
     ∷ (is_bad_url (text_in (codes "token_endpoint") ms), BadUrl (codes "token_endpoint"))
     ∷ (is_bad_member (get_member (codes "userinfo_endpoint") ms), BadUrl (codes "userinfo_endpoint")) ∷ []

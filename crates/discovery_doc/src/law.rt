@@ -6,6 +6,8 @@ ghost use Rattle.sso_base.specs.Refusals.{first_refusal};
 ghost use Rattle.claim_set.specs.declared.no.ClaimNo.{ClaimNo};
 ghost use Rattle.claim_set.specs.Reading.{Reads, claims_read, claims_text};
 ghost use Rattle.client_registry.specs.declared.records.Provider.{Provider};
+ghost use Rattle.client_registry.specs.Configuration.{Configuration};
+ghost use Rattle.client_registry.specs.Registered.{IsRegistry};
 ghost use Rattle.discovery_doc.specs.declared.no.DiscNo.{DiscNo};
 ghost use Rattle.discovery_doc.specs.declared.no.DiscNo.TheVariants as no;
 ghost use Rattle.discovery_doc.specs.Metadata.{metadata};
@@ -32,8 +34,9 @@ pub fn read_documents_name_the_provider()
     ensures { (issuer b : List ℕ) (p : Provider) → discovery_read issuer b ≡ Ok p → p.issuer ≡ issuer }
 {}
 
-/// The document that is written of a provider whose endpoints keep the rule for URLs is read, for its issuer, as this
-/// provider.
+/// The document that is written of a registry's provider is read, for its issuer, as this provider; so is that of any
+/// provider whose endpoints keep the rule for URLs.
 pub fn printed_metadata_is_read()
-    ensures { (p : Provider) → IsPrintable p → discovery_read p.issuer (claims_text (metadata p)) ≡ Ok p }
+    ensures registry { (c : Configuration) → IsRegistry c → discovery_read c.provider.issuer (claims_text (metadata c.provider)) ≡ Ok c.provider }
+    ensures printable { (p : Provider) → IsPrintable p → discovery_read p.issuer (claims_text (metadata p)) ≡ Ok p }
 {}

@@ -15,8 +15,6 @@ mod law;
 mod no;
 mod printing;
 mod reading;
-#[cfg(test)]
-mod tests;
 
 pub use law::{
     printed_metadata_is_read, read_documents_have_the_metadata, read_documents_name_the_provider,

@@ -1,12 +1,16 @@
 // The document of a provider is written.
 
-ghost use Rattle.std.specs.Prelude.{◌≡◌, ◌++◌, [], ◌∷◌, IfOk, OnOk};
+ghost use Rattle.std.specs.Prelude.{◌≡◌, ◌++◌, [], ◌∷◌, Ok, IfOk, OnOk};
 ghost use Rattle.claim_set.specs.Building.{put_all};
-ghost use Rattle.claim_set.specs.Reading.{claims_text};
+ghost use Rattle.claim_set.specs.Reading.{claims_text as text_of_claims};
+ghost use Rattle.oidc_words.specs.Scopes.{scope_words};
 ghost use Rattle.discovery_doc.specs.Metadata as spec;
+ghost use Rattle.discovery_doc.specs.Reading.{discovery_read};
+ghost use Rattle.discovery_doc.specs.Document.{IsDocument};
 
-use claim_set::{ClaimSet, write_claims};
+use claim_set::{ClaimSet, claims_text};
 use client_registry::{Provider, Registry, endpoint};
+use oidc_words::{KEYS_PATH, SCOPE_WORDS, type_texts};
 use sso_base::{NoMemory, Text, Texts};
 use std::alloc::Global;
 
@@ -33,24 +37,14 @@ fn two(alloc: Global, first: &str, second: &str) -> Result<Texts, NoMemory>
     Ok(texts)
 }
 
-fn response_types(alloc: Global) -> Result<Texts, NoMemory>
-    ensures { IfOk result (λ t. t ≡ spec.response_types) }
-{
-    let mut texts = two(alloc, "code", "id_token")?;
-    push(&mut texts, alloc, "id_token token")?;
-    push(&mut texts, alloc, "code id_token")?;
-    push(&mut texts, alloc, "code token")?;
-    push(&mut texts, alloc, "code id_token token")?;
-    Ok(texts)
-}
-
 fn scopes(alloc: Global) -> Result<Texts, NoMemory>
-    ensures { IfOk result (λ t. t ≡ spec.scopes) }
+    ensures { IfOk result (λ t. t ≡ scope_words) }
 {
-    let mut texts = two(alloc, "openid", "profile")?;
-    push(&mut texts, alloc, "email")?;
-    push(&mut texts, alloc, "address")?;
-    push(&mut texts, alloc, "phone")?;
+    let [openid, profile, email, address, phone] = SCOPE_WORDS;
+    let mut texts = two(alloc, openid, profile)?;
+    push(&mut texts, alloc, email)?;
+    push(&mut texts, alloc, address)?;
+    push(&mut texts, alloc, phone)?;
     Ok(texts)
 }
 
@@ -71,7 +65,7 @@ fn put_endpoint(alloc: Global, set: &mut ClaimSet, provider: &Provider) -> Resul
 fn put_requests(alloc: Global, set: &mut ClaimSet, provider: &Provider) -> Result<(), NoMemory>
     ensures { OnOk result (set.new ≡ put_all (spec.request_entries provider.now) set.old) }
 {
-    let jwks = endpoint(alloc, provider.issuer.as_str(), "/jwks")?;
+    let jwks = endpoint(alloc, provider.issuer.as_str(), KEYS_PATH)?;
     set.put_text("jwks_uri", jwks.as_str())?;
     set.put_texts(
         "request_object_signing_alg_values_supported",
@@ -83,7 +77,7 @@ fn put_requests(alloc: Global, set: &mut ClaimSet, provider: &Provider) -> Resul
         "response_modes_supported",
         &two(alloc, "query", "fragment")?,
     )?;
-    set.put_texts("response_types_supported", &response_types(alloc)?)
+    set.put_texts("response_types_supported", &type_texts(alloc)?)
 }
 
 fn put_tokens(alloc: Global, set: &mut ClaimSet, provider: &Provider) -> Result<(), NoMemory>
@@ -100,31 +94,25 @@ fn put_tokens(alloc: Global, set: &mut ClaimSet, provider: &Provider) -> Result<
     set.put_text_if("userinfo_endpoint", &provider.userinfo)
 }
 
-// The text of a claim set.
-fn text_of(alloc: Global, set: &ClaimSet) -> Result<Text, NoMemory>
-    ensures { IfOk result (λ t. t ≡ claims_text set.now) }
-{
-    let written = write_claims(set)?;
-    let text = std::str::from_utf8(written.as_bytes()).unwrap();
-    Text::new(alloc, text)
-}
-
 // The document of a provider.
 #[tactic(auto, unfolding(crate::specs::Metadata::metadata))]
 fn document(alloc: Global, provider: &Provider) -> Result<Text, NoMemory>
-    ensures { IfOk result (λ t. t ≡ claims_text (spec.metadata provider.now)) }
+    ensures { IfOk result (λ t. t ≡ text_of_claims (spec.metadata provider.now)) }
 {
     let mut set = ClaimSet::new(alloc);
     put_endpoint(alloc, &mut set, provider)?;
     put_requests(alloc, &mut set, provider)?;
     put_tokens(alloc, &mut set, provider)?;
-    text_of(alloc, &set)
+    claims_text(&set)
 }
 
 /// The discovery document of the registry's provider: a JSON object on one line, with its members in the order of their
-/// names (OpenID Connect Discovery 1.0, 3).
+/// names (OpenID Connect Discovery 1.0, 3). It is read, for its issuer, as the registry's provider.
+#[tactic(auto, using(crate::proofs::Printed::registry_document, crate::proofs::Printed::registry_read))]
 pub fn print_discovery(alloc: Global, registry: &Registry) -> Result<Text, NoMemory>
-    ensures text { IfOk result (λ t. t ≡ claims_text (spec.metadata registry.now.provider)) }
+    ensures text { IfOk result (λ t. t ≡ text_of_claims (spec.metadata registry.now.provider)) }
+    ensures document { IfOk result (λ t. IsDocument registry.now.provider.issuer t registry.now.provider) }
+    ensures read { IfOk result (λ t. discovery_read registry.now.provider.issuer t ≡ Ok registry.now.provider) }
 {
     document(alloc, registry.provider())
 }

@@ -6,7 +6,7 @@ ghost use Rattle.registered_url.specs.Rule.{url_of};
 ghost use Rattle.sso_base.specs.Refusals.{first_refusal};
 ghost use Rattle.client_registry.specs.declared.records.Provider.{Provider};
 ghost use Rattle.discovery_doc.specs.Document.{IsDocument};
-ghost use Rattle.discovery_doc.specs.Reading.{as_texts, member_as, text_in, texts_in, is_among, is_bad_url, is_bad_member};
+ghost use Rattle.discovery_doc.specs.Reading.{as_texts, member_as, text_in, texts_in, is_bad_url, is_bad_member};
 ghost use Rattle.discovery_doc.specs.Reading.{absences, members_read, discovery_read};
 
 use crate::no::DiscNo;
@@ -41,26 +41,6 @@ fn texts_at(claims: &ClaimSet, name: &str) -> Result<Option<Texts>, NoMemory>
     }
 }
 
-// The refusal for a member that is absent or of another kind.
-fn missing(alloc: Global, name: &str) -> DiscNo
-    ensures { (result ≡ DiscNo.NoMemory) ⊎ (result ≡ DiscNo.Missing name.now) }
-{
-    match Text::new(alloc, name) {
-        Ok(name) => DiscNo::Missing(name),
-        Err(NoMemory) => DiscNo::NoMemory,
-    }
-}
-
-// The refusal for a member that breaks the rule for URLs.
-fn bad_url(alloc: Global, name: &str) -> DiscNo
-    ensures { (result ≡ DiscNo.NoMemory) ⊎ (result ≡ DiscNo.BadUrl name.now) }
-{
-    match Text::new(alloc, name) {
-        Ok(name) => DiscNo::BadUrl(name),
-        Err(NoMemory) => DiscNo::NoMemory,
-    }
-}
-
 // Whether the text breaks the rule for URLs.
 fn breaks_rule(alloc: Global, text: &Text) -> Result<bool, NoMemory>
     ensures { IfOk result (λ b. b ≡ is_bad_url text.now) }
@@ -81,29 +61,17 @@ fn url_if_there(alloc: Global, claims: &ClaimSet, name: &str) -> Result<Option<T
     match text_at(claims, name)? {
         Some(text) => {
             if breaks_rule(alloc, &text)? {
-                return Err(bad_url(alloc, name));
+                return Err(DiscNo::BadUrl(Text::new(alloc, name)?));
             }
             Ok(Some(text))
         }
         None => {
             if claims.has(name) {
-                return Err(bad_url(alloc, name));
+                return Err(DiscNo::BadUrl(Text::new(alloc, name)?));
             }
             Ok(None)
         }
     }
-}
-
-// Whether the text is among the texts.
-fn has_text(texts: &Texts, text: &str) -> bool
-    ensures { result ≡ is_among text.now texts.now }
-{
-    for i in 0..texts.count() {
-        if texts.at(i).as_str() == text {
-            return true;
-        }
-    }
-    false
 }
 
 // The members that must be there.
@@ -125,25 +93,25 @@ fn required_members(alloc: Global, claims: &ClaimSet) -> Result<Required, DiscNo
     ensures err { IfErr result (λ e. (e ≡ DiscNo.NoMemory) ⊎ (first_refusal (absences claims.now) ≡ Err e)) }
 {
     let Some(issuer) = text_at(claims, "issuer")? else {
-        return Err(missing(alloc, "issuer"));
+        return Err(DiscNo::Missing(Text::new(alloc, "issuer")?));
     };
     let Some(authorize) = text_at(claims, "authorization_endpoint")? else {
-        return Err(missing(alloc, "authorization_endpoint"));
+        return Err(DiscNo::Missing(Text::new(alloc, "authorization_endpoint")?));
     };
     let Some(token) = text_at(claims, "token_endpoint")? else {
-        return Err(missing(alloc, "token_endpoint"));
+        return Err(DiscNo::Missing(Text::new(alloc, "token_endpoint")?));
     };
     if text_at(claims, "jwks_uri")?.is_none() {
-        return Err(missing(alloc, "jwks_uri"));
+        return Err(DiscNo::Missing(Text::new(alloc, "jwks_uri")?));
     }
     if texts_at(claims, "response_types_supported")?.is_none() {
-        return Err(missing(alloc, "response_types_supported"));
+        return Err(DiscNo::Missing(Text::new(alloc, "response_types_supported")?));
     }
     if texts_at(claims, "subject_types_supported")?.is_none() {
-        return Err(missing(alloc, "subject_types_supported"));
+        return Err(DiscNo::Missing(Text::new(alloc, "subject_types_supported")?));
     }
     let Some(algorithms) = texts_at(claims, "id_token_signing_alg_values_supported")? else {
-        return Err(missing(alloc, "id_token_signing_alg_values_supported"));
+        return Err(DiscNo::Missing(Text::new(alloc, "id_token_signing_alg_values_supported")?));
     };
     Ok(Required {
         issuer,
@@ -162,14 +130,14 @@ fn provider(alloc: Global, issuer: &Text, claims: &ClaimSet) -> Result<Provider,
     if required.issuer.as_str() != issuer.as_str() {
         return Err(DiscNo::IssuerDiffers);
     }
-    if !has_text(&required.algorithms, "HS256") {
+    if !required.algorithms.has("HS256") {
         return Err(DiscNo::NoHs256);
     }
     if breaks_rule(alloc, &required.authorize)? {
-        return Err(bad_url(alloc, "authorization_endpoint"));
+        return Err(DiscNo::BadUrl(Text::new(alloc, "authorization_endpoint")?));
     }
     if breaks_rule(alloc, &required.token)? {
-        return Err(bad_url(alloc, "token_endpoint"));
+        return Err(DiscNo::BadUrl(Text::new(alloc, "token_endpoint")?));
     }
     let userinfo = url_if_there(alloc, claims, "userinfo_endpoint")?;
     let Required {

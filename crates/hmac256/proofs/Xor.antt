@@ -13,19 +13,6 @@ xor_lists_by_index (x ∷ xs) (y ∷ ys) [] h l e = absurd (omega arith)
 xor_lists_by_index (x ∷ xs) (y ∷ ys) (z ∷ zs) h l e =
     ap₂ (λ a b. a ∷ b) (e 0 (omega arith)) (xor_lists_by_index xs ys zs (omega arith) (omega arith) (λ k b. e (suc k) (omega arith)))
 
-pub length-xor_lists : (xs ys : List ℕ) → length ys ≡ length xs → length (xor_lists xs ys) ≡ length xs
-length-xor_lists [] ys h = refl
-length-xor_lists (x ∷ xs) [] h = absurd (omega arith)
-length-xor_lists (x ∷ xs) (y ∷ ys) h = ap suc (length-xor_lists xs ys (omega arith))
-
-pub get_or-xor_lists : (xs ys : List ℕ) (k : ℕ) → length ys ≡ length xs
-    → get_or (xor_lists xs ys) k 0 ≡ bit_xor (get_or xs k 0) (get_or ys k 0)
-get_or-xor_lists [] [] k h = refl
-get_or-xor_lists [] (y ∷ ys) k h = absurd (omega arith)
-get_or-xor_lists (x ∷ xs) [] k h = absurd (omega arith)
-get_or-xor_lists (x ∷ xs) (y ∷ ys) zero h = refl
-get_or-xor_lists (x ∷ xs) (y ∷ ys) (suc k) h = get_or-xor_lists xs ys k (omega arith)
-
 pub xor_lists_assoc : (xs ys zs : List ℕ) → xor_lists (xor_lists xs ys) zs ≡ xor_lists xs (xor_lists ys zs)
 xor_lists_assoc [] ys zs = refl
 xor_lists_assoc (x ∷ xs) [] zs = refl
@@ -47,12 +34,3 @@ zeros-xor_lists (suc n) (x ∷ xs) h = ap₂ (λ a b. a ∷ b) (xor_zero_l x) (z
 pub xor_all-push : (bs : List (List ℕ)) (b : List ℕ) → length b ≡ 32 → xor_all (bs ++ b ∷ []) ≡ xor_lists (xor_all bs) b
 xor_all-push [] b h = xor_lists-zeros 32 b (omega arith) ∙ sym (zeros-xor_lists 32 b (omega arith))
 xor_all-push (x ∷ xs) b h = ap (xor_lists x) (xor_all-push xs b h) ∙ sym (xor_lists_assoc x (xor_all xs) b)
-
--- the xor of bytes
-abbrev pub xor_bytes : List ℕ → ℕ
-xor_bytes [] = 0
-xor_bytes (x ∷ xs) = bit_xor x (xor_bytes xs)
-
-pub xor_bytes-push : (xs : List ℕ) (y : ℕ) → xor_bytes (xs ++ y ∷ []) ≡ bit_xor (xor_bytes xs) y
-xor_bytes-push [] y = xor_zero_r y ∙ sym (xor_zero_l y)
-xor_bytes-push (x ∷ xs) y = ap (bit_xor x) (xor_bytes-push xs y) ∙ sym (xor_assoc x (xor_bytes xs) y)

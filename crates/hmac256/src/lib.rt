@@ -10,8 +10,6 @@
 mod equality;
 mod hmac;
 mod pbkdf2;
-#[cfg(test)]
-mod tests;
 
 pub use equality::same;
 pub use hmac::mac;

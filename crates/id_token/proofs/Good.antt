@@ -3,6 +3,7 @@ use Rattle.std.proofs.Common.{◌≡◌, ◌+◌, ℕ, List, true, false, not, O
 use Rattle.std.specs.Prelude.{IfSome}
 use Rattle.sso_base.proofs.Refusals.{none_holds}
 use Rattle.sso_base.proofs.Decided.{not_late, late_false, not_above, above_false, not_not, same, are_same}
+use Rattle.oidc_words.specs.Lives.{leeway, oldest}
 use Rattle.id_token.specs.declared.claims.IdClaims.{IdClaims}
 use Rattle.id_token.specs.declared.rules.IdRules.{IdRules}
 use Rattle.id_token.specs.declared.rules.Half.{Half}
@@ -40,12 +41,12 @@ meets (Must d) o b = is_that d o b
 in_time : (age auth_time : Option ℕ) (begun : ℕ) → IsInAge age auth_time begun → is_late age auth_time begun ≡ false
 in_time None auth_time begun h = refl
 in_time (Some age) None begun h = absurd h
-in_time (Some age) (Some auth_time) begun h = not_above begun (auth_time + age + 60) h
+in_time (Some age) (Some auth_time) begun h = not_above begun (auth_time + age + leeway) h
 
 is_in_age : (age auth_time : Option ℕ) (begun : ℕ) → is_late age auth_time begun ≡ false → IsInAge age auth_time begun
 is_in_age None auth_time begun h = tt
 is_in_age (Some age) None begun h = absurd (cc)
-is_in_age (Some age) (Some auth_time) begun h = above_false begun (auth_time + age + 60) h
+is_in_age (Some age) (Some auth_time) begun h = above_false begun (auth_time + age + leeway) h
 
 -- ---- all of them
 
@@ -55,9 +56,9 @@ good_passes rules x at g =
       same x.iss rules.issuer g.from_issuer,
       g.for_client,
       not_other rules.client x.azp g.issued_to_client,
-      not_late at (x.exp + 60) g.unexpired,
-      not_above at (x.iat + 600) g.recent,
-      not_above x.iat (at + 60) g.issued,
+      not_late at (x.exp + leeway) g.unexpired,
+      not_above at (x.iat + oldest) g.recent,
+      not_above x.iat (at + leeway) g.issued,
       given rules.nonce x.nonce g.nonce,
       in_time rules.max_age x.auth_time rules.begun g.in_age,
       kept rules.token x.at_hash g.token,
@@ -71,9 +72,9 @@ passes_good rules x at h =
       from_issuer = are_same x.iss rules.issuer none.0;
       for_client = not_not _ none.1.0;
       issued_to_client = no_other rules.client x.azp none.1.1.0;
-      unexpired = late_false at (x.exp + 60) none.1.1.1.0;
-      recent = above_false at (x.iat + 600) none.1.1.1.1.0;
-      issued = above_false x.iat (at + 60) none.1.1.1.1.1.0;
+      unexpired = late_false at (x.exp + leeway) none.1.1.1.0;
+      recent = above_false at (x.iat + oldest) none.1.1.1.1.0;
+      issued = above_false x.iat (at + leeway) none.1.1.1.1.1.0;
       nonce = is_that rules.nonce x.nonce none.1.1.1.1.1.1.0;
       in_age = is_in_age rules.max_age x.auth_time rules.begun none.1.1.1.1.1.1.1.0;
       token = meets rules.token x.at_hash none.1.1.1.1.1.1.1.1.0;

@@ -8,7 +8,7 @@ use Rattle.claim_set.specs.Kinds.{data_texts, text_claim, number_claim, texts_cl
 use Rattle.claim_set.specs.Building.{number_value, without_all}
 use Rattle.claim_set.specs.declared.no.ClaimNo.{ClaimNo}
 use Rattle.claim_set.specs.declared.no.ClaimNo.TheVariants.{WrongKind}
-use Rattle.claim_set.proofs.KindLaws.{text_found, number_found, text_there, number_there, there, holds_of, found_of_kind, stands_of_kind, small}
+use Rattle.claim_set.proofs.KindLaws.{text_read, number_read, text_there, number_there, there, holds_of, found_of_kind, stands_of_kind}
 use Rattle.id_token.specs.declared.claims.IdClaims.{IdClaims}
 use Rattle.id_token.specs.declared.claims.RawClaims.{RawClaims}
 use Rattle.id_token.specs.declared.no.IdNo.{IdNo}
@@ -20,18 +20,6 @@ use Rattle.id_token.specs.Token.{HasClaims}
 -- ---- what stands there is read
 
 module _ (ms : Members) (x : IdClaims) (has : HasClaims ms x) where
-  optional : (name : List ℕ) (v : Option (List ℕ)) → get_member name ms ≡ option_map string v → text_claim name ms ≡ Ok v
-  optional name v h = rw (h) (text_found name v)
-
-  needed : (name t : List ℕ) → get_member name ms ≡ Some (string t) → text_claim name ms ≡ Ok (Some t)
-  needed name t h = rw h
-
-  moment : (name : List ℕ) (n : ℕ) → get_member name ms ≡ Some (number_value n) → n < 2 ^ 40 → number_claim name ms ≡ Ok (Some n)
-  moment name n h fits = rw (h, small n fits)
-
-  auth_time_is : number_claim (codes "auth_time") ms ≡ Ok x.auth_time
-  auth_time_is = rw (has.auth_time) (number_found (codes "auth_time") x.auth_time has.auth_time_fits)
-
   subject_is : if_subject (Some x.sub) ≡ Ok (Some x.sub)
   subject_is = rw (has.is_subject)
 
@@ -41,17 +29,17 @@ module _ (ms : Members) (x : IdClaims) (has : HasClaims ms x) where
   raw_is : raw_in ms ≡ Ok raw_of
   unfolding raw_in raw_of
   raw_is = rw (
-    optional (codes "at_hash") x.at_hash has.at_hash,
+    text_read ms (codes "at_hash") x.at_hash has.at_hash,
     found_of_kind (codes "aud") data_texts (get_member (codes "aud") ms) x.aud has.aud,
-    auth_time_is,
-    optional (codes "azp") x.azp has.azp,
-    optional (codes "c_hash") x.c_hash has.c_hash,
-    moment (codes "exp") x.exp has.exp has.exp_fits,
-    moment (codes "iat") x.iat has.iat has.iat_fits,
-    needed (codes "iss") x.iss has.iss,
-    optional (codes "nonce") x.nonce has.nonce,
-    optional (codes "sid") x.sid has.sid,
-    needed (codes "sub") x.sub has.sub,
+    number_read ms (codes "auth_time") x.auth_time has.auth_time has.auth_time_fits,
+    text_read ms (codes "azp") x.azp has.azp,
+    text_read ms (codes "c_hash") x.c_hash has.c_hash,
+    number_read ms (codes "exp") (Some x.exp) has.exp has.exp_fits,
+    number_read ms (codes "iat") (Some x.iat) has.iat has.iat_fits,
+    text_read ms (codes "iss") (Some x.iss) has.iss,
+    text_read ms (codes "nonce") x.nonce has.nonce,
+    text_read ms (codes "sid") x.sid has.sid,
+    text_read ms (codes "sub") (Some x.sub) has.sub,
     subject_is,
   )
 

@@ -1,8 +1,9 @@
 -- The judgement of an ID Token (OpenID Connect Core 1.0, 3.1.3.7, 3.2.2.9, 3.3.2.10). Sums have no bound.
 use Rattle.std.specs.Prelude.{◌≡◌, ◌<◌, ◌≤◌, ℕ, ◌+◌, List, [], ◌∷◌, Bool, true, false, not, nat_lt, nat_le, Option, Some, None, Result, IfSome, IsTrue, ⊤}
 use Rattle.std.specs.Str.{bytes_eq}
-use Rattle.sso_base.specs.OnlyText.{is_only}
+use Rattle.sso_base.specs.Texts.{is_only}
 use Rattle.sso_base.specs.Refusals.{first_refusal}
+use Rattle.oidc_words.specs.Lives.{leeway, oldest}
 use Rattle.id_token.specs.declared.claims.IdClaims.{IdClaims}
 use Rattle.id_token.specs.declared.rules.IdRules.{IdRules}
 use Rattle.id_token.specs.declared.rules.Half.{Half}
@@ -22,16 +23,16 @@ Meets (Must h) claim = claim ≡ Some h
 abbrev pub IsInAge : Option ℕ → Option ℕ → ℕ → Type 0
 IsInAge None auth_time begun = ⊤
 IsInAge (Some age) None begun = ⊥
-IsInAge (Some age) (Some auth_time) begun = begun ≤ auth_time + age + 60
+IsInAge (Some age) (Some auth_time) begun = begun ≤ auth_time + age + leeway
 
 -- the claims x are those of a good ID Token at a moment, for a relying party with these rules
 pub record IsGoodIdToken (rules : IdRules) (x : IdClaims) (at : ℕ) : Type 0 where
   pub from_issuer : x.iss ≡ rules.issuer
   pub for_client : IsTrue (is_only rules.client x.aud)
   pub issued_to_client : IfSome x.azp (λ azp. azp ≡ rules.client)
-  pub unexpired : at < x.exp + 60
-  pub recent : at ≤ x.iat + 600
-  pub issued : x.iat ≤ at + 60
+  pub unexpired : at < x.exp + leeway
+  pub recent : at ≤ x.iat + oldest
+  pub issued : x.iat ≤ at + leeway
   pub nonce : x.nonce ≡ Some rules.nonce
   pub in_age : IsInAge rules.max_age x.auth_time rules.begun
   pub token : Meets rules.token x.at_hash
@@ -59,7 +60,7 @@ breaks (Must h) claim = not (is_given h claim)
 abbrev pub is_late : Option ℕ → Option ℕ → ℕ → Bool
 is_late None auth_time begun = false
 is_late (Some age) None begun = true
-is_late (Some age) (Some auth_time) begun = nat_lt (auth_time + age + 60) begun
+is_late (Some age) (Some auth_time) begun = nat_lt (auth_time + age + leeway) begun
 
 -- the conditions in order, each with its refusal
 abbrev pub conditions : IdRules → IdClaims → ℕ → List (Bool × IdNo)
@@ -67,9 +68,9 @@ conditions rules x at =
     (not (bytes_eq x.iss rules.issuer), Issuer)
     ∷ (not (is_only rules.client x.aud), Audience)
     ∷ (is_other rules.client x.azp, Azp)
-    ∷ (nat_le (x.exp + 60) at, Expired x.exp)
-    ∷ (nat_lt (x.iat + 600) at, TooOld x.iat)
-    ∷ (nat_lt (at + 60) x.iat, FromFuture x.iat)
+    ∷ (nat_le (x.exp + leeway) at, Expired x.exp)
+    ∷ (nat_lt (x.iat + oldest) at, TooOld x.iat)
+    ∷ (nat_lt (at + leeway) x.iat, FromFuture x.iat)
     ∷ (not (is_given rules.nonce x.nonce), Nonce)
     ∷ (is_late rules.max_age x.auth_time rules.begun, AuthTime)
     ∷ (breaks rules.token x.at_hash, TokenHash)

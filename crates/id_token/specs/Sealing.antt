@@ -1,9 +1,10 @@
 -- The sealed text of an ID Token's claims (OpenID Connect Core 1.0, 2; RFC 7515, 7.1).
 use Rattle.std.specs.Prelude.{◌≤◌, ◌<◌, ◌^◌, ℕ, List, length, IfSome, IsTrue}
 use Rattle.std.specs.Str.{IsUtf8}
+use Rattle.sso_base.specs.Values.{AreTexts}
 use Rattle.claim_set.specs.Reading.{claims_text}
 use Rattle.claim_set.specs.Building.{HasNone}
-use Rattle.claim_set.specs.Fitting.{ClaimsFit, AreUtf8}
+use Rattle.claim_set.specs.Fitting.{ClaimsFit}
 use Rattle.jws_compact.specs.Jws.{seal_text}
 use Rattle.jws_compact.specs.declared.sealing.Typ.TheVariants.{Jwt}
 use Rattle.id_token.specs.declared.claims.IdClaims.{IdClaims}
@@ -26,7 +27,7 @@ pub record IsSealable (x : IdClaims) : Type 0 where
 -- the texts of the claims are in UTF-8, and the other claims fit
 pub record HasTexts (x : IdClaims) : Type 0 where
   pub iss : IsUtf8 x.iss
-  pub aud : AreUtf8 x.aud
+  pub aud : AreTexts x.aud
   pub azp : IfSome x.azp IsUtf8
   pub nonce : IfSome x.nonce IsUtf8
   pub sid : IfSome x.sid IsUtf8

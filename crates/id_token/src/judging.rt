@@ -7,12 +7,8 @@ ghost use Rattle.id_token.specs.Judging.{IsGoodIdToken, id_judged, is_given, is_
 use crate::claims::IdClaims;
 use crate::no::IdNo;
 use crate::rules::{Half, IdRules};
+use oidc_words::{LEEWAY, OLDEST};
 use sso_base::{Moment, Text};
-
-// How many seconds clocks may differ, and how many seconds old a token may be.
-const LEEWAY: u64 = 60;
-
-const OLDEST: u64 = 600;
 
 // Whether the claim is there and is this text.
 fn is_the_given(text: &Text, claim: &Option<Text>) -> bool

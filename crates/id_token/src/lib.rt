@@ -22,8 +22,6 @@ mod no;
 mod reading;
 mod rules;
 mod sealing;
-#[cfg(test)]
-mod tests;
 
 pub use claims::IdClaims;
 pub use hashing::half_hash;

@@ -49,3 +49,33 @@ impl From<NoMemory> for IdNo {
         IdNo::NoMemory
     }
 }
+
+impl From<JwsNo> for IdNo {
+    ghost use Rattle.std.specs.Prelude.{◌≡◌, IsFalse};
+    ghost use Rattle.id_token.specs.Reading.{as_jws, hides_memory};
+
+    ghost from_gives = { λ given e. (e ≡ as_jws given) × IsFalse (hides_memory e) };
+
+    // The refusal of a sealed text, as that of a token.
+    fn from(error: JwsNo) -> IdNo {
+        match error {
+            JwsNo::NoMemory => IdNo::NoMemory,
+            error => IdNo::Jws(error),
+        }
+    }
+}
+
+impl From<ClaimNo> for IdNo {
+    ghost use Rattle.std.specs.Prelude.{◌≡◌, IsFalse};
+    ghost use Rattle.id_token.specs.Reading.{as_claims, hides_memory};
+
+    ghost from_gives = { λ given e. (e ≡ as_claims given) × IsFalse (hides_memory e) };
+
+    // The refusal of claims, as that of a token.
+    fn from(error: ClaimNo) -> IdNo {
+        match error {
+            ClaimNo::NoMemory => IdNo::NoMemory,
+            error => IdNo::Claims(error),
+        }
+    }
+}

@@ -1,11 +1,11 @@
 // Reading: a sealed text is opened as an ID Token, or refused for the first reason that fits.
 
-ghost use Rattle.std.specs.Prelude.{◌≡◌, ◌⊎◌, Ok, Err, IfOk, IfErr, IsFalse, nat_lt};
+ghost use Rattle.std.specs.Prelude.{◌≡◌, ◌⊎◌, Some, None, Ok, Err, IfOk, IfErr, IsFalse, nat_lt};
 ghost use Rattle.std.specs.List.{list_all};
 ghost use Rattle.sso_base.specs.Refusals.{and_then};
 ghost use Rattle.claim_set.specs.Building.{without_all};
 ghost use Rattle.id_token.specs.Claims.{is_subject as is_subject_text, id_names};
-ghost use Rattle.id_token.specs.Reading.{raw_in, if_subject, whole, id_of, id_read, hides_memory, as_claims, as_jws};
+ghost use Rattle.id_token.specs.Reading.{raw_in, if_subject, whole, id_of, id_read, hides_memory};
 ghost use Rattle.id_token.specs.Token.{IsIdToken};
 ghost use Rattle.id_token.specs.Judging.{IsGoodIdToken, id_judged};
 
@@ -14,7 +14,7 @@ use crate::judging::judge_id;
 use crate::no::IdNo;
 use crate::rules::IdRules;
 use claim_set::{ClaimNo, ClaimSet, read_claims};
-use jws_compact::{JwsNo, unseal};
+use jws_compact::unseal;
 use sso_base::{Moment, NoMemory, Text};
 use std::alloc::Global;
 
@@ -115,6 +115,19 @@ fn missing(alloc: Global, name: &str) -> IdNo
     }
 }
 
+// A claim that has to be there.
+fn present<T: Drop>(alloc: Global, claim: Option<T>, name: &str) -> Result<T, IdNo>
+    ensures ok { IfOk result (λ found. claim ≡ Some found) }
+    ensures absent { IfErr result (λ e. claim ≡ None) }
+    ensures missing { IfErr result (λ e. (e ≡ IdNo.NoMemory) ⊎ (e ≡ IdNo.Missing name.now)) }
+    ensures memory_is_outermost { IfErr result (λ e. IsFalse (hides_memory e)) }
+{
+    match claim {
+        Some(found) => Ok(found),
+        None => Err(missing(alloc, name)),
+    }
+}
+
 // The claims, where those that must be there are.
 #[tactic(auto, unfolding(crate::specs::Reading::whole))]
 fn whole_claims(alloc: Global, raw: RawClaims, more: ClaimSet) -> Result<IdClaims, IdNo>
@@ -122,59 +135,20 @@ fn whole_claims(alloc: Global, raw: RawClaims, more: ClaimSet) -> Result<IdClaim
     ensures err { IfErr result (λ e. (e ≡ IdNo.NoMemory) ⊎ (whole raw more ≡ Err e)) }
     ensures memory_is_outermost { IfErr result (λ e. IsFalse (hides_memory e)) }
 {
-    let RawClaims {
-        at_hash,
-        aud,
-        auth_time,
-        azp,
-        c_hash,
-        exp,
-        iat,
-        iss,
-        nonce,
-        sid,
-        sub,
-    } = raw;
-    let Some(iss) = iss else {
-        return Err(missing(alloc, "iss"));
-    };
-    let Some(sub) = sub else {
-        return Err(missing(alloc, "sub"));
-    };
-    let Some(aud) = aud else {
-        return Err(missing(alloc, "aud"));
-    };
-    let Some(exp) = exp else {
-        return Err(missing(alloc, "exp"));
-    };
-    let Some(iat) = iat else {
-        return Err(missing(alloc, "iat"));
-    };
     Ok(IdClaims {
-        iss,
-        sub,
-        aud,
-        azp,
-        exp,
-        iat,
-        auth_time,
-        nonce,
-        sid,
-        at_hash,
-        c_hash,
+        iss: present(alloc, raw.iss, "iss")?,
+        sub: present(alloc, raw.sub, "sub")?,
+        aud: present(alloc, raw.aud, "aud")?,
+        azp: raw.azp,
+        exp: present(alloc, raw.exp, "exp")?,
+        iat: present(alloc, raw.iat, "iat")?,
+        auth_time: raw.auth_time,
+        nonce: raw.nonce,
+        sid: raw.sid,
+        at_hash: raw.at_hash,
+        c_hash: raw.c_hash,
         more,
     })
-}
-
-// The refusal of claims, as that of a token.
-fn claims_refused(error: ClaimNo) -> IdNo
-    ensures refused { result ≡ as_claims error }
-    ensures memory_is_outermost { IsFalse (hides_memory result) }
-{
-    match error {
-        ClaimNo::NoMemory => IdNo::NoMemory,
-        error => IdNo::Claims(error),
-    }
 }
 
 // The ID Token that a claim set is.
@@ -184,22 +158,8 @@ fn id_in(alloc: Global, claims: ClaimSet) -> Result<IdClaims, IdNo>
     ensures err { IfErr result (λ e. (e ≡ IdNo.NoMemory) ⊎ (id_of claims ≡ Err e)) }
     ensures memory_is_outermost { IfErr result (λ e. IsFalse (hides_memory e)) }
 {
-    let raw = match raw_claims(alloc, &claims) {
-        Ok(raw) => raw,
-        Err(error) => return Err(claims_refused(error)),
-    };
+    let raw = raw_claims(alloc, &claims)?;
     whole_claims(alloc, raw, others(claims))
-}
-
-// The refusal of a sealed text, as that of a token.
-fn jws_refused(error: JwsNo) -> IdNo
-    ensures refused { result ≡ as_jws error }
-    ensures memory_is_outermost { IsFalse (hides_memory result) }
-{
-    match error {
-        JwsNo::NoMemory => IdNo::NoMemory,
-        error => IdNo::Jws(error),
-    }
 }
 
 // The claims of the ID Token that a text is under a key, or the first refusal that fits.
@@ -209,14 +169,8 @@ fn opened(alloc: Global, key: &[u8], text: &[u8]) -> Result<IdClaims, IdNo>
     ensures refuses { IfErr result (λ e. (e ≡ IdNo.NoMemory) ⊎ (id_read key.now text.now ≡ Err e)) }
     ensures memory_is_outermost { IfErr result (λ e. IsFalse (hides_memory e)) }
 {
-    let opened = match unseal(alloc, key, text) {
-        Ok(opened) => opened,
-        Err(error) => return Err(jws_refused(error)),
-    };
-    let claims = match read_claims(alloc, opened.payload.as_bytes()) {
-        Ok(claims) => claims,
-        Err(error) => return Err(claims_refused(error)),
-    };
+    let opened = unseal(alloc, key, text)?;
+    let claims = read_claims(alloc, opened.payload.as_bytes())?;
     id_in(alloc, claims)
 }
 

@@ -21,21 +21,16 @@ cut_at xs i b h e =
     let n : i + 1 ≡ suc i = omega arith in
     rw (take_rest xs (i + 1), n) (sym (cut_here xs i b h e))
 
--- a list with no dot, a dot, and more
-pub cut_join : (a b : List ℕ) → ((k : ℕ) → k < length a → get_or a k 0 ≡ 46 → ⊥) → cut (a ++ 46 ∷ b) ≡ Some (a, b)
-cut_join [] b h = refl
-cut_join (x ∷ a) b h = rw (not_dot x (h 0 (omega arith)), cut_join a b (λ k c. h (suc k) (omega arith)))
-
 abbrev Pair : Type 0
 Pair = List ℕ × List ℕ
 
-abbrev Triple : Type 0
+abbrev pub Triple : Type 0
 Triple = List ℕ × List ℕ × List ℕ
 
 same_pair : (p q : Pair) → Some p ≡ Some q → p ≡ q
 same_pair p q e = cc
 
-same_triple : (p q : Triple) → Some p ≡ Some q → p ≡ q
+pub same_triple : (p q : Triple) → Some p ≡ Some q → p ≡ q
 same_triple p q e = cc
 
 -- what was cut is joined again

@@ -15,13 +15,10 @@ use Rattle.jws_compact.specs.declared.no.JwsNo.{JwsNo}
 use Rattle.jws_compact.specs.declared.unsealing.Unsealed.{Unsealed}
 use Rattle.jws_compact.specs.Jws.{cut, three_parts, text_member, is_hs256, has_crit, Sealed, signing_input, opened, Opens, verdict}
 use Rattle.sso_base.proofs.Refusals.{demand_ok, forbid_ok}
-use Rattle.jws_compact.proofs.Cut.{three_parts_join}
+use Rattle.sso_base.proofs.Decided.{not_not}
+use Rattle.jws_compact.proofs.Cut.{Triple, same_triple, three_parts_join}
 
 -- ---- one step back
-
-not_false : (b : Bool) → not b ≡ false → b ≡ true
-not_false true h = refl
-not_false false h = absurd (true≢false h)
 
 alg_at : (o : Option (List ℕ)) → unwrap_or (option_map (λ s. bytes_eq s (codes "HS256")) o) false ≡ true → o ≡ Some (codes "HS256")
 alg_at None h = absurd (true≢false (sym h))
@@ -49,7 +46,7 @@ pub ok_same : (u v : Unsealed) → ok_of u ≡ ok_of v → u ≡ v
 ok_same u v e = cc
 
 mac_text : (k t s p m : List ℕ) → not (bytes_eq m (hmac_of k (s ++ 46 ∷ p))) ≡ false → m ≡ hmac_of k (s ++ 46 ∷ p)
-mac_text k t s p m h = (bytes_eq-Decides m (hmac_of k (s ++ 46 ∷ p))).0 (not_false _ h)
+mac_text k t s p m h = (bytes_eq-Decides m (hmac_of k (s ++ 46 ∷ p))).0 (not_not _ h)
 
 sealed_text : (k t h p m a b c : List ℕ) → t ≡ a ++ 46 ∷ (b ++ 46 ∷ c) → a ≡ b64u h → b ≡ b64u p → c ≡ b64u m → m ≡ hmac_of k (a ++ 46 ∷ b) → t ≡ signing_input h p ++ 46 ∷ b64u (hmac_of k (signing_input h p))
 sealed_text k t h p m a b c e f g i j = rw (append_assoc, e, i, j, f, g)
@@ -81,7 +78,7 @@ verdict_sealed k t u e =
         short = not_long t long.0;
         header_bytes = h.1;
         payload_bytes = p.1;
-        header = record { value = object.0; is = object.1; alg = hs256_alg _ (not_false _ alg.0); no_crit = no_crit_at _ crit.0 };
+        header = record { value = object.0; is = object.1; alg = hs256_alg _ (not_not _ alg.0); no_crit = no_crit_at _ crit.0 };
       },
       refl,
     )
@@ -145,12 +142,6 @@ sealed_verdict k h p t s =
     )
 
 -- ---- one header and one payload
-
-abbrev Triple : Type 0
-Triple = List ℕ × List ℕ × List ℕ
-
-same_triple : (a b : Triple) → Some a ≡ Some b → a ≡ b
-same_triple a b e = cc
 
 abbrev spelled_parts : List ℕ → List ℕ → List ℕ → Triple
 spelled_parts k h p = (b64u h, b64u p, b64u (hmac_of k (signing_input h p)))

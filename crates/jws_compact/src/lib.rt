@@ -20,8 +20,6 @@ mod law;
 mod no;
 mod parts;
 mod sealing;
-#[cfg(test)]
-mod tests;
 mod unsealing;
 
 pub use law::{sealed_texts_open, texts_have_two_dots, written_texts_open};

@@ -1,5 +1,8 @@
 // Why a text is refused.
 
+ghost use Rattle.std.specs.Prelude.{◌≡◌};
+ghost use Rattle.jws_compact.specs.Names.{jws_name};
+
 use sso_base::NoMemory;
 
 /// Why a text is no sealed text under the key, or memory ran out. Where several of the former fit, the first in this
@@ -26,6 +29,27 @@ pub enum JwsNo {
     Crit,
     /// The MAC is not that of the first two parts under the key (RFC 7515, 5.2).
     BadMac,
+}
+
+impl JwsNo {
+    /// The name of the refusal, as it is printed.
+    #[tactic(auto, unfolding(crate::specs::Names::jws_name))]
+    pub fn name(self) -> &'static str
+        ensures { result.now ≡ jws_name self }
+    {
+        match self {
+            JwsNo::NoMemory => "NoMemory",
+            JwsNo::TooLong => "TooLong",
+            JwsNo::NotThreeParts => "NotThreeParts",
+            JwsNo::HeaderSpelling => "HeaderSpelling",
+            JwsNo::PayloadSpelling => "PayloadSpelling",
+            JwsNo::MacSpelling => "MacSpelling",
+            JwsNo::HeaderNotObject => "HeaderNotObject",
+            JwsNo::AlgNotHs256 => "AlgNotHs256",
+            JwsNo::Crit => "Crit",
+            JwsNo::BadMac => "BadMac",
+        }
+    }
 }
 
 impl From<NoMemory> for JwsNo {

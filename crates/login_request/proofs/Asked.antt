@@ -5,6 +5,7 @@ use Rattle.client_registry.specs.declared.records.Client.{Client}
 use Rattle.client_registry.specs.declared.records.Party.{Party}
 use Rattle.client_registry.specs.declared.records.Provider.{Provider}
 use Rattle.client_registry.specs.Configuration.{Configuration}
+use Rattle.client_registry.specs.Numbers.{party_row, party_client}
 use Rattle.request_params.specs.declared.params.Params.{Params}
 use Rattle.request_params.specs.Location.{query_mark}
 use Rattle.request_params.specs.Reading as form
@@ -15,7 +16,7 @@ use Rattle.request_params.proofs.Whole.{signed_whole}
 use Rattle.request_object.specs.Request.{request_text}
 use Rattle.request_object.specs.Reading as object
 use Rattle.request_object.proofs.Written.{request_read-request_text}
-use Rattle.login_request.specs.Parties.{party_row, client_row, MayAsk}
+use Rattle.login_request.specs.Parties.{MayAsk}
 use Rattle.login_request.specs.Request.{login_params, outer_params, sent_params, login_location}
 use Rattle.login_request.proofs.Printed.{login_printed, object_printed, login_sealable}
 
@@ -44,23 +45,23 @@ module _ (client : Client) (party : Party) (provider : Provider) (state nonce : 
   sent_plain h = plain_one party.signed _ _ h
 
 pub object_of_issuer : (c : Configuration) (n : ℕ) (issuer : Text) (state nonce : Word) → MayAsk c n issuer state nonce
-    → object.request_read (client_row c n) issuer (request_text (client_row c n) issuer (login_params (client_row c n) (party_row c n) state nonce)) ≡ Ok (login_params (client_row c n) (party_row c n) state nonce)
-object_of_issuer c n issuer state nonce m = request_read-request_text (client_row c n) issuer (login_params (client_row c n) (party_row c n) state nonce) (login_sealable c n issuer state nonce m)
+    → object.request_read (party_client c n) issuer (request_text (party_client c n) issuer (login_params (party_client c n) (party_row c n) state nonce)) ≡ Ok (login_params (party_client c n) (party_row c n) state nonce)
+object_of_issuer c n issuer state nonce m = request_read-request_text (party_client c n) issuer (login_params (party_client c n) (party_row c n) state nonce) (login_sealable c n issuer state nonce m)
 
 module _ (c : Configuration) (n : ℕ) (provider : Provider) (state nonce : Word) (m : MayAsk c n provider.issuer state nonce) where
-  pub plain_read : (party_row c n).signed ≡ false → form.request_read (request_form (sent_params (client_row c n) (party_row c n) provider state nonce)) ≡ Ok (login_params (client_row c n) (party_row c n) state nonce)
+  pub plain_read : (party_row c n).signed ≡ false → form.request_read (request_form (sent_params (party_client c n) (party_row c n) provider state nonce)) ≡ Ok (login_params (party_client c n) (party_row c n) state nonce)
   plain_read h =
-      ap (λ p. form.request_read (request_form p)) (sent_plain (client_row c n) (party_row c n) provider state nonce h)
-      ∙ printed_read (login_params (client_row c n) (party_row c n) state nonce) (login_printed c n provider.issuer state nonce m)
+      ap (λ p. form.request_read (request_form p)) (sent_plain (party_client c n) (party_row c n) provider state nonce h)
+      ∙ printed_read (login_params (party_client c n) (party_row c n) state nonce) (login_printed c n provider.issuer state nonce m)
 
   pub beside_read : (party_row c n).signed ≡ true
-      → form.request_read (request_form (sent_params (client_row c n) (party_row c n) provider state nonce)) ≡ Ok (outer_params (client_row c n) (party_row c n) (request_text (client_row c n) provider.issuer (login_params (client_row c n) (party_row c n) state nonce)))
+      → form.request_read (request_form (sent_params (party_client c n) (party_row c n) provider state nonce)) ≡ Ok (outer_params (party_client c n) (party_row c n) (request_text (party_client c n) provider.issuer (login_params (party_client c n) (party_row c n) state nonce)))
   beside_read h =
-      ap (λ p. form.request_read (request_form p)) (sent_signed (client_row c n) (party_row c n) provider state nonce h)
-      ∙ printed_read (outer_params (client_row c n) (party_row c n) (request_text (client_row c n) provider.issuer (login_params (client_row c n) (party_row c n) state nonce)))
-      (object_printed c n provider.issuer state nonce m (login_params (client_row c n) (party_row c n) state nonce))
+      ap (λ p. form.request_read (request_form p)) (sent_signed (party_client c n) (party_row c n) provider state nonce h)
+      ∙ printed_read (outer_params (party_client c n) (party_row c n) (request_text (party_client c n) provider.issuer (login_params (party_client c n) (party_row c n) state nonce)))
+      (object_printed c n provider.issuer state nonce m (login_params (party_client c n) (party_row c n) state nonce))
 
-  pub object_read : object.request_read (client_row c n) provider.issuer (request_text (client_row c n) provider.issuer (login_params (client_row c n) (party_row c n) state nonce)) ≡ Ok (login_params (client_row c n) (party_row c n) state nonce)
+  pub object_read : object.request_read (party_client c n) provider.issuer (request_text (party_client c n) provider.issuer (login_params (party_client c n) (party_row c n) state nonce)) ≡ Ok (login_params (party_client c n) (party_row c n) state nonce)
   object_read = object_of_issuer c n provider.issuer state nonce m
 
 pub whole_merged : (client : Client) (party : Party) (state nonce : Word) (object : Text) → request_merged (outer_params client party object) (login_params client party state nonce) ≡ Ok (record (login_params client party state nonce) { request = Some object })

@@ -1,14 +1,23 @@
--- Words of a list of known ones, each at most once, with one space between: they are a text of ASCII that is not long.
-use Rattle.std.proofs.Common.{◌≡◌, ◌≤◌, ◌<◌, ◌==◌, ◌+◌, ◌||◌, not, ℕ, Bool, true, false, cond, List, [], ◌∷◌, length, nat_lt, codes, refl, sym, ap, ◌∙◌, arith, true≢false}
+-- Words of a list of known ones, each at most once, with one space between: they are a text of printable ASCII that is not long.
+use Rattle.std.proofs.Common.{◌≡◌, ◌≤◌, ◌<◌, ◌==◌, ◌+◌, ◌||◌, not, ℕ, Bool, true, false, cond, List, [], ◌∷◌, length, codes, refl, sym, ap, ◌∙◌, arith, true≢false}
 use Rattle.std.specs.List.{list_all, onto_first}
 use Rattle.std.specs.Str.{bytes_eq}
 use Rattle.std.proofs.lemmas.Bool.Decides.{nat_tests}
 use Rattle.std.proofs.lemmas.List.Splits.{length-slice_split}
 use Rattle.std.proofs.lemmas.Slice.Eq.{bytes_eq-Decides}
-use Rattle.configuration_rows.specs.Kinds.{has_text, is_distinct, words_of, are_words, scope_words, prompt_words, is_scope, is_prompt}
+use Rattle.sso_base.specs.Texts.{has_text}
+use Rattle.oidc_words.specs.Words.{is_distinct, words_of, are_words}
+use Rattle.oidc_words.specs.Scopes.{scope_words, is_scope}
+use Rattle.oidc_words.specs.Prompts.{prompt_words, is_prompt}
 use Rattle.sso_base.specs.Words.{Text}
 use Rattle.sso_base.proofs.Spelling.{both_true}
-use Rattle.login_request.proofs.AsciiTexts.{is_ascii, IsTextTo}
+use Rattle.claim_set.proofs.PlainTexts.{is_printable, is_plain}
+
+-- a text of printable ASCII that is neither empty nor longer than this
+pub record IsTextTo (most : ℕ) (t : Text) : Type 0 where
+  pub plain : is_plain t ≡ true
+  pub short : length t ≤ most
+  pub filled : ¬ (t ≡ [])
 
 either_false : (a b : Bool) → (a || b) ≡ false → (a ≡ false) × (b ≡ false)
 either_false true b h = absurd (true≢false h)
@@ -83,40 +92,40 @@ at_most_all ks (w ∷ ws) known apart =
     let rest = at_most_all (without w ks) ws (all_kept w ks ws (not_true (has_text w ws) once.0) first.1) once.1 in
     omega (arith, total-without w ks first.0, rest)
 
--- ---- ASCII
+-- ---- printable ASCII
 
-known_ascii_at : (w k : Text) (ks : List Text) (b : Bool) → bytes_eq w k ≡ b → (b || has_text w ks) ≡ true → is_ascii k ≡ true → (has_text w ks ≡ true → is_ascii w ≡ true) → is_ascii w ≡ true
-known_ascii_at w k ks true is h ascii later = ap is_ascii (is_same w k is) ∙ ascii
-known_ascii_at w k ks false is h ascii later = later h
+known_plain_at : (w k : Text) (ks : List Text) (b : Bool) → bytes_eq w k ≡ b → (b || has_text w ks) ≡ true → is_plain k ≡ true → (has_text w ks ≡ true → is_plain w ≡ true) → is_plain w ≡ true
+known_plain_at w k ks true is h plain later = ap is_plain (is_same w k is) ∙ plain
+known_plain_at w k ks false is h plain later = later h
 
-known_ascii : (w : Text) (ks : List Text) → list_all is_ascii ks ≡ true → has_text w ks ≡ true → is_ascii w ≡ true
-known_ascii w [] all h = absurd (true≢false (sym h))
-known_ascii w (k ∷ ks) all h =
-    let each = both_true (is_ascii k) (list_all is_ascii ks) all in
-    known_ascii_at w k ks (bytes_eq w k) refl h each.0 (known_ascii w ks each.1)
+known_plain : (w : Text) (ks : List Text) → list_all is_plain ks ≡ true → has_text w ks ≡ true → is_plain w ≡ true
+known_plain w [] all h = absurd (true≢false (sym h))
+known_plain w (k ∷ ks) all h =
+    let each = both_true (is_plain k) (list_all is_plain ks) all in
+    known_plain_at w k ks (bytes_eq w k) refl h each.0 (known_plain w ks each.1)
 
-all_ascii : (ks ws : List Text) → list_all is_ascii ks ≡ true → list_all (λ w. has_text w ks) ws ≡ true → list_all is_ascii ws ≡ true
-all_ascii ks [] all h = refl
-all_ascii ks (w ∷ ws) all h =
+all_plain : (ks ws : List Text) → list_all is_plain ks ≡ true → list_all (λ w. has_text w ks) ws ≡ true → list_all is_plain ws ≡ true
+all_plain ks [] all h = refl
+all_plain ks (w ∷ ws) all h =
     let known = both_true (has_text w ks) (list_all (λ v. has_text v ks) ws) h in
-    rw (known_ascii w ks all known.0, all_ascii ks ws all known.1) refl
+    rw (known_plain w ks all known.0, all_plain ks ws all known.1) refl
 
-is_space : (x : ℕ) → (x == 32) ≡ true → nat_lt x 128 ≡ true
+is_space : (x : ℕ) → (x == 32) ≡ true → is_printable x ≡ true
 is_space x h = let is : x ≡ 32 = grind (arith, nat_tests, h) in rw is refl
 
-cut_ascii : (b : Bool) (x : ℕ) (ws : List Text) → (x == 32) ≡ b → 0 < length ws → list_all is_ascii (cond b ([] ∷ ws) (onto_first x ws)) ≡ true → (nat_lt x 128 ≡ true) × (list_all is_ascii ws ≡ true)
-cut_ascii true x ws is l h = (is_space x is, h)
-cut_ascii false x [] is l h = absurd (omega (arith, l))
-cut_ascii false x (w ∷ ws) is l h =
-    let parts = both_true (is_ascii (x ∷ w)) (list_all is_ascii ws) h in
-    let first = both_true (nat_lt x 128) (is_ascii w) parts.0 in
+cut_plain : (b : Bool) (x : ℕ) (ws : List Text) → (x == 32) ≡ b → 0 < length ws → list_all is_plain (cond b ([] ∷ ws) (onto_first x ws)) ≡ true → (is_printable x ≡ true) × (list_all is_plain ws ≡ true)
+cut_plain true x ws is l h = (is_space x is, h)
+cut_plain false x [] is l h = absurd (omega (arith, l))
+cut_plain false x (w ∷ ws) is l h =
+    let parts = both_true (is_plain (x ∷ w)) (list_all is_plain ws) h in
+    let first = both_true (is_printable x) (is_plain w) parts.0 in
     (first.0, rw (first.1, parts.1) refl)
 
-words_ascii : (t : Text) → list_all is_ascii (words_of t) ≡ true → is_ascii t ≡ true
-words_ascii [] h = refl
-words_ascii (x ∷ t) h =
-    let parts = cut_ascii (x == 32) x (words_of t) refl (some_words t) h in
-    rw (parts.0, words_ascii t parts.1) refl
+words_plain : (t : Text) → list_all is_plain (words_of t) ≡ true → is_plain t ≡ true
+words_plain [] h = refl
+words_plain (x ∷ t) h =
+    let parts = cut_plain (x == 32) x (words_of t) refl (some_words t) h in
+    rw (parts.0, words_plain t parts.1) refl
 
 -- ---- a scope, and the words of `prompt`
 
@@ -126,18 +135,18 @@ filled_by t p none h is = absurd (true≢false (sym h ∙ (ap p is ∙ none)))
 short_by : (t : Text) (ws : List Text) (most : ℕ) → total ws ≡ length t + 1 → total ws ≤ most + 1 → length t ≤ most
 short_by t ws most is h = omega (arith, is, h)
 
-of_words : (t : Text) (ks : List Text) (most : ℕ) → list_all is_ascii ks ≡ true → total ks ≡ most + 1 → are_words ks (words_of t) ≡ true → (is_ascii t ≡ true) × (length t ≤ most)
-of_words t ks most ascii long h =
+of_words : (t : Text) (ks : List Text) (most : ℕ) → list_all is_plain ks ≡ true → total ks ≡ most + 1 → are_words ks (words_of t) ≡ true → (is_plain t ≡ true) × (length t ≤ most)
+of_words t ks most plain long h =
     let parts = both_true (list_all (λ w. has_text w ks) (words_of t)) (is_distinct (words_of t)) h in
     let within = at_most_all ks (words_of t) parts.0 parts.1 in
-    (words_ascii t (all_ascii ks (words_of t) ascii parts.0), short_by t (words_of t) most (total-words t) (omega (arith, within, long)))
+    (words_plain t (all_plain ks (words_of t) plain parts.0), short_by t (words_of t) most (total-words t) (omega (arith, within, long)))
 
 pub scope_text : (t : Text) → is_scope t ≡ true → IsTextTo 34 t
 scope_text t h =
     let words = of_words t scope_words 34 refl refl (both_true (are_words scope_words (words_of t)) (has_text (codes "openid") (words_of t)) h).0 in
-    record { ascii = words.0; short = words.1; filled = filled_by t is_scope refl h }
+    record { plain = words.0; short = words.1; filled = filled_by t is_scope refl h }
 
 pub prompt_text : (t : Text) → is_prompt t ≡ true → IsTextTo 33 t
 prompt_text t h =
     let words = of_words t prompt_words 33 refl refl h in
-    record { ascii = words.0; short = words.1; filled = filled_by t is_prompt refl h }
+    record { plain = words.0; short = words.1; filled = filled_by t is_prompt refl h }

@@ -1,6 +1,4 @@
-pub mod AsciiTexts
 pub mod KnownWords
-pub mod Costs
 pub mod PartyRows
 pub mod Sealable
 pub mod Printed

@@ -8,7 +8,7 @@ use Rattle.std.proofs.lemmas.Fmt.{length-decimal-le, decimal_nonempty, IsAscii-d
 use Rattle.std.proofs.lemmas.Str.{IsUtf8-from_ascii}
 use Rattle.url.proofs.OnLiterals.{url_on_literals}
 use Rattle.registered_url.specs.declared.web_url.WebUrl.{WebUrl}
-use Rattle.registered_url.specs.Rule.{is_visible, parts_of, url_of}
+use Rattle.registered_url.specs.Rule.{parts_of, url_of}
 use Rattle.registered_url.proofs.Keeping.{urls_keep}
 use Rattle.configuration_rows.specs.declared.kind.Alphabet.TheVariants.{ClientId}
 use Rattle.configuration_rows.specs.Kinds.{allows, is_within, is_name}
@@ -17,14 +17,14 @@ use Rattle.sso_base.proofs.Spelling.{both_true, length-b64u_32}
 use Rattle.sso_base.proofs.WordUtf8.{IsUtf8-word_text}
 use Rattle.client_registry.specs.declared.records.Client.{Client}
 use Rattle.client_registry.specs.declared.records.Party.{Party}
-use Rattle.client_registry.specs.declared.records.Types.{Types}
+use Rattle.oidc_words.specs.declared.response_types.Types.{Types}
 use Rattle.client_registry.specs.Configuration.{Configuration}
-use Rattle.client_registry.specs.Records.{types_of_number}
+use Rattle.client_registry.specs.Numbers.{no_party, no_client, party_row, party_client}
+use Rattle.oidc_words.specs.Types.{types_of_number, types_text}
 use Rattle.client_registry.specs.Registered.{is_prompt_or_none, is_age_or_none, IsClient, IsParty, FitsClient, IsRegistry}
-use Rattle.login_request.specs.Parties.{no_party, no_client, party_row, client_row}
-use Rattle.login_request.specs.Request.{types_text}
-use Rattle.login_request.proofs.AsciiTexts.{is_ascii, IsTextTo, visible_are_ascii, client_id_is_ascii}
-use Rattle.login_request.proofs.KnownWords.{prompt_text}
+use Rattle.claim_set.proofs.PlainTexts.{is_plain}
+use Rattle.configuration_rows.proofs.PlainTexts.{visible_are_plain, client_id_is_plain}
+use Rattle.login_request.proofs.KnownWords.{IsTextTo, prompt_text}
 
 -- ---- rows
 
@@ -48,7 +48,7 @@ pub record KeepRules (party : Party) (client : Client) : Type 0 where
 pub client_is_known : (c : Configuration) (n : ℕ) → IsRegistry c → n < length c.parties → (party_row c n).client < length c.clients
 client_is_known c n r l = row_keeps (λ (p : Party). p.client < length c.clients) c.parties n no_party r.known l
 
-pub rows_keep_rules : (c : Configuration) (n : ℕ) → IsRegistry c → n < length c.parties → KeepRules (party_row c n) (client_row c n)
+pub rows_keep_rules : (c : Configuration) (n : ℕ) → IsRegistry c → n < length c.parties → KeepRules (party_row c n) (party_client c n)
 rows_keep_rules c n r l =
     let known = client_is_known c n r l in
     record {
@@ -56,10 +56,6 @@ rows_keep_rules c n r l =
       client_rules = row_keeps IsClient c.clients (party_row c n).client no_client r.client_rules known;
       fit = found_keeps (FitsClient (party_row c n)) c.clients (party_row c n).client no_client known (row_keeps (λ (p : Party). IfSome (slice_get c.clients p.client) (FitsClient p)) c.parties n no_party r.fitting l);
     }
-
--- the client that stands there has as many types as its row
-pub six_of_row : (c : Configuration) (n : ℕ) (client : Client) → client ≡ client_row c n → length client.types ≡ 6 → length (client_row c n).types ≡ 6
-six_of_row c n client is six = ap (λ (k : Client). length k.types) (sym is) ∙ six
 
 -- ---- the id of a client
 
@@ -71,7 +67,7 @@ pub id_text : (t : Text) → is_name ClientId 1 64 t ≡ true → IsTextTo 64 t
 id_text t h =
     let parts = both_true (is_within 1 64 (length t)) (list_all (allows ClientId) t) h in
     let bounds = both_true (nat_le 1 (length t)) (nat_le (length t) 64) parts.0 in
-    record { ascii = client_id_is_ascii t parts.1; short = leb-true (length t) 64 bounds.1; filled = not_empty t (leb-true 1 (length t) bounds.0) }
+    record { plain = client_id_is_plain t parts.1; short = leb-true (length t) 64 bounds.1; filled = not_empty t (leb-true 1 (length t) bounds.0) }
 
 -- ---- a redirection URI
 
@@ -85,21 +81,14 @@ none_some u h = absurd (cc)
 not_no_url : (t : Text) (u : WebUrl) → url_of t ≡ Some u → ¬ (t ≡ [])
 not_no_url t u h is = none_some u (sym no_url_there ∙ (sym (ap url_of is) ∙ h))
 
-pub record IsVisibleTo (most : ℕ) (t : Text) : Type 0 where
-  pub text : IsTextTo most t
-  pub visible : list_all is_visible t ≡ true
-
-pub url_text : (t : Text) (u : WebUrl) → url_of t ≡ Some u → IsVisibleTo 512 t
+pub url_text : (t : Text) (u : WebUrl) → url_of t ≡ Some u → IsTextTo 512 t
 url_text t u h =
     let rule = (urls_keep t u h).1 in
-    record {
-      text = record { ascii = visible_are_ascii t rule.visible; short = rule.short; filled = not_no_url t u h };
-      visible = rule.visible;
-    }
+    record { plain = visible_are_plain t rule.visible; short = rule.short; filled = not_no_url t u h }
 
 -- ---- the words of a response type
 
-short_words : (code id_token token : Bool) → (is_ascii (types_text (record { code = code; id_token = id_token; token = token })) ≡ true) × (length (types_text (record { code = code; id_token = id_token; token = token })) ≤ 19)
+short_words : (code id_token token : Bool) → (is_plain (types_text (record { code = code; id_token = id_token; token = token })) ≡ true) × (length (types_text (record { code = code; id_token = id_token; token = token })) ≤ 19)
 short_words false false false = (refl, omega arith)
 short_words false false true = (refl, omega arith)
 short_words false true false = (refl, omega arith)
@@ -109,7 +98,7 @@ short_words true false true = (refl, omega arith)
 short_words true true false = (refl, omega arith)
 short_words true true true = (refl, omega arith)
 
-pub types_are_short : (types : Types) → (is_ascii (types_text types) ≡ true) × (length (types_text types) ≤ 19)
+pub types_are_short : (types : Types) → (is_plain (types_text types) ≡ true) × (length (types_text types) ≤ 19)
 types_are_short types = short_words types.code types.id_token types.token
 
 filled_words : (n : ℕ) → n < 6 → 1 ≤ length (types_text (types_of_number (Some n)))
@@ -126,11 +115,11 @@ there_is_below [] i x h = absurd (cc)
 there_is_below (y ∷ ys) zero x h = omega arith
 there_is_below (y ∷ ys) (suc i) x h = omega (arith, there_is_below ys i x h)
 
-pub types_are_there : (p : Party) (k : Client) → FitsClient p k → length k.types ≡ 6 → ¬ (types_text p.types ≡ [])
-types_are_there p k fit six =
-    let below = there_is_below k.types fit.number true fit.has_type in
-    let some = filled_words fit.number (omega (arith, below, six)) in
-    not_empty (types_text p.types) (subst (λ types. 1 ≤ length (types_text types)) (sym fit.types) some)
+pub types_are_there : (p : Party) (k : Client) → KeepRules p k → ¬ (types_text p.types ≡ [])
+types_are_there p k rules =
+    let below = there_is_below k.types rules.fit.number true rules.fit.has_type in
+    let some = filled_words rules.fit.number (omega (arith, below, rules.client_rules.types)) in
+    not_empty (types_text p.types) (subst (λ types. 1 ≤ length (types_text types)) (sym rules.fit.types) some)
 
 -- ---- `prompt` and `max_age`
 

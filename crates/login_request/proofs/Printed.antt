@@ -1,6 +1,7 @@
 -- The parameters of a login, and those beside a request object, are printed whole, and can be sealed.
-use Rattle.std.proofs.Common.{◌≡◌, ℕ, suc, true, [], ◌∷◌, ◌++◌, nat_lt, codes, decimal, Option, Some, None, option_map, refl}
+use Rattle.std.proofs.Common.{◌≡◌, ℕ, suc, Bool, true, [], ◌∷◌, ◌++◌, nat_lt, codes, decimal, Option, Some, None, option_map, refl}
 use Rattle.std.specs.Prelude.{IfSome}
+use Rattle.std.specs.List.{list_all}
 use Rattle.std.specs.Str.{IsUtf8, IsAscii}
 use Rattle.std.proofs.lemmas.Bool.{lt-ltb}
 use Rattle.json.proofs.Printed.Utf8.{IsUtf8-are_ascii}
@@ -15,6 +16,7 @@ use Rattle.jws_compact.specs.declared.sealing.Typ.{Typ}
 use Rattle.hmac256.specs.Hmac.{hmac_of}
 use Rattle.client_registry.specs.declared.records.Client.{Client}
 use Rattle.client_registry.specs.Configuration.{Configuration}
+use Rattle.client_registry.specs.Numbers.{party_row, party_client}
 use Rattle.request_params.specs.declared.params.Params.{Params}
 use Rattle.request_params.specs.declared.name.ParamName.{ParamName}
 use Rattle.request_params.specs.declared.name.ParamName.TheVariants.{ResponseType, ClientId, RedirectUri, Scope, State, Nonce, ResponseMode, Prompt, MaxAge, Claims, Request, RequestUri, Registration}
@@ -23,14 +25,18 @@ use Rattle.request_params.specs.Printing.{IsPrinted}
 use Rattle.request_object.specs.Request.{request_members, request_text}
 use Rattle.request_object.specs.Sealing.{HasTexts, IsSealable}
 use Rattle.request_object.proofs.Fitting.{fits-request_members}
-use Rattle.login_request.specs.Parties.{party_row, client_row, MayAsk}
-use Rattle.login_request.specs.Request.{types_text, login_params, outer_params}
-use Rattle.login_request.proofs.AsciiTexts.{is_ascii, IsTextTo, IsUtf8-text}
-use Rattle.login_request.proofs.KnownWords.{scope_text}
+use Rattle.login_request.specs.Parties.{MayAsk}
+use Rattle.oidc_words.specs.Types.{types_text}
+use Rattle.login_request.specs.Request.{login_params, outer_params}
+use Rattle.claim_set.proofs.PlainTexts.{IsUtf8-plain}
+use Rattle.login_request.proofs.KnownWords.{IsTextTo, scope_text}
 use Rattle.login_request.proofs.PartyRows.{IsUtf8To, rows_keep_rules, id_text, url_text, types_are_short, types_are_there, prompt_is_text, age_is_text, word_is_text}
 use Rattle.login_request.proofs.Sealable.{short_claims}
 
 -- ---- sealed texts are ASCII, and not empty
+
+abbrev is_ascii : Text → Bool
+is_ascii t = list_all (λ b. nat_lt b 128) t
 
 ascii_bytes : (t : Text) → IsAscii t → is_ascii t ≡ true
 ascii_bytes [] h = refl
@@ -73,7 +79,7 @@ some_filled t h is = h (cc)
 
 prompt_utf8 : (o : Option Text) → IfSome o (IsTextTo 33) → IfSome o IsUtf8
 prompt_utf8 None h = tt
-prompt_utf8 (Some t) h = IsUtf8-text 33 t h
+prompt_utf8 (Some t) h = IsUtf8-plain t h.plain
 
 prompt_filled : (o : Option Text) → IfSome o (IsTextTo 33) → ¬ (o ≡ Some [])
 prompt_filled None h is = (cc)
@@ -90,11 +96,11 @@ age_filled (Some t) h is = some_filled t h.filled is
 -- ---- the parameters
 
 module _ (c : Configuration) (n : ℕ) (issuer : Text) (state nonce : Word) (m : MayAsk c n issuer state nonce) where
-  id_is : IsTextTo 64 (client_row c n).id
-  id_is = id_text (client_row c n).id (rows_keep_rules c n m.registry m.party).client_rules.id
+  id_is : IsTextTo 64 (party_client c n).id
+  id_is = id_text (party_client c n).id (rows_keep_rules c n m.registry m.party).client_rules.id
 
   redirect_is : IsTextTo 512 (party_row c n).redirect
-  redirect_is = (url_text (party_row c n).redirect (party_row c n).redirect_url (rows_keep_rules c n m.registry m.party).party_rules.redirect).text
+  redirect_is = url_text (party_row c n).redirect (party_row c n).redirect_url (rows_keep_rules c n m.registry m.party).party_rules.redirect
 
   scope_is : IsTextTo 34 (party_row c n).scope
   scope_is = scope_text (party_row c n).scope (rows_keep_rules c n m.registry m.party).party_rules.scope
@@ -106,16 +112,16 @@ module _ (c : Configuration) (n : ℕ) (issuer : Text) (state nonce : Word) (m :
   age_is = age_is_text (party_row c n).max_age (rows_keep_rules c n m.registry m.party).party_rules.age
 
   types_utf8 : IsUtf8 (types_text (party_row c n).types)
-  types_utf8 = IsUtf8-are_ascii (types_text (party_row c n).types) (types_are_short (party_row c n).types).0
+  types_utf8 = IsUtf8-plain (types_text (party_row c n).types) (types_are_short (party_row c n).types).0
 
   types_filled : ¬ (types_text (party_row c n).types ≡ [])
-  types_filled = types_are_there (party_row c n) (client_row c n) (rows_keep_rules c n m.registry m.party).fit m.six_types
+  types_filled = types_are_there (party_row c n) (party_client c n) (rows_keep_rules c n m.registry m.party)
 
-  login_texts : AreTexts (login_params (client_row c n) (party_row c n) state nonce)
+  login_texts : AreTexts (login_params (party_client c n) (party_row c n) state nonce)
   login_texts ResponseType = types_utf8
-  login_texts ClientId = IsUtf8-text 64 (client_row c n).id id_is
-  login_texts RedirectUri = IsUtf8-text 512 (party_row c n).redirect redirect_is
-  login_texts Scope = IsUtf8-text 34 (party_row c n).scope scope_is
+  login_texts ClientId = IsUtf8-plain (party_client c n).id id_is.plain
+  login_texts RedirectUri = IsUtf8-plain (party_row c n).redirect redirect_is.plain
+  login_texts Scope = IsUtf8-plain (party_row c n).scope scope_is.plain
   login_texts State = (word_is_text state m.state_word).text
   login_texts Nonce = (word_is_text nonce m.nonce_word).text
   login_texts ResponseMode = tt
@@ -126,9 +132,9 @@ module _ (c : Configuration) (n : ℕ) (issuer : Text) (state nonce : Word) (m :
   login_texts RequestUri = tt
   login_texts Registration = tt
 
-  login_filled : (name : ParamName) → ¬ (param_of name (login_params (client_row c n) (party_row c n) state nonce) ≡ Some [])
+  login_filled : (name : ParamName) → ¬ (param_of name (login_params (party_client c n) (party_row c n) state nonce) ≡ Some [])
   login_filled ResponseType h = some_filled (types_text (party_row c n).types) types_filled h
-  login_filled ClientId h = some_filled (client_row c n).id id_is.filled h
+  login_filled ClientId h = some_filled (party_client c n).id id_is.filled h
   login_filled RedirectUri h = some_filled (party_row c n).redirect redirect_is.filled h
   login_filled Scope h = some_filled (party_row c n).scope scope_is.filled h
   login_filled State h = some_filled (word_text state) (word_is_text state m.state_word).filled h
@@ -141,16 +147,16 @@ module _ (c : Configuration) (n : ℕ) (issuer : Text) (state nonce : Word) (m :
   login_filled RequestUri h = (cc)
   login_filled Registration h = (cc)
 
-  pub login_printed : IsPrinted (login_params (client_row c n) (party_row c n) state nonce)
+  pub login_printed : IsPrinted (login_params (party_client c n) (party_row c n) state nonce)
   login_printed = record { texts = login_texts; filled = login_filled; no_response_mode = refl; no_claims = refl; no_request_uri = refl; no_registration = refl }
 
   -- ---- beside a request object
 
   module _ (object : Text) (utf8 : IsUtf8 object) (filled : ¬ (object ≡ [])) where
-    outer_texts : AreTexts (outer_params (client_row c n) (party_row c n) object)
+    outer_texts : AreTexts (outer_params (party_client c n) (party_row c n) object)
     outer_texts ResponseType = types_utf8
-    outer_texts ClientId = IsUtf8-text 64 (client_row c n).id id_is
-    outer_texts RedirectUri = IsUtf8-text 512 (party_row c n).redirect redirect_is
+    outer_texts ClientId = IsUtf8-plain (party_client c n).id id_is.plain
+    outer_texts RedirectUri = IsUtf8-plain (party_row c n).redirect redirect_is.plain
     outer_texts Scope = IsUtf8-are_ascii (codes "openid") refl
     outer_texts State = tt
     outer_texts Nonce = tt
@@ -162,9 +168,9 @@ module _ (c : Configuration) (n : ℕ) (issuer : Text) (state nonce : Word) (m :
     outer_texts RequestUri = tt
     outer_texts Registration = tt
 
-    outer_filled : (name : ParamName) → ¬ (param_of name (outer_params (client_row c n) (party_row c n) object) ≡ Some [])
+    outer_filled : (name : ParamName) → ¬ (param_of name (outer_params (party_client c n) (party_row c n) object) ≡ Some [])
     outer_filled ResponseType h = some_filled (types_text (party_row c n).types) types_filled h
-    outer_filled ClientId h = some_filled (client_row c n).id id_is.filled h
+    outer_filled ClientId h = some_filled (party_client c n).id id_is.filled h
     outer_filled RedirectUri h = some_filled (party_row c n).redirect redirect_is.filled h
     outer_filled Scope h = (let same : codes "openid" ≡ [] = cc in cc)
     outer_filled State h = (cc)
@@ -177,17 +183,17 @@ module _ (c : Configuration) (n : ℕ) (issuer : Text) (state nonce : Word) (m :
     outer_filled RequestUri h = (cc)
     outer_filled Registration h = (cc)
 
-    outer_printed : IsPrinted (outer_params (client_row c n) (party_row c n) object)
+    outer_printed : IsPrinted (outer_params (party_client c n) (party_row c n) object)
     outer_printed = record { texts = outer_texts; filled = outer_filled; no_response_mode = refl; no_claims = refl; no_request_uri = refl; no_registration = refl }
 
-  pub object_printed : (p : Params) → IsPrinted (outer_params (client_row c n) (party_row c n) (request_text (client_row c n) issuer p))
-  object_printed p = outer_printed (request_text (client_row c n) issuer p) (object_utf8 (client_row c n) issuer p) (object_filled (client_row c n) issuer p)
+  pub object_printed : (p : Params) → IsPrinted (outer_params (party_client c n) (party_row c n) (request_text (party_client c n) issuer p))
+  object_printed p = outer_printed (request_text (party_client c n) issuer p) (object_utf8 (party_client c n) issuer p) (object_filled (party_client c n) issuer p)
 
   -- ---- in a request object
 
-  login_has_texts : HasTexts (client_row c n) issuer (login_params (client_row c n) (party_row c n) state nonce)
+  login_has_texts : HasTexts (party_client c n) issuer (login_params (party_client c n) (party_row c n) state nonce)
   login_has_texts = record {
-    id = IsUtf8-text 64 (client_row c n).id id_is;
+    id = IsUtf8-plain (party_client c n).id id_is.plain;
     issuer_text = m.issuer_text;
     response_type = login_texts ResponseType;
     client_id = login_texts ClientId;
@@ -201,9 +207,9 @@ module _ (c : Configuration) (n : ℕ) (issuer : Text) (state nonce : Word) (m :
     claims = tt;
   }
 
-  pub login_sealable : IsSealable (client_row c n) issuer (login_params (client_row c n) (party_row c n) state nonce)
+  pub login_sealable : IsSealable (party_client c n) issuer (login_params (party_client c n) (party_row c n) state nonce)
   login_sealable = record {
-    fits = fits-request_members (client_row c n) issuer (login_params (client_row c n) (party_row c n) state nonce) login_has_texts;
+    fits = fits-request_members (party_client c n) issuer (login_params (party_client c n) (party_row c n) state nonce) login_has_texts;
     short = short_claims c n issuer state nonce m;
     request = refl;
     request_uri = refl;

@@ -8,11 +8,12 @@ use Rattle.registered_url.specs.Rule.{parts_of}
 use Rattle.sso_base.specs.Words.{Text, Word, IsWord, word_text}
 use Rattle.sso_base.proofs.OnLiterals.{base64url_on_literals}
 use Rattle.sso_base.proofs.Spelling.{IsBytes-from_all_bytes}
-use Rattle.client_registry.specs.declared.records.Types.{Types}
+use Rattle.oidc_words.specs.declared.response_types.Types.{Types}
 use Rattle.client_registry.specs.declared.records.Client.{Client}
 use Rattle.client_registry.specs.declared.records.Party.{Party}
 use Rattle.client_registry.specs.declared.records.Provider.{Provider}
 use Rattle.client_registry.specs.Configuration.{Configuration}
+use Rattle.client_registry.specs.Numbers.{no_party, no_client, party_row, party_client}
 use Rattle.client_registry.specs.Records.{provider_of, urls_of}
 use Rattle.client_registry.specs.Registered.{AllHoldClaims, IsClient, IsParty, FitsClient, IsRegistry}
 use Rattle.request_params.specs.Reading as form
@@ -20,8 +21,8 @@ use Rattle.request_params.specs.Printing.{request_form}
 use Rattle.request_params.proofs.OnLiterals.{request_params_on_literals}
 use Rattle.request_object.specs.Reading as object
 use Rattle.request_object.specs.Request.{request_text}
-use Rattle.login_request.specs.Parties.{no_party, no_client, party_row, client_row, MayAsk}
-use Rattle.login_request.specs.Request.{and_word, word_if, types_text, login_params, outer_params, sent_params, login_location}
+use Rattle.login_request.specs.Parties.{MayAsk}
+use Rattle.login_request.specs.Request.{login_params, outer_params, sent_params, login_location}
 use Rattle.login_request.proofs.Asked.{plain_read, beside_read, object_read}
 
 -- ---- a registry with two clients and their parties, of which the second signs its requests
@@ -112,11 +113,11 @@ small =
 
 shop_is_client : IsClient shop
 unfolding url_on_literals parts_of
-shop_is_client = record { id = refl; secret = refl; long_secret = omega arith; redirects = refl; urls = refl; kept = refl; logout = refl; logout_kept = refl; one_host = refl }
+shop_is_client = record { id = refl; secret = refl; long_secret = omega arith; redirects = refl; types = refl; urls = refl; kept = refl; logout = refl; logout_kept = refl; one_host = refl }
 
 mail_is_client : IsClient mail
 unfolding url_on_literals parts_of
-mail_is_client = record { id = refl; secret = refl; long_secret = omega arith; redirects = refl; urls = refl; kept = refl; logout = refl; logout_kept = refl; one_host = refl }
+mail_is_client = record { id = refl; secret = refl; long_secret = omega arith; redirects = refl; types = refl; urls = refl; kept = refl; logout = refl; logout_kept = refl; one_host = refl }
 
 shop_is_party : IsParty shop_party
 unfolding url_on_literals parts_of
@@ -127,10 +128,10 @@ unfolding url_on_literals parts_of
 mail_is_party = record { name = refl; listen = refl; redirect = refl; path = refl; names = refl; scope = refl; prompt = refl; age = refl }
 
 shop_fits : FitsClient shop_party shop
-shop_fits = record { redirect = refl; logout = refl; number = 0; types = refl; has_type = refl }
+shop_fits = record { redirect = refl; logout = refl; logout_of = tt; number = 0; types = refl; has_type = refl }
 
 mail_fits : FitsClient mail_party mail
-mail_fits = record { redirect = refl; logout = refl; number = 3; types = refl; has_type = refl }
+mail_fits = record { redirect = refl; logout = refl; logout_of = tt; number = 3; types = refl; has_type = refl }
 
 no_claims : AllHoldClaims []
 unfolding AllHoldClaims
@@ -156,8 +157,13 @@ small_registry =
       rows = refl;
       subjects = ((refl, tt), ((refl, tt), tt));
       subject_rules = (tt, (tt, tt));
+      salt = replicate 16 7;
+      salted = record { within = refl; bytes = IsBytes-from_all_bytes (replicate 16 7) refl; made = refl };
       issuer = refl;
+      issuer_url = record { query = refl; prefix = refl; secure = refl };
       short_issuer = omega arith;
+      provider = refl;
+      listen = refl;
       user_claims = no_claims;
       user_rules = tt;
       client_rules = (shop_is_client, (mail_is_client, tt));
@@ -172,10 +178,10 @@ row-of_the_second = refl
 row-of_no_party : party_row small 2 ≡ no_party
 row-of_no_party = refl
 
-client-of_the_second : client_row small 1 ≡ mail
+client-of_the_second : party_client small 1 ≡ mail
 client-of_the_second = refl
 
-client-of_an_unknown_one : client_row (record small { clients = shop ∷ [] }) 1 ≡ no_client
+client-of_an_unknown_one : party_client (record small { clients = shop ∷ [] }) 1 ≡ no_client
 client-of_an_unknown_one = refl
 
 -- ---- for whom requests are made
@@ -193,10 +199,10 @@ word_3 : IsWord (word 3)
 word_3 = record { long = refl; bytes = IsBytes-from_all_bytes (word 3) refl }
 
 shop_may : MayAsk small 0 issuer (word 2) (word 3)
-shop_may = record { registry = small_registry; party = omega arith; six_types = refl; issuer_text = IsUtf8-are_ascii issuer refl; short_issuer = omega arith; state_word = word_2; nonce_word = word_3 }
+shop_may = record { registry = small_registry; party = omega arith; issuer_text = IsUtf8-are_ascii issuer refl; short_issuer = omega arith; state_word = word_2; nonce_word = word_3 }
 
 mail_may : MayAsk small 1 issuer (word 2) (word 3)
-mail_may = record { registry = small_registry; party = omega arith; six_types = refl; issuer_text = IsUtf8-are_ascii issuer refl; short_issuer = omega arith; state_word = word_2; nonce_word = word_3 }
+mail_may = record { registry = small_registry; party = omega arith; issuer_text = IsUtf8-are_ascii issuer refl; short_issuer = omega arith; state_word = word_2; nonce_word = word_3 }
 
 not_for_a_third_party : (state nonce : Word) → MayAsk small 2 issuer state nonce → ⊥
 not_for_a_third_party state nonce h = absurd (omega (arith, h.party))
@@ -208,24 +214,6 @@ not_with_a_state_of_31_bytes : (nonce : Word) → MayAsk small 0 issuer (replica
 not_with_a_state_of_31_bytes nonce h = absurd (omega (arith, h.state_word.long))
 
 -- ---- response types
-
-word-first : and_word [] (codes "code") ≡ codes "code"
-word-first = refl
-
-word-second : and_word (codes "code") (codes "token") ≡ codes "code token"
-word-second = refl
-
-word-not_told : word_if false (codes "token") (codes "code") ≡ codes "code"
-word-not_told = refl
-
-types-in_order : types_text (record { code = true; id_token = true; token = true }) ≡ codes "code id_token token"
-types-in_order = refl
-
-types-without_a_code : types_text (record { code = false; id_token = true; token = true }) ≡ codes "id_token token"
-types-without_a_code = refl
-
-types-none : types_text (record { code = false; id_token = false; token = false }) ≡ []
-types-none = refl
 
 -- ---- parameters
 

@@ -8,12 +8,13 @@ use Rattle.sso_base.specs.Words.{Text, Word, word_text}
 use Rattle.client_registry.specs.declared.records.Client.{Client}
 use Rattle.client_registry.specs.declared.records.Party.{Party}
 use Rattle.client_registry.specs.Configuration.{Configuration}
+use Rattle.client_registry.specs.Numbers.{party_row, party_client}
 use Rattle.request_object.specs.Request.{request_entries, request_members}
-use Rattle.login_request.specs.Parties.{party_row, client_row, MayAsk}
-use Rattle.login_request.specs.Request.{types_text, login_params}
-use Rattle.login_request.proofs.AsciiTexts.{IsTextTo}
-use Rattle.login_request.proofs.KnownWords.{scope_text}
-use Rattle.login_request.proofs.Costs.{cost, cost_all, length-put_all, visible_cost, any_cost}
+use Rattle.login_request.specs.Parties.{MayAsk}
+use Rattle.oidc_words.specs.Types.{types_text}
+use Rattle.login_request.specs.Request.{login_params}
+use Rattle.login_request.proofs.KnownWords.{IsTextTo, scope_text}
+use Rattle.claim_set.proofs.Costs.{cost, cost_all, length-put_all, plain_cost, any_cost}
 use Rattle.login_request.proofs.PartyRows.{IsUtf8To, rows_keep_rules, id_text, url_text, types_are_short, prompt_is_text, age_is_text, word_is_text}
 
 -- ---- how long the names are
@@ -55,10 +56,10 @@ whole : (a b n : ℕ) → n ≤ a + b → a ≡ 2 → b ≤ 4206 → n ≤ 6000
 whole a b n h f g = omega (arith, h, f, g)
 
 module _ (c : Configuration) (n : ℕ) (issuer : Text) (state nonce : Word) (m : MayAsk c n issuer state nonce) where
-  short_entries : cost_all (request_entries (client_row c n) issuer (login_params (client_row c n) (party_row c n) state nonce)) ≤ 4206
+  short_entries : cost_all (request_entries (party_client c n) issuer (login_params (party_client c n) (party_row c n) state nonce)) ≤ 4206
   short_entries =
       let party = party_row c n in
-      let client = client_row c n in
+      let client = party_client c n in
       let rules = rows_keep_rules c n m.registry m.party in
       let id = id_text client.id rules.client_rules.id in
       let redirect = url_text party.redirect party.redirect_url rules.party_rules.redirect in
@@ -69,17 +70,17 @@ module _ (c : Configuration) (n : ℕ) (issuer : Text) (state nonce : Word) (m :
       (age_cost (option_map decimal party.max_age) (age_is_text party.max_age rules.party_rules.age))
       (any_cost (codes "nonce") (word_text nonce) 43 7 named.nonce (word_is_text nonce m.nonce_word).short)
       (prompt_cost party.prompt (prompt_is_text party.prompt rules.party_rules.prompt))
-      (visible_cost (codes "redirect_uri") party.redirect 512 14 named.redirect_uri redirect.visible redirect.text.short)
+      (plain_cost (codes "redirect_uri") party.redirect 512 14 named.redirect_uri redirect.plain redirect.short)
       (any_cost (codes "response_type") (types_text party.types) 19 15 named.response_type (types_are_short party.types).1)
       (any_cost (codes "scope") party.scope 34 7 named.scope (scope_text party.scope rules.party_rules.scope).short)
       (any_cost (codes "state") (word_text state) 43 7 named.state (word_is_text state m.state_word).short)
 
-  pub short_claims : length (claims_text (request_members (client_row c n) issuer (login_params (client_row c n) (party_row c n) state nonce))) ≤ 6000
+  pub short_claims : length (claims_text (request_members (party_client c n) issuer (login_params (party_client c n) (party_row c n) state nonce))) ≤ 6000
   unfolding request_members
   short_claims =
-      let entries = request_entries (client_row c n) issuer (login_params (client_row c n) (party_row c n) state nonce) in
+      let entries = request_entries (party_client c n) issuer (login_params (party_client c n) (party_row c n) state nonce) in
       whole (length (claims_text no_members)) (cost_all entries) _ (length-put_all entries no_members) refl short_entries
 
   -- of rows that are those of the number
-  pub short_of_rows : (client : Client) (party : Party) → client ≡ client_row c n → party ≡ party_row c n → length (claims_text (request_members client issuer (login_params client party state nonce))) ≤ 6000
+  pub short_of_rows : (client : Client) (party : Party) → client ≡ party_client c n → party ≡ party_row c n → length (claims_text (request_members client issuer (login_params client party state nonce))) ≤ 6000
   short_of_rows client party of_client of_party = rw (of_client, of_party) short_claims

@@ -1,26 +1,15 @@
 -- The authorization request by which a relying party begins a login (OpenID Connect Core 1.0, 3.1.2.1, 3.2.2.1, 3.3.2.1 and
 -- 6.1).
-use Rattle.std.specs.Prelude.{Bool, [], ◌∷◌, ◌++◌, Some, None, option_map, codes, decimal, if◌then◌else◌}
+use Rattle.std.specs.Prelude.{Some, None, option_map, decimal, if◌then◌else◌}
 use Rattle.sso_base.specs.Words.{Word, Text, word_text}
-use Rattle.client_registry.specs.declared.records.Types.{Types}
+use Rattle.oidc_words.specs.Scopes.{openid_word}
+use Rattle.oidc_words.specs.Types.{types_text}
 use Rattle.client_registry.specs.declared.records.Client.{Client}
 use Rattle.client_registry.specs.declared.records.Party.{Party}
 use Rattle.client_registry.specs.declared.records.Provider.{Provider}
 use Rattle.request_params.specs.declared.params.Params.{Params}
 use Rattle.request_params.specs.Printing.{request_location}
 use Rattle.request_object.specs.Request.{request_text}
-
--- ---- the response type, its words in the order `code`, `id_token`, `token`
-
-abbrev pub and_word : Text → Text → Text
-and_word [] word = word
-and_word (b ∷ text) word = (b ∷ text) ++ 32 ∷ word
-
-abbrev pub word_if : Bool → Text → Text → Text
-word_if flag word text = if flag then and_word text word else text
-
-abbrev pub types_text : Types → Text
-types_text types = word_if types.token (codes "token") (word_if types.id_token (codes "id_token") (word_if types.code (codes "code") []))
 
 -- ---- the parameters
 
@@ -50,7 +39,7 @@ outer_params client party request =
       response_type = Some (types_text party.types);
       client_id = Some client.id;
       redirect_uri = Some party.redirect;
-      scope = Some (codes "openid");
+      scope = Some openid_word;
       state = None;
       nonce = None;
       response_mode = None;

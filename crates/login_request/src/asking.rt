@@ -1,17 +1,17 @@
 // Where the browser is sent to begin a login.
 
 ghost use Rattle.std.specs.Prelude.{◌≡◌, ◌≤◌, ◌<◌, length, IfOk};
-ghost use Rattle.sso_base.specs.Words.{IsWord};
 ghost use Rattle.claim_set.specs.Reading.{claims_text};
 ghost use Rattle.request_object.specs.Request.{request_members, request_text};
-ghost use Rattle.login_request.specs.Parties.{party_row as row_of, client_row as client_of, MayAsk};
+ghost use Rattle.client_registry.specs.Numbers.{party_row as row_of, party_client as client_of};
+ghost use Rattle.login_request.specs.Parties.{MayAsk};
 ghost use Rattle.login_request.specs.Request as spec;
 
 use crate::params::{login_params, outer_params};
 use client_registry::{Client, Party, Provider, Registry};
 use request_object::seal_request;
 use request_params::{Params, print_request};
-use sso_base::{NoMemory, Text, Word};
+use sso_base::{NoMemory, Text, Word, know_word};
 use std::alloc::Global;
 
 // The row of a party.
@@ -32,20 +32,6 @@ fn client_row(registry: &Registry, party: u32) -> &Client
     registry.client(number)
 }
 
-// The bytes of a word. That there are 32, each below 256, is said for the proof of `bounds_of`.
-fn bytes_of(word: &Word) -> [u8; 32]
-    ensures { IsWord word.now }
-{
-    word.bytes()
-}
-
-// The response types of a client. That there are six is said for the proof of `bounds_of`.
-fn types_of(types: [bool; 6]) -> [bool; 6]
-    ensures { length types ≡ 6 }
-{
-    types
-}
-
 // What the size of the claims rests on, said for the proof of `sent_params`: each registry keeps its rules, and words have
 // bounds.
 fn bounds_of(registry: &Registry, party: u32, provider: &Provider, state: &Word, nonce: &Word)
@@ -54,11 +40,9 @@ fn bounds_of(registry: &Registry, party: u32, provider: &Provider, state: &Word,
     ensures { MayAsk registry.now party provider.now.issuer state.now nonce.now }
 {
     let _parties = registry.parties();
-    let client = client_row(registry, party);
-    let _types = types_of(client.types);
     let _issuer = provider.issuer.as_str();
-    let _state = bytes_of(state);
-    let _nonce = bytes_of(nonce);
+    know_word(state);
+    know_word(nonce);
 }
 
 // The request object of a login.

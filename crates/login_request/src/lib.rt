@@ -3,18 +3,15 @@
 //! | Module | What it has |
 //! |---|---|
 //! | `asking` | [`login_request`] is the location at which a browser begins a login |
-//! | `params` | the parameters of the request; [`types_word`] writes a response type |
+//! | `params` | the parameters of the request |
 //! | `law` | what holds of these requests, for the crates above |
 #![tactic(auto)]
 
 mod asking;
 mod law;
 mod params;
-#[cfg(test)]
-mod tests;
 
 pub use asking::login_request;
 pub use law::{
     login_requests_are_read, login_requests_have_their_words, signed_login_requests_are_read,
 };
-pub use params::types_word;

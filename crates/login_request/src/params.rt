@@ -3,27 +3,11 @@
 ghost use Rattle.std.specs.Prelude.{◌≡◌, IfOk, option_map, decimal};
 ghost use Rattle.login_request.specs.Request as spec;
 
-use client_registry::{Client, Party, Types};
+use client_registry::{Client, Party};
+use oidc_words::OPENID;
 use request_params::Params;
 use sso_base::{NoMemory, Text, Word, copied_text};
 use std::alloc::Global;
-
-/// A response type as a request writes it: its words in the order `code`, `id_token`, `token`, with one space between
-/// (OAuth 2.0 Multiple Response Type Encoding Practices, 3 and 5). No words are the empty text.
-pub fn types_word(types: &Types) -> &'static str
-    ensures { result.now ≡ spec.types_text types.now }
-{
-    match (types.code, types.id_token, types.token) {
-        (false, false, false) => "",
-        (false, false, true) => "token",
-        (false, true, false) => "id_token",
-        (false, true, true) => "id_token token",
-        (true, false, false) => "code",
-        (true, false, true) => "code token",
-        (true, true, false) => "code id_token",
-        (true, true, true) => "code id_token token",
-    }
-}
 
 // A number of seconds in decimal, where there is one.
 fn age_text(alloc: Global, age: &Option<u64>) -> Result<Option<Text>, NoMemory>
@@ -46,7 +30,7 @@ pub(crate) fn login_params(
     ensures { IfOk result (λ p. p ≡ spec.login_params client.now party.now state.now nonce.now) }
 {
     Ok(Params {
-        response_type: Some(Text::new(alloc, types_word(&party.types))?),
+        response_type: Some(Text::new(alloc, party.types.text())?),
         client_id: Some(client.id.copy(alloc)?),
         redirect_uri: Some(party.redirect.copy(alloc)?),
         scope: Some(party.scope.copy(alloc)?),
@@ -72,10 +56,10 @@ pub(crate) fn outer_params(
     ensures { IfOk result (λ p. p ≡ spec.outer_params client.now party.now object) }
 {
     Ok(Params {
-        response_type: Some(Text::new(alloc, types_word(&party.types))?),
+        response_type: Some(Text::new(alloc, party.types.text())?),
         client_id: Some(client.id.copy(alloc)?),
         redirect_uri: Some(party.redirect.copy(alloc)?),
-        scope: Some(Text::new(alloc, "openid")?),
+        scope: Some(Text::new(alloc, OPENID)?),
         state: None,
         nonce: None,
         response_mode: None,

@@ -1,10 +1,11 @@
 -- The definitions computed on small cases: what each accepts, and what it refuses.
-use Rattle.std.proofs.Common.{◌≡◌, ℕ, List, [], ◌∷◌, Option, Some, None, Result, Ok, Err, IsOk, codes, refl, sym, ap, ◌∙◌, true, false, arith, true≢false, inl, inr}
+use Rattle.std.proofs.Common.{◌≡◌, ◌<◌, ◌+◌, ℕ, List, [], ◌∷◌, Option, Some, None, Result, Ok, Err, IsOk, codes, refl, sym, ap, ◌∙◌, true, false, arith, true≢false, inl, inr}
 use Rattle.std.specs.Str.{is_utf8, chars}
 use Rattle.std.proofs.lemmas.Str.{is_utf8-from_IsUtf8}
 use Rattle.serde_json.specs.Data.{Members, no_members, member, string, object, number, unsigned, null, put}
 use Rattle.json.proofs.Printed.Utf8.{IsUtf8-are_ascii}
 use Rattle.sso_base.specs.Refusals.{first_refusal}
+use Rattle.oidc_words.specs.Lives.{seen_life}
 use Rattle.sso_base.proofs.Spelling.{IsBytes-from_all_bytes}
 use Rattle.claim_set.specs.Reading.{claims_text, claims_read, Reads}
 use Rattle.claim_set.specs.declared.no.ClaimNo.{ClaimNo}
@@ -27,7 +28,7 @@ use Rattle.logout_token.specs.LogoutToken.{logout_members, logout_of, logout_tex
 use Rattle.logout_token.specs.Token.{HasEvent, HasLogoutClaims, IsLogoutTyp, IsLogoutToken, logout_refusals}
 use Rattle.logout_token.specs.Judging.{logout_judged, IsGoodLogoutToken}
 use Rattle.logout_token.specs.Fitting.{HasTexts, IsSealable}
-use Rattle.logout_token.proofs.Good.{passes_good}
+use Rattle.logout_token.proofs.Good.{passes_good, good_before}
 use Rattle.logout_token.proofs.Fitting.{fits-logout_members}
 use Rattle.logout_token.proofs.RoundTrip.{has-logout_members}
 use Rattle.logout_token.proofs.Tokens.{IsLogoutToken-read, logout_read-IsLogoutToken, logout_read-unopened, logout_read-unread, logout_read-refused, logout_read-accepted}
@@ -160,6 +161,16 @@ lasting = record { iss = codes "i"; aud = codes "c" ∷ []; iat = 1000; exp = 90
 
 last_good_age : logout_judged (codes "i") (codes "c") lasting 1600 ≡ Ok tt
 last_good_age = refl
+
+-- a token that was good a minute before its `iat` is good for 660 seconds more
+first_good_age : IsGoodLogoutToken (codes "i") (codes "c") lasting 940
+first_good_age = passes_good (codes "i") (codes "c") lasting 940 refl
+
+last_good_age-is_good : IsGoodLogoutToken (codes "i") (codes "c") lasting 1600
+last_good_age-is_good = passes_good (codes "i") (codes "c") lasting 1600 refl
+
+still_remembered : 1600 < 940 + seen_life
+still_remembered = good_before (codes "i") (codes "c") lasting 940 1600 first_good_age last_good_age-is_good
 
 too_old : logout_judged (codes "i") (codes "c") lasting 1601 ≡ Err (TooOld 1000)
 too_old = refl

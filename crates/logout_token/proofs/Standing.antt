@@ -10,7 +10,7 @@ use Rattle.sso_base.proofs.Decided.{not_not}
 use Rattle.claim_set.specs.Kinds.{data_texts, text_claim, number_claim, texts_claim}
 use Rattle.claim_set.specs.Building.{number_value}
 use Rattle.claim_set.specs.declared.no.ClaimNo.{ClaimNo}
-use Rattle.claim_set.proofs.KindLaws.{text_found, text_there, number_there, there, holds_of, found_of_kind, stands_of_kind, small}
+use Rattle.claim_set.proofs.KindLaws.{text_read, number_read, text_there, number_there, there, holds_of, found_of_kind, stands_of_kind}
 use Rattle.logout_token.specs.declared.claims.LogoutClaims.{LogoutClaims}
 use Rattle.logout_token.specs.declared.claims.RawLogout.{RawLogout}
 use Rattle.logout_token.specs.declared.no.LogoutNo.{LogoutNo}
@@ -76,15 +76,6 @@ somebody None (Some s) h = refl
 somebody (Some s) b h = refl
 
 module _ (ms : Members) (x : LogoutClaims) (has : HasLogoutClaims ms x) where
-  optional : (name : List ℕ) (v : Option (List ℕ)) → get_member name ms ≡ option_map string v → text_claim name ms ≡ Ok v
-  optional name v h = rw (h) (text_found name v)
-
-  needed : (name t : List ℕ) → get_member name ms ≡ Some (string t) → text_claim name ms ≡ Ok (Some t)
-  needed name t h = rw h
-
-  moment : (name : List ℕ) (n : ℕ) → get_member name ms ≡ Some (number_value n) → n < 2 ^ 40 → number_claim name ms ≡ Ok (Some n)
-  moment name n h fits = rw (h, small n fits)
-
   raw_of : RawLogout
   raw_of = record { aud = Some x.aud; exp = Some x.exp; iat = Some x.iat; iss = Some x.iss; jti = Some x.jti; sid = x.sid; sub = x.sub }
 
@@ -92,12 +83,12 @@ module _ (ms : Members) (x : LogoutClaims) (has : HasLogoutClaims ms x) where
   unfolding raw_in raw_of
   raw_is = rw (
     found_of_kind (codes "aud") data_texts (get_member (codes "aud") ms) x.aud has.aud,
-    moment (codes "exp") x.exp has.exp has.exp_fits,
-    moment (codes "iat") x.iat has.iat has.iat_fits,
-    needed (codes "iss") x.iss has.iss,
-    needed (codes "jti") x.jti has.jti,
-    optional (codes "sid") x.sid has.sid,
-    optional (codes "sub") x.sub has.sub,
+    number_read ms (codes "exp") (Some x.exp) has.exp has.exp_fits,
+    number_read ms (codes "iat") (Some x.iat) has.iat has.iat_fits,
+    text_read ms (codes "iss") (Some x.iss) has.iss,
+    text_read ms (codes "jti") (Some x.jti) has.jti,
+    text_read ms (codes "sid") x.sid has.sid,
+    text_read ms (codes "sub") x.sub has.sub,
   )
 
   whole_is : whole raw_of ms ≡ Ok x

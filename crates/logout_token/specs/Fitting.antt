@@ -1,7 +1,8 @@
 -- The claims of which a logout token is written.
 use Rattle.std.specs.Prelude.{◌≡◌, ◌≤◌, ◌<◌, ◌^◌, ◌||◌, true, length, is_some, IfSome}
 use Rattle.std.specs.Str.{IsUtf8}
-use Rattle.claim_set.specs.Fitting.{ClaimsFit, AreUtf8}
+use Rattle.sso_base.specs.Values.{AreTexts}
+use Rattle.claim_set.specs.Fitting.{ClaimsFit}
 use Rattle.claim_set.specs.Reading.{claims_text}
 use Rattle.logout_token.specs.declared.claims.LogoutClaims.{LogoutClaims}
 use Rattle.logout_token.specs.LogoutToken.{logout_members}
@@ -9,7 +10,7 @@ use Rattle.logout_token.specs.LogoutToken.{logout_members}
 -- the texts among the claims are in UTF-8
 pub record HasTexts (x : LogoutClaims) : Type 0 where
   pub iss : IsUtf8 x.iss
-  pub aud : AreUtf8 x.aud
+  pub aud : AreTexts x.aud
   pub jti : IsUtf8 x.jti
   pub sub : IfSome x.sub IsUtf8
   pub sid : IfSome x.sid IsUtf8

@@ -5,12 +5,8 @@ ghost use Rattle.logout_token.specs.Judging.{logout_judged, IsGoodLogoutToken};
 
 use crate::claims::LogoutClaims;
 use crate::no::LogoutNo;
+use oidc_words::{LEEWAY, OLDEST};
 use sso_base::{Moment, Text};
-
-// How many seconds clocks may differ, and how many seconds old a token may be.
-const LEEWAY: u64 = 60;
-
-const OLDEST: u64 = 600;
 
 // The first refusal that fits.
 fn judged(issuer: &Text, client: &Text, claims: &LogoutClaims, at: Moment) -> Result<(), LogoutNo>

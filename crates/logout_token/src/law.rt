@@ -1,8 +1,9 @@
 // What holds of logout tokens, for the crates above.
 
-ghost use Rattle.std.specs.Prelude.{◌≡◌, ◌<◌, ◌^◌, ℕ, List, Ok, Err, IsOk};
+ghost use Rattle.std.specs.Prelude.{◌≡◌, ◌<◌, ◌+◌, ◌^◌, ℕ, List, Ok, Err, IsOk};
 ghost use Rattle.serde_json.specs.Data.{Members};
 ghost use Rattle.sso_base.specs.Refusals.{first_refusal};
+ghost use Rattle.oidc_words.specs.Lives.{seen_life};
 ghost use Rattle.claim_set.specs.Fitting.{ClaimsFit};
 ghost use Rattle.claim_set.specs.Reading.{Reads, claims_read};
 ghost use Rattle.claim_set.specs.declared.no.ClaimNo.{ClaimNo};
@@ -46,4 +47,10 @@ pub fn sealed_claims_are_read()
 pub fn good_tokens_pass()
     ensures passes { (issuer client : List ℕ) (x : LogoutClaims) (at : ℕ) → IsGoodLogoutToken issuer client x at → logout_judged issuer client x at ≡ Ok tt }
     ensures good { (issuer client : List ℕ) (x : LogoutClaims) (at : ℕ) → logout_judged issuer client x at ≡ Ok tt → IsGoodLogoutToken issuer client x at }
+{}
+
+/// A logout token that is good at a moment is good at none that is 661 seconds or more later. So a relying party that
+/// remembers it for that long takes it once only (OpenID Connect Back-Channel Logout 1.0, 2.6, step 8).
+pub fn good_tokens_are_remembered()
+    ensures { (issuer client : List ℕ) (x : LogoutClaims) (at later : ℕ) → IsGoodLogoutToken issuer client x at → IsGoodLogoutToken issuer client x later → later < at + seen_life }
 {}

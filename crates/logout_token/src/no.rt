@@ -20,15 +20,15 @@ pub enum LogoutNo {
     /// The claim of this name is absent: the first of `iss`, `aud`, `iat`, `exp` and `jti`, in this order (2.4).
     Missing(Text),
     /// The claim `events` is not an object with the member `http://schemas.openid.net/event/backchannel-logout` whose
-    /// value is an object (2.6, step 5).
+    /// value is an object (2.6, step 6).
     NoEvent,
-    /// The claim `nonce` is there, whatever it is (2.6, step 6).
+    /// The claim `nonce` is there, whatever it is (2.6, step 7).
     HasNonce,
-    /// Neither `sub` nor `sid` is there (2.6, step 4).
+    /// Neither `sub` nor `sid` is there (2.6, step 5).
     NamesNobody,
-    /// The issuer is another (2.6, step 3; OpenID Connect Core 1.0, 3.1.3.7, step 2).
+    /// The issuer is another (2.6, step 4; OpenID Connect Core 1.0, 3.1.3.7, step 2).
     Issuer,
-    /// The client is not in the audience, or anybody else is (Core 3.1.3.7, step 3).
+    /// The client is not in the audience, or anybody else is (2.6, step 4; Core 3.1.3.7, step 3).
     Audience,
     /// The token expired 60 seconds ago or earlier (Core 3.1.3.7, step 9). It has `exp`, in seconds since the epoch.
     Expired(u64),
@@ -46,5 +46,35 @@ impl From<NoMemory> for LogoutNo {
 
     fn from(_error: NoMemory) -> LogoutNo {
         LogoutNo::NoMemory
+    }
+}
+
+impl From<JwsNo> for LogoutNo {
+    ghost use Rattle.std.specs.Prelude.{◌≡◌, IsFalse};
+    ghost use Rattle.logout_token.specs.LogoutToken.{as_jws, hides_memory};
+
+    ghost from_gives = { λ given e. (e ≡ as_jws given) × IsFalse (hides_memory e) };
+
+    // The refusal of a sealed text, as that of a token.
+    fn from(error: JwsNo) -> LogoutNo {
+        match error {
+            JwsNo::NoMemory => LogoutNo::NoMemory,
+            error => LogoutNo::Jws(error),
+        }
+    }
+}
+
+impl From<ClaimNo> for LogoutNo {
+    ghost use Rattle.std.specs.Prelude.{◌≡◌, IsFalse};
+    ghost use Rattle.logout_token.specs.LogoutToken.{as_claims, hides_memory};
+
+    ghost from_gives = { λ given e. (e ≡ as_claims given) × IsFalse (hides_memory e) };
+
+    // The refusal of claims, as that of a token.
+    fn from(error: ClaimNo) -> LogoutNo {
+        match error {
+            ClaimNo::NoMemory => LogoutNo::NoMemory,
+            error => LogoutNo::Claims(error),
+        }
     }
 }

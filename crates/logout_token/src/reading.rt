@@ -1,19 +1,19 @@
 // A logout token is read, or refused for the first reason that fits.
 
-ghost use Rattle.std.specs.Prelude.{◌≡◌, ◌⊎◌, Ok, Err, IfOk, IfErr, IsFalse, option_and_then};
+ghost use Rattle.std.specs.Prelude.{◌≡◌, ◌⊎◌, Some, None, Ok, Err, IfOk, IfErr, IsFalse, option_and_then};
 ghost use Rattle.serde_json.specs.Find.{as_object, get_member};
 ghost use Rattle.logout_token.specs.Token.{IsLogoutToken};
-ghost use Rattle.logout_token.specs.LogoutToken.{raw_in, typ_fits, has_event, whole, logout_of, logout_read, hides_memory, as_claims, as_jws};
+ghost use Rattle.logout_token.specs.LogoutToken.{raw_in, typ_fits, has_event, whole, logout_of, logout_read, hides_memory};
 
 use crate::claims::{LogoutClaims, RawLogout};
 use crate::no::LogoutNo;
 use claim_set::{ClaimNo, ClaimSet, read_claims};
-use jws_compact::{JwsNo, unseal};
+use jws_compact::unseal;
 use sso_base::{NoMemory, Text};
 use std::alloc::Global;
 
 // The name of the logout event.
-const EVENT: &str = "http://schemas.openid.net/event/backchannel-logout";
+pub(crate) const EVENT: &str = "http://schemas.openid.net/event/backchannel-logout";
 
 // The claims, as far as they are there, each of its kind.
 #[tactic(auto, unfolding(crate::specs::LogoutToken::raw_in))]
@@ -84,6 +84,19 @@ fn missing(alloc: Global, name: &str) -> LogoutNo
     }
 }
 
+// A claim that has to be there.
+fn present<T: Drop>(alloc: Global, claim: Option<T>, name: &str) -> Result<T, LogoutNo>
+    ensures ok { IfOk result (λ found. claim ≡ Some found) }
+    ensures absent { IfErr result (λ e. claim ≡ None) }
+    ensures missing { IfErr result (λ e. (e ≡ LogoutNo.NoMemory) ⊎ (e ≡ LogoutNo.Missing name.now)) }
+    ensures memory_is_outermost { IfErr result (λ e. IsFalse (hides_memory e)) }
+{
+    match claim {
+        Some(found) => Ok(found),
+        None => Err(missing(alloc, name)),
+    }
+}
+
 // The claims that have to be there, and none that must not.
 #[tactic(auto, unfolding(crate::specs::LogoutToken::whole))]
 fn whole_claims(alloc: Global, raw: RawLogout, claims: &ClaimSet) -> Result<LogoutClaims, LogoutNo>
@@ -91,37 +104,18 @@ fn whole_claims(alloc: Global, raw: RawLogout, claims: &ClaimSet) -> Result<Logo
     ensures err { IfErr result (λ e. (e ≡ LogoutNo.NoMemory) ⊎ (whole raw claims.now ≡ Err e)) }
     ensures memory_is_outermost { IfErr result (λ e. IsFalse (hides_memory e)) }
 {
-    let RawLogout {
-        aud,
-        exp,
-        iat,
-        iss,
-        jti,
-        sid,
-        sub,
-    } = raw;
-    let Some(iss) = iss else {
-        return Err(missing(alloc, "iss"));
-    };
-    let Some(aud) = aud else {
-        return Err(missing(alloc, "aud"));
-    };
-    let Some(iat) = iat else {
-        return Err(missing(alloc, "iat"));
-    };
-    let Some(exp) = exp else {
-        return Err(missing(alloc, "exp"));
-    };
-    let Some(jti) = jti else {
-        return Err(missing(alloc, "jti"));
-    };
+    let iss = present(alloc, raw.iss, "iss")?;
+    let aud = present(alloc, raw.aud, "aud")?;
+    let iat = present(alloc, raw.iat, "iat")?;
+    let exp = present(alloc, raw.exp, "exp")?;
+    let jti = present(alloc, raw.jti, "jti")?;
     if !names_logout(claims)? {
         return Err(LogoutNo::NoEvent);
     }
     if claims.has("nonce") {
         return Err(LogoutNo::HasNonce);
     }
-    if sub.is_none() && sid.is_none() {
+    if raw.sub.is_none() && raw.sid.is_none() {
         return Err(LogoutNo::NamesNobody);
     }
     Ok(LogoutClaims {
@@ -130,31 +124,9 @@ fn whole_claims(alloc: Global, raw: RawLogout, claims: &ClaimSet) -> Result<Logo
         iat,
         exp,
         jti,
-        sub,
-        sid,
+        sub: raw.sub,
+        sid: raw.sid,
     })
-}
-
-// The refusal for a claim set, or for a claim.
-fn claims_refused(error: ClaimNo) -> LogoutNo
-    ensures refused { result ≡ as_claims error }
-    ensures memory_is_outermost { IsFalse (hides_memory result) }
-{
-    match error {
-        ClaimNo::NoMemory => LogoutNo::NoMemory,
-        error => LogoutNo::Claims(error),
-    }
-}
-
-// The refusal for a sealed text.
-fn jws_refused(error: JwsNo) -> LogoutNo
-    ensures refused { result ≡ as_jws error }
-    ensures memory_is_outermost { IsFalse (hides_memory result) }
-{
-    match error {
-        JwsNo::NoMemory => LogoutNo::NoMemory,
-        error => LogoutNo::Jws(error),
-    }
 }
 
 // The logout token that a claim set is, beside a header's `typ`.
@@ -164,10 +136,7 @@ fn logout_in(alloc: Global, typ: &Option<Text>, claims: &ClaimSet) -> Result<Log
     ensures err { IfErr result (λ e. (e ≡ LogoutNo.NoMemory) ⊎ (logout_of typ.now claims.now ≡ Err e)) }
     ensures memory_is_outermost { IfErr result (λ e. IsFalse (hides_memory e)) }
 {
-    let raw = match raw_claims(claims) {
-        Ok(raw) => raw,
-        Err(error) => return Err(claims_refused(error)),
-    };
+    let raw = raw_claims(claims)?;
     if !is_logout_typ(typ) {
         return Err(LogoutNo::WrongTyp);
     }
@@ -181,14 +150,8 @@ fn opened(alloc: Global, key: &[u8], text: &[u8]) -> Result<LogoutClaims, Logout
     ensures refuses { IfErr result (λ e. (e ≡ LogoutNo.NoMemory) ⊎ (logout_read key.now text.now ≡ Err e)) }
     ensures memory_is_outermost { IfErr result (λ e. IsFalse (hides_memory e)) }
 {
-    let opened = match unseal(alloc, key, text) {
-        Ok(opened) => opened,
-        Err(error) => return Err(jws_refused(error)),
-    };
-    let claims = match read_claims(alloc, opened.payload.as_bytes()) {
-        Ok(claims) => claims,
-        Err(error) => return Err(claims_refused(error)),
-    };
+    let opened = unseal(alloc, key, text)?;
+    let claims = read_claims(alloc, opened.payload.as_bytes())?;
     logout_in(alloc, &opened.typ, &claims)
 }
 

@@ -6,6 +6,7 @@ ghost use Rattle.claim_set.specs.Building.{put_if};
 ghost use Rattle.logout_token.specs.LogoutToken.{events, logout_members, logout_text, logout_read};
 
 use crate::claims::LogoutClaims;
+use crate::reading::EVENT;
 use claim_set::{ClaimSet, write_claims};
 use jws_compact::Typ;
 use sso_base::{NoMemory, Text};
@@ -16,10 +17,7 @@ fn put_events(alloc: Global, claims: &mut ClaimSet) -> Result<(), NoMemory>
     ensures { OnOk result (claims.new ≡ put_if (codes "events") (Some events) claims.old) }
 {
     let mut events = ClaimSet::new(alloc);
-    events.put_set(
-        "http://schemas.openid.net/event/backchannel-logout",
-        ClaimSet::new(alloc),
-    )?;
+    events.put_set(EVENT, ClaimSet::new(alloc))?;
     claims.put_set("events", events)
 }
 

@@ -1,8 +1,10 @@
 -- What one line of a first trace says by itself.
-use Rattle.std.specs.Prelude.{ℕ, ◌-◌, ◌^◌, Bool, ◌&&◌, not, ◌==◌, nat_le, List, [], ◌∷◌, length, codes, Option, Some, None, if◌then◌else◌}
-use Rattle.std.specs.List.{list_all, slice_split}
+use Rattle.std.specs.Prelude.{ℕ, ◌-◌, ◌^◌, Bool, ◌&&◌, ◌==◌, nat_le, List, [], ◌∷◌, codes, Option, Some, None, if◌then◌else◌}
+use Rattle.std.specs.List.{list_all}
 use Rattle.std.specs.Str.{bytes_eq}
 use Rattle.sso_base.specs.Words.{Text}
+use Rattle.sso_base.specs.Values.{latest_moment}
+use Rattle.oidc_words.specs.Words.{is_filled, words_of}
 use Rattle.sso_world.specs.declared.place.FirstAsk.TheVariants as ask
 use Rattle.oidc_replay.specs.declared.line.Line.{Line}
 use Rattle.oidc_replay.specs.declared.line.Line.TheVariants.{Skip, At, Play}
@@ -13,13 +15,6 @@ use Rattle.oidc_replay.specs.Number.{number_within}
 -- visible ASCII and spaces
 abbrev pub is_plain : List ℕ → Bool
 is_plain line = list_all (λ b. nat_le 32 b && nat_le b 126) line
-
-abbrev pub is_filled : Text → Bool
-is_filled word = not (length word == 0)
-
--- the parts between the spaces
-abbrev pub words_of : List ℕ → List Text
-words_of line = slice_split (λ b. b == 32) line
 
 -- ---- Commands
 
@@ -33,7 +28,7 @@ place_of word = number_within 1 (2 ^ 64 - 1) word
 
 -- seconds
 abbrev pub moment_of : Text → Option ℕ
-moment_of word = number_within 0 1_099_511_000_000 word
+moment_of word = number_within 0 latest_moment word
 
 abbrev pub at_line : Option ℕ → Option Line
 at_line None = None

@@ -30,8 +30,6 @@ mod line;
 mod number;
 mod reading;
 mod replay;
-#[cfg(test)]
-mod tests;
 mod trace;
 
 pub use law::{every_trace_signs_on, numbers_are_decimal};

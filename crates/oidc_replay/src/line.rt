@@ -2,18 +2,23 @@
 
 ghost use Rattle.std.specs.Prelude.{◌≡◌, IfOk, true, map};
 ghost use Rattle.std.specs.List.{list_all};
-ghost use Rattle.oidc_replay.specs.Line.{is_plain, is_filled, words_of, browser_of, place_of, two_words, three_words, five_words, command, spoken, line_of};
+ghost use Rattle.oidc_words.specs.Words.{is_filled};
+ghost use Rattle.oidc_replay.specs.Line.{is_plain, browser_of, place_of, two_words, three_words, five_words, command, spoken, line_of};
 
-use crate::number::read_within;
+use crate::number::{read_number, read_within};
+use oidc_words::words_of;
 use sso_base::{Moment, NoMemory, Text};
 use sso_world::FirstAsk;
-use std::alloc::{AllocError, Global};
+use std::alloc::Global;
 
 /// What a line says: nothing, a moment, or what a browser does.
 #[derive(Debug, Drop)]
 pub enum Line {
+    /// Nothing: it is empty or a comment.
     Skip,
+    /// From here on it is this moment, in seconds since the epoch.
     At(Moment),
+    /// The browser of this number, from 1 to 65,535, does this.
     Play { browser: u32, ask: FirstAsk },
 }
 
@@ -36,8 +41,8 @@ fn read_at(verb: &str, seconds: &str) -> Option<Line>
     if verb != "at" {
         return None;
     }
-    let seconds = read_within(seconds, 0, 1_099_511_000_000)?;
-    Some(Line::At(Moment::new(seconds)?))
+    let moment = Moment::new(read_number(seconds)?)?;
+    Some(Line::At(moment))
 }
 
 fn read_step(verb: &str, browser: &str, last: &str) -> Option<Line>
@@ -121,12 +126,6 @@ fn text_of_plain(line: &[u8]) -> &str
     std::str::from_utf8(line).unwrap()
 }
 
-fn split_words(alloc: Global, line: &str) -> Result<Vec<&str>, AllocError>
-    ensures { IfOk result (λ words. map (λ w. w.now) words.items ≡ words_of line.now) }
-{
-    line.split(' ').collect(alloc)
-}
-
 fn are_filled(words: &[&str]) -> bool
     ensures { result ≡ list_all is_filled (map (λ w. w.now) words.now) }
 {
@@ -144,7 +143,7 @@ fn read_spoken(alloc: Global, line: &[u8]) -> Result<Option<Line>, NoMemory>
     if !is_plain_line(line) {
         return Ok(None);
     }
-    let words = split_words(alloc, text_of_plain(line))?;
+    let words = words_of(alloc, text_of_plain(line))?;
     if !are_filled(words.as_slice()) {
         return Ok(None);
     }

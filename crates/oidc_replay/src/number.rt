@@ -1,6 +1,6 @@
 //! Decimal numbers.
 
-ghost use Rattle.std.specs.Prelude.{◌≡◌, ◌+◌, ◌≤◌, nat_lt};
+ghost use Rattle.std.specs.Prelude.{◌≡◌};
 ghost use Rattle.oidc_replay.specs.Number.{digits_from, number_of, number_within};
 
 fn read_digits(word: &[u8]) -> Option<u64>
@@ -17,15 +17,15 @@ fn read_digits(word: &[u8]) -> Option<u64>
     Some(number)
 }
 
-/// The number of a word of decimal digits, without leading zeros and below 2^64.
-fn read_number(word: &[u8]) -> Option<u64>
+/// The number of a word of decimal digits, without leading zeros and below 2^64; None where it is no such number.
+pub fn read_number(word: &str) -> Option<u64>
     ensures { result ≡ number_of word.now }
 {
-    match word {
+    match word.as_bytes() {
         [] => None,
         [b'0'] => Some(0),
         [b'0', _, ..] => None,
-        _ => read_digits(word),
+        digits => read_digits(digits),
     }
 }
 
@@ -33,6 +33,6 @@ fn read_number(word: &[u8]) -> Option<u64>
 pub fn read_within(word: &str, low: u64, high: u64) -> Option<u64>
     ensures { result ≡ number_within low high word.now }
 {
-    let number = read_number(word.as_bytes())?;
+    let number = read_number(word)?;
     (low <= number && number <= high).then_some(number)
 }

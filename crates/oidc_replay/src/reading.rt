@@ -2,7 +2,7 @@
 
 ghost use Rattle.std.specs.Prelude.{◌≡◌, ◌≢◌, ◌<◌, ◌^◌, ℕ, Ok, Err, IfOk, OnOk, length, map};
 ghost use Rattle.sso_world.specs.Play.{is_place, is_there};
-ghost use Rattle.oidc_replay.specs.Trace.{Reached, nothing_read, may_come, read_on, read_lines, IsRead, lines_of, told_of, trace_of};
+ghost use Rattle.oidc_replay.specs.Trace.{Reached, nothing_read, may_come, read_on, read_lines, IsRead, lines_of, trace_of};
 
 use crate::header::read_header;
 use crate::line::{Line, read_line};

@@ -8,8 +8,11 @@ use std::marker::Model;
 /// A line that makes a place: what the browser of this number does, and the moment that was set last before it.
 #[derive(Debug, Drop)]
 pub struct TraceLine {
+    /// The number of the browser, from 1 to 65,535.
     pub browser: u32,
+    /// The moment, in seconds since the epoch; 0 where none was set.
     pub at: Moment,
+    /// What the browser does.
     pub ask: FirstAsk,
 }
 

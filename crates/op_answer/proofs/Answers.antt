@@ -83,7 +83,7 @@ module _ (c : Configuration) (past : OpPast) (e : Entry OpAsk) (answer : Answer)
   answered_consent turn agree browser presented (inr (inl led)) = let h = led.1 in cc
   answered_consent turn agree browser presented (inr (inr seen)) = answered_decided turn agree browser presented seen
 
-  answered_asked : (asked : OpAsk) → op_reply c past e asked ≡ this → AnsweredCause c past e asked answer given
+  pub answered_asked : (asked : OpAsk) → op_reply c past e asked ≡ this → AnsweredCause c past e asked answer given
   answered_asked (ask.Authorize (verdict.Page why) browser presented) h = cc
   answered_asked (ask.Authorize (verdict.Refuse refusal) browser presented) h = cc
   answered_asked (ask.Authorize (verdict.Grant wish) browser presented) h =

@@ -1,14 +1,28 @@
--- Each cause, met by a reply of the first login; and none where the ask is of another kind.
-use Rattle.std.proofs.Common.{◌≡◌, false, [], Some, None, codes, refl}
-use Rattle.sso_base.specs.Words.{Word, Text, word_of_text}
-use Rattle.auth_request.specs.declared.wish.AuthError.TheVariants.{AccessDenied}
+-- Each cause, met by a reply of the first login, and not met by another reply to the same kind of ask.
+use Rattle.std.proofs.Common.{◌≡◌, inl, inr, Bool, true, false, [], Option, Some, None, codes, refl, sym, ◌∙◌, ap, subst}
+use Rattle.sso_base.specs.Words.{Word, Text, is_word, word_of_text}
+use Rattle.sso_base.specs.Rows.{lives}
+use Rattle.oidc_words.specs.Lives.{code_usable}
+use Rattle.oidc_words.specs.declared.scopes.Scopes.{Scopes}
+use Rattle.oidc_words.specs.declared.errors.AuthError.TheVariants.{AccessDenied}
 use Rattle.auth_request.specs.declared.wish.PageNo.TheVariants as page
 use Rattle.auth_answer.specs.declared.answer.Answer.{Answer}
 use Rattle.token_endpoint.specs.declared.error.TokenError.TheVariants.{InvalidGrant}
+use Rattle.request_need.specs.declared.need.Need.TheVariants as need
+use Rattle.request_need.specs.Need.{needed, needed_scopes}
+use Rattle.oidc_words.specs.Scopes.{joined}
+use Rattle.oidc_words.specs.Claims.{scopes_with_any}
+use Rattle.code_grant.specs.declared.rows.TurnRow.{TurnRow}
+use Rattle.code_grant.specs.declared.rows.SessionRow.{SessionRow}
+use Rattle.code_grant.specs.declared.rows.CodeRow.{CodeRow}
+use Rattle.code_grant.specs.Clients.{no_clients}
 use Rattle.op_exchange.specs.declared.ask.OpAsk.TheVariants as ask
-use Rattle.op_answer.specs.Replies.{refusal_of}
+use Rattle.op_answer.specs.Sessions.{live_session}
+use Rattle.op_exchange.specs.declared.reply.OpReply.TheVariants.{ErrorPage}
+use Rattle.op_answer.specs.Codes.{held_code}
+use Rattle.op_answer.specs.Replies.{refusal_of, is_turns}
 use Rattle.op_issue.specs.IdTokens.{issued_id}
-use Rattle.op_answer.specs.Causes.{Stood, LoginPageCause, ConsentPageCause, AnsweredCause, RefusedCause, ErrorPageCause, TokensCause, TokenRefusedCause}
+use Rattle.op_answer.specs.Causes.{Stood, need_after_yes, NewTurn, LoginPageCause, OtherAtConsent, ErrorAtConsent, ConsentPageCause, AnsweredCause, RefusedCause, ErrorPageCause, TokensCause, TokenRefusedCause}
 use Rattle.op_answer.proofs.Standing.{own_replies_stand}
 use Rattle.op_answer.proofs.Pages.{login_pages_have_a_cause, consent_pages_have_a_cause, error_pages_have_a_cause}
 use Rattle.op_answer.proofs.Answers.{answers_have_a_cause}
@@ -16,7 +30,7 @@ use Rattle.op_answer.proofs.Refusals.{refusals_have_a_cause}
 use Rattle.op_answer.proofs.TokenResponses.{tokens_have_a_cause, token_errors_have_a_cause}
 use Rattle.op_exchange.proofs.Sample.{word, sample, wish, profile_scopes, callback_uri}
 use Rattle.op_answer.proofs.FirstLogin.{entry_at, authorize_entry, login_page, authorize_gets_login, past_login, login_entry, login_gets_consent, past_consent, consent_entry, consent_gets_code, past_code, token_entry, signed_alice, code_gets_tokens, code_after_two_minutes, other_browser, consent_of_other_browser}
-use Rattle.op_answer.proofs.Sessions.{consent_denied}
+use Rattle.op_answer.proofs.Sessions.{consent_denied, hasty}
 
 abbrev code_given : Answer
 code_given = record { redirect = callback_uri; fragment = false; code = Some (word 15); access = None; id = None; state = Some (codes "state") }
@@ -24,7 +38,7 @@ code_given = record { redirect = callback_uri; fragment = false; code = Some (wo
 a_reply_stands : Stood sample [] authorize_entry login_page
 a_reply_stands = own_replies_stand sample [] authorize_entry login_page refl authorize_gets_login
 
-a_login_page : LoginPageCause [] authorize_entry authorize_entry.ask (word 6) (word 5) false
+a_login_page : LoginPageCause sample [] authorize_entry authorize_entry.ask (word 6) (word 5) false
 a_login_page = login_pages_have_a_cause sample [] authorize_entry (word 6) (word 5) false authorize_gets_login
 
 a_consent_page : ConsentPageCause sample past_login login_entry login_entry.ask (word 6) (word 5) (Some (word 9)) (codes "shop-client") profile_scopes
@@ -47,16 +61,80 @@ some_tokens t spells =
 a_token_error : (t : Text) → word_of_text t ≡ Some (word 15) → TokenRefusedCause past_code (token_entry 1120 t) (token_entry 1120 t).ask InvalidGrant
 a_token_error t spells = token_errors_have_a_cause sample past_code (token_entry 1120 t) InvalidGrant (code_after_two_minutes t spells)
 
--- keys are asked for: nothing but the keys comes of it
+-- ---- the turn, the session and the code that these are about
 
-no_login_page : (w b : Word) → LoginPageCause [] authorize_entry ask.Keys w b false → ⊥
-no_login_page w b h = h
+abbrev consent_turn : TurnRow
+consent_turn = record { word = word 6; browser = word 5; wish = wish; session = Some (word 9); in_turn = true; begun = 1000 }
 
-no_answer : AnsweredCause sample [] authorize_entry ask.Keys code_given None → ⊥
-no_answer h = h
+abbrev consent_session : SessionRow
+consent_session = record { word = word 9; sid = word 10; user = 0; auth_time = 1000; clients = no_clients }
 
-no_tokens : (w : Word) (id : Text) → TokensCause sample [] authorize_entry ask.Keys w id → ⊥
-no_tokens w id h = h
+abbrev first_code : CodeRow
+first_code = record { word = word 15; wish = wish; user = 0; sid = word 10; auth_time = 1000; issued = 1000; spent = false; by = 2 }
 
-no_token_error : TokenRefusedCause [] authorize_entry ask.Keys InvalidGrant → ⊥
-no_token_error h = h
+-- ---- and no cause for another reply to the same kind of ask
+
+another_reply_does_not_stand : Stood sample [] authorize_entry (ErrorPage page.Turn) → ⊥
+unfolding needed needed_scopes joined scopes_with_any no_clients
+another_reply_does_not_stand h = (let k : login_page ≡ ErrorPage page.Turn = h.reply_is in cc)
+
+-- a first login page is not one that is shown again
+no_login_page_again : (w b : Word) → LoginPageCause sample [] authorize_entry authorize_entry.ask w b true → ⊥
+no_login_page_again w b h = (let k : true ≡ false = h.first in cc)
+
+-- nobody is asked for a consent who has no session
+no_consent_page_of_nobody : (w b : Word) (given : Option Word) (client : Text) (scopes : Scopes)
+    → ConsentPageCause sample [] authorize_entry authorize_entry.ask w b given client scopes → ⊥
+no_consent_page_of_nobody w b given client scopes h = (let k : None ≡ Some h.session = h.live in cc)
+
+no_answer_of_another_browser : AnsweredCause sample past_consent other_browser other_browser.ask code_given None → ⊥
+no_answer_of_another_browser h =
+    let same : consent_turn ≡ h.row = (let k : Some consent_turn ≡ Some h.row = h.own.own.live in cc) in
+    let B : TurnRow → Bool = λ row. is_word (Some (word 7)) row.browser in
+    let k : false ≡ true = ap B same ∙ h.own.own.same_browser in cc
+
+-- a yes of the turn's own browser and session denies nothing
+no_denial_of_a_yes : RefusedCause sample past_consent consent_entry consent_entry.ask (refusal_of wish AccessDenied) None → ⊥
+unfolding needed needed_scopes joined scopes_with_any no_clients
+no_denial_of_a_yes h =
+    let same : consent_turn ≡ h.row = (let k : Some consent_turn ≡ Some h.row = h.own.own.live in cc) in
+    let L : TurnRow → Option SessionRow = λ row. live_session past_consent 1000 row.session in
+    let held : consent_session ≡ h.session = (let k : Some consent_session ≡ Some h.session = ap L same ∙ h.own.live in cc) in
+    let T : TurnRow → Type 0 = λ row. ErrorAtConsent true (need_after_yes sample past_consent consent_entry row h.session) h.code in
+    let S : SessionRow → Type 0 = λ session. ErrorAtConsent true (need_after_yes sample past_consent consent_entry consent_turn session) h.code in
+    let none : S consent_session = subst S (sym held) (subst T (sym same) h.why) in none
+
+no_error_page_of_the_right_browser : ErrorPageCause past_consent consent_entry consent_entry.ask page.Browser → ⊥
+no_error_page_of_the_right_browser h =
+    let same : consent_turn ≡ h.row = (let k : Some consent_turn ≡ Some h.row = h.live in cc) in
+    let B : TurnRow → Bool = λ row. is_word (Some (word 5)) row.browser in
+    let S : TurnRow → Bool = λ row. is_turns (Some (word 9)) row.session in
+    elim h.other [ inl o ↦ (let k : true ≡ false = ap B same ∙ o in cc) | inr o ↦ (let k : true ≡ false = ap S same ∙ o in cc) ]
+
+-- 120 seconds after the issue a code gets no tokens, and a second earlier no error
+no_tokens_too_late : (t : Text) (w : Word) (id : Text) → word_of_text t ≡ Some (word 15) → TokensCause sample past_code (token_entry 1120 t) (token_entry 1120 t).ask w id → ⊥
+no_tokens_too_late t w id spells h =
+    let H : Option Word → Option CodeRow = λ o. held_code past_code 1120 o in
+    let same : first_code ≡ h.code = (let k : Some first_code ≡ Some h.code = sym (ap H spells) ∙ h.held in cc) in
+    let U : CodeRow → Bool = λ code. lives code_usable code.issued 1120 in
+    let k : false ≡ true = ap U same ∙ h.usable in cc
+
+no_token_error_in_time : (t : Text) → word_of_text t ≡ Some (word 15) → TokenRefusedCause past_code (token_entry 1119 t) (token_entry 1119 t).ask InvalidGrant → ⊥
+no_token_error_in_time t spells h = h.0 (rw spells refl)
+
+-- ---- where a consent is needed, no login page begins a turn
+
+no_login_where_consent_is_needed : (w b : Word) → NewTurn sample past_consent hasty (record wish { max_age = Some 10 }) (Some (word 5)) (Some (word 9)) w b false → ⊥
+unfolding needed needed_scopes joined scopes_with_any no_clients
+no_login_where_consent_is_needed w b h = (let k : need.Consent ≡ need.Login = h.wanted in cc)
+
+-- ---- a turn without a session has no page for another browser at a consent form
+
+abbrev login_turn : TurnRow
+login_turn = record { word = word 6; browser = word 5; wish = wish; session = None; in_turn = false; begun = 1000 }
+
+no_other_without_a_session : (browser presented : Option Word) → OtherAtConsent past_login consent_entry (Some (word 6)) browser presented → ⊥
+no_other_without_a_session browser presented h =
+    let same : login_turn ≡ h.row = (let k : Some login_turn ≡ Some h.row = h.live in cc) in
+    let L : TurnRow → Option SessionRow = λ row. live_session past_login 1000 row.session in
+    let k : None ≡ Some h.session = ap L same ∙ h.standing in cc

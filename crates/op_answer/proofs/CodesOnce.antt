@@ -10,12 +10,14 @@ use Rattle.sso_base.proofs.RowLaws.{bytes_same, bytes_true, row_of-more}
 use Rattle.client_registry.specs.Configuration.{Configuration}
 use Rattle.code_grant.specs.declared.rows.SessionRow.{SessionRow}
 use Rattle.code_grant.specs.declared.rows.CodeRow.{CodeRow}
-use Rattle.code_grant.specs.Rows.{code_name, code_begun, code_life}
+use Rattle.code_grant.specs.Rows.{code_name, code_begun}
+use Rattle.oidc_words.specs.Lives.{code_life}
 use Rattle.auth_request.specs.declared.wish.Wish.{Wish}
 use Rattle.op_exchange.specs.declared.ask.OpAsk.{OpAsk}
 use Rattle.op_exchange.specs.declared.ask.OpAsk.TheVariants.{Token}
 use Rattle.op_exchange.specs.declared.reply.OpReply.{OpReply}
 use Rattle.op_exchange.specs.declared.reply.OpReply.TheVariants.{Tokens}
+use Rattle.op_exchange.specs.Values.{IsOpAsk}
 use Rattle.op_answer.specs.Past.{OpPair, OpPast}
 use Rattle.op_answer.specs.Sessions.{wish_by, session_used, session_of}
 use Rattle.op_answer.specs.Codes.{code_in, code_issued, code_made, code_made_by, code_kept, code_named, codes_issued, held_code, is_tokens}
@@ -24,7 +26,7 @@ use Rattle.op_answer.specs.Causes.{TokensCause}
 use Rattle.op_answer.specs.Legal.{IsLegalOp, place_redeemed, code_redeemed}
 use Rattle.op_answer.proofs.KeptNames.{some_same, code_names}
 use Rattle.op_answer.proofs.TokenResponses.{tokens_have_a_cause}
-use Rattle.op_answer.proofs.Passwords.{legal_reply}
+use Rattle.sso_base.proofs.Histories.{legal_reply}
 
 -- the row that is found has the name
 found_named : {R : Type 0} (name : R → Word) (w : Word) (x row : R) (rows : List R) (same : Bool) → bytes_eq (name x) w ≡ same
@@ -269,7 +271,7 @@ codes_are_answered_once c later between earlier p q n legal first second =
     let s = spent_after between earlier p n (redeemed earlier p n first) in
     let r = redeemed past q n second in
     let f = found past q.entry.at (code_named q.entry.ask) r.code r.held in
-    let told : op_answer c past q.entry ≡ Tokens r.access r.id = sym (legal_reply c later past q legal) ∙ r.reply_is in
+    let told : op_answer c past q.entry ≡ Tokens r.access r.id = sym (legal_reply IsOpAsk (op_answer c) later past q legal) ∙ r.reply_is in
     let fresh : r.code.spent ≡ false = unspent c past q.entry q.entry.ask r.access r.id r.code (tokens_have_a_cause c past q.entry r.access r.id told) r.held in
     let old : r.code.spent ≡ true = s.spent f.w r.code f.there r.by_is in
     cc

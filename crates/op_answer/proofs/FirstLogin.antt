@@ -13,7 +13,8 @@ use Rattle.op_issue.specs.declared.issuing.Authentication.{Authentication}
 use Rattle.op_answer.specs.Past.{OpPast, OpPair}
 use Rattle.op_answer.specs.AccessTokens.{live_access_token}
 use Rattle.request_need.specs.Need.{needed, needed_scopes}
-use Rattle.scope_claims.specs.Claims.{joined, scopes_with_any}
+use Rattle.oidc_words.specs.Scopes.{joined}
+use Rattle.oidc_words.specs.Claims.{scopes_with_any}
 use Rattle.code_grant.specs.Clients.{no_clients}
 use Rattle.op_answer.specs.Answering.{op_answer}
 use Rattle.op_issue.specs.IdTokens.{issued_id}

@@ -6,7 +6,7 @@ use Rattle.client_registry.specs.Configuration.{Configuration}
 use Rattle.auth_request.specs.declared.wish.Wish.{Wish}
 use Rattle.auth_request.specs.declared.wish.Verdict.{Verdict}
 use Rattle.auth_request.specs.declared.wish.Verdict.TheVariants as verdict
-use Rattle.auth_request.specs.declared.wish.AuthError.TheVariants.{AccessDenied, UnsupportedResponseType}
+use Rattle.oidc_words.specs.declared.errors.AuthError.TheVariants.{AccessDenied, UnsupportedResponseType}
 use Rattle.auth_request.specs.declared.wish.PageNo.TheVariants as page
 use Rattle.request_need.specs.declared.need.Need.{Need}
 use Rattle.request_need.specs.declared.need.Need.TheVariants as need
@@ -25,7 +25,7 @@ use Rattle.op_answer.specs.Turns.{live_turn}
 use Rattle.op_answer.specs.Sessions.{live_session}
 use Rattle.op_answer.specs.Codes.{redeem, held_code}
 use Rattle.op_answer.specs.Replies.{refusal_of, is_served, is_turns, page_browser, session_after, authorize, authorize_by, authorize_wish, login, login_by, login_signed, consent, consent_in, consent_by, token, tokens_by}
-use Rattle.op_answer.specs.Causes.{OwnTurn, OwnConsent, OtherBrowser, NoSession, OtherSession, need_at_once, need_after_login, need_after_yes}
+use Rattle.op_answer.specs.Causes.{OwnTurn, OwnConsent, OtherBrowser, NoSession, OtherAtConsent, need_at_once, need_after_login, need_after_yes}
 
 -- what a consent form of a live turn and session gets
 abbrev pub decided : Configuration → OpPast → Entry OpAsk → TurnRow → SessionRow → Bool → OpReply
@@ -91,15 +91,15 @@ module _ (c : Configuration) (past : OpPast) (e : Entry OpAsk) (told : OpReply) 
   abbrev pub ConsentLed : Option Word → Bool → Option Word → Option Word → Type 0
   ConsentLed turn agree browser presented =
       (((live_turn past e.at turn ≡ None) ⊎ NoSession past e turn) × (ErrorPage page.Turn ≡ told)) ⊎
-      ((OtherBrowser past e turn browser ⊎ OtherSession past e turn presented) × (ErrorPage page.Browser ≡ told)) ⊎ ConsentSeen turn agree browser presented
+      (OtherAtConsent past e turn browser presented × (ErrorPage page.Browser ≡ told)) ⊎ ConsentSeen turn agree browser presented
 
   consent_by_cookies : (turn : Option Word) (agree : Bool) (browser presented : Option Word) (row : TurnRow) (session : SessionRow) → live_turn past e.at turn ≡ Some row
       → live_session past e.at row.session ≡ Some session → (same own : Bool) → is_word browser row.browser ≡ same → is_turns presented row.session ≡ own
       → cond (not same || not own) (ErrorPage page.Browser) (decided c past e row session agree) ≡ told → ConsentLed turn agree browser presented
   consent_by_cookies turn agree browser presented row session live standing false own is_same is_own h =
-      inr (inl (inl (record { row = row; live = live; other = is_same }), h))
+      inr (inl (record { row = row; live = live; session = session; standing = standing; other = inl is_same }, h))
   consent_by_cookies turn agree browser presented row session live standing true false is_same is_own h =
-      inr (inl (inr (record { row = row; live = live; other = is_own }), h))
+      inr (inl (record { row = row; live = live; session = session; standing = standing; other = inr is_own }, h))
   consent_by_cookies turn agree browser presented row session live standing true true is_same is_own h =
       inr (inr (record {
         row = row;

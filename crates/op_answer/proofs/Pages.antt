@@ -1,15 +1,18 @@
 -- What login pages, consent pages and error pages say.
-use Rattle.std.proofs.Common.{◌≡◌, ℕ, Bool, true, false, Option, Some, None, refl, ◌⊎◌, inl, inr}
+use Rattle.std.proofs.Common.{◌≡◌, ℕ, Bool, true, false, Option, Some, None, refl, sym, ◌∙◌, ap, ◌⊎◌, inl, inr}
 use Rattle.sso_base.specs.Words.{Word, Text}
 use Rattle.sso_base.specs.declared.history.Entry.{Entry}
+use Rattle.sso_base.proofs.RowLaws.{bool_cases}
 use Rattle.client_registry.specs.Configuration.{Configuration}
-use Rattle.scope_claims.specs.declared.scopes.Scopes.{Scopes}
+use Rattle.oidc_words.specs.declared.scopes.Scopes.{Scopes}
 use Rattle.auth_request.specs.declared.wish.Wish.{Wish}
 use Rattle.auth_request.specs.declared.wish.PageNo.{PageNo}
 use Rattle.auth_request.specs.declared.wish.PageNo.TheVariants as page
 use Rattle.auth_request.specs.declared.wish.Verdict.TheVariants as verdict
 use Rattle.request_need.specs.declared.need.Need.{Need}
 use Rattle.request_need.specs.declared.need.Need.TheVariants as need
+use Rattle.request_need.specs.Need.{needed}
+use Rattle.oidc_words.specs.declared.errors.AuthError.TheVariants.{LoginRequired}
 use Rattle.code_grant.specs.declared.rows.TurnRow.{TurnRow}
 use Rattle.code_grant.specs.declared.rows.SessionRow.{SessionRow}
 use Rattle.op_exchange.specs.declared.ask.OpAsk.{OpAsk}
@@ -24,25 +27,41 @@ use Rattle.op_answer.specs.Causes.{OwnTurn, NewTurn, LoginPageCause, ConsentAtOn
 use Rattle.op_answer.proofs.Standing.{own_replies_stand}
 use Rattle.op_answer.proofs.Forms.{Unserved, Served, request_led, LoginLed, LoginSeen, login_led, ConsentLed, decided, consent_led, consent_told, token_told}
 
+-- ---- without a session a login is needed, or none may be shown
+
+without : (c : Configuration) (wish : Wish) (at : ℕ) → (needed c wish None at ≡ need.Login) ⊎ (needed c wish None at ≡ need.Error LoginRequired)
+unfolding needed
+without c wish at = elim (bool_cases wish.none) [ inl e ↦ inr (rw e refl) | inr e ↦ inl (rw e refl) ]
+
+no_consent_without : (c : Configuration) (wish : Wish) (at : ℕ) → needed c wish None at ≡ need.Consent → ⊥
+no_consent_without c wish at h = elim (without c wish at) [ inl e ↦ (let k : need.Login ≡ need.Consent = sym e ∙ h in cc) | inr e ↦ (let k : need.Error LoginRequired ≡ need.Consent = sym e ∙ h in cc) ]
+
+no_answer_without : (c : Configuration) (wish : Wish) (at : ℕ) → needed c wish None at ≡ need.Answer → ⊥
+no_answer_without c wish at h = elim (without c wish at) [ inl e ↦ (let k : need.Login ≡ need.Answer = sym e ∙ h in cc) | inr e ↦ (let k : need.Error LoginRequired ≡ need.Answer = sym e ∙ h in cc) ]
+
 -- ---- login pages
 
 module _ (c : Configuration) (past : OpPast) (e : Entry OpAsk) (w b : Word) (again : Bool) where
   abbrev this : OpReply
   this = LoginPage w b again
 
-  login_page_by : (wish : Wish) (browser : Option Word) (wanted : Need) (session : Option SessionRow) → is_served wish.types ≡ true
-      → authorize_by c e wish (page_browser past e browser) wanted session ≡ this → NewTurn past e wish browser w b again
-  login_page_by wish browser (need.Error code) session served h = cc
-  login_page_by wish browser need.Consent (Some session) served h = cc
-  login_page_by wish browser need.Consent None served h = record { served = served; drawn = cc; browser_is = cc; first = cc }
-  login_page_by wish browser need.Answer (Some session) served h = cc
-  login_page_by wish browser need.Answer None served h = record { served = served; drawn = cc; browser_is = cc; first = cc }
-  login_page_by wish browser need.Login session served h = record { served = served; drawn = cc; browser_is = cc; first = cc }
+  login_page_by : (wish : Wish) (browser presented : Option Word) (wanted : Need) (session : Option SessionRow) → is_served wish.types ≡ true
+      → live_session past e.at presented ≡ session → need_at_once c past e wish session ≡ wanted
+      → authorize_by c e wish (page_browser past e browser) wanted session ≡ this → NewTurn c past e wish browser presented w b again
+  login_page_by wish browser presented (need.Error code) session served live wants h = cc
+  login_page_by wish browser presented need.Consent (Some session) served live wants h = cc
+  login_page_by wish browser presented need.Consent None served live wants h = absurd (no_consent_without c wish e.at wants)
+  login_page_by wish browser presented need.Answer (Some session) served live wants h = cc
+  login_page_by wish browser presented need.Answer None served live wants h = absurd (no_answer_without c wish e.at wants)
+  login_page_by wish browser presented need.Login session served live wants h =
+      let N : Option SessionRow → Need = λ o. need_at_once c past e wish o in
+      record { served = served; wanted = ap N live ∙ wants; drawn = cc; browser_is = cc; first = cc }
 
-  login_page_at_once : (wish : Wish) (browser : Option Word) (session : Option SessionRow) → Unserved c past e this wish ⊎ Served c past e this wish browser session
-      → NewTurn past e wish browser w b again
-  login_page_at_once wish browser session (inl led) = let h = led.1 in cc
-  login_page_at_once wish browser session (inr led) = login_page_by wish browser (need_at_once c past e wish session) session led.0 led.1
+  login_page_at_once : (wish : Wish) (browser presented : Option Word) (session : Option SessionRow) → live_session past e.at presented ≡ session
+      → Unserved c past e this wish ⊎ Served c past e this wish browser session → NewTurn c past e wish browser presented w b again
+  login_page_at_once wish browser presented session live (inl led) = let h = led.1 in cc
+  login_page_at_once wish browser presented session live (inr led) =
+      login_page_by wish browser presented (need_at_once c past e wish session) session led.0 live refl led.1
 
   no_login_page : (row : TurnRow) (session : SessionRow) (wanted : Need) → login_by c e row session wanted ≡ this → ⊥
   no_login_page row session (need.Error code) h = cc
@@ -51,7 +70,7 @@ module _ (c : Configuration) (past : OpPast) (e : Entry OpAsk) (w b : Word) (aga
   no_login_page row session need.Answer h = cc
 
   login_page_seen : (turn : Option Word) (signed : Option ℕ) (browser presented : Option Word) → LoginSeen c past e this turn signed browser presented
-      → LoginPageCause past e (ask.Login turn signed browser presented) w b again
+      → LoginPageCause c past e (ask.Login turn signed browser presented) w b again
   login_page_seen turn None browser presented seen =
       let h = seen.led in record { row = seen.row; own = seen.own; word_is = cc; browser_is = cc; repeated = cc }
   login_page_seen turn (Some user) browser presented seen =
@@ -59,17 +78,17 @@ module _ (c : Configuration) (past : OpPast) (e : Entry OpAsk) (w b : Word) (aga
       absurd (no_login_page seen.row session (need_after_login c past e seen.row session) seen.led)
 
   login_page_after : (turn : Option Word) (signed : Option ℕ) (browser presented : Option Word) → LoginLed c past e this turn signed browser presented
-      → LoginPageCause past e (ask.Login turn signed browser presented) w b again
+      → LoginPageCause c past e (ask.Login turn signed browser presented) w b again
   login_page_after turn signed browser presented (inl led) = let h = led.1 in cc
   login_page_after turn signed browser presented (inr (inl led)) = let h = led.1 in cc
   login_page_after turn signed browser presented (inr (inr seen)) = login_page_seen turn signed browser presented seen
 
-  login_page_asked : (asked : OpAsk) → op_reply c past e asked ≡ this → LoginPageCause past e asked w b again
+  pub login_page_asked : (asked : OpAsk) → op_reply c past e asked ≡ this → LoginPageCause c past e asked w b again
   login_page_asked (ask.Authorize (verdict.Page why) browser presented) h = cc
   login_page_asked (ask.Authorize (verdict.Refuse refusal) browser presented) h = cc
   login_page_asked (ask.Authorize (verdict.Grant wish) browser presented) h =
       let session = live_session past e.at presented in
-      login_page_at_once wish browser session (request_led c past e this wish browser session h)
+      login_page_at_once wish browser presented session refl (request_led c past e this wish browser session h)
   login_page_asked (ask.Login turn signed browser presented) h =
       login_page_after turn signed browser presented (login_led c past e this turn signed browser presented h)
   login_page_asked (ask.Consent turn agree browser presented) h =
@@ -82,7 +101,7 @@ module _ (c : Configuration) (past : OpPast) (e : Entry OpAsk) (w b : Word) (aga
   login_page_asked ask.Twice h = cc
   login_page_asked ask.NotHere h = cc
 
-  pub login_pages_have_a_cause : op_answer c past e ≡ LoginPage w b again → LoginPageCause past e e.ask w b again
+  pub login_pages_have_a_cause : op_answer c past e ≡ LoginPage w b again → LoginPageCause c past e e.ask w b again
   login_pages_have_a_cause h = login_page_asked e.ask (own_replies_stand c past e this refl h).reply_is
 
 -- ---- consent pages
@@ -129,7 +148,7 @@ module _ (c : Configuration) (past : OpPast) (e : Entry OpAsk) (w b : Word) (giv
   consent_page_after turn signed browser presented (inr (inl led)) = let h = led.1 in cc
   consent_page_after turn signed browser presented (inr (inr seen)) = consent_page_seen turn signed browser presented seen
 
-  consent_page_asked : (asked : OpAsk) → op_reply c past e asked ≡ asks → ConsentPageCause c past e asked w b given client scopes
+  pub consent_page_asked : (asked : OpAsk) → op_reply c past e asked ≡ asks → ConsentPageCause c past e asked w b given client scopes
   consent_page_asked (ask.Authorize (verdict.Page why) browser presented) h = cc
   consent_page_asked (ask.Authorize (verdict.Refuse refusal) browser presented) h = cc
   consent_page_asked (ask.Authorize (verdict.Grant wish) browser presented) h =
@@ -209,7 +228,7 @@ module _ (c : Configuration) (past : OpPast) (e : Entry OpAsk) where
   error_twice page.Twice h = tt
   error_twice why h = cc
 
-  error_asked : (asked : OpAsk) (why : PageNo) → op_reply c past e asked ≡ ErrorPage why → ErrorPageCause past e asked why
+  pub error_asked : (asked : OpAsk) (why : PageNo) → op_reply c past e asked ≡ ErrorPage why → ErrorPageCause past e asked why
   error_asked (ask.Authorize (verdict.Page judged) browser presented) why h = cc
   error_asked (ask.Authorize (verdict.Refuse refusal) browser presented) why h = cc
   error_asked (ask.Authorize (verdict.Grant wish) browser presented) why h =

@@ -3,14 +3,16 @@ use Rattle.std.proofs.Common.{◌≡◌, true, [], ◌∷◌, ◌++◌, Option, 
 use Rattle.sso_base.specs.Words.{Word, Text}
 use Rattle.sso_base.specs.declared.history.Entry.{Entry}
 use Rattle.client_registry.specs.Configuration.{Configuration}
-use Rattle.scope_claims.specs.declared.scopes.Scopes.{Scopes}
-use Rattle.auth_request.specs.declared.wish.Refusal.{Refusal}
+use Rattle.oidc_words.specs.declared.scopes.Scopes.{Scopes}
+use Rattle.oidc_words.specs.declared.errors.Refusal.{Refusal}
 use Rattle.auth_request.specs.declared.wish.Verdict.TheVariants as verdict
 use Rattle.auth_answer.specs.declared.answer.Answer.{Answer}
 use Rattle.op_exchange.specs.declared.ask.OpAsk.{OpAsk}
 use Rattle.op_exchange.specs.declared.ask.OpAsk.TheVariants as ask
 use Rattle.op_exchange.specs.declared.reply.OpReply.{OpReply}
 use Rattle.op_exchange.specs.declared.reply.OpReply.TheVariants as reply
+use Rattle.sso_base.proofs.Histories.{legal_reply}
+use Rattle.op_exchange.specs.Values.{IsOpAsk}
 use Rattle.op_answer.specs.Past.{OpPair, OpPast}
 use Rattle.op_answer.specs.Answering.{op_answer}
 use Rattle.op_answer.specs.Causes.{ConsentPageCause, AnsweredCause, RefusedCause}
@@ -19,11 +21,6 @@ use Rattle.op_exchange.specs.Replied.{session_given}
 use Rattle.op_answer.proofs.Pages.{consent_pages_have_a_cause}
 use Rattle.op_answer.proofs.Answers.{answers_have_a_cause}
 use Rattle.op_answer.proofs.Refusals.{refusals_have_a_cause}
-
--- a pair of a legal past is answered after its own past
-pub legal_reply : (c : Configuration) (later earlier : OpPast) (p : OpPair) → IsLegalOp c (later ++ p ∷ earlier) → p.reply ≡ op_answer c earlier p.entry
-legal_reply c [] earlier p legal = legal.3
-legal_reply c (q ∷ later) earlier p legal = legal_reply c later earlier p legal.0
 
 module _ (c : Configuration) (past : OpPast) (e : Entry OpAsk) (w : Word) where
   by_consent_page : (asked : OpAsk) → e.ask ≡ asked → (v b : Word) (client : Text) (scopes : Scopes) → ConsentPageCause c past e asked v b (Some w) client scopes → PassedPassword past e w
@@ -64,4 +61,4 @@ module _ (c : Configuration) (past : OpPast) (e : Entry OpAsk) (w : Word) where
 
 pub session_words_need_a_password : (c : Configuration) (later earlier : OpPast) (p : OpPair) (w : Word) → IsLegalOp c (later ++ p ∷ earlier) → session_given p.reply ≡ Some w
     → PassedPassword earlier p.entry w
-session_words_need_a_password c later earlier p w legal given = by_reply c earlier p.entry w p.reply (sym (legal_reply c later earlier p legal)) given
+session_words_need_a_password c later earlier p w legal given = by_reply c earlier p.entry w p.reply (sym (legal_reply IsOpAsk (op_answer c) later earlier p legal)) given

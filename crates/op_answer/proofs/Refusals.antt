@@ -4,8 +4,8 @@ use Rattle.sso_base.specs.Words.{Word}
 use Rattle.sso_base.specs.declared.history.Entry.{Entry}
 use Rattle.client_registry.specs.Configuration.{Configuration}
 use Rattle.auth_request.specs.declared.wish.Wish.{Wish}
-use Rattle.auth_request.specs.declared.wish.Refusal.{Refusal}
-use Rattle.auth_request.specs.declared.wish.AuthError.TheVariants.{LoginRequired, ConsentRequired, AccessDenied, UnsupportedResponseType}
+use Rattle.oidc_words.specs.declared.errors.Refusal.{Refusal}
+use Rattle.oidc_words.specs.declared.errors.AuthError.TheVariants.{LoginRequired, ConsentRequired, AccessDenied, UnsupportedResponseType}
 use Rattle.auth_request.specs.declared.wish.Verdict.TheVariants as verdict
 use Rattle.request_need.specs.declared.need.Need.{Need}
 use Rattle.request_need.specs.declared.need.Need.TheVariants as need
@@ -90,7 +90,7 @@ module _ (c : Configuration) (past : OpPast) (e : Entry OpAsk) (refusal : Refusa
   refused_consent turn agree browser presented (inr (inl led)) = let h = led.1 in cc
   refused_consent turn agree browser presented (inr (inr seen)) = refused_decided turn agree browser presented seen
 
-  refused_asked : (asked : OpAsk) → op_reply c past e asked ≡ this → RefusedCause c past e asked refusal given
+  pub refused_asked : (asked : OpAsk) → op_reply c past e asked ≡ this → RefusedCause c past e asked refusal given
   refused_asked (ask.Authorize (verdict.Page why) browser presented) h = cc
   refused_asked (ask.Authorize (verdict.Refuse judged) browser presented) h = (cc, cc)
   refused_asked (ask.Authorize (verdict.Grant wish) browser presented) h =

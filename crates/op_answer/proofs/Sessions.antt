@@ -2,7 +2,7 @@
 use Rattle.std.proofs.Common.{◌≡◌, ℕ, true, false, List, [], ◌∷◌, Some, None, codes, refl}
 use Rattle.sso_base.specs.declared.history.Entry.{Entry}
 use Rattle.auth_request.specs.declared.wish.Verdict.TheVariants.{Grant}
-use Rattle.auth_request.specs.declared.wish.AuthError.TheVariants.{LoginRequired, AccessDenied, UnsupportedResponseType}
+use Rattle.oidc_words.specs.declared.errors.AuthError.TheVariants.{LoginRequired, AccessDenied, UnsupportedResponseType}
 use Rattle.auth_request.specs.declared.wish.PageNo.TheVariants as page
 use Rattle.op_exchange.specs.declared.ask.OpAsk.{OpAsk}
 use Rattle.op_exchange.specs.declared.ask.OpAsk.TheVariants as ask
@@ -15,7 +15,8 @@ use Rattle.code_grant.specs.Clients.{no_clients, with_client}
 use Rattle.op_answer.specs.Sessions.{sessions}
 use Rattle.op_answer.specs.Consents.{grant_of}
 use Rattle.request_need.specs.Need.{needed, needed_scopes}
-use Rattle.scope_claims.specs.Claims.{joined, scopes_with_any}
+use Rattle.oidc_words.specs.Scopes.{joined}
+use Rattle.oidc_words.specs.Claims.{scopes_with_any}
 use Rattle.op_answer.specs.Answering.{op_answer}
 use Rattle.op_answer.specs.Replies.{refusal_of}
 use Rattle.op_exchange.proofs.Sample.{word, words, sample, wish, profile_scopes, callback_uri}

@@ -14,7 +14,7 @@ use Rattle.code_grant.specs.declared.rows.CodeRow.{CodeRow}
 use Rattle.code_grant.specs.declared.redeem.Redeem.{Redeem}
 use Rattle.code_grant.specs.declared.redeem.Redeem.TheVariants.{Redeemed, Unknown, OtherClient, Spent, Expired, OtherUri}
 use Rattle.code_grant.specs.Redeeming.{redeem_of}
-use Rattle.code_grant.specs.Rows.{code_usable}
+use Rattle.oidc_words.specs.Lives.{code_usable}
 use Rattle.op_exchange.specs.declared.ask.OpAsk.{OpAsk}
 use Rattle.op_exchange.specs.declared.ask.OpAsk.TheVariants as ask
 use Rattle.op_exchange.specs.declared.reply.OpReply.TheVariants.{Tokens, TokenRefused}
@@ -81,7 +81,7 @@ module _ (c : Configuration) (past : OpPast) (e : Entry OpAsk) where
       let found = held_code past e.at (word_of_text grant.code) in
       tokens_found grant w id found (redeem past e.at grant) refl refl h
 
-  tokens_asked : (asked : OpAsk) (w : Word) (id : Text) → op_reply c past e asked ≡ Tokens w id → TokensCause c past e asked w id
+  pub tokens_asked : (asked : OpAsk) (w : Word) (id : Text) → op_reply c past e asked ≡ Tokens w id → TokensCause c past e asked w id
   tokens_asked (ask.Authorize verdict browser presented) w id h = let told = request_told c past e (Tokens w id) verdict browser presented h in cc
   tokens_asked (ask.Login turn signed browser presented) w id h = let told = login_told c past e (Tokens w id) turn signed browser presented h in cc
   tokens_asked (ask.Consent turn agree browser presented) w id h = let told = consent_told c past e (Tokens w id) turn agree browser presented h in cc

@@ -6,7 +6,8 @@ use Rattle.auth_request.specs.declared.wish.Wish.{Wish}
 use Rattle.code_grant.specs.declared.rows.SessionRow.{SessionRow}
 use Rattle.code_grant.specs.declared.rows.CodeRow.{CodeRow}
 use Rattle.code_grant.specs.declared.rows.TokenRow.{TokenRow}
-use Rattle.code_grant.specs.Rows.{access_name, access_begun, access_life}
+use Rattle.code_grant.specs.Rows.{access_name, access_begun}
+use Rattle.oidc_words.specs.Lives.{access_life}
 use Rattle.op_exchange.specs.declared.ask.OpAsk.{OpAsk}
 use Rattle.op_exchange.specs.declared.ask.OpAsk.TheVariants.{Token}
 use Rattle.op_exchange.specs.declared.reply.OpReply.{OpReply}

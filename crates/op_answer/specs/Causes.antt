@@ -4,11 +4,12 @@ use Rattle.sso_base.specs.Words.{Word, Text, is_word, fresh_word, word_of_text}
 use Rattle.sso_base.specs.Rows.{lives}
 use Rattle.sso_base.specs.declared.history.Entry.{Entry}
 use Rattle.client_registry.specs.Configuration.{Configuration}
-use Rattle.scope_claims.specs.declared.scopes.Scopes.{Scopes}
+use Rattle.client_registry.specs.Numbers.{client_id}
+use Rattle.oidc_words.specs.declared.scopes.Scopes.{Scopes}
 use Rattle.auth_request.specs.declared.wish.Wish.{Wish}
-use Rattle.auth_request.specs.declared.wish.Refusal.{Refusal}
-use Rattle.auth_request.specs.declared.wish.AuthError.{AuthError}
-use Rattle.auth_request.specs.declared.wish.AuthError.TheVariants.{LoginRequired, ConsentRequired, AccessDenied, UnsupportedResponseType}
+use Rattle.oidc_words.specs.declared.errors.Refusal.{Refusal}
+use Rattle.oidc_words.specs.declared.errors.AuthError.{AuthError}
+use Rattle.oidc_words.specs.declared.errors.AuthError.TheVariants.{LoginRequired, ConsentRequired, AccessDenied, UnsupportedResponseType}
 use Rattle.auth_request.specs.declared.wish.PageNo.{PageNo}
 use Rattle.auth_request.specs.declared.wish.PageNo.TheVariants as page
 use Rattle.auth_request.specs.declared.wish.Verdict.TheVariants as verdict
@@ -24,18 +25,18 @@ use Rattle.code_grant.specs.declared.rows.TurnRow.{TurnRow}
 use Rattle.code_grant.specs.declared.rows.SessionRow.{SessionRow}
 use Rattle.code_grant.specs.declared.rows.CodeRow.{CodeRow}
 use Rattle.code_grant.specs.declared.redeem.Redeem.TheVariants.{Redeemed}
-use Rattle.code_grant.specs.Rows.{code_usable}
+use Rattle.oidc_words.specs.Lives.{code_usable}
 use Rattle.op_exchange.specs.declared.ask.OpAsk.{OpAsk}
 use Rattle.op_exchange.specs.declared.ask.OpAsk.TheVariants as ask
 use Rattle.op_exchange.specs.declared.reply.OpReply.{OpReply}
 use Rattle.op_exchange.specs.declared.reply.OpReply.TheVariants.{NotHere, Full}
 use Rattle.op_answer.specs.Past.{OpPast}
 use Rattle.op_exchange.specs.Asks.{is_prepared}
-use Rattle.op_exchange.specs.Clients.{client_id}
 use Rattle.op_answer.specs.Turns.{live_turn}
 use Rattle.op_answer.specs.Sessions.{live_session}
 use Rattle.op_answer.specs.Codes.{held_code, redeem}
-use Rattle.op_issue.specs.IdTokens.{session_authentication, code_authentication, issued_id}
+use Rattle.op_issue.specs.IdTokens.{issued_id}
+use Rattle.op_answer.specs.Authentications.{session_authentication, code_authentication}
 use Rattle.op_answer.specs.Replies.{refusal_of, standing_of, standing_agreed, is_served, is_turns, page_browser, session_after}
 use Rattle.op_issue.specs.Issued.{issued}
 use Rattle.op_answer.specs.Room.{lacks_room}
@@ -77,10 +78,11 @@ need_after_login c past e row session = needed c row.wish (Some (standing_of pas
 abbrev pub need_after_yes : Configuration → OpPast → Entry OpAsk → TurnRow → SessionRow → Need
 need_after_yes c past e row session = needed c row.wish (Some (standing_agreed past row session)) e.at
 
--- ---- a login page: of a new turn, or again after a wrong password
+-- ---- a login page: of a new turn where a login is needed, or again after a wrong password
 
-pub record NewTurn (past : OpPast) (e : Entry OpAsk) (wish : Wish) (browser : Option Word) (w b : Word) (again : Bool) : Type 0 where
+pub record NewTurn (c : Configuration) (past : OpPast) (e : Entry OpAsk) (wish : Wish) (browser presented : Option Word) (w b : Word) (again : Bool) : Type 0 where
   pub served : is_served wish.types ≡ true
+  pub wanted : need_at_once c past e wish (live_session past e.at presented) ≡ need.Login
   pub drawn : fresh_word e.fresh 1 ≡ w
   pub browser_is : page_browser past e browser ≡ b
   pub first : again ≡ false
@@ -92,10 +94,10 @@ pub record WrongPassword (past : OpPast) (e : Entry OpAsk) (turn browser : Optio
   pub browser_is : row.browser ≡ b
   pub repeated : again ≡ true
 
-abbrev pub LoginPageCause : OpPast → Entry OpAsk → OpAsk → Word → Word → Bool → Type 0
-LoginPageCause past e (ask.Authorize (verdict.Grant wish) browser presented) w b again = NewTurn past e wish browser w b again
-LoginPageCause past e (ask.Login turn None browser presented) w b again = WrongPassword past e turn browser w b again
-LoginPageCause past e other w b again = ⊥
+abbrev pub LoginPageCause : Configuration → OpPast → Entry OpAsk → OpAsk → Word → Word → Bool → Type 0
+LoginPageCause c past e (ask.Authorize (verdict.Grant wish) browser presented) w b again = NewTurn c past e wish browser presented w b again
+LoginPageCause c past e (ask.Login turn None browser presented) w b again = WrongPassword past e turn browser w b again
+LoginPageCause c past e other w b again = ⊥
 
 -- ---- a consent page: at once, or after a right password
 
@@ -219,17 +221,20 @@ pub record NoSession (past : OpPast) (e : Entry OpAsk) (turn : Option Word) : Ty
   pub live : live_turn past e.at turn ≡ Some row
   pub ended : live_session past e.at row.session ≡ None
 
-pub record OtherSession (past : OpPast) (e : Entry OpAsk) (turn presented : Option Word) : Type 0 where
+-- at a consent form, of a turn whose session lives
+pub record OtherAtConsent (past : OpPast) (e : Entry OpAsk) (turn browser presented : Option Word) : Type 0 where
   pub row : TurnRow
   pub live : live_turn past e.at turn ≡ Some row
-  pub other : is_turns presented row.session ≡ false
+  pub session : SessionRow
+  pub standing : live_session past e.at row.session ≡ Some session
+  pub other : (is_word browser row.browser ≡ false) ⊎ (is_turns presented row.session ≡ false)
 
 abbrev pub ErrorPageCause : OpPast → Entry OpAsk → OpAsk → PageNo → Type 0
 ErrorPageCause past e (ask.Authorize (verdict.Page judged) browser presented) why = judged ≡ why
 ErrorPageCause past e (ask.Login turn signed browser presented) page.Turn = live_turn past e.at turn ≡ None
 ErrorPageCause past e (ask.Login turn signed browser presented) page.Browser = OtherBrowser past e turn browser
 ErrorPageCause past e (ask.Consent turn agree browser presented) page.Turn = (live_turn past e.at turn ≡ None) ⊎ NoSession past e turn
-ErrorPageCause past e (ask.Consent turn agree browser presented) page.Browser = OtherBrowser past e turn browser ⊎ OtherSession past e turn presented
+ErrorPageCause past e (ask.Consent turn agree browser presented) page.Browser = OtherAtConsent past e turn browser presented
 ErrorPageCause past e ask.Twice page.Twice = Unit {0}
 ErrorPageCause past e other why = ⊥
 

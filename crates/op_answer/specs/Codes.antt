@@ -9,7 +9,8 @@ use Rattle.code_grant.specs.declared.rows.SessionRow.{SessionRow}
 use Rattle.code_grant.specs.declared.rows.CodeRow.{CodeRow}
 use Rattle.code_grant.specs.declared.redeem.Redeem.{Redeem}
 use Rattle.code_grant.specs.declared.redeem.Redeem.TheVariants.{Spent}
-use Rattle.code_grant.specs.Rows.{code_name, code_begun, code_life}
+use Rattle.code_grant.specs.Rows.{code_name, code_begun}
+use Rattle.oidc_words.specs.Lives.{code_life}
 use Rattle.code_grant.specs.Redeeming.{redeem_of}
 use Rattle.op_exchange.specs.declared.ask.OpAsk.{OpAsk}
 use Rattle.op_exchange.specs.declared.ask.OpAsk.TheVariants.{Token}

@@ -1,22 +1,21 @@
 -- The scope values that users have granted to clients (OpenID Connect Core 1.0, 3.1.2.4).
 use Rattle.std.specs.Prelude.{ℕ, ◌==◌, Bool, true, false, ◌&&◌, [], ◌∷◌, Option, Some, None, if◌then◌else◌}
-use Rattle.scope_claims.specs.declared.scopes.Scopes.{Scopes}
-use Rattle.scope_claims.specs.Claims.{no_scopes, joined}
+use Rattle.oidc_words.specs.declared.scopes.Scopes.{Scopes}
+use Rattle.oidc_words.specs.Scopes.{no_scopes, joined}
 use Rattle.request_need.specs.Need.{needed_scopes}
 use Rattle.code_grant.specs.declared.rows.TurnRow.{TurnRow}
 use Rattle.code_grant.specs.declared.rows.SessionRow.{SessionRow}
 use Rattle.op_exchange.specs.declared.ask.OpAsk.{OpAsk}
 use Rattle.op_exchange.specs.declared.ask.OpAsk.TheVariants.{Consent}
 use Rattle.op_exchange.specs.declared.reply.OpReply.{OpReply}
-use Rattle.op_exchange.specs.declared.reply.OpReply.TheVariants.{Answered, Refused}
+use Rattle.op_exchange.specs.Replied.{ends_turn}
 use Rattle.op_answer.specs.Past.{OpPast}
 use Rattle.op_answer.specs.Turns.{turn_of}
 use Rattle.op_answer.specs.Sessions.{session_of}
 
 -- the turn that an agreeing consent closed
 abbrev pub turn_agreed : OpPast → OpAsk → OpReply → Option TurnRow
-turn_agreed past (Consent turn true b session) (Answered answer given) = turn_of past turn
-turn_agreed past (Consent turn true b session) (Refused refusal given) = turn_of past turn
+turn_agreed past (Consent turn true b session) reply = if ends_turn reply then turn_of past turn else None
 turn_agreed past ask reply = None
 
 abbrev pub is_grant_of : ℕ → ℕ → TurnRow → Option SessionRow → Bool

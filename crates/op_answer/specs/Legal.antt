@@ -1,8 +1,9 @@
 -- Legal pasts of the provider, and what holds in them: a code is answered by tokens once, and a session word only to a login
 -- form with a right password.
-use Rattle.std.specs.Prelude.{◌≡◌, ℕ, Option, Some, None}
+use Rattle.std.specs.Prelude.{◌≡◌, ℕ, List, Option, Some, None}
 use Rattle.sso_base.specs.Words.{Word}
 use Rattle.sso_base.specs.Legal.{IsLegalBy}
+use Rattle.sso_base.specs.Journal.{IsLegalHistoryBy}
 use Rattle.sso_base.specs.declared.history.Entry.{Entry}
 use Rattle.client_registry.specs.Configuration.{Configuration}
 use Rattle.code_grant.specs.declared.rows.TurnRow.{TurnRow}
@@ -13,6 +14,7 @@ use Rattle.op_exchange.specs.declared.reply.OpReply.{OpReply}
 use Rattle.op_exchange.specs.declared.reply.OpReply.TheVariants.{Tokens}
 use Rattle.op_answer.specs.Past.{OpPair, OpPast}
 use Rattle.op_exchange.specs.Values.{IsOpAsk}
+use Rattle.op_exchange.specs.Weight.{ask_weight}
 use Rattle.op_answer.specs.Codes.{code_named, held_code}
 use Rattle.op_answer.specs.Replies.{session_after}
 use Rattle.op_answer.specs.Answering.{op_answer}
@@ -21,6 +23,10 @@ use Rattle.op_answer.specs.Causes.{OwnTurn}
 -- each reply is the answer to its entry after its own past, and time never goes back
 abbrev pub IsLegalOp : Configuration → OpPast → Type 0
 IsLegalOp c past = IsLegalBy IsOpAsk (op_answer c) past
+
+-- a history, oldest first, whose past is legal, and that weighs no more than a history may
+abbrev pub IsLegalHistory : Configuration → List OpPair → Type 0
+IsLegalHistory c history = IsLegalHistoryBy IsOpAsk (op_answer c) ask_weight history
 
 -- ---- codes
 

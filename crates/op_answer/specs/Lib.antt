@@ -4,8 +4,11 @@ pub mod Sessions
 pub mod Codes
 pub mod AccessTokens
 pub mod Consents
+pub mod Granted
 pub mod Replies
 pub mod Room
 pub mod Answering
+pub mod FullTables
 pub mod Causes
 pub mod Legal
+pub mod Authentications

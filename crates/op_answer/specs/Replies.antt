@@ -2,16 +2,17 @@
 use Rattle.std.specs.Prelude.{ℕ, ◌==◌, Bool, true, false, not, ◌&&◌, ◌||◌, Option, Some, None, option_map, option_and_then, Result, Ok, Err, if◌then◌else◌}
 use Rattle.sso_base.specs.Words.{Word, is_word, fresh_word, word_of_text}
 use Rattle.sso_base.specs.declared.history.Entry.{Entry}
-use Rattle.client_registry.specs.declared.records.Types.{Types}
+use Rattle.oidc_words.specs.declared.response_types.Types.{Types}
 use Rattle.client_registry.specs.Configuration.{Configuration}
-use Rattle.scope_claims.specs.Claims.{joined}
+use Rattle.client_registry.specs.Numbers.{client_id}
+use Rattle.oidc_words.specs.Scopes.{joined}
 use Rattle.auth_request.specs.declared.wish.Wish.{Wish}
-use Rattle.auth_request.specs.declared.wish.Refusal.{Refusal}
+use Rattle.oidc_words.specs.declared.errors.Refusal.{Refusal}
 use Rattle.auth_request.specs.declared.wish.Verdict.{Verdict}
 use Rattle.auth_request.specs.declared.wish.Verdict.TheVariants as verdict
 use Rattle.auth_request.specs.declared.wish.PageNo.TheVariants as page
-use Rattle.auth_request.specs.declared.wish.AuthError.{AuthError}
-use Rattle.auth_request.specs.declared.wish.AuthError.TheVariants.{LoginRequired, ConsentRequired, AccessDenied, UnsupportedResponseType}
+use Rattle.oidc_words.specs.declared.errors.AuthError.{AuthError}
+use Rattle.oidc_words.specs.declared.errors.AuthError.TheVariants.{LoginRequired, ConsentRequired, AccessDenied, UnsupportedResponseType}
 use Rattle.request_need.specs.declared.standing.Standing.{Standing}
 use Rattle.request_need.specs.declared.need.Need.{Need}
 use Rattle.request_need.specs.declared.need.Need.TheVariants as need
@@ -29,14 +30,15 @@ use Rattle.code_grant.specs.Clients.{no_clients}
 use Rattle.op_exchange.specs.declared.ask.OpAsk.{OpAsk}
 use Rattle.op_exchange.specs.declared.reply.OpReply.{OpReply}
 use Rattle.op_exchange.specs.declared.reply.OpReply.TheVariants.{LoginPage, ConsentPage, Answered, Refused, ErrorPage, Tokens, TokenRefused}
-use Rattle.op_issue.specs.Issued.{is_in_fragment, issued}
+use Rattle.oidc_words.specs.Types.{is_in_fragment}
+use Rattle.op_issue.specs.Issued.{issued}
 use Rattle.op_answer.specs.Past.{OpPast}
-use Rattle.op_exchange.specs.Clients.{client_id}
 use Rattle.op_answer.specs.Turns.{has_turn_browser}
 use Rattle.op_answer.specs.Sessions.{live_session}
 use Rattle.op_answer.specs.Codes.{held_code, redeem}
 use Rattle.op_answer.specs.Consents.{grant_of}
-use Rattle.op_issue.specs.IdTokens.{session_authentication, code_authentication, issued_id}
+use Rattle.op_issue.specs.IdTokens.{issued_id}
+use Rattle.op_answer.specs.Authentications.{session_authentication, code_authentication}
 
 -- ---- what an authorization request gets (OpenID Connect Core 1.0, 3.1.2.5, 3.1.2.6, 3.2.2.5 and 3.3.2.5)
 

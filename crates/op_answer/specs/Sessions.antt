@@ -7,12 +7,14 @@ use Rattle.auth_request.specs.declared.wish.Wish.{Wish}
 use Rattle.auth_request.specs.declared.wish.Verdict.TheVariants as verdict
 use Rattle.code_grant.specs.declared.rows.TurnRow.{TurnRow}
 use Rattle.code_grant.specs.declared.rows.SessionRow.{SessionRow}
-use Rattle.code_grant.specs.Rows.{session_name, session_begun, session_life}
+use Rattle.code_grant.specs.Rows.{session_name, session_begun}
+use Rattle.oidc_words.specs.Lives.{session_life}
 use Rattle.code_grant.specs.Clients.{no_clients, with_client}
 use Rattle.op_exchange.specs.declared.ask.OpAsk.{OpAsk}
 use Rattle.op_exchange.specs.declared.ask.OpAsk.TheVariants.{Authorize, Login, Consent, SignOut}
 use Rattle.op_exchange.specs.declared.reply.OpReply.{OpReply}
-use Rattle.op_exchange.specs.declared.reply.OpReply.TheVariants.{ConsentPage, Answered, Refused, SignedOut}
+use Rattle.op_exchange.specs.declared.reply.OpReply.TheVariants.{Answered, SignedOut}
+use Rattle.op_exchange.specs.Replied.{session_given}
 use Rattle.op_answer.specs.Past.{OpPair, OpPast}
 use Rattle.op_answer.specs.Turns.{turn_of}
 
@@ -20,9 +22,7 @@ use Rattle.op_answer.specs.Turns.{turn_of}
 
 -- the session that a right password left
 abbrev pub session_set : OpAsk → OpReply → Option Word
-session_set (Login turn signed b presented) (ConsentPage w browser session client scopes) = session
-session_set (Login turn signed b presented) (Answered answer session) = session
-session_set (Login turn signed b presented) (Refused refusal session) = session
+session_set (Login turn signed b presented) reply = session_given reply
 session_set ask reply = None
 
 abbrev pub is_answered : OpReply → Bool
@@ -85,12 +85,15 @@ session_made_by held past p w user = None
 abbrev pub session_made : List SessionRow → OpPast → OpPair → Option SessionRow
 session_made held past p = session_made_by held past p (session_set p.entry.ask p.reply) (signed_user p.entry.ask)
 
+-- the word was presented, and another is left
+abbrev pub is_replaced : Option Word → Option Word → Word → Bool
+is_replaced presented None w = false
+is_replaced presented (Some left) w = is_word presented w && not (bytes_eq left w)
+
 -- A session is ended by a sign-out that presents it, and by a login that presents it and leaves another.
 abbrev pub ends_session : OpAsk → OpReply → Word → Bool
 ends_session (SignOut session) (SignedOut messages) w = is_word session w
-ends_session (Login turn signed b presented) (ConsentPage v browser (Some left) client scopes) w = is_word presented w && not (bytes_eq left w)
-ends_session (Login turn signed b presented) (Answered answer (Some left)) w = is_word presented w && not (bytes_eq left w)
-ends_session (Login turn signed b presented) (Refused refusal (Some left)) w = is_word presented w && not (bytes_eq left w)
+ends_session (Login turn signed b presented) reply w = is_replaced presented (session_given reply) w
 ends_session ask reply w = false
 
 -- An answer that used the session adds its client.

@@ -6,7 +6,8 @@ use Rattle.sso_base.specs.Words.{Word, is_word}
 use Rattle.sso_base.specs.Rows.{rows_by, row_of, live_rows, if_lives}
 use Rattle.auth_request.specs.declared.wish.Verdict.TheVariants.{Grant}
 use Rattle.code_grant.specs.declared.rows.TurnRow.{TurnRow}
-use Rattle.code_grant.specs.Rows.{turn_name, turn_begun, turn_life}
+use Rattle.code_grant.specs.Rows.{turn_name, turn_begun}
+use Rattle.oidc_words.specs.Lives.{turn_life}
 use Rattle.op_exchange.specs.declared.ask.OpAsk.{OpAsk}
 use Rattle.op_exchange.specs.declared.ask.OpAsk.TheVariants.{Authorize, Login, Consent}
 use Rattle.op_exchange.specs.declared.reply.OpReply.{OpReply}

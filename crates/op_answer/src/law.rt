@@ -1,13 +1,15 @@
 // What holds of the provider's answers.
 
-ghost use Rattle.std.specs.Prelude.{◌≡◌, ◌↔◌, ℕ, Bool, true, List, ◌∷◌, ◌++◌, Option, Some};
-ghost use Rattle.sso_base.specs.Words.{Word, Text};
+ghost use Rattle.std.specs.Prelude.{◌≡◌, ◌≤◌, ◌↔◌, ℕ, Bool, true, List, ◌∷◌, ◌++◌, length, Option, Some};
+ghost use Rattle.sso_base.specs.Words.{Word, Text, word_text};
+ghost use Rattle.sso_base.specs.Drawn.{IsDrawn};
 ghost use Rattle.sso_base.specs.Rows.{row_of};
 ghost use Rattle.sso_base.specs.Stands.{Stands};
+ghost use Rattle.sso_base.specs.Journal.{most_pairs};
 ghost use Rattle.sso_base.specs.declared.history.Entry.{Entry};
 ghost use Rattle.client_registry.specs.Configuration.{Configuration};
-ghost use Rattle.scope_claims.specs.declared.scopes.Scopes.{Scopes};
-ghost use Rattle.auth_request.specs.declared.wish.Refusal.{Refusal};
+ghost use Rattle.oidc_words.specs.declared.scopes.Scopes.{Scopes};
+ghost use Rattle.oidc_words.specs.declared.errors.Refusal.{Refusal};
 ghost use Rattle.auth_request.specs.declared.wish.PageNo.{PageNo};
 ghost use Rattle.auth_answer.specs.declared.answer.Answer.{Answer};
 ghost use Rattle.token_endpoint.specs.declared.error.TokenError.{TokenError};
@@ -24,9 +26,12 @@ ghost use Rattle.op_answer.specs.Turns.{turns, turn_made, turn_kept};
 ghost use Rattle.op_answer.specs.Sessions.{sessions, session_made, session_kept};
 ghost use Rattle.op_answer.specs.Codes.{codes_issued, code_made, code_kept};
 ghost use Rattle.op_answer.specs.AccessTokens.{accesses, access_made, access_kept};
+ghost use Rattle.op_answer.specs.Consents.{grant_of};
+ghost use Rattle.op_answer.specs.Granted.{Granted};
 ghost use Rattle.op_answer.specs.Answering.{op_answer};
 ghost use Rattle.op_answer.specs.Causes.{is_own, Stood, LoginPageCause, ConsentPageCause, AnsweredCause, RefusedCause, ErrorPageCause, TokensCause, TokenRefusedCause};
-ghost use Rattle.op_answer.specs.Legal.{IsLegalOp, code_redeemed, PassedPassword};
+ghost use Rattle.op_answer.specs.FullTables.{FullCause};
+ghost use Rattle.op_answer.specs.Legal.{IsLegalOp, IsLegalHistory, code_redeemed, PassedPassword};
 ghost use Rattle.op_exchange.specs.Replied.{session_given};
 
 /// A row is found after a past exactly where some pair made it, no later pair made one of its name or ended it, and it is
@@ -42,13 +47,29 @@ pub fn rows_stand()
 /// an ask that a request gives, and there was room for what it makes.
 pub fn replies_have_a_cause()
     ensures own { (c : Configuration) (past : OpPast) (e : Entry OpAsk) (r : OpReply) → is_own r ≡ true → op_answer c past e ≡ r → Stood c past e r }
-    ensures login_pages { (c : Configuration) (past : OpPast) (e : Entry OpAsk) (turn browser : Word) (again : Bool) → op_answer c past e ≡ reply.LoginPage turn browser again → LoginPageCause past e e.ask turn browser again }
+    ensures login_pages { (c : Configuration) (past : OpPast) (e : Entry OpAsk) (turn browser : Word) (again : Bool) → op_answer c past e ≡ reply.LoginPage turn browser again → LoginPageCause c past e e.ask turn browser again }
     ensures consent_pages { (c : Configuration) (past : OpPast) (e : Entry OpAsk) (turn browser : Word) (given : Option Word) (client : Text) (scopes : Scopes) → op_answer c past e ≡ reply.ConsentPage turn browser given client scopes → ConsentPageCause c past e e.ask turn browser given client scopes }
     ensures answers { (c : Configuration) (past : OpPast) (e : Entry OpAsk) (answer : Answer) (given : Option Word) → op_answer c past e ≡ reply.Answered answer given → AnsweredCause c past e e.ask answer given }
     ensures refusals { (c : Configuration) (past : OpPast) (e : Entry OpAsk) (refusal : Refusal) (given : Option Word) → op_answer c past e ≡ reply.Refused refusal given → RefusedCause c past e e.ask refusal given }
     ensures error_pages { (c : Configuration) (past : OpPast) (e : Entry OpAsk) (why : PageNo) → op_answer c past e ≡ reply.ErrorPage why → ErrorPageCause past e e.ask why }
     ensures tokens { (c : Configuration) (past : OpPast) (e : Entry OpAsk) (access : Word) (id : Text) → op_answer c past e ≡ reply.Tokens access id → TokensCause c past e e.ask access id }
     ensures token_errors { (c : Configuration) (past : OpPast) (e : Entry OpAsk) (code : TokenError) → op_answer c past e ≡ reply.TokenRefused code → TokenRefusedCause past e e.ask code }
+{}
+
+/// `Full` comes exactly where a request gives the ask, and a row that the reply would make has no place in its table: beside
+/// the rows that live at the moment, and that the step does not end, they are 65,536, or one of them has its word.
+pub fn full_tables_are_full()
+    ensures { (c : Configuration) (past : OpPast) (e : Entry OpAsk) → (op_answer c past e ≡ reply.Full) ↔ FullCause c past e }
+{}
+
+/// A user has granted a scope value to a client exactly where a consent form said yes to it: it was answered or refused, for
+/// a turn of the client and a session of the user, and the consent was about the scope value.
+pub fn grants_are_said_yes_to()
+    ensures openid { (past : OpPast) (user client : ℕ) → ((grant_of past user client).openid ≡ true) ↔ Granted past user client (λ s. s.openid) }
+    ensures profile { (past : OpPast) (user client : ℕ) → ((grant_of past user client).profile ≡ true) ↔ Granted past user client (λ s. s.profile) }
+    ensures email { (past : OpPast) (user client : ℕ) → ((grant_of past user client).email ≡ true) ↔ Granted past user client (λ s. s.email) }
+    ensures address { (past : OpPast) (user client : ℕ) → ((grant_of past user client).address ≡ true) ↔ Granted past user client (λ s. s.address) }
+    ensures phone { (past : OpPast) (user client : ℕ) → ((grant_of past user client).phone ≡ true) ↔ Granted past user client (λ s. s.phone) }
 {}
 
 /// After any legal past a code gets tokens at most once: no two pairs were answered tokens for the code that one pair made
@@ -61,4 +82,14 @@ pub fn codes_are_answered_once()
 /// and from the turn's browser.
 pub fn session_words_need_a_password()
     ensures { (c : Configuration) (later earlier : OpPast) (p : OpPair) (w : Word) → IsLegalOp c (later ++ p ∷ earlier) → session_given p.reply ≡ Some w → PassedPassword earlier p.entry w }
+{}
+
+/// A legal history has at most 262,144 pairs: it weighs at most 268,435,456, and no pair less than 1,024.
+pub fn legal_histories_are_short()
+    ensures { (c : Configuration) (history : List OpPair) → IsLegalHistory c history → length history ≤ most_pairs }
+{}
+
+/// In a legal past the text of a word that was drawn determines the word.
+pub fn drawn_words_have_one_text()
+    ensures { (c : Configuration) (past : OpPast) (v w : Word) → IsLegalOp c past → IsDrawn past v → IsDrawn past w → word_text v ≡ word_text w → v ≡ w }
 {}

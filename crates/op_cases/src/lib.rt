@@ -1,15 +1,7 @@
-//! Runs of the provider, request by request: what its replies are, told as the lines of a replay.
+//! A step of the provider that finds no memory changes nothing: the same request is answered when it is sent again.
 //!
-//! They stand in a crate of their own since a crate is proved again for its tests.
+//! Memory runs out here only where `rt try --test --fail-alloc N` has the Nth allocation fail. `provider_cases` has the other runs.
 #![tactic(auto)]
 
 #[cfg(test)]
-mod codes;
-#[cfg(test)]
-mod journal;
-#[cfg(test)]
 mod memory;
-#[cfg(test)]
-mod runs;
-#[cfg(test)]
-mod tests;

@@ -14,8 +14,8 @@ none_kept c =
       own = record { turns = refl; sessions = refl; codes = refl };
     }
 
-pub begins : (c : Configuration) (history : List OpPair) (t : Tables) → history ≡ [] → t ≡ no_tables → Keeps c history 0 t
+pub begins : (c : Configuration) (history : List OpPair) (t : Tables) → history ≡ [] → t ≡ no_tables → Keeps c history t
 begins c history t none empty =
-    let H : List OpPair → Type 0 = λ h. Keeps c h 0 t in
-    let T : Tables → Type 0 = λ u. Keeps c [] 0 u in
-    subst H (sym none) (subst T (sym empty) (record { tables = none_kept c; weight_is = refl; light = omega arith; legal = tt }))
+    let H : List OpPair → Type 0 = λ h. Keeps c h t in
+    let T : Tables → Type 0 = λ u. Keeps c [] u in
+    subst H (sym none) (subst T (sym empty) (record { tables = none_kept c; legal = record { past = tt; light = omega arith } }))

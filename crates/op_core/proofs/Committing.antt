@@ -1,5 +1,5 @@
 -- What is kept when a pair is taken up for which room was reserved.
-use Rattle.std.proofs.Common.{◌≡◌, ◌≤◌, ℕ, ◌+◌, List, [], ◌∷◌, ◌++◌, reverse, Option, Some, IfSome, true, sym, ◌∙◌, subst, arith}
+use Rattle.std.proofs.Common.{◌≡◌, ◌≤◌, ℕ, ◌+◌, List, [], ◌∷◌, ◌++◌, reverse, Option, Some, IfSome, true, sym, ◌∙◌, subst}
 use Rattle.sso_base.specs.Words.{Word}
 use Rattle.sso_base.specs.Legal.{last_moment, IsEntry}
 use Rattle.sso_base.specs.Journal.{most_weight, history_weight}
@@ -39,7 +39,7 @@ if_made {R} P m n same h r is =
     let I : Option R → Type 0 = λ o. IfSome o P in
     subst I (same ∙ is) h
 
-module _ (c : Configuration) (history items : List OpPair) (weight more : ℕ) (t reserved u : Tables) (p : OpPair) (turn : Option TurnRow) (session : Option SessionRow) (code : Option CodeRow) (token : Option TokenRow) (used : Option Word) (client : Option ℕ) where
+module _ (c : Configuration) (history items : List OpPair) (t reserved u : Tables) (p : OpPair) (weight : ℕ) (turn : Option TurnRow) (session : Option SessionRow) (code : Option CodeRow) (token : Option TokenRow) (used : Option Word) (client : Option ℕ) where
   -- what the step has shown when it takes the pair up, of the provider as a value
   abbrev pub Shown : Providing → Type 0
   Shown s =
@@ -49,9 +49,9 @@ module _ (c : Configuration) (history items : List OpPair) (weight more : ℕ) (
       × IfSome turn (λ row. is_own_turn s.registry row ≡ true)
       × IfSome session (λ row. is_own_session s.registry row ≡ true)
       × IfSome code (λ row. is_own_code s.registry row ≡ true)
-      × (history_weight ask_weight s.history + more ≤ most_weight)
+      × (history_weight ask_weight s.history + weight ≤ most_weight)
 
-  takes_up : KeepsPast c (reverse history) reserved → Shown (record { registry = c; history = history }) → TakesUp reserved p turn session code token used client c (reverse history) (last_moment (reverse history))
+  takes_up : KeepsPast c (reverse history) reserved → Shown (record { registry = c; history = history; tables = t }) → TakesUp reserved p turn session code token used client c (reverse history) (last_moment (reverse history))
   takes_up keeps shown =
       let brings : Brings (reverse history) p turn session code token used client = shown.2 in
       record {
@@ -68,13 +68,10 @@ module _ (c : Configuration) (history items : List OpPair) (weight more : ℕ) (
         token_is = brings.token_is;
       }
 
-  light_by : (a b : ℕ) → a ≡ b → b + more ≤ most_weight → a + more ≤ most_weight
-  light_by a b h low = omega (arith, h, low)
-
-  committed : Keeps c history weight t → reserved ≡ with_room t → IsEntry IsOpAsk p.entry → more ≡ ask_weight p.entry.ask → items ≡ history ++ p ∷ []
+  committed : Keeps c history t → reserved ≡ with_room t → IsEntry IsOpAsk p.entry → weight ≡ ask_weight p.entry.ask → items ≡ history ++ p ∷ []
       → ((d : Configuration) (past : OpPast) (before : ℕ) → TakesUp reserved p turn session code token used client d past before → FollowsPair reserved u past p)
-      → Shown (record { registry = c; history = history }) → Keeps c items (weight + more) u
-  committed keeps room entry more_is items_are follows shown =
+      → Shown (record { registry = c; history = history; tables = t }) → Keeps c items u
+  committed keeps room entry weight_is items_are follows shown =
       let past : OpPast = reverse history in
       let brings : Brings past p turn session code token used client = shown.2 in
       let R : Tables → Type 0 = λ x. KeepsPast c past x in
@@ -84,15 +81,14 @@ module _ (c : Configuration) (history items : List OpPair) (weight more : ℕ) (
       (if_made (λ row. is_own_turn c row ≡ true) turn (turn_made (turns past) past p) brings.turn_is shown.3)
       (if_made (λ row. is_own_session c row ≡ true) session (session_made (sessions past) past p) brings.session_is shown.4)
       (if_made (λ row. is_own_code c row ≡ true) code (code_made (codes_issued past) past p) brings.code_is shown.5) in
-      let I : List OpPair → Type 0 = λ x. Keeps c x (weight + more) u in
-      subst I (sym items_are)
-      (keeps_more c history weight more reserved u p (record { tables = kept; weight_is = keeps.weight_is; light = keeps.light; legal = keeps.legal }) shown.0 one own entry shown.1 more_is
-      (light_by weight (history_weight ask_weight history) keeps.weight_is shown.6))
+      let I : List OpPair → Type 0 = λ x. Keeps c x u in
+      let L : ℕ → Type 0 = λ n. history_weight ask_weight history + n ≤ most_weight in
+      subst I (sym items_are) (keeps_more c history reserved u p (record { tables = kept; legal = keeps.legal }) shown.0 one own entry shown.1 (subst L weight_is shown.6))
 
-  pub committed_as : (s : Providing) → ◌≡◌ {A = Providing} (record { registry = c; history = history }) s → Keeps c history weight t → reserved ≡ with_room t → IsEntry IsOpAsk p.entry → more ≡ ask_weight p.entry.ask
+  pub committed_as : (s : Providing) → ◌≡◌ {A = Providing} (record { registry = c; history = history; tables = t }) s → Keeps c history t → reserved ≡ with_room t → IsEntry IsOpAsk p.entry → weight ≡ ask_weight p.entry.ask
       → items ≡ history ++ p ∷ []
       → ((d : Configuration) (past : OpPast) (before : ℕ) → TakesUp reserved p turn session code token used client d past before → FollowsPair reserved u past p)
-      → Shown s → Keeps c items (weight + more) u
-  committed_as s view keeps room entry more_is items_are follows shown =
+      → Shown s → Keeps c items u
+  committed_as s view keeps room entry weight_is items_are follows shown =
       let S : Providing → Type 0 = λ x. Shown x in
-      committed keeps room entry more_is items_are follows (subst S (sym view) shown)
+      committed keeps room entry weight_is items_are follows (subst S (sym view) shown)

@@ -10,4 +10,3 @@ mod OutcomeSamples
 pub mod Outcomes
 pub mod Stepping
 pub mod Committing
-pub mod Journals

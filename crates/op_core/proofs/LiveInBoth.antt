@@ -1,9 +1,9 @@
 -- For each table of the provider: what lives in it at a moment is what lives after the past.
-use Rattle.std.proofs.Common.{◌≡◌, ◌≤◌, ℕ, Bool, true, false, cond, nat_lt, List, length, Option, Some, None, option_and_then, reverse, sym, ◌∙◌, ap, subst}
+use Rattle.std.proofs.Common.{◌≡◌, ◌≤◌, ℕ, Bool, true, nat_lt, List, length, Option, Some, option_and_then, reverse, sym, ◌∙◌, ap, subst}
 use Rattle.std.specs.List.{list_any}
 use Rattle.std.specs.Str.{bytes_eq}
 use Rattle.sso_base.specs.Words.{Word}
-use Rattle.sso_base.specs.Rows.{row_of, lives, if_lives, live_rows}
+use Rattle.sso_base.specs.Rows.{row_of, if_lives, live_rows}
 use Rattle.sso_base.specs.Legal.{last_moment}
 use Rattle.sso_base.proofs.RowLaws.{rows_distinct}
 use Rattle.client_registry.specs.Configuration.{Configuration}
@@ -11,8 +11,9 @@ use Rattle.code_grant.specs.declared.rows.TurnRow.{TurnRow}
 use Rattle.code_grant.specs.declared.rows.SessionRow.{SessionRow}
 use Rattle.code_grant.specs.declared.rows.CodeRow.{CodeRow}
 use Rattle.code_grant.specs.declared.rows.TokenRow.{TokenRow}
-use Rattle.code_grant.specs.Rows.{turn_name, turn_begun, turn_life, session_name, session_begun, session_life, code_name, code_begun, code_life, access_name, access_begun, access_life}
-use Rattle.code_grant.specs.Held.{most_rows, has_room_for_one, IsFull}
+use Rattle.code_grant.specs.Rows.{turn_name, turn_begun, session_name, session_begun, code_name, code_begun, access_name, access_begun}
+use Rattle.oidc_words.specs.Lives.{turn_life, session_life, code_life, access_life}
+use Rattle.held_rows.specs.Held.{most_rows, has_room_for_one, IsFull}
 use Rattle.code_grant.specs.Tables.{Tables, AreTurns, AreSessions, AreCodes, AreTokens}
 use Rattle.op_answer.specs.Past.{OpPair, OpPast}
 use Rattle.op_core.specs.Providing.{Providing, past_of}
@@ -23,31 +24,9 @@ use Rattle.op_answer.specs.AccessTokens.{accesses, access_made, access_kept, liv
 use Rattle.op_tables.specs.Agreeing.{is_own_turn, is_own_session, is_own_code}
 use Rattle.op_core.specs.Keeps.{KeepsTables}
 use Rattle.op_answer.proofs.KeptNames.{turn_names, session_names, code_names, access_names}
-use Rattle.op_tables.proofs.Lookups.{same_later, found_in_both, found_good}
+use Rattle.held_rows.proofs.Found.{same_later, found_in_both, found_good}
 
--- ---- one row: found and live, found and not live, not found
-
-module _ {R : Type 0} (life : ℕ) (begun : R → ℕ) (at : ℕ) where
-  pub is_found : (row : R) (o : Option R) → Some row ≡ o → true ≡ lives life (begun row) at → Some row ≡ option_and_then (if_lives life begun at) o
-  is_found row o found live =
-      let F : Option R → Option R = λ x. option_and_then (if_lives life begun at) x in
-      let C : Bool → Option R = λ b. cond b (Some row) None in
-      ap C live ∙ ap F found
-
-  pub is_gone : (row : R) (o : Option R) → Some row ≡ o → false ≡ lives life (begun row) at → None ≡ option_and_then (if_lives life begun at) o
-  is_gone row o found ended =
-      let F : Option R → Option R = λ x. option_and_then (if_lives life begun at) x in
-      let C : Bool → Option R = λ b. cond b (Some row) None in
-      ap C ended ∙ ap F found
-
-  pub is_absent : (o : Option R) → None ≡ o → None ≡ option_and_then (if_lives life begun at) o
-  is_absent o found =
-      let F : Option R → Option R = λ x. option_and_then (if_lives life begun at) x in
-      ap F found
-
--- ---- each table
-
-module _ (c : Configuration) (history : List OpPair) (t : Tables) (keeps : KeepsTables c history t) (p : Providing) (view : ◌≡◌ {A = Providing} (record { registry = c; history = history }) p) (at : ℕ) (order : last_moment (past_of p) ≤ at) where
+module _ (c : Configuration) (history : List OpPair) (t : Tables) (keeps : KeepsTables c history t) (p : Providing) (view : ◌≡◌ {A = Providing} (record { registry = c; history = history; tables = t }) p) (at : ℕ) (order : last_moment (past_of p) ≤ at) where
   past_is : reverse history ≡ past_of p
   past_is = ap past_of view
 

@@ -13,7 +13,8 @@ use Rattle.code_grant.specs.declared.rows.TurnRow.{TurnRow}
 use Rattle.code_grant.specs.declared.rows.SessionRow.{SessionRow}
 use Rattle.code_grant.specs.declared.rows.CodeRow.{CodeRow}
 use Rattle.code_grant.specs.declared.rows.TokenRow.{TokenRow}
-use Rattle.code_grant.specs.Rows.{session_name, session_begun, session_life, code_begun, code_life}
+use Rattle.code_grant.specs.Rows.{session_name, session_begun, code_begun}
+use Rattle.oidc_words.specs.Lives.{session_life, code_life}
 use Rattle.op_exchange.specs.declared.ask.OpAsk.{OpAsk}
 use Rattle.op_exchange.specs.declared.ask.OpAsk.TheVariants as ask
 use Rattle.op_exchange.specs.declared.reply.OpReply.{OpReply}
@@ -28,7 +29,7 @@ use Rattle.op_answer.specs.Answering.{op_answer}
 use Rattle.op_answer.specs.Causes.{AnsweredCause, TokensCause}
 use Rattle.op_core.specs.Making.{wish_found, session_found, client_found, session_with, session_put_by, code_put, access_put_by, access_put}
 use Rattle.op_answer.proofs.KeptNames.{session_names}
-use Rattle.op_tables.proofs.LiveRows.{row_that_lives}
+use Rattle.held_rows.proofs.Found.{row_that_lives}
 use Rattle.op_core.proofs.MadeSessions.{turn_stands, wish_same, session_makes}
 use Rattle.op_answer.proofs.Answers.{answers_have_a_cause}
 use Rattle.op_answer.proofs.TokenResponses.{tokens_have_a_cause}
@@ -144,9 +145,6 @@ module _ (c : Configuration) (past : OpPast) (e : Entry OpAsk) (answer : Answer)
 -- ---- the laws
 
 module _ (c : Configuration) (past : OpPast) (e : Entry OpAsk) where
-  pub turn_makes : (told : OpReply) → turn_made (turns past) past (record { entry = e; reply = told }) ≡ turn_started e.at e.ask told
-  turn_makes told = refl
-
   pub code_makes : (told : OpReply) → op_answer c past e ≡ told → code_made (codes_issued past) past (record { entry = e; reply = told }) ≡ code_put past e told
   code_makes (reply.Answered answer given) h = code_same c past e answer given h e.ask refl (answers_have_a_cause c past e answer given h)
   code_makes other h = refl

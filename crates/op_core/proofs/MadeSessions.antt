@@ -11,9 +11,10 @@ use Rattle.auth_request.specs.declared.wish.Verdict.TheVariants as verdict
 use Rattle.auth_answer.specs.declared.answer.Answer.{Answer}
 use Rattle.code_grant.specs.declared.rows.TurnRow.{TurnRow}
 use Rattle.code_grant.specs.declared.rows.SessionRow.{SessionRow}
-use Rattle.code_grant.specs.Rows.{turn_begun, turn_life, session_name, session_begun, session_life}
-use Rattle.code_grant.specs.Held.{most_rows}
-use Rattle.code_grant.proofs.RowOf.{row_of_named}
+use Rattle.code_grant.specs.Rows.{turn_begun, session_name, session_begun}
+use Rattle.oidc_words.specs.Lives.{turn_life, session_life}
+use Rattle.held_rows.specs.Held.{most_rows}
+use Rattle.held_rows.proofs.HeldLaws.{row_of_named}
 use Rattle.op_exchange.specs.declared.ask.OpAsk.{OpAsk}
 use Rattle.op_exchange.specs.declared.ask.OpAsk.TheVariants as ask
 use Rattle.op_exchange.specs.declared.reply.OpReply.{OpReply}
@@ -27,25 +28,16 @@ use Rattle.op_answer.specs.Codes.{code_in}
 use Rattle.op_answer.specs.Answering.{op_answer}
 use Rattle.op_answer.specs.Causes.{is_own, ConsentPageCause, AnsweredCause, RefusedCause}
 use Rattle.op_core.specs.Making.{wish_found, client_found, session_with, session_put_by, session_put}
+use Rattle.op_tables.proofs.TakenSessions.{second_false}
 use Rattle.op_answer.proofs.KeptNames.{some_same, session_names}
-use Rattle.op_tables.proofs.Lookups.{found_live}
-use Rattle.op_tables.proofs.LiveRows.{if_some, row_that_lives}
+use Rattle.held_rows.proofs.Added.{unnamed_there}
+use Rattle.held_rows.proofs.Found.{found_live, if_some, row_that_lives}
 use Rattle.op_answer.proofs.Standing.{own_replies_stand}
 use Rattle.op_answer.proofs.Pages.{consent_pages_have_a_cause}
 use Rattle.op_answer.proofs.Answers.{answers_have_a_cause}
 use Rattle.op_answer.proofs.Refusals.{refusals_have_a_cause}
 
 -- ---- what room says of a word
-
-second_false : (a b c d : Bool) → (a || b || c || d) ≡ false → b ≡ false
-second_false true b c d h = cc
-second_false false true c d h = cc
-second_false false false c d h = refl
-
-none_named : {R : Type 0} (full : Bool) (found : Option R) → (full || is_some found) ≡ false → found ≡ None
-none_named true found h = cc
-none_named false (Some row) h = cc
-none_named false None h = refl
 
 module _ (past : OpPast) (at : ℕ) where
   -- a live session is a row
@@ -71,7 +63,7 @@ module _ (past : OpPast) (at : ℕ) where
   new_is_free : (presented : Option Word) (w : Word) → lacks_new_session past at None presented (Some w) ≡ false → live_in at w (sessions past) ≡ None
   new_is_free presented w h =
       let rows = sessions_beside presented w (live_sessions past at) in
-      live_found w ∙ unnamed presented w (none_named (not (nat_lt (length rows) most_rows)) (row_of session_name w rows) h)
+      live_found w ∙ unnamed presented w (unnamed_there most_rows session_name w rows h)
 
   -- a renewed session is the live one of its word
   of_user : (user : ℕ) (found : Option SessionRow) (s : SessionRow) → option_and_then (if_of_user user) found ≡ Some s → found ≡ Some s

@@ -1,11 +1,9 @@
 -- What the consent of a first login brings, and what a provider keeps, by computation.
-use Rattle.std.proofs.Common.{◌≡◌, ℕ, true, false, [], ◌∷◌, Some, None, refl, arith}
-use Rattle.code_grant.specs.declared.redeem.Redeem.TheVariants.{Redeemed, Spent}
+use Rattle.std.proofs.Common.{◌≡◌, [], ◌∷◌, Some, None, refl}
 use Rattle.code_grant.specs.Tables.{no_tables}
 use Rattle.op_tables.proofs.Samples.{taken, alice_code, before_consent, they_agree, they_are_begun, they_are_own}
 use Rattle.op_core.specs.Keeps.{KeepsPast, Keeps}
 use Rattle.op_core.specs.Outcome.{used_found, Brings}
-use Rattle.op_core.specs.Redeemed.{is_redeemed}
 use Rattle.op_core.proofs.Beginning.{begins}
 use Rattle.op_exchange.proofs.Sample.{word, sample}
 use Rattle.op_answer.proofs.FirstLogin.{pair_of, past_consent, consent_entry, late_consent, code_answer, past_code}
@@ -34,14 +32,6 @@ a_consent_brings_a_code =
 it_does_not_bring_nothing : Brings past_consent (pair_of consent_entry code_answer) None None None None (Some (word 9)) (Some 0) → ⊥
 it_does_not_bring_nothing brings = (let k : None ≡ Some alice_code = brings.code_is in cc)
 
--- ---- redemptions
-
-a_redeemed_code : is_redeemed Redeemed ≡ true
-a_redeemed_code = refl
-
-a_spent_code : is_redeemed Spent ≡ false
-a_spent_code = refl
-
 -- ---- what a provider keeps
 
 the_tables_are_kept : KeepsPast sample past_consent before_consent
@@ -50,8 +40,8 @@ the_tables_are_kept = record { agrees = they_agree; begun = they_are_begun; own 
 not_without_the_turn : KeepsPast sample past_consent no_tables → ⊥
 not_without_the_turn keeps = (let k : [] ≡ taken ∷ [] = keeps.agrees.turns in cc)
 
-it_begins_without_weight : Keeps sample [] 0 no_tables
-it_begins_without_weight = begins sample [] no_tables refl refl
+it_begins_without_rows : Keeps sample [] no_tables
+it_begins_without_rows = begins sample [] no_tables refl refl
 
-not_with_the_weight_of_an_ask : Keeps sample [] 1024 no_tables → ⊥
-not_with_the_weight_of_an_ask keeps = (let k : ◌≡◌ {A = ℕ} 1024 0 = keeps.weight_is in absurd (omega arith))
+not_with_a_turn : Keeps sample [] before_consent → ⊥
+not_with_a_turn keeps = (let k : taken ∷ [] ≡ [] = keeps.tables.agrees.turns in cc)

@@ -2,10 +2,11 @@
 use Rattle.std.proofs.Common.{◌≡◌, ◌<◌, ◌≤◌, ℕ, Bool, true, false, ◌&&◌, length, refl, arith}
 use Rattle.std.proofs.lemmas.Bool.{ltb-true}
 use Rattle.client_registry.specs.Configuration.{Configuration}
+use Rattle.client_registry.specs.Numbers.{is_client, is_user}
 use Rattle.client_registry.specs.Registered.{IsRegistry}
 use Rattle.auth_request.specs.declared.wish.Wish.{Wish}
-use Rattle.op_exchange.specs.Clients.{is_client, is_user}
-use Rattle.op_exchange.specs.Asks.{is_prepared_wish, is_short_nonce}
+use Rattle.auth_request.specs.Values.{is_short_nonce}
+use Rattle.op_exchange.specs.Asks.{is_prepared_wish}
 
 first_true : (a b c : Bool) → (a && b && c) ≡ true → a ≡ true
 first_true true b c h = refl

@@ -1,39 +1,19 @@
--- Whether one more row of a word has room among the live rows.
-use Rattle.std.proofs.Common.{◌≡◌, ◌≤◌, ℕ, suc, Bool, true, false, not, ◌||◌, nat_lt, cond, List, length, Option, Some, None, is_some, refl, sym, ◌∙◌, ap, inl, inr, arith, Bor, subst}
-use Rattle.std.specs.Option.{option_copied}
+-- Whether one more session has room among the live ones.
+use Rattle.std.proofs.Common.{◌≡◌, ◌≤◌, ℕ, suc, Bool, true, false, not, nat_lt, cond, List, length, Option, Some, None, is_some, refl, sym, ◌∙◌, ap, inl, inr, arith, subst}
 use Rattle.std.specs.Str.{bytes_eq}
 use Rattle.std.proofs.lemmas.Bool.Decides.{nat_tests}
 use Rattle.sso_base.specs.Words.{Word}
 use Rattle.sso_base.specs.Rows.{row_of, without}
 use Rattle.sso_base.specs.Stands.{IsDistinct}
 use Rattle.sso_base.proofs.RowLaws.{bool_cases, option_cases, row_of-without_other}
-use Rattle.sso_base.proofs.Removing.{filter-without}
 use Rattle.sso_base.proofs.Decided.{not_not}
 use Rattle.code_grant.specs.declared.rows.SessionRow.{SessionRow}
 use Rattle.code_grant.specs.Rows.{session_name}
-use Rattle.code_grant.specs.Held.{most_rows}
-use Rattle.op_answer.specs.Room.{is_full, sessions_beside}
-use Rattle.code_grant.proofs.HeldLaws.{filter_short}
-use Rattle.op_tables.proofs.Leaving.{without_absent, length-without}
-
-module _ {R : Type 0} (name : R → Word) (w : Word) (lives : List R) where
-  full_by : (room : Bool) → room ≡ nat_lt (length lives) most_rows → is_full name w lives ≡ (not room || is_some (row_of name w lives))
-  full_by room h =
-      let F : Bool → Bool = λ b. not b || is_some (row_of name w lives) in
-      ap F (sym h)
-
-  pub full_without_room : false ≡ nat_lt (length lives) most_rows → true ≡ is_full name w lives
-  full_without_room h = sym (full_by false h)
-
-  pub full_if_named : true ≡ nat_lt (length lives) most_rows → is_some (row_of name w lives) ≡ is_full name w lives
-  full_if_named h = sym (full_by true h)
-
--- whether a row was found, by the row itself
-pub found_one : {R : Type 0} (o : Option (Bor R)) (p : Option R) → option_copied o ≡ p → is_some o ≡ is_some p
-found_one {R} None p h = let S : Option R → Bool = λ x. is_some x in ap S h
-found_one {R} (Some r) p h = let S : Option R → Bool = λ x. is_some x in ap S h
-
--- ---- sessions, where the presented one ends in favour of another word
+use Rattle.held_rows.specs.Held.{most_rows}
+use Rattle.op_answer.specs.Room.{sessions_beside}
+use Rattle.held_rows.proofs.Kept.{without_none}
+use Rattle.op_tables.proofs.Leaving.{length-without}
+use Rattle.op_tables.proofs.TakenRows.{without_short}
 
 lower : (a b m : ℕ) → a ≤ b → true ≡ nat_lt b m → true ≡ nat_lt a m
 lower a b m low h = grind (arith, nat_tests, low, h)
@@ -47,11 +27,6 @@ one_less a m h = grind (arith, nat_tests, h)
 
 no_less : (a m : ℕ) → a ≡ m → false ≡ nat_lt a m
 no_less a m h = grind (arith, nat_tests, h)
-
-without_short : {R : Type 0} (name : R → Word) (w : Word) (rows : List R) → length (without name w rows) ≤ length rows
-without_short {R} name w rows =
-    let L : List R → Type 0 = λ x. length x ≤ length rows in
-    subst L (filter-without name w rows) (filter_short (λ (row : R). not (bytes_eq (name row) w)) rows)
 
 beside_short : (presented : Option Word) (w : Word) (rows : List SessionRow) → length (sessions_beside presented w rows) ≤ length rows
 beside_short None w rows = omega arith
@@ -72,7 +47,7 @@ beside_other v w rows distinct full other =
     let M : List SessionRow → Bool = λ x. nat_lt (length x) most_rows in
     let S : Option SessionRow → Bool = λ x. is_some x in
     elim (option_cases (row_of session_name v rows)) [
-      | inl none ↦ ap S none ∙ no_less (length rows) most_rows full ∙ ap M (sym (without_absent session_name v rows none)) ∙ ap N (sym other)
+      | inl none ↦ ap S none ∙ no_less (length rows) most_rows full ∙ ap M (sym (without_none session_name v rows none)) ∙ ap N (sym other)
       | inr found ↦ ap S found.1 ∙ one_less (length (without session_name v rows)) most_rows (length-without session_name v rows found.0 distinct found.1 ∙ full) ∙ ap N (sym other)
     ]
 

@@ -1,16 +1,17 @@
 -- One more pair: what the provider keeps beside its history, it keeps after a step.
-use Rattle.std.proofs.Common.{◌≡◌, ◌≤◌, ℕ, ◌+◌, Bool, true, List, [], ◌∷◌, ◌++◌, map, reverse, Option, Some, IfSome, refl, sym, ◌∙◌, ap, subst, arith}
-use Rattle.std.specs.List.{fold, list_all}
-use Rattle.std.proofs.lemmas.List.{map-append, reverse-append}
+use Rattle.std.proofs.Common.{◌≡◌, ◌≤◌, ℕ, ◌+◌, Bool, true, List, [], ◌∷◌, ◌++◌, reverse, Some, refl, sym, ◌∙◌, ap, subst}
+use Rattle.std.specs.List.{list_all}
 use Rattle.sso_base.specs.Legal.{last_moment, IsEntry}
 use Rattle.sso_base.specs.Journal.{most_weight, history_weight}
+use Rattle.sso_base.proofs.Histories.{past_more, longer_is_legal}
 use Rattle.client_registry.specs.Configuration.{Configuration}
+use Rattle.client_registry.specs.Numbers.{is_user}
 use Rattle.code_grant.specs.declared.rows.TurnRow.{TurnRow}
 use Rattle.code_grant.specs.declared.rows.SessionRow.{SessionRow}
 use Rattle.code_grant.specs.declared.rows.CodeRow.{CodeRow}
-use Rattle.code_grant.specs.Rows.{turn_name, turn_begun, turn_life, session_name, session_begun, session_life, code_name, code_begun, code_life}
+use Rattle.code_grant.specs.Rows.{turn_name, turn_begun, session_name, session_begun, code_name, code_begun}
+use Rattle.oidc_words.specs.Lives.{turn_life, session_life, code_life}
 use Rattle.code_grant.specs.Tables.{Tables}
-use Rattle.op_exchange.specs.Clients.{is_user}
 use Rattle.op_exchange.specs.Asks.{is_prepared_wish}
 use Rattle.op_exchange.specs.Values.{IsOpAsk}
 use Rattle.op_exchange.specs.Weight.{ask_weight}
@@ -19,24 +20,11 @@ use Rattle.op_answer.specs.Turns.{turns, turn_made, turn_kept}
 use Rattle.op_answer.specs.Sessions.{sessions, session_made, session_kept}
 use Rattle.op_answer.specs.Codes.{codes_issued, code_made, code_kept}
 use Rattle.op_answer.specs.Answering.{op_answer}
-use Rattle.op_answer.specs.Legal.{IsLegalOp}
 use Rattle.op_tables.specs.Agreeing.{AreOwn, is_own_turn, is_own_session, is_own_code}
 use Rattle.op_core.specs.Keeps.{KeepsPast, Keeps}
 use Rattle.op_tables.specs.Keeping.{FollowsPair}
-use Rattle.op_tables.proofs.KeptRows.{all_good_after}
+use Rattle.held_rows.proofs.Kept.{all_good_after}
 use Rattle.op_tables.proofs.Carried.{turn_wish_kept, session_user_kept, code_keeps, agrees_carried, is_begun_carried}
-
--- ---- the weight
-
-fold_push : (n : ℕ) (xs : List ℕ) (x : ℕ) → fold (λ (a : ℕ) (b : ℕ). a + b) n (xs ++ x ∷ []) ≡ fold (λ (a : ℕ) (b : ℕ). a + b) n xs + x
-fold_push n [] x = refl
-fold_push n (y ∷ ys) x = fold_push (n + y) ys x
-
-pub weight_more : (history : List OpPair) (p : OpPair) → history_weight ask_weight (history ++ p ∷ []) ≡ history_weight ask_weight history + ask_weight p.entry.ask
-weight_more history p =
-    let f : OpPair → ℕ = λ q. ask_weight q.entry.ask in
-    let S : List ℕ → ℕ = λ xs. fold (λ (a : ℕ) (b : ℕ). a + b) 0 xs in
-    ap S (map-append f history (p ∷ [])) ∙ fold_push 0 (map f history) (f p)
 
 -- ---- the rows are about users and wishes that requests to this provider give
 
@@ -76,33 +64,16 @@ own_carried c t u past p own follows turn session code =
 
 -- ---- all of it
 
--- the past of a history with one more pair
-pub past_more : (history : List OpPair) (p : OpPair) → reverse (history ++ p ∷ []) ≡ p ∷ reverse history
-past_more history p = reverse-append history (p ∷ [])
-
--- a row that was made is an own one
-if_made : {R : Type 0} (good : R → Bool) (m n : Option R) → m ≡ n → IfSome m (λ r. good r ≡ true) → (r : R) → n ≡ Some r → good r ≡ true
-if_made {R} good m n same h r is =
-    let I : Option R → Type 0 = λ o. IfSome o (λ x. good x ≡ true) in
-    subst I (same ∙ is) h
-
-sum_is : (a b m n : ℕ) → a ≡ m → b ≡ n → a + b ≡ m + n
-sum_is a b m n h k = omega (arith, h, k)
-
-pub keeps_more : (c : Configuration) (history : List OpPair) (weight more : ℕ) (t u : Tables) (p : OpPair) → Keeps c history weight t → last_moment (reverse history) ≤ p.entry.at
-    → FollowsPair t u (reverse history) p → AreOwn c u → IsEntry IsOpAsk p.entry → p.reply ≡ op_answer c (reverse history) p.entry → more ≡ ask_weight p.entry.ask → weight + more ≤ most_weight
-    → Keeps c (history ++ p ∷ []) (weight + more) u
-keeps_more c history weight more t u p keeps order follows own entry answer more_is light =
+pub keeps_more : (c : Configuration) (history : List OpPair) (t u : Tables) (p : OpPair) → Keeps c history t → last_moment (reverse history) ≤ p.entry.at → FollowsPair t u (reverse history) p → AreOwn c u
+    → IsEntry IsOpAsk p.entry → p.reply ≡ op_answer c (reverse history) p.entry → history_weight ask_weight history + ask_weight p.entry.ask ≤ most_weight → Keeps c (history ++ p ∷ []) u
+keeps_more c history t u p keeps order follows own entry answer room =
     let past : OpPast = reverse history in
     let K : OpPast → Type 0 = λ q. KeepsPast c q u in
-    let L : OpPast → Type 0 = λ q. IsLegalOp c q in
     record {
       tables = (subst K (sym (past_more history p)) (record {
         agrees = agrees_carried t u past p (last_moment past) order keeps.tables.agrees follows;
         begun = is_begun_carried t u past p (last_moment past) order keeps.tables.begun follows;
         own = own;
       }));
-      weight_is = sum_is weight more (history_weight ask_weight history) (ask_weight p.entry.ask) keeps.weight_is more_is ∙ sym (weight_more history p);
-      light = light;
-      legal = subst L (sym (past_more history p)) (keeps.legal, entry, order, answer);
+      legal = longer_is_legal IsOpAsk (op_answer c) ask_weight history p keeps.legal entry order answer room;
     }

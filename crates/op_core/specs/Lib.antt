@@ -2,5 +2,3 @@ pub mod Keeps
 pub mod Providing
 pub mod Making
 pub mod Outcome
-pub mod Beginnings
-pub mod Redeemed

@@ -7,30 +7,18 @@ ghost use Rattle.op_answer.specs.Answering as spec;
 ghost use Rattle.op_core.specs.Providing.{past_of};
 
 use crate::state::OpCore;
-use auth_request::{PageNo, Verdict, Wish};
+use auth_request::{PageNo, Verdict, Wish, is_short_nonce};
 use discovery_doc::print_discovery;
 use op_exchange::{OpAsk, OpReply};
-use sso_base::{Entry, NoMemory, Text};
+use sso_base::{Entry, NoMemory};
 use std::alloc::Global;
 use token_endpoint::{Grant, GrantNo};
-
-// How many bytes a nonce may have.
-const MOST_NONCE: usize = 255;
-
-fn is_short(nonce: &Option<Text>) -> bool
-    ensures { result ≡ asks.is_short_nonce nonce.now }
-{
-    match nonce {
-        Some(nonce) => nonce.as_str().len() <= MOST_NONCE,
-        None => true,
-    }
-}
 
 impl OpCore {
     fn is_prepared_wish(&self, wish: &Wish) -> bool
         ensures { result ≡ asks.is_prepared_wish self.now.registry wish.now }
     {
-        wish.client < self.registry.clients() && is_short(&wish.nonce) && wish.scopes.openid
+        wish.client < self.registry.clients() && is_short_nonce(&wish.nonce) && wish.scopes.openid
     }
 
     fn is_prepared_verdict(&self, verdict: &Verdict) -> bool

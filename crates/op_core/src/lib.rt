@@ -8,6 +8,7 @@
 //! | `state` | [`OpCore`], a provider with its history and its tables |
 //! | `step` | one step |
 //! | `answering`, `replying`, `redeeming` | the reply, by the rows that live |
+//! | `authentications` | the login that tokens tell |
 //! | `questions`, `room` | what is asked of the tables, and whether they have room |
 //! | `outcome`, `making` | what a reply brings: rows, the session that it used, the client that it answered |
 //!
@@ -15,6 +16,7 @@
 #![tactic(auto)]
 
 mod answering;
+mod authentications;
 mod making;
 mod outcome;
 mod questions;
@@ -23,7 +25,5 @@ mod replying;
 mod room;
 mod state;
 mod step;
-#[cfg(test)]
-mod tests;
 
 pub use state::OpCore;

@@ -6,7 +6,7 @@ ghost use Rattle.sso_base.specs.Words.{word_of_text};
 ghost use Rattle.sso_base.specs.Legal.{last_moment};
 ghost use Rattle.code_grant.specs.declared.rows.TurnRow.{TurnRow};
 ghost use Rattle.op_exchange.specs.Asks.{is_prepared, is_prepared_wish};
-ghost use Rattle.op_exchange.specs.Clients.{is_user};
+ghost use Rattle.client_registry.specs.Numbers.{is_user};
 ghost use Rattle.op_core.specs.Providing.{past_of};
 ghost use Rattle.op_tables.specs.Agreeing.{is_own_turn, is_own_session, is_own_code};
 ghost use Rattle.op_core.specs.Making as spec;
@@ -120,7 +120,7 @@ impl OpCore {
     fn place(&self) -> u64
         ensures { result ≡ length (past_of self.now) }
     {
-        self.history.len() as u64
+        self.journal.count()
     }
 
     // Each registry has at most 128 clients and 512 users.

@@ -1,10 +1,11 @@
 // What the provider asks its tables: the rows that live at a moment, which are those of its past.
 
-ghost use Rattle.std.specs.Prelude.{◌≡◌, ◌<◌, ◌≤◌, true, IfSome, IfErr, option_map};
+ghost use Rattle.std.specs.Prelude.{◌≡◌, ◌<◌, ◌≤◌, true, IfSome};
 ghost use Rattle.std.specs.Option.{option_copied};
 ghost use Rattle.sso_base.specs.Legal.{last_moment};
-ghost use Rattle.code_grant.specs.Rows.{turn_name, session_name, code_name, access_name};
-ghost use Rattle.op_exchange.specs.Clients.{is_client, is_user};
+ghost use Rattle.held_rows.specs.Held.{most_rows, is_full};
+ghost use Rattle.code_grant.specs.Rows.{turn_name, code_name, access_name};
+ghost use Rattle.client_registry.specs.Numbers.{is_client, is_user};
 ghost use Rattle.op_core.specs.Providing.{past_of};
 ghost use Rattle.op_tables.specs.Agreeing.{is_own_turn, is_own_session, is_own_code};
 ghost use Rattle.op_answer.specs.Turns as turns;
@@ -12,13 +13,10 @@ ghost use Rattle.op_answer.specs.Sessions as sessions;
 ghost use Rattle.op_answer.specs.Codes as codes;
 ghost use Rattle.op_answer.specs.AccessTokens as tokens;
 ghost use Rattle.op_answer.specs.Consents.{grant_of};
-ghost use Rattle.op_answer.specs.Room.{is_full};
 
 use crate::state::OpCore;
-use code_grant::{
-    CODE_LIFE, CodeRow, SESSION_LIFE, SessionRow, TOKEN_LIFE, TURN_LIFE, Table, TokenRow, TurnRow,
-};
-use scope_claims::Scopes;
+use code_grant::{CodeRow, SessionRow, Table, TokenRow, TurnRow};
+use oidc_words::{ACCESS_LIFE, CODE_LIFE, SESSION_LIFE, Scopes, TURN_LIFE};
 use sso_base::{Moment, Word, is_live};
 
 impl OpCore {
@@ -87,7 +85,7 @@ impl OpCore {
         let Some(row) = self.grants.live(word) else {
             return None;
         };
-        if is_live(TOKEN_LIFE, row.issued, at) {
+        if is_live(ACCESS_LIFE, row.issued, at) {
             Some(row)
         } else {
             None
@@ -116,7 +114,7 @@ impl OpCore {
     /// Whether no further turn of this word has room.
     pub(crate) fn lacks_turn(&self, at: Moment, word: Word) -> bool
         requires { last_moment (past_of self.now) ≤ at }
-        ensures { result ≡ is_full turn_name word (turns.live_turns (past_of self.now) at) }
+        ensures { result ≡ is_full most_rows turn_name word (turns.live_turns (past_of self.now) at) }
     {
         !self.grants.room(Table::Turns, at) || self.live_turn(at, Some(word)).is_some()
     }
@@ -124,7 +122,7 @@ impl OpCore {
     /// Whether no further code of this word has room.
     pub(crate) fn lacks_code(&self, at: Moment, word: Word) -> bool
         requires { last_moment (past_of self.now) ≤ at }
-        ensures { result ≡ is_full code_name word (codes.held_codes (past_of self.now) at) }
+        ensures { result ≡ is_full most_rows code_name word (codes.held_codes (past_of self.now) at) }
     {
         !self.grants.room(Table::Codes, at) || self.held_code(at, Some(word)).is_some()
     }
@@ -132,7 +130,7 @@ impl OpCore {
     /// Whether no further access token of this word has room.
     pub(crate) fn lacks_access(&self, at: Moment, word: Word) -> bool
         requires { last_moment (past_of self.now) ≤ at }
-        ensures { result ≡ is_full access_name word (tokens.live_accesses (past_of self.now) at) }
+        ensures { result ≡ is_full most_rows access_name word (tokens.live_accesses (past_of self.now) at) }
     {
         !self.grants.room(Table::Tokens, at) || self.live_access_token(at, word).is_some()
     }

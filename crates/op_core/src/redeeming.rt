@@ -5,30 +5,18 @@ ghost use Rattle.sso_base.specs.Legal.{last_moment};
 ghost use Rattle.op_exchange.specs.Asks.{is_prepared};
 ghost use Rattle.op_exchange.specs.declared.ask.OpAsk.TheVariants as ask;
 ghost use Rattle.code_grant.specs.declared.redeem.Redeem.TheVariants as redeem;
-ghost use Rattle.code_grant.specs.Redeeming.{redeem_of};
 ghost use Rattle.op_tables.specs.Agreeing.{is_own_code};
-ghost use Rattle.op_core.specs.Redeemed.{is_redeemed};
 ghost use Rattle.op_core.specs.Providing.{past_of};
 ghost use Rattle.op_answer.specs.Replies as spec;
 
+use crate::authentications::authentication_of_code;
 use crate::state::OpCore;
-use code_grant::{CODE_USABLE, CodeRow};
+use code_grant::{CodeRow, Redeem, judge_code};
 use op_exchange::{OpAsk, OpReply};
-use op_issue::{authentication_of_code, id_token_for};
-use sso_base::{Entry, Moment, NoMemory, Word, is_live};
+use op_issue::id_token_for;
+use sso_base::{Entry, NoMemory, Word};
 use std::alloc::Global;
 use token_endpoint::{Grant, GrantNo, TokenError, token_error};
-
-// Whether the grant's client may redeem the code: it is the client's own, unspent and usable, and was sent to the grant's
-// redirection URI.
-fn is_redeemable(code: &CodeRow, grant: &Grant, at: Moment) -> bool
-    ensures { result ≡ is_redeemed (redeem_of grant.now.client grant.now.redirect at (Some code.now)) }
-{
-    code.wish.client == grant.client
-        && !code.spent
-        && is_live(CODE_USABLE, code.issued, at)
-        && code.wish.redirect.as_str() == grant.redirect.as_str()
-}
 
 impl OpCore {
     // The tokens for a code.
@@ -64,16 +52,13 @@ impl OpCore {
         requires { last_moment (past_of self.now) ≤ entry.now.at }
         ensures { IfOk result (λ r. r ≡ spec.tokens self.now.registry (past_of self.now) entry.now grant.now) }
     {
-        let refused = OpReply::TokenRefused {
-            code: TokenError::InvalidGrant,
-        };
-        let Some(code) = self.held_code(entry.at, Word::read(grant.code.as_str().as_bytes())) else {
-            return Ok(refused);
-        };
-        if is_redeemable(code, grant, entry.at) {
-            self.tokens_for(alloc, entry, code)
-        } else {
-            Ok(refused)
+        let code = self.held_code(entry.at, Word::read(grant.code.as_str().as_bytes()));
+        let redirect = grant.redirect.as_str().as_bytes();
+        match (judge_code(code, grant.client, redirect, entry.at), code) {
+            (Redeem::Redeemed, Some(code)) => self.tokens_for(alloc, entry, code),
+            _ => Ok(OpReply::TokenRefused {
+                code: TokenError::InvalidGrant,
+            }),
         }
     }
 

@@ -6,38 +6,29 @@ ghost use Rattle.sso_base.specs.Words.{is_word};
 ghost use Rattle.sso_base.specs.Legal.{last_moment};
 ghost use Rattle.op_exchange.specs.Asks.{is_prepared_wish, is_prepared_verdict};
 ghost use Rattle.op_exchange.specs.declared.reply.OpReply.TheVariants as reply;
-ghost use Rattle.op_exchange.specs.Clients.{is_user};
+ghost use Rattle.client_registry.specs.Numbers.{is_user};
 ghost use Rattle.op_tables.specs.Agreeing.{is_own_turn, is_own_session};
 ghost use Rattle.op_core.specs.Providing.{past_of};
 ghost use Rattle.op_answer.specs.Replies as spec;
 ghost use Rattle.request_need.specs.Need.{needed};
 
+use crate::authentications::authentication_of_session;
 use crate::state::OpCore;
-use auth_request::{AuthError, PageNo, Refusal, Verdict, Wish};
-use client_registry::Types;
+use auth_request::{PageNo, Verdict, Wish};
 use code_grant::{SessionRow, TurnRow};
+use oidc_words::{AuthError, Refusal, Types};
 use op_exchange::{OpAsk, OpReply};
-use op_issue::{authentication_of_session, is_in_fragment, issue};
+use op_issue::issue;
 use request_need::{Need, Standing, decide, needed_scopes};
 use sso_base::{Entry, NoMemory, Word, copied_text};
 use std::alloc::Global;
-
-// Whether a word was presented, and it is this one.
-fn is_presented(presented: Option<Word>, word: Word) -> bool
-    ensures { result ≡ is_word presented word }
-{
-    match presented {
-        Some(presented) => presented == word,
-        None => false,
-    }
-}
 
 // Whether the presented session is the turn's.
 fn is_turns(presented: Option<Word>, session: Option<Word>) -> bool
     ensures { result ≡ spec.is_turns presented session }
 {
     match session {
-        Some(word) => is_presented(presented, word),
+        Some(word) => word.is_presented(presented),
         None => false,
     }
 }
@@ -62,7 +53,7 @@ fn refused(
     Ok(OpReply::Refused {
         refusal: Refusal {
             redirect: wish.redirect.copy(alloc)?,
-            fragment: is_in_fragment(&wish.types),
+            fragment: wish.types.is_in_fragment(),
             state: copied_text(alloc, &wish.state)?,
             code,
         },
@@ -288,7 +279,7 @@ impl OpCore {
         let Some(turn) = turn else {
             return Ok(OpReply::ErrorPage { why: PageNo::Turn });
         };
-        if !is_presented(browser, turn.browser) {
+        if !turn.browser.is_presented(browser) {
             return Ok(OpReply::ErrorPage {
                 why: PageNo::Browser,
             });
@@ -378,7 +369,7 @@ impl OpCore {
         let Some(session) = self.live_session(entry.at, turn.session) else {
             return Ok(OpReply::ErrorPage { why: PageNo::Turn });
         };
-        if !is_presented(browser, turn.browser) || !is_turns(presented, turn.session) {
+        if !turn.browser.is_presented(browser) || !is_turns(presented, turn.session) {
             return Ok(OpReply::ErrorPage {
                 why: PageNo::Browser,
             });

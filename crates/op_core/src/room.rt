@@ -2,7 +2,7 @@
 
 ghost use Rattle.std.specs.Prelude.{◌≡◌, ◌≤◌, nat_lt, length, is_some};
 ghost use Rattle.sso_base.specs.Legal.{last_moment};
-ghost use Rattle.code_grant.specs.Held.{most_rows};
+ghost use Rattle.held_rows.specs.Held.{most_rows, is_full};
 ghost use Rattle.code_grant.specs.Rows.{session_name};
 ghost use Rattle.op_core.specs.Providing.{past_of};
 ghost use Rattle.op_answer.specs.Sessions.{live_sessions};
@@ -59,7 +59,7 @@ impl OpCore {
 
     fn lacks_session_word(&self, at: Moment, presented: Option<Word>, word: Word) -> bool
         requires { last_moment (past_of self.now) ≤ at }
-        ensures { result ≡ spec.is_full session_name word (spec.sessions_beside presented word (live_sessions (past_of self.now) at)) }
+        ensures { result ≡ is_full most_rows session_name word (spec.sessions_beside presented word (live_sessions (past_of self.now) at)) }
     {
         !self.has_session_room(at, presented, word) || self.live_session(at, Some(word)).is_some()
     }
@@ -107,18 +107,7 @@ impl OpCore {
         else {
             return false;
         };
-        match reply {
-            OpReply::ConsentPage { session: given, .. } => {
-                self.lacks_new_session(at, *user, *session, *given)
-            }
-            OpReply::Answered { session: given, .. } => {
-                self.lacks_new_session(at, *user, *session, *given)
-            }
-            OpReply::Refused { session: given, .. } => {
-                self.lacks_new_session(at, *user, *session, *given)
-            }
-            _ => false,
-        }
+        self.lacks_new_session(at, *user, *session, reply.session_given())
     }
 
     fn lacks_code_of(&self, at: Moment, code: Option<Word>) -> bool

@@ -1,6 +1,7 @@
 // The provider: its registry, its history, and the tables that answer for the history.
 
 ghost use Rattle.std.specs.Prelude.{◌≡◌, [], IfOk};
+ghost use Rattle.code_grant.specs.Tables.{no_tables};
 ghost use Rattle.sso_base.specs.Legal.{last_moment};
 ghost use Rattle.op_tables.specs.Agreeing.{Agrees};
 ghost use Rattle.op_core.specs.Providing.{past_of};
@@ -8,16 +9,16 @@ ghost use Rattle.op_core.specs.Providing.{past_of};
 use client_registry::Registry;
 use code_grant::Grants;
 use op_exchange::{OpAsk, OpReply};
-use sso_base::{NoMemory, Pair};
+use sso_base::{Journal, NoMemory};
 use std::alloc::Global;
 use std::marker::Model;
 
-/// The provider (OpenID Connect Core 1.0, 3), seen as its registry and its history, oldest first.
+/// The provider (OpenID Connect Core 1.0, 3), seen as its registry, its history, oldest first, and the
+/// rows of its tables.
 #[derive(Drop)]
 pub struct OpCore {
     pub(crate) registry: Registry,
-    pub(crate) history: Vec<Pair<OpAsk, OpReply>>,
-    pub(crate) weight: u64,
+    pub(crate) journal: Journal<OpAsk, OpReply>,
     pub(crate) grants: Grants,
 }
 
@@ -26,29 +27,29 @@ impl Model for OpCore {
 
     ghost Value = { Providing };
 
-    ghost view = { λ c. record { registry = c.registry; history = c.history.items } };
+    ghost view = { λ c. record { registry = c.registry; history = c.journal.pairs; tables = c.grants } };
 
     ghost use Rattle.op_core.specs.Keeps.{Keeps};
 
-    ghost invariant = { λ c. Keeps c.registry c.history.items c.weight c.grants };
+    ghost invariant = { λ c. Keeps c.registry c.journal.pairs c.grants };
 }
 
 impl OpCore {
     /// A provider that was asked nothing.
     pub fn new(alloc: Global, registry: Registry) -> Result<OpCore, NoMemory>
-        ensures { IfOk result (λ c. c ≡ record { registry = registry; history = [] }) }
+        ensures { IfOk result (λ c. c ≡ record { registry = registry; history = []; tables = no_tables }) }
     {
         Ok(OpCore {
             registry,
-            history: Vec::new(alloc),
-            weight: 0,
+            journal: Journal::new(alloc),
             grants: Grants::new(alloc)?,
         })
     }
 
     /// The tables: what lives in them at the moment of the last entry is exactly what lives after the history.
     pub fn tables(&self) -> &Grants
-        ensures { Agrees result.now (past_of self.now) (last_moment (past_of self.now)) }
+        ensures tables { result.now ≡ self.now.tables }
+        ensures agrees { Agrees result.now (past_of self.now) (last_moment (past_of self.now)) }
     {
         &self.grants
     }

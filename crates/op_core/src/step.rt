@@ -2,7 +2,7 @@
 
 ghost use Rattle.std.specs.Prelude.{◌≡◌, ◌<◌, ◌≤◌, ◌+◌, ◌++◌, [], ◌∷◌, true, IfSome, OnOk, OnErr};
 ghost use Rattle.sso_base.specs.Legal.{last_moment, IsEntry};
-ghost use Rattle.sso_base.specs.Journal.{entry_moment, entry_of, history_weight, most_weight};
+ghost use Rattle.sso_base.specs.Journal.{history_weight, most_weight};
 ghost use Rattle.op_exchange.specs.Values.{IsOpAsk};
 ghost use Rattle.op_exchange.specs.Weight as weights;
 ghost use Rattle.op_answer.specs.Answering.{op_answer};
@@ -12,37 +12,12 @@ ghost use Rattle.op_core.specs.Providing.{past_of};
 
 use crate::outcome::Outcome;
 use crate::state::OpCore;
-use op_exchange::{OpAsk, OpReply, ask_weight, is_entry};
+use op_exchange::{OpAsk, OpReply, know_op_entry};
 use op_tables::take_up;
-use sso_base::{Core, CoreNo, Entry, Moment, NoMemory, Pair, Word};
+use sso_base::{Core, CoreNo, Entry, Moment, NoMemory, Pair, Weighed, Word};
 use std::alloc::Global;
 
-// The weight that a history may have.
-const MOST_WEIGHT: u64 = 268_435_456;
-
-// The moment that the next entry holds: time never goes back.
-fn moment_after(history: &[Pair<OpAsk, OpReply>], at: Moment) -> Moment
-    ensures { result ≡ entry_moment history.now at }
-{
-    match history.last() {
-        Some(pair) if at.seconds() < pair.entry.at.seconds() => pair.entry.at,
-        _ => at,
-    }
-}
-
 impl OpCore {
-    // The entry of an ask at this moment or, where that is later, the last one's.
-    pub(crate) fn entry(&self, at: Moment, fresh: [Word; 4], ask: OpAsk) -> Entry<OpAsk>
-        ensures entry { result ≡ entry_of self.now.history at fresh ask }
-        ensures order { last_moment (past_of self.now) ≤ result.at }
-    {
-        Entry {
-            at: moment_after(&self.history, at),
-            fresh,
-            ask,
-        }
-    }
-
     // Takes up an entry with its reply and what it brings. All memory is taken before the first change.
     pub(crate) fn commit(
         &mut self,
@@ -65,24 +40,27 @@ impl OpCore {
         requires token { IfSome outcome.made.token (λ row. (row.user < 512) × (row.client < 128)) }
         requires weight { weight ≡ weights.ask_weight entry.ask }
         requires room { history_weight weights.ask_weight self.old.history + weight ≤ most_weight }
-        ensures ok { OnOk result (self.new ≡ record self.old { history = self.old.history ++ (record { entry = entry; reply = reply }) ∷ [] }) }
+        ensures history { OnOk result (self.new.history ≡ self.old.history ++ (record { entry = entry; reply = reply }) ∷ []) }
+        ensures registry { OnOk result (self.new.registry ≡ self.old.registry) }
         ensures err { OnErr result (self.new ≡ self.old) }
     {
-        self.history.reserve(1)?;
+        self.journal.reserve()?;
         self.grants.reserve()?;
         let pair = Pair { entry, reply };
         let Outcome { made, used, client } = outcome;
         take_up(&mut self.grants, &pair, made, used, client);
-        self.history.push_reserved(pair);
-        self.weight += weight;
+        self.journal.push(pair, weight);
         Ok(())
     }
 }
 
 impl Core for OpCore {
     ghost use Rattle.client_registry.specs.Configuration.{Configuration};
-    ghost use Rattle.op_core.specs.Providing.{IsLegalHistory};
-    ghost use Rattle.op_core.specs.Beginnings.{beginning_is_legal, weighs_most};
+    ghost use Rattle.op_exchange.specs.Values.{IsOpAsk};
+    ghost use Rattle.op_answer.specs.Answering.{op_answer};
+    ghost use Rattle.op_answer.specs.Legal.{IsLegalHistory};
+    ghost use Rattle.sso_base.proofs.Histories.{beginning_is_legal};
+    ghost use Rattle.op_exchange.proofs.LeastWeight.{least_weight};
 
     type Ask = OpAsk;
 
@@ -105,12 +83,9 @@ impl Core for OpCore {
         fresh: [Word; 4],
         ask: OpAsk,
     ) -> Result<OpReply, CoreNo> {
-        let weight = ask_weight(&ask);
-        if MOST_WEIGHT - self.weight < weight {
-            return Err(CoreNo::JournalFull(self.weight));
-        }
-        let entry = self.entry(at, fresh, ask);
-        is_entry(&entry);
+        let weight = self.journal.admit(&ask)?;
+        let entry = self.journal.entry(at, fresh, ask);
+        know_op_entry(&entry);
         let reply = self.answer(alloc, &entry)?;
         let outcome = self.outcome(alloc, &entry, &reply)?;
         let told = reply.copy(alloc)?;
@@ -119,14 +94,16 @@ impl Core for OpCore {
     }
 
     fn weight(ask: &OpAsk) -> Result<u64, NoMemory> {
-        Ok(ask_weight(ask))
+        ask.weight()
     }
 
     fn count(&self) -> u64 {
-        self.history.len() as u64
+        self.journal.count()
     }
 
-    ghost beginnings_are_legal = { beginning_is_legal };
+    ghost legal_is_light = { λ c h legal. legal.light };
 
-    ghost least_weight = { weighs_most };
+    ghost beginnings_are_legal = { λ c. beginning_is_legal IsOpAsk (op_answer c) weights.ask_weight };
+
+    ghost least_weight = { least_weight };
 }

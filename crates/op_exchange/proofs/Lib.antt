@@ -1,3 +1,3 @@
+pub mod LeastWeight
 pub mod Sample
-mod Told
-mod TextsSoFar
+mod Samples

@@ -1,18 +1,14 @@
 -- The asks that a request can give.
-use Rattle.std.specs.Prelude.{Bool, true, false, ◌&&◌, nat_le, length, Option, Some, None, Ok, Err}
-use Rattle.sso_base.specs.Words.{Text}
+use Rattle.std.specs.Prelude.{Bool, true, false, ◌&&◌, Some, Ok, Err}
 use Rattle.client_registry.specs.Configuration.{Configuration}
+use Rattle.client_registry.specs.Numbers.{is_client, is_user}
 use Rattle.auth_request.specs.declared.wish.Wish.{Wish}
 use Rattle.auth_request.specs.declared.wish.Verdict.{Verdict}
 use Rattle.auth_request.specs.declared.wish.Verdict.TheVariants as verdict
+use Rattle.auth_request.specs.Values.{is_short_nonce}
 use Rattle.token_endpoint.specs.declared.no.GrantNo.TheVariants as grant_no
 use Rattle.op_exchange.specs.declared.ask.OpAsk.{OpAsk}
 use Rattle.op_exchange.specs.declared.ask.OpAsk.TheVariants as ask
-use Rattle.op_exchange.specs.Clients.{is_client, is_user}
-
-abbrev pub is_short_nonce : Option Text → Bool
-is_short_nonce None = true
-is_short_nonce (Some nonce) = nat_le (length nonce) 255
 
 abbrev pub is_prepared_wish : Configuration → Wish → Bool
 is_prepared_wish c wish = is_client c wish.client && is_short_nonce wish.nonce && wish.scopes.openid

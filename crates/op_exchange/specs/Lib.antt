@@ -1,5 +1,5 @@
-pub mod Clients
 pub mod Asks
 pub mod Values
 pub mod Weight
 pub mod Replied
+pub mod Fields

@@ -1,6 +1,6 @@
 -- What an ask weighs: 1,024 and the bytes of its texts.
-use Rattle.std.specs.Prelude.{ℕ, ◌+◌, List, length, map, sum, Option, Some, None, Result, Ok, Err}
-use Rattle.sso_base.specs.Words.{Text}
+use Rattle.std.specs.Prelude.{ℕ, ◌+◌, length, Result, Ok, Err}
+use Rattle.sso_base.specs.Weights.{empty_weight, text_bytes, texts_bytes, texts_bytes_if}
 use Rattle.auth_request.specs.declared.wish.Wish.{Wish}
 use Rattle.auth_request.specs.declared.wish.Verdict.{Verdict}
 use Rattle.auth_request.specs.declared.wish.Verdict.TheVariants as verdict
@@ -9,17 +9,6 @@ use Rattle.token_endpoint.specs.declared.no.GrantNo.{GrantNo}
 use Rattle.token_endpoint.specs.declared.no.GrantNo.TheVariants.{Twice, Missing}
 use Rattle.op_exchange.specs.declared.ask.OpAsk.{OpAsk}
 use Rattle.op_exchange.specs.declared.ask.OpAsk.TheVariants.{Authorize, Token}
-
-abbrev pub text_bytes : Option Text → ℕ
-text_bytes None = 0
-text_bytes (Some t) = length t
-
-abbrev pub texts_bytes : List Text → ℕ
-texts_bytes texts = sum (map (λ (t : Text). length t) texts)
-
-abbrev pub texts_bytes_if : Option (List Text) → ℕ
-texts_bytes_if None = 0
-texts_bytes_if (Some texts) = texts_bytes texts
 
 abbrev pub wish_bytes : Wish → ℕ
 wish_bytes wish =
@@ -45,4 +34,4 @@ ask_bytes (Token grant) = grant_bytes grant
 ask_bytes other = 0
 
 abbrev pub ask_weight : OpAsk → ℕ
-ask_weight asked = 1024 + ask_bytes asked
+ask_weight asked = empty_weight + ask_bytes asked

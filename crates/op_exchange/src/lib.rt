@@ -2,15 +2,14 @@
 #![tactic(auto)]
 
 mod ask;
+mod fields;
 mod messages;
 mod reply;
-#[cfg(test)]
-mod tests;
 mod values;
 mod weight;
 
 pub use ask::OpAsk;
+pub use fields::{AGREE_FIELD, AGREE_VALUE, PASSWORD_FIELD, TURN_FIELD, USER_FIELD};
 pub use messages::Messages;
 pub use reply::OpReply;
-pub use values::is_entry;
-pub use weight::ask_weight;
+pub use values::know_op_entry;

@@ -1,11 +1,12 @@
 // What the provider replies.
 
 ghost use Rattle.std.specs.Prelude.{◌≡◌, IfOk};
+ghost use Rattle.op_exchange.specs.Replied as spec;
 
 use crate::messages::Messages;
 use auth_answer::Answer;
-use auth_request::{PageNo, Refusal};
-use scope_claims::Scopes;
+use auth_request::PageNo;
+use oidc_words::{Refusal, Scopes};
 use sso_base::{Blob, NoMemory, Text, Word};
 use std::alloc::Global;
 use token_endpoint::TokenError;
@@ -74,7 +75,70 @@ pub enum OpReply {
     Full,
 }
 
+fn consent_page_copied(
+    alloc: Global,
+    turn: Word,
+    browser: Word,
+    session: Option<Word>,
+    client: &Text,
+    scopes: Scopes,
+) -> Result<OpReply, NoMemory>
+    ensures { IfOk result (λ reply. reply ≡ OpReply.ConsentPage turn browser session client.now scopes) }
+{
+    Ok(OpReply::ConsentPage {
+        turn,
+        browser,
+        session,
+        client: client.copy(alloc)?,
+        scopes,
+    })
+}
+
+fn answer_copied(alloc: Global, answer: &Answer, session: Option<Word>) -> Result<OpReply, NoMemory>
+    ensures { IfOk result (λ reply. reply ≡ OpReply.Answered answer.now session) }
+{
+    let answer = answer.copy(alloc)?;
+    Ok(OpReply::Answered { answer, session })
+}
+
+fn refusal_copied(
+    alloc: Global,
+    refusal: &Refusal,
+    session: Option<Word>,
+) -> Result<OpReply, NoMemory>
+    ensures { IfOk result (λ reply. reply ≡ OpReply.Refused refusal.now session) }
+{
+    let refusal = refusal.copy(alloc)?;
+    Ok(OpReply::Refused { refusal, session })
+}
+
+fn tokens_copied(alloc: Global, access: Word, id: &Text) -> Result<OpReply, NoMemory>
+    ensures { IfOk result (λ reply. reply ≡ OpReply.Tokens access id.now) }
+{
+    let id = id.copy(alloc)?;
+    Ok(OpReply::Tokens { access, id })
+}
+
 impl OpReply {
+    /// Whether the reply ends the turn that it answers.
+    pub fn ends_turn(&self) -> bool
+        ensures { result ≡ spec.ends_turn self.now }
+    {
+        matches!(self, OpReply::Answered { .. } | OpReply::Refused { .. })
+    }
+
+    /// The session word that the reply sets.
+    pub fn session_given(&self) -> Option<Word>
+        ensures { result ≡ spec.session_given self.now }
+    {
+        match self {
+            OpReply::ConsentPage { session, .. }
+            | OpReply::Answered { session, .. }
+            | OpReply::Refused { session, .. } => *session,
+            _ => None,
+        }
+    }
+
     /// An equal reply.
     pub fn copy(&self, alloc: Global) -> Result<OpReply, NoMemory>
         ensures { IfOk result (λ reply. reply ≡ self.now) }
@@ -95,26 +159,11 @@ impl OpReply {
                 session,
                 client,
                 scopes,
-            } => OpReply::ConsentPage {
-                turn: *turn,
-                browser: *browser,
-                session: *session,
-                client: client.copy(alloc)?,
-                scopes: *scopes,
-            },
-            OpReply::Answered { answer, session } => OpReply::Answered {
-                answer: answer.copy(alloc)?,
-                session: *session,
-            },
-            OpReply::Refused { refusal, session } => OpReply::Refused {
-                refusal: refusal.copy(alloc)?,
-                session: *session,
-            },
+            } => consent_page_copied(alloc, *turn, *browser, *session, client, *scopes)?,
+            OpReply::Answered { answer, session } => answer_copied(alloc, answer, *session)?,
+            OpReply::Refused { refusal, session } => refusal_copied(alloc, refusal, *session)?,
             OpReply::ErrorPage { why } => OpReply::ErrorPage { why: *why },
-            OpReply::Tokens { access, id } => OpReply::Tokens {
-                access: *access,
-                id: id.copy(alloc)?,
-            },
+            OpReply::Tokens { access, id } => tokens_copied(alloc, *access, id)?,
             OpReply::TokenRefused { code } => OpReply::TokenRefused { code: *code },
             OpReply::Info { claims } => OpReply::Info {
                 claims: claims.copy(alloc)?,

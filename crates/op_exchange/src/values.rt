@@ -1,111 +1,85 @@
-// What the types of an ask say of its values, for the proofs: texts are UTF-8, and words have 32 bytes.
+// What the types of an ask say of its values, for the proofs: texts are UTF-8, words have 32 bytes, and numbers their size.
 
-ghost use Rattle.std.specs.Prelude.{◌≡◌, length};
-ghost use Rattle.std.specs.Str.{IsUtf8};
-ghost use Rattle.sso_base.specs.Words.{IsWord};
+ghost use Rattle.std.specs.Prelude.{◌<◌, ◌^◌, IfSome};
 ghost use Rattle.sso_base.specs.Legal.{IsEntry};
+ghost use Rattle.auth_request.specs.Values.{IsWishValue};
 ghost use Rattle.op_exchange.specs.Values as spec;
 
 use crate::ask::OpAsk;
 use auth_request::{Verdict, Wish};
-use sso_base::{Entry, Text, Texts, Word};
+use sso_base::{
+    Entry, know_entry, know_number_if, know_text_if, know_texts, know_texts_if, know_word,
+    know_word_if,
+};
 use token_endpoint::{Grant, GrantNo};
 use userinfo::Bearer;
 
-fn is_word(word: &Word)
-    ensures { IsWord word.now }
-{
-    let _bytes = word.bytes();
-}
-
-fn is_word_if(word: &Option<Word>)
-    ensures { spec.IfThere IsWord word.now }
-{
-    if let Some(word) = word {
-        is_word(word);
-    }
-}
-
-fn is_text_if(text: &Option<Text>)
-    ensures { spec.IfThere IsUtf8 text.now }
-{
-    if let Some(text) = text {
-        let _text = text.as_str();
-    }
-}
-
-fn is_wide(n: u64)
-    ensures { spec.IsWide n }
+// A number has 32 bits.
+fn know_place(n: u32)
+    ensures { n < 2 ^ 32 }
 {}
 
-fn is_wide_if(n: Option<u64>)
-    ensures { spec.IfThere spec.IsWide n }
+// So has one that may be there.
+fn know_place_if(n: Option<u32>)
+    ensures { IfSome n (λ m. m < 2 ^ 32) }
 {
     if let Some(n) = n {
-        is_wide(n);
+        know_place(n);
     }
 }
 
-fn are_texts(texts: &Texts)
-    ensures { spec.IsTexts texts.now }
+fn know_wish(wish: &Wish)
+    ensures { IsWishValue wish.now }
 {
-    for place in 0..texts.count() {
-        let _text = texts.at(place).as_str();
-    }
-}
-
-fn are_texts_if(texts: &Option<Texts>)
-    ensures { spec.IfThere spec.IsTexts texts.now }
-{
-    if let Some(texts) = texts {
-        are_texts(texts);
-    }
-}
-
-fn is_wish(wish: &Wish)
-    ensures { spec.IsWishValue wish.now }
-{
+    know_place(wish.client);
     let _redirect = wish.redirect.as_str();
-    is_text_if(&wish.state);
-    is_text_if(&wish.nonce);
-    is_wide_if(wish.max_age);
-    are_texts_if(&wish.subs);
-    are_texts(&wish.id_asked);
-    are_texts(&wish.info_asked);
+    know_text_if(&wish.state);
+    know_text_if(&wish.nonce);
+    know_number_if(wish.max_age);
+    know_texts_if(&wish.subs);
+    know_texts(&wish.id_asked);
+    know_texts(&wish.info_asked);
 }
 
-fn is_verdict(verdict: &Verdict)
+fn know_verdict(verdict: &Verdict)
     ensures { spec.IsVerdictValue verdict.now }
 {
     match verdict {
         Verdict::Page(_) => {}
         Verdict::Refuse(refusal) => {
             let _redirect = refusal.redirect.as_str();
-            is_text_if(&refusal.state);
+            know_text_if(&refusal.state);
         }
-        Verdict::Grant(wish) => is_wish(wish),
+        Verdict::Grant(wish) => know_wish(wish),
     }
 }
 
-fn is_grant(grant: &Result<Grant, GrantNo>)
-    ensures { spec.IfRead (λ g. IsUtf8 g.code × IsUtf8 g.redirect) grant.now }
+fn know_grant(grant: &Result<Grant, GrantNo>)
+    ensures { spec.IsGrantValue grant.now }
 {
-    if let Ok(grant) = grant {
-        let _code = grant.code.as_str();
-        let _redirect = grant.redirect.as_str();
+    match grant {
+        Ok(grant) => {
+            know_place(grant.client);
+            let _code = grant.code.as_str();
+            let _redirect = grant.redirect.as_str();
+        }
+        Err(GrantNo::Twice(name) | GrantNo::Missing(name)) => {
+            let _name = name.as_str();
+        }
+        Err(_) => {}
     }
 }
 
-fn is_bearer(bearer: &Bearer)
+fn know_bearer(bearer: &Bearer)
     ensures { spec.IsBearerValue bearer.now }
 {
     if let Bearer::Given(word) = bearer {
-        is_word(word);
+        know_word(word);
     }
 }
 
 // An ask holds values of their types.
-fn is_ask(ask: &OpAsk)
+fn know_ask(ask: &OpAsk)
     ensures { spec.IsOpAsk ask.now }
 {
     match ask {
@@ -114,19 +88,20 @@ fn is_ask(ask: &OpAsk)
             browser,
             session,
         } => {
-            is_verdict(verdict);
-            is_word_if(browser);
-            is_word_if(session);
+            know_verdict(verdict);
+            know_word_if(browser);
+            know_word_if(session);
         }
         OpAsk::Login {
             turn,
+            signed,
             browser,
             session,
-            ..
         } => {
-            is_word_if(turn);
-            is_word_if(browser);
-            is_word_if(session);
+            know_word_if(turn);
+            know_place_if(*signed);
+            know_word_if(browser);
+            know_word_if(session);
         }
         OpAsk::Consent {
             turn,
@@ -134,25 +109,21 @@ fn is_ask(ask: &OpAsk)
             session,
             ..
         } => {
-            is_word_if(turn);
-            is_word_if(browser);
-            is_word_if(session);
+            know_word_if(turn);
+            know_word_if(browser);
+            know_word_if(session);
         }
-        OpAsk::Token { grant } => is_grant(grant),
-        OpAsk::Info { bearer } => is_bearer(bearer),
-        OpAsk::SignOut { session } => is_word_if(session),
+        OpAsk::Token { grant } => know_grant(grant),
+        OpAsk::Info { bearer } => know_bearer(bearer),
+        OpAsk::SignOut { session } => know_word_if(session),
         OpAsk::Metadata | OpAsk::Keys | OpAsk::Twice | OpAsk::NotHere => {}
     }
 }
 
-fn are_four(words: &[Word; 4])
-    ensures { length words.now ≡ 4 }
-{}
-
-/// An entry has four words, and its ask holds values of their types.
-pub fn is_entry(entry: &Entry<OpAsk>)
+/// An entry has a moment and four words, and its ask holds values of their types. It says so for the proofs and does nothing.
+pub fn know_op_entry(entry: &Entry<OpAsk>)
     ensures { IsEntry spec.IsOpAsk entry.now }
 {
-    are_four(&entry.fresh);
-    is_ask(&entry.ask);
+    know_entry(entry);
+    know_ask(&entry.ask);
 }

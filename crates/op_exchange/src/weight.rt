@@ -1,51 +1,13 @@
 // What an ask weighs. Sums stop at the greatest number of 64 bits.
 
-ghost use Rattle.std.specs.Prelude.{◌≡◌, ◌+◌, List, length, sum, map};
-ghost use Rattle.sso_base.specs.Journal.{told_weight};
+ghost use Rattle.std.specs.Prelude.{◌≡◌};
+ghost use Rattle.sso_base.specs.Weights.{told_weight};
 ghost use Rattle.op_exchange.specs.Weight as spec;
 
 use crate::ask::OpAsk;
 use auth_request::{Verdict, Wish};
-use sso_base::{Text, Texts};
+use sso_base::{EMPTY_WEIGHT, NoMemory, Weighed, text_bytes, texts_bytes, texts_bytes_if};
 use token_endpoint::{Grant, GrantNo};
-
-// What any ask weighs at least.
-const LEAST: u64 = 1024;
-
-fn text_bytes(text: &Option<Text>) -> u64
-    ensures { result ≡ told_weight (spec.text_bytes text.now) }
-{
-    match text {
-        Some(text) => text.as_str().len() as u64,
-        None => 0,
-    }
-}
-
-// These bytes, and those of one more text.
-fn with_text(bytes: u64, text: &Text) -> u64
-    ensures { result ≡ told_weight (bytes + length text.now) }
-{
-    bytes.saturating_add(text.as_str().len() as u64)
-}
-
-fn texts_bytes(texts: &Texts) -> u64
-    ensures { result ≡ told_weight (spec.texts_bytes texts.now) }
-{
-    let mut bytes: u64 = 0;
-    for place in 0..texts.count() {
-        bytes = with_text(bytes, texts.at(place));
-    }
-    bytes
-}
-
-fn texts_bytes_if(texts: &Option<Texts>) -> u64
-    ensures { result ≡ told_weight (spec.texts_bytes_if texts.now) }
-{
-    match texts {
-        Some(texts) => texts_bytes(texts),
-        None => 0,
-    }
-}
 
 fn wish_bytes(wish: &Wish) -> u64
     ensures { result ≡ told_weight (spec.wish_bytes wish.now) }
@@ -91,14 +53,15 @@ fn grant_bytes(grant: &Result<Grant, GrantNo>) -> u64
     }
 }
 
-/// What an ask weighs, or the greatest number of 64 bits where that is less.
-pub fn ask_weight(ask: &OpAsk) -> u64
-    ensures { result ≡ told_weight (spec.ask_weight ask.now) }
-{
-    let bytes = match ask {
-        OpAsk::Authorize { verdict, .. } => verdict_bytes(verdict),
-        OpAsk::Token { grant } => grant_bytes(grant),
-        _ => 0,
-    };
-    bytes.saturating_add(LEAST)
+impl Weighed for OpAsk {
+    ghost weighs = { spec.ask_weight };
+
+    fn weight(&self) -> Result<u64, NoMemory> {
+        let bytes = match self {
+            OpAsk::Authorize { verdict, .. } => verdict_bytes(verdict),
+            OpAsk::Token { grant } => grant_bytes(grant),
+            _ => 0,
+        };
+        Ok(bytes.saturating_add(EMPTY_WEIGHT))
+    }
 }

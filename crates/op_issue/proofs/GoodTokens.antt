@@ -4,15 +4,15 @@ use Rattle.std.specs.Prelude.{IsTrue}
 use Rattle.std.specs.List.{list_all}
 use Rattle.std.specs.Str.{bytes_eq}
 use Rattle.std.proofs.lemmas.Slice.Eq.{bytes_eq-Decides}
-use Rattle.sso_base.specs.OnlyText.{is_only}
+use Rattle.sso_base.specs.Texts.{is_only}
 use Rattle.sso_base.specs.Words.{Word, Text}
 use Rattle.sso_base.proofs.Decided.{same}
 use Rattle.sso_base.proofs.Spelling.{both_true}
 use Rattle.client_registry.specs.Configuration.{Configuration}
+use Rattle.client_registry.specs.Numbers.{client_id}
 use Rattle.auth_request.specs.declared.wish.Wish.{Wish}
 use Rattle.id_token.specs.declared.rules.IdRules.{IdRules}
 use Rattle.id_token.specs.Judging.{Meets, IsInAge, IsGoodIdToken}
-use Rattle.op_exchange.specs.Clients.{client_id}
 use Rattle.op_issue.specs.declared.issuing.Authentication.{Authentication}
 use Rattle.op_issue.specs.ClientRules.{bound_to, client_rules}
 use Rattle.op_issue.specs.IdTokens.{hash_of, id_claims}

@@ -1,5 +1,4 @@
-pub mod PlainTexts
-pub mod Costs
+pub mod SpelledTexts
 pub mod RegistryRows
 pub mod Sealable
 pub mod GoodTokens

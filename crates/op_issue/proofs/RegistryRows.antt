@@ -11,12 +11,13 @@ use Rattle.configuration_rows.specs.declared.kind.Alphabet.TheVariants.{ClientId
 use Rattle.configuration_rows.specs.Kinds.{allows, is_within, is_name}
 use Rattle.client_registry.specs.declared.records.Client.{Client}
 use Rattle.client_registry.specs.Configuration.{Configuration, subject_at}
+use Rattle.client_registry.specs.Numbers.{id_in, client_id}
 use Rattle.client_registry.specs.Registered.{AreApart, IsClient, IsSubject, IsRegistry}
 use Rattle.sso_base.specs.Words.{Text}
 use Rattle.sso_base.proofs.Spelling.{both_true}
 use Rattle.id_token.specs.Claims.{is_subject}
-use Rattle.op_exchange.specs.Clients.{id_in, client_id}
-use Rattle.op_issue.proofs.PlainTexts.{is_plain, visible_are_plain, client_id_is_plain}
+use Rattle.claim_set.proofs.PlainTexts.{is_plain}
+use Rattle.configuration_rows.proofs.PlainTexts.{visible_are_plain, client_id_is_plain}
 
 -- a text of printable ASCII that is not long
 pub record IsPlainTo (most : ℕ) (t : Text) : Type 0 where

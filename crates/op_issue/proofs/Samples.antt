@@ -1,10 +1,10 @@
 -- What is issued to one user of a small registry, by computation. Sealing stays closed.
-use Rattle.std.proofs.Common.{◌≡◌, true, false, List, [], ◌∷◌, replicate, codes, Some, None, Ok, refl, ◌∙◌, arith}
+use Rattle.std.proofs.Common.{◌≡◌, ◌≤◌, ℕ, ◌+◌, ◌++◌, true, false, List, [], ◌∷◌, replicate, codes, Some, None, Ok, refl, ◌∙◌, arith}
 use Rattle.json.specs.Print.{escape_byte}
 use Rattle.json.proofs.Printed.Utf8.{IsUtf8-are_ascii}
 use Rattle.serde_json.specs.Data.{string, Members, no_members, member}
 use Rattle.url.proofs.OnLiterals.{url_on_literals}
-use Rattle.sso_base.specs.Words.{Text, IsWord, word_text}
+use Rattle.sso_base.specs.Words.{Word, Text, IsWord, word_text}
 use Rattle.sso_base.proofs.Spelling.{IsBytes-from_all_bytes}
 use Rattle.claim_set.specs.Fitting.{ClaimsFit}
 use Rattle.claim_set.specs.Reading.{claims_text}
@@ -12,12 +12,16 @@ use Rattle.claim_set.proofs.Fitting.{ClaimsFit-none, ClaimsFit-put}
 use Rattle.registered_url.specs.Rule.{parts_of}
 use Rattle.client_registry.specs.declared.records.User.{User}
 use Rattle.client_registry.specs.declared.records.Client.{Client}
-use Rattle.client_registry.specs.declared.records.Types.{Types}
+use Rattle.oidc_words.specs.declared.response_types.Types.{Types}
+use Rattle.oidc_words.specs.declared.scopes.Scopes.{Scopes}
 use Rattle.client_registry.specs.Configuration.{Configuration}
 use Rattle.client_registry.specs.Records.{provider_of, urls_of}
 use Rattle.client_registry.specs.Registered.{HoldsClaims, AllHoldClaims, IsUser, IsClient, IsRegistry}
+use Rattle.client_registry.specs.ClaimKinds.{AreKnown}
+use Rattle.client_registry.proofs.KnownClaims.{known_put, known_none}
 use Rattle.client_registry.proofs.SubjectFacts.{user_id_is_subject}
-use Rattle.scope_claims.specs.Claims.{no_scopes, is_claim_of, profile_claims, email_claims, address_claims, phone_claims}
+use Rattle.oidc_words.specs.Scopes.{no_scopes}
+use Rattle.oidc_words.specs.Claims.{is_claim_of, profile_claims, email_claims, address_claims, phone_claims, flag_claims, seconds_claims}
 use Rattle.userinfo.specs.Held.{user_claims, held_members}
 use Rattle.userinfo.proofs.UserTexts.{text_is}
 use Rattle.userinfo.proofs.Told.{claims_are_of}
@@ -29,18 +33,25 @@ use Rattle.id_token.specs.Reading.{id_read}
 use Rattle.id_token.specs.declared.rules.IdRules.{IdRules}
 use Rattle.id_token.specs.declared.rules.Half.TheVariants.{Free, Must}
 use Rattle.id_token.specs.Judging.{IsGoodIdToken}
-use Rattle.code_grant.specs.declared.rows.SessionRow.{SessionRow}
-use Rattle.code_grant.specs.declared.rows.CodeRow.{CodeRow}
-use Rattle.op_exchange.specs.Asks.{is_short_nonce}
+use Rattle.auth_request.specs.Values.{is_short_nonce}
 use Rattle.op_issue.specs.declared.issuing.Authentication.{Authentication}
-use Rattle.op_issue.specs.IdTokens.{session_authentication, code_authentication, hash_of, is_id_alone, id_scopes, id_claims, issued_id}
-use Rattle.op_issue.specs.Issuing.{IsMoment, MayIssue}
-use Rattle.op_issue.specs.Issued.{is_in_fragment, if_wished, issued_code, issued_access, issued}
+use Rattle.op_issue.specs.IdTokens.{hash_of, is_id_alone, id_scopes, id_claims, issued_id}
+use Rattle.op_issue.specs.Issuing.{MayIssue}
+use Rattle.oidc_words.specs.Types.{is_in_fragment}
+use Rattle.op_issue.specs.Issued.{if_wished, issued_code, issued_access, issued}
 use Rattle.op_issue.specs.ClientRules.{bound_to, client_rules}
-use Rattle.op_exchange.specs.Values.{IsWishValue}
-use Rattle.op_exchange.proofs.Sample.{word, words, profile_scopes}
+use Rattle.auth_request.specs.Values.{IsWishValue}
 use Rattle.op_issue.proofs.Sealable.{is_read_back}
 use Rattle.op_issue.proofs.GoodTokens.{is_good, ends}
+
+abbrev word : ℕ → Word
+word n = replicate 31 0 ++ n ∷ []
+
+abbrev words : ℕ → List Word
+words n = word n ∷ word (n + 1) ∷ word (n + 2) ∷ word (n + 3) ∷ []
+
+abbrev profile_scopes : Scopes
+profile_scopes = record { openid = true; profile = true; email = false; address = false; phone = false }
 
 -- ---- a registry with one user, who has a name, and one client
 
@@ -89,19 +100,23 @@ alice_is_written : alice.claims ≡ claims_text named
 unfolding escape_byte
 alice_is_written = refl
 
+named_is_known : AreKnown named
+unfolding is_claim_of profile_claims email_claims address_claims phone_claims flag_claims seconds_claims
+named_is_known = known_put (codes "name") (string (codes "Alice")) no_members refl known_none
+
 abbrev alice_text : HoldsClaims alice.claims
-alice_text = record { claims = named; fits = named_fit; text = alice_is_written }
+alice_text = record { claims = named; fits = named_fit; known = named_is_known; text = alice_is_written }
 
 alice_holds : AllHoldClaims (alice ∷ [])
 unfolding AllHoldClaims
 alice_holds = (alice_text, tt)
 
 alice_is_user : IsUser alice
-alice_is_user = record { id = refl; salt = refl; rounds = refl; proof = refl; claims = omega arith }
+alice_is_user = record { id = refl; salt = refl; salt_bytes = IsBytes-from_all_bytes (codes "salt") refl; rounds = refl; proof = refl; proof_bytes = IsBytes-from_all_bytes (replicate 32 0) refl; claims = omega arith }
 
 shop_is_client : IsClient shop
 unfolding url_on_literals parts_of
-shop_is_client = record { id = refl; secret = refl; long_secret = omega arith; redirects = refl; urls = refl; kept = refl; logout = refl; logout_kept = refl; one_host = refl }
+shop_is_client = record { id = refl; secret = refl; long_secret = omega arith; redirects = refl; types = refl; urls = refl; kept = refl; logout = refl; logout_kept = refl; one_host = refl }
 
 small_registry : IsRegistry small
 unfolding url_on_literals parts_of
@@ -123,8 +138,13 @@ small_registry =
       rows = refl;
       subjects = ((refl, (refl, tt)), tt);
       subject_rules = ((user_id_is_subject (codes "alice") refl, tt), tt);
+      salt = replicate 16 7;
+      salted = record { within = refl; bytes = IsBytes-from_all_bytes (replicate 16 7) refl; made = refl };
       issuer = refl;
+      issuer_url = record { query = refl; prefix = refl; secure = refl };
       short_issuer = omega arith;
+      provider = refl;
+      listen = refl;
       user_claims = alice_holds;
       user_rules = (alice_is_user, tt);
       client_rules = (shop_is_client, tt);
@@ -175,35 +195,13 @@ all_types = record { code = true; id_token = true; token = true }
 abbrev signed : Authentication
 signed = record { user = 0; sid = word 10; auth_time = 900 }
 
-abbrev session : SessionRow
-session = record { word = word 11; sid = word 10; user = 0; auth_time = 900; clients = replicate 128 false }
-
-login-of_a_session : session_authentication session ≡ signed
-login-of_a_session = refl
-
--- the moment of the login, and not that of the issue
-abbrev code_row : CodeRow
-code_row =
-    record {
-      word = word 3;
-      wish = wishing code_alone [];
-      user = 0;
-      sid = word 10;
-      auth_time = 900;
-      issued = 1000;
-      spent = false;
-      by = 0;
-    }
-
-login-of_a_code : code_authentication code_row ≡ signed
-login-of_a_code = refl
-
 word_10 : IsWord (word 10)
 word_10 = record { long = refl; bytes = IsBytes-from_all_bytes (word 10) refl }
 
 wish_is_value : (types : Types) → IsWishValue (wishing types [])
 wish_is_value types =
     record {
+      client = omega arith;
       redirect = IsUtf8-are_ascii (codes "https://a.b/cb") refl;
       state = IsUtf8-are_ascii (codes "state") refl;
       nonce = IsUtf8-are_ascii (codes "nonce") refl;
@@ -227,14 +225,8 @@ may_issue types =
       moment = omega arith;
     }
 
-last_moment : IsMoment 1099511000000
-last_moment = omega arith
-
-no_later_moment : IsMoment 1099511000001 → ⊥
-no_later_moment h = absurd (omega (arith, h))
-
 not_after_the_last_moment : (wish : Wish) → MayIssue small wish signed 1099511000001 → ⊥
-not_after_the_last_moment wish h = absurd (omega (arith, h.moment))
+not_after_the_last_moment wish h = let moment : 1099511000001 ≤ 1099511000000 = h.moment in absurd (omega (arith, moment))
 
 not_to_a_second_user : (wish : Wish) → MayIssue small wish (record signed { user = 1 }) 1000 → ⊥
 not_to_a_second_user wish h = absurd (omega (arith, h.user))

@@ -18,8 +18,9 @@ use Rattle.hmac256.proofs.Facts.{all_bytes-sha256}
 use Rattle.claim_set.specs.Building.{HasNone}
 use Rattle.claim_set.specs.Reading.{claims_text}
 use Rattle.client_registry.specs.Configuration.{Configuration, subject_at}
-use Rattle.scope_claims.specs.declared.scopes.Scopes.{Scopes}
-use Rattle.scope_claims.specs.Claims.{is_claim_of, profile_claims, email_claims, address_claims, phone_claims}
+use Rattle.client_registry.specs.Numbers.{client_id, client_secret}
+use Rattle.oidc_words.specs.declared.scopes.Scopes.{Scopes}
+use Rattle.oidc_words.specs.Claims.{is_claim_of, profile_claims, email_claims, address_claims, phone_claims}
 use Rattle.auth_request.specs.declared.wish.Wish.{Wish}
 use Rattle.userinfo.specs.Held.{held_members}
 use Rattle.userinfo.proofs.Told.{unknown_is_absent, held_fit, held_length}
@@ -31,13 +32,13 @@ use Rattle.id_token.specs.Sealing.{HasTexts, IsSealable}
 use Rattle.id_token.proofs.Fitting.{fits-id_members}
 use Rattle.id_token.proofs.Written.{id_read-id_text}
 use Rattle.op_issue.specs.declared.issuing.Authentication.{Authentication}
-use Rattle.op_exchange.specs.Asks.{is_short_nonce}
-use Rattle.op_exchange.specs.Clients.{client_id, client_secret}
+use Rattle.auth_request.specs.Values.{is_short_nonce}
 use Rattle.op_issue.specs.IdTokens.{hash_of, id_scopes, id_claims, issued_id}
-use Rattle.op_issue.specs.Issuing.{IsMoment, MayIssue}
-use Rattle.op_exchange.specs.Values.{IfThere, IsWishValue}
-use Rattle.op_issue.proofs.PlainTexts.{IsUtf8-plain, b64u_is_plain}
-use Rattle.op_issue.proofs.Costs.{cost, cost_all, length-put_all, plain_cost, any_cost, number_cost}
+use Rattle.op_issue.specs.Issuing.{MayIssue}
+use Rattle.auth_request.specs.Values.{IsWishValue}
+use Rattle.claim_set.proofs.PlainTexts.{IsUtf8-plain}
+use Rattle.op_issue.proofs.SpelledTexts.{b64u_is_plain}
+use Rattle.claim_set.proofs.Costs.{cost, cost_all, length-put_all, plain_cost, any_cost, number_cost}
 use Rattle.op_issue.proofs.RegistryRows.{IsPlainTo, issuer_is_plain, client_id_is_short, subject_is_one, subject_is_short}
 
 -- ---- half digests, and the texts of words
@@ -69,16 +70,12 @@ hash_text : (o : Option Word) → IfSome (hash_of o) IsUtf8
 hash_text None = tt
 hash_text (Some w) = IsUtf8-plain (half_hash_of (word_text w)) (hash_is_short (word_text w)).plain
 
-nonce_text : (o : Option Text) → IfThere IsUtf8 o → IfSome o IsUtf8
-nonce_text None h = tt
-nonce_text (Some t) h = h
-
 -- ---- moments
 
-before : (n : ℕ) → IsMoment n → n < 2 ^ 40
+before : (n : ℕ) → n ≤ 1099511000000 → n < 2 ^ 40
 before n h = omega (arith, h)
 
-pub before_end : (n : ℕ) → IsMoment n → n + 300 < 2 ^ 40
+pub before_end : (n : ℕ) → n ≤ 1099511000000 → n + 300 < 2 ^ 40
 before_end n h = omega (arith, h)
 
 -- ---- the user's claims have other names
@@ -202,7 +199,7 @@ module _ (c : Configuration) (wish : Wish) (who : Authentication) (at : ℕ) (ac
     iss = IsUtf8-plain c.provider.issuer (issuer_is_plain c m.registry).plain;
     aud = (IsUtf8-plain (client_id c wish.client) (client_id_is_short c wish.client m.registry).plain, tt);
     azp = tt;
-    nonce = nonce_text wish.nonce w.nonce;
+    nonce = w.nonce;
     sid = IsUtf8-word_text who.sid;
     at_hash = hash_text access;
     c_hash = hash_text code;

@@ -2,11 +2,11 @@
 use Rattle.std.specs.Prelude.{ℕ, Option, Some, None}
 use Rattle.sso_base.specs.Words.{Word, Text, word_text}
 use Rattle.client_registry.specs.Configuration.{Configuration}
+use Rattle.client_registry.specs.Numbers.{client_id}
 use Rattle.id_token.specs.declared.rules.Half.{Half}
 use Rattle.id_token.specs.declared.rules.Half.TheVariants.{Free, Must}
 use Rattle.id_token.specs.declared.rules.IdRules.{IdRules}
 use Rattle.id_token.specs.HalfHash.{half_hash_of}
-use Rattle.op_exchange.specs.Clients.{client_id}
 
 -- the half digest of the word is there, where the token came beside one
 abbrev pub bound_to : Option Word → Half

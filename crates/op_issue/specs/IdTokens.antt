@@ -1,25 +1,18 @@
 -- The ID Tokens of the provider (OpenID Connect Core 1.0, 2, 3.1.3.6, 3.2.2.10, 3.3.2.11 and 5.4).
 use Rattle.std.specs.Prelude.{ℕ, ◌+◌, Bool, not, ◌&&◌, [], ◌∷◌, Option, Some, None, option_map, if◌then◌else◌}
 use Rattle.sso_base.specs.Words.{Word, Text, word_text}
-use Rattle.client_registry.specs.declared.records.Types.{Types}
+use Rattle.oidc_words.specs.declared.response_types.Types.{Types}
 use Rattle.client_registry.specs.Configuration.{Configuration, subject_at}
-use Rattle.scope_claims.specs.declared.scopes.Scopes.{Scopes}
-use Rattle.scope_claims.specs.Claims.{no_scopes}
+use Rattle.client_registry.specs.Numbers.{client_id, client_secret}
+use Rattle.oidc_words.specs.declared.scopes.Scopes.{Scopes}
+use Rattle.oidc_words.specs.Scopes.{no_scopes}
+use Rattle.oidc_words.specs.Lives.{id_token_life}
 use Rattle.auth_request.specs.declared.wish.Wish.{Wish}
 use Rattle.userinfo.specs.Held.{held_members}
 use Rattle.id_token.specs.declared.claims.IdClaims.{IdClaims}
 use Rattle.id_token.specs.HalfHash.{half_hash_of}
 use Rattle.id_token.specs.Sealing.{id_text}
-use Rattle.code_grant.specs.declared.rows.SessionRow.{SessionRow}
-use Rattle.code_grant.specs.declared.rows.CodeRow.{CodeRow}
 use Rattle.op_issue.specs.declared.issuing.Authentication.{Authentication}
-use Rattle.op_exchange.specs.Clients.{client_id, client_secret}
-
-abbrev pub session_authentication : SessionRow → Authentication
-session_authentication session = record { user = session.user; sid = session.sid; auth_time = session.auth_time }
-
-abbrev pub code_authentication : CodeRow → Authentication
-code_authentication code = record { user = code.user; sid = code.sid; auth_time = code.auth_time }
 
 abbrev pub hash_of : Option Word → Option Text
 hash_of word = option_map (λ w. half_hash_of (word_text w)) word
@@ -39,7 +32,7 @@ id_claims c wish who at access code =
       sub = subject_at c wish.client who.user;
       aud = client_id c wish.client ∷ [];
       azp = None;
-      exp = at + 300;
+      exp = at + id_token_life;
       iat = at;
       auth_time = Some who.auth_time;
       nonce = wish.nonce;

@@ -1,16 +1,12 @@
 -- The successful authorization response to a wish (OpenID Connect Core 1.0, 3.1.2.5, 3.2.2.5 and 3.3.2.5).
-use Rattle.std.specs.Prelude.{ℕ, Bool, ◌||◌, List, Option, Some, None, if◌then◌else◌}
+use Rattle.std.specs.Prelude.{ℕ, Bool, List, Option, Some, None, if◌then◌else◌}
 use Rattle.sso_base.specs.Words.{Word, fresh_word}
-use Rattle.client_registry.specs.declared.records.Types.{Types}
+use Rattle.oidc_words.specs.Types.{is_in_fragment}
 use Rattle.client_registry.specs.Configuration.{Configuration}
 use Rattle.auth_request.specs.declared.wish.Wish.{Wish}
 use Rattle.auth_answer.specs.declared.answer.Answer.{Answer}
 use Rattle.op_issue.specs.declared.issuing.Authentication.{Authentication}
 use Rattle.op_issue.specs.IdTokens.{issued_id}
-
--- every response type but `code` answers in the fragment (OAuth 2.0 Multiple Response Type Encoding Practices, 3 and 5)
-abbrev pub is_in_fragment : Types → Bool
-is_in_fragment types = types.id_token || types.token
 
 abbrev pub if_wished : {X : Type 0} → Bool → X → Option X
 if_wished flag x = if flag then Some x else None

@@ -1,15 +1,12 @@
 -- For whom tokens are issued.
 use Rattle.std.specs.Prelude.{◌≡◌, ◌≤◌, ◌<◌, ℕ, true, length}
 use Rattle.sso_base.specs.Words.{IsWord}
+use Rattle.sso_base.specs.Values.{latest_moment}
 use Rattle.client_registry.specs.Configuration.{Configuration}
 use Rattle.client_registry.specs.Registered.{IsRegistry}
 use Rattle.auth_request.specs.declared.wish.Wish.{Wish}
 use Rattle.op_issue.specs.declared.issuing.Authentication.{Authentication}
-use Rattle.op_exchange.specs.Asks.{is_short_nonce}
-
--- a number of seconds that a moment may be
-abbrev pub IsMoment : ℕ → Type 0
-IsMoment n = n ≤ 1099511000000
+use Rattle.auth_request.specs.Values.{is_short_nonce}
 
 -- at this moment a token may be issued for the wish of a client of the registry, to a user of it who logged in
 pub record MayIssue (c : Configuration) (wish : Wish) (who : Authentication) (at : ℕ) : Type 0 where
@@ -18,5 +15,5 @@ pub record MayIssue (c : Configuration) (wish : Wish) (who : Authentication) (at
   pub user : who.user < length c.users
   pub nonce : is_short_nonce wish.nonce ≡ true
   pub sid : IsWord who.sid
-  pub auth_time : IsMoment who.auth_time
-  pub moment : IsMoment at
+  pub auth_time : who.auth_time ≤ latest_moment
+  pub moment : at ≤ latest_moment

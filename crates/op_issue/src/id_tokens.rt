@@ -1,9 +1,8 @@
 // ID Tokens (OpenID Connect Core 1.0, 2 and 3.1.3.6).
 
 ghost use Rattle.std.specs.Prelude.{◌≡◌, ◌<◌, true, [], ◌∷◌, length, IfOk};
-ghost use Rattle.sso_base.specs.Words.{IsWord};
-ghost use Rattle.op_exchange.specs.Asks.{is_short_nonce};
-ghost use Rattle.op_exchange.specs.Clients.{client_id};
+ghost use Rattle.auth_request.specs.Values.{is_short_nonce};
+ghost use Rattle.client_registry.specs.Numbers.{client_id};
 ghost use Rattle.op_issue.specs.IdTokens.{hash_of, id_scopes, id_claims, issued_id};
 ghost use Rattle.op_issue.specs.Issuing.{MayIssue};
 
@@ -11,8 +10,8 @@ use crate::issuing::Authentication;
 use auth_request::Wish;
 use client_registry::Registry;
 use id_token::{IdClaims, half_hash, seal_id};
-use scope_claims::Scopes;
-use sso_base::{Moment, NoMemory, Text, Texts, Word, copied_text};
+use oidc_words::{ID_TOKEN_LIFE, Scopes};
+use sso_base::{Moment, NoMemory, Text, Texts, Word, copied_text, know_word};
 use std::alloc::Global;
 use userinfo::held_claims;
 
@@ -71,7 +70,7 @@ fn claims_for(
         sub: registry.subject(wish.client, who.user).copy(alloc)?,
         aud: audience_of(alloc, registry, wish.client)?,
         azp: None,
-        exp: at.seconds() + 300,
+        exp: at.seconds() + ID_TOKEN_LIFE,
         iat: at.seconds(),
         auth_time: Some(who.auth_time.seconds()),
         nonce: copied_text(alloc, &wish.nonce)?,
@@ -88,13 +87,6 @@ fn claims_for(
     })
 }
 
-// The bytes of a word. That there are 32, each below 256, is said for the proof of `bounds_of`.
-fn bytes_of(word: &Word) -> [u8; 32]
-    ensures { IsWord word.now }
-{
-    word.bytes()
-}
-
 // What the size of the claims rests on, said for the proof of `id_token_for`: each registry keeps its rules, and moments and
 // words have bounds.
 fn bounds_of(registry: &Registry, wish: &Wish, who: &Authentication, at: Moment)
@@ -104,7 +96,7 @@ fn bounds_of(registry: &Registry, wish: &Wish, who: &Authentication, at: Moment)
     ensures { MayIssue registry.now wish.now who.now at }
 {
     let _clients = registry.clients();
-    let _sid = bytes_of(&who.sid);
+    know_word(&who.sid);
     let _auth_time = who.auth_time.seconds();
     let _at = at.seconds();
 }

@@ -2,15 +2,14 @@
 // 3.2.2.5 and 3.3.2.5).
 
 ghost use Rattle.std.specs.Prelude.{◌≡◌, ◌<◌, true, length, IfOk};
-ghost use Rattle.op_exchange.specs.Asks.{is_short_nonce};
-ghost use Rattle.op_issue.specs.IdTokens.{session_authentication, code_authentication, issued_id};
+ghost use Rattle.auth_request.specs.Values.{is_short_nonce};
+ghost use Rattle.op_issue.specs.IdTokens.{issued_id};
 ghost use Rattle.op_issue.specs.Issued as spec;
 
 use crate::id_tokens::id_token_for;
 use auth_answer::Answer;
 use auth_request::Wish;
-use client_registry::{Registry, Types};
-use code_grant::{CodeRow, SessionRow};
+use client_registry::Registry;
 use sso_base::{Moment, NoMemory, Text, Word, copied_text};
 use std::alloc::Global;
 
@@ -23,37 +22,6 @@ pub struct Authentication {
     pub sid: Word,
     /// When the user last logged in.
     pub auth_time: Moment,
-}
-
-/// The login that a session is about.
-pub fn authentication_of_session(session: &SessionRow) -> Authentication
-    ensures { result ≡ session_authentication session.now }
-{
-    Authentication {
-        user: session.user,
-        sid: session.sid,
-        auth_time: session.auth_time,
-    }
-}
-
-/// The login that a code was issued for.
-pub fn authentication_of_code(code: &CodeRow) -> Authentication
-    ensures { result ≡ code_authentication code.now }
-{
-    Authentication {
-        user: code.user,
-        sid: code.sid,
-        auth_time: code.auth_time,
-    }
-}
-
-/// Whether the response to a response type stands in the fragment of the redirection URI, and not in its query (OAuth 2.0
-/// Multiple Response Type Encoding Practices, 3 and 5): that of every type but `code`. What has no type is answered in the
-/// query.
-pub fn is_in_fragment(types: &Types) -> bool
-    ensures { result ≡ spec.is_in_fragment types.now }
-{
-    types.id_token || types.token
 }
 
 // The word, where it is wished for.
@@ -87,7 +55,7 @@ fn id_if_wished(
 
 /// The successful authorization response to a wish, for the user who logged in (OpenID Connect Core 1.0, 3.1.2.5, 3.2.2.5 and
 /// 3.3.2.5): a code, which is the third of the four fresh words, an access token, which is the fourth, and an ID Token about
-/// both, each where the response type has it. [`is_in_fragment`] tells where it stands.
+/// both, each where the response type has it. [`oidc_words::Types::is_in_fragment`] tells where it stands.
 ///
 /// The client and the user are of the registry, and the nonce has at most 255 bytes.
 pub fn issue(
@@ -108,7 +76,7 @@ pub fn issue(
     let id = id_if_wished(alloc, registry, wish, who, at, &access, &code)?;
     Ok(Answer {
         redirect: wish.redirect.copy(alloc)?,
-        fragment: is_in_fragment(&wish.types),
+        fragment: wish.types.is_in_fragment(),
         code,
         access,
         id,

@@ -3,13 +3,13 @@
 ghost use Rattle.std.specs.Prelude.{◌≡◌, ◌≤◌, ◌<◌, ◌+◌, ℕ, Option, Some, Ok};
 ghost use Rattle.sso_base.specs.Words.{Word, Text};
 ghost use Rattle.client_registry.specs.Configuration.{Configuration};
+ghost use Rattle.client_registry.specs.Numbers.{client_id, client_secret};
 ghost use Rattle.auth_request.specs.declared.wish.Wish.{Wish};
 ghost use Rattle.id_token.specs.declared.rules.IdRules.{IdRules};
 ghost use Rattle.id_token.specs.Judging.{IsInAge, IsGoodIdToken};
 ghost use Rattle.id_token.specs.Reading.{id_read};
 ghost use Rattle.id_token.specs.Sealing.{HasTexts, IsSealable};
-ghost use Rattle.op_exchange.specs.Clients.{client_id, client_secret};
-ghost use Rattle.op_exchange.specs.Values.{IsWishValue};
+ghost use Rattle.auth_request.specs.Values.{IsWishValue};
 ghost use Rattle.op_issue.specs.declared.issuing.Authentication.{Authentication};
 ghost use Rattle.op_issue.specs.ClientRules.{client_rules};
 ghost use Rattle.op_issue.specs.IdTokens.{id_claims, issued_id};

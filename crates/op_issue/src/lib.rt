@@ -2,7 +2,7 @@
 //!
 //! | Module | What it has |
 //! |---|---|
-//! | `issuing` | [`Authentication`], a user's login; [`issue`] makes the response, and [`is_in_fragment`] places it |
+//! | `issuing` | [`Authentication`], a user's login; [`issue`] makes the response |
 //! | `id_tokens` | [`id_token_for`] makes the sealed ID Token |
 //! | `law` | what holds of what is issued, for the crates above |
 #![tactic(auto)]
@@ -10,11 +10,7 @@
 mod id_tokens;
 mod issuing;
 mod law;
-#[cfg(test)]
-mod tests;
 
 pub use id_tokens::id_token_for;
-pub use issuing::{
-    Authentication, authentication_of_code, authentication_of_session, is_in_fragment, issue,
-};
+pub use issuing::{Authentication, issue};
 pub use law::{issued_tokens_are_good, issued_tokens_are_read};

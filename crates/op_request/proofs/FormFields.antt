@@ -5,7 +5,7 @@ use Rattle.std.specs.List.{list_any}
 use Rattle.std.specs.Str.{bytes_eq}
 use Rattle.sso_base.specs.Words.{Text}
 use Rattle.sso_base.proofs.Decided.{above_false}
-use Rattle.configuration_rows.specs.Kinds.{has_text}
+use Rattle.sso_base.specs.Texts.{has_text}
 use Rattle.request_params.specs.Form.{Pair}
 use Rattle.request_params.specs.Reading.{value_of, Has}
 use Rattle.request_params.proofs.NameLaws.{same_text, text_same}

@@ -1,5 +1,5 @@
 -- Each prepared ask, by what was read for it.
-use Rattle.std.proofs.Common.{◌≡◌, ◌⊎◌, inl, inr, ℕ, List, Bool, true, false, cond, codes, Option, Some, None, Result, Ok, Err, refl, sym, ◌∙◌, subst}
+use Rattle.std.proofs.Common.{◌≡◌, ◌⊎◌, inl, inr, ℕ, List, Bool, true, false, cond, Option, Some, None, Result, Ok, Err, refl, sym, ◌∙◌, subst}
 use Rattle.std.specs.Str.{bytes_eq}
 use Rattle.sso_base.specs.Words.{Word, Text, word_of_text}
 use Rattle.sso_base.specs.declared.http.Ask.{Ask}
@@ -11,6 +11,7 @@ use Rattle.auth_request.specs.declared.wish.Verdict.{Verdict}
 use Rattle.token_endpoint.specs.Request.{grant_read}
 use Rattle.op_exchange.specs.declared.ask.OpAsk.{OpAsk}
 use Rattle.op_exchange.specs.declared.ask.OpAsk.TheVariants as ask
+use Rattle.op_exchange.specs.Fields.{turn_field, user_field, password_field, agree_field, agree_value}
 use Rattle.op_request.specs.declared.routes.Endpoint.{Endpoint}
 use Rattle.op_request.specs.declared.routes.Endpoint.TheVariants as endpoint
 use Rattle.op_request.specs.Routes.{endpoint_asked}
@@ -31,14 +32,14 @@ module _ (c : Configuration) (request : Ask) where
   pub record LedToLogin (turn : Option Word) (signed : Option ℕ) : Type 0 where
     pub asked : endpoint_asked c.prefix request ≡ Some endpoint.Login
     pub once : repeats_one login_names (fields_of request.body) ≡ false
-    pub turn_is : turn ≡ word_of_text (field (codes "turn") (fields_of request.body))
-    pub signed_is : signed ≡ signed_user c (field (codes "user") (fields_of request.body)) (field (codes "password") (fields_of request.body))
+    pub turn_is : turn ≡ word_of_text (field turn_field (fields_of request.body))
+    pub signed_is : signed ≡ signed_user c (field user_field (fields_of request.body)) (field password_field (fields_of request.body))
 
   pub record LedToConsent (turn : Option Word) (agree : Bool) : Type 0 where
     pub asked : endpoint_asked c.prefix request ≡ Some endpoint.Consent
     pub once : repeats_one consent_names (fields_of request.body) ≡ false
-    pub turn_is : turn ≡ word_of_text (field (codes "turn") (fields_of request.body))
-    pub agree_is : agree ≡ bytes_eq (field (codes "agree") (fields_of request.body)) (codes "yes")
+    pub turn_is : turn ≡ word_of_text (field turn_field (fields_of request.body))
+    pub agree_is : agree ≡ bytes_eq (field agree_field (fields_of request.body)) agree_value
 
   pub record Refused (e : Endpoint) (names : List Text) : Type 0 where
     pub asked : endpoint_asked c.prefix request ≡ Some e
@@ -67,12 +68,12 @@ module _ (c : Configuration) (request : Ask) where
   authorization_led (Err why) is at = inl (record { asked = at; why = why; refused = is })
 
   login_led : (b : Bool) → repeats_one login_names (fields_of request.body) ≡ b → endpoint_asked c.prefix request ≡ Some endpoint.Login
-      → Led (cond b ask.Twice (ask.Login (word_of_text (field (codes "turn") (fields_of request.body))) (signed_user c (field (codes "user") (fields_of request.body)) (field (codes "password") (fields_of request.body))) request.first request.second))
+      → Led (cond b ask.Twice (ask.Login (word_of_text (field turn_field (fields_of request.body))) (signed_user c (field user_field (fields_of request.body)) (field password_field (fields_of request.body))) request.first request.second))
   login_led true is at = inr (inl (record { asked = at; twice = is }))
   login_led false is at = record { asked = at; once = is; turn_is = refl; signed_is = refl }
 
   consent_led : (b : Bool) → repeats_one consent_names (fields_of request.body) ≡ b → endpoint_asked c.prefix request ≡ Some endpoint.Consent
-      → Led (cond b ask.Twice (ask.Consent (word_of_text (field (codes "turn") (fields_of request.body))) (bytes_eq (field (codes "agree") (fields_of request.body)) (codes "yes")) request.first request.second))
+      → Led (cond b ask.Twice (ask.Consent (word_of_text (field turn_field (fields_of request.body))) (bytes_eq (field agree_field (fields_of request.body)) agree_value) request.first request.second))
   consent_led true is at = inr (inr (record { asked = at; twice = is }))
   consent_led false is at = record { asked = at; once = is; turn_is = refl; agree_is = refl }
 
@@ -113,9 +114,9 @@ module _ (c : Configuration) (request : Ask) where
   cookies_at (Some endpoint.Keys) = tt
   cookies_at (Some endpoint.Authorization) = authorization_cookies parameters
   cookies_at (Some endpoint.Login) =
-      form_cookies (repeats_one login_names (fields_of request.body)) (ask.Login (word_of_text (field (codes "turn") (fields_of request.body))) (signed_user c (field (codes "user") (fields_of request.body)) (field (codes "password") (fields_of request.body))) request.first request.second) (refl, refl)
+      form_cookies (repeats_one login_names (fields_of request.body)) (ask.Login (word_of_text (field turn_field (fields_of request.body))) (signed_user c (field user_field (fields_of request.body)) (field password_field (fields_of request.body))) request.first request.second) (refl, refl)
   cookies_at (Some endpoint.Consent) =
-      form_cookies (repeats_one consent_names (fields_of request.body)) (ask.Consent (word_of_text (field (codes "turn") (fields_of request.body))) (bytes_eq (field (codes "agree") (fields_of request.body)) (codes "yes")) request.first request.second) (refl, refl)
+      form_cookies (repeats_one consent_names (fields_of request.body)) (ask.Consent (word_of_text (field turn_field (fields_of request.body))) (bytes_eq (field agree_field (fields_of request.body)) agree_value) request.first request.second) (refl, refl)
   cookies_at (Some endpoint.Token) = tt
   cookies_at (Some endpoint.UserInfo) = tt
   cookies_at (Some endpoint.SignOut) = refl
@@ -140,9 +141,9 @@ module _ (c : Configuration) (request : Ask) where
   own_at (Some endpoint.Keys) e h = h
   own_at (Some endpoint.Authorization) e h = authorization_own parameters e h
   own_at (Some endpoint.Login) e h =
-      form_own (repeats_one login_names (fields_of request.body)) (ask.Login (word_of_text (field (codes "turn") (fields_of request.body))) (signed_user c (field (codes "user") (fields_of request.body)) (field (codes "password") (fields_of request.body))) request.first request.second) endpoint.Login e refl h
+      form_own (repeats_one login_names (fields_of request.body)) (ask.Login (word_of_text (field turn_field (fields_of request.body))) (signed_user c (field user_field (fields_of request.body)) (field password_field (fields_of request.body))) request.first request.second) endpoint.Login e refl h
   own_at (Some endpoint.Consent) e h =
-      form_own (repeats_one consent_names (fields_of request.body)) (ask.Consent (word_of_text (field (codes "turn") (fields_of request.body))) (bytes_eq (field (codes "agree") (fields_of request.body)) (codes "yes")) request.first request.second) endpoint.Consent e refl h
+      form_own (repeats_one consent_names (fields_of request.body)) (ask.Consent (word_of_text (field turn_field (fields_of request.body))) (bytes_eq (field agree_field (fields_of request.body)) agree_value) request.first request.second) endpoint.Consent e refl h
   own_at (Some endpoint.Token) e h = h
   own_at (Some endpoint.UserInfo) e h = h
   own_at (Some endpoint.SignOut) e h = h

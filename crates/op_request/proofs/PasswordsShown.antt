@@ -13,6 +13,7 @@ use Rattle.request_params.specs.Form.{Pair}
 use Rattle.request_params.specs.Reading.{Has}
 use Rattle.request_params.proofs.NameLaws.{same_text, text_same}
 use Rattle.op_exchange.specs.declared.ask.OpAsk.TheVariants.{Login, Consent, Twice}
+use Rattle.op_exchange.specs.Fields.{turn_field, user_field, password_field, agree_field, agree_value}
 use Rattle.op_request.specs.declared.routes.Endpoint.TheVariants as endpoint
 use Rattle.op_request.specs.PostedForms.{login_names, consent_names, fields_of, repeats_one, stands_twice, field}
 use Rattle.op_request.specs.Prepared.{is_password_of, if_password, signed_user, prepared}
@@ -88,71 +89,71 @@ module _ (c : Configuration) (request : Ask) where
   pub signed_shows : (turn : Option Word) (n : ℕ) (browser session : Option Word) → prepared c request ≡ Login turn (Some n) browser session → ShowsPassword c fields n
   signed_shows turn n browser session h =
       let l = led_to c request (Login turn (Some n) browser session) h in
-      let p = signed_proved c (field (codes "user") fields) (field (codes "password") fields) n (sym l.signed_is) in
+      let p = signed_proved c (field user_field fields) (field password_field fields) n (sym l.signed_is) in
       record {
         user = p.user;
         there = p.there;
-        id = field_is (codes "user") p.user.id fields p.id_is;
-        password = field (codes "password") fields;
-        shown = field_is (codes "password") (field (codes "password") fields) fields refl;
+        id = field_is user_field p.user.id fields p.id_is;
+        password = field password_field fields;
+        shown = field_is password_field (field password_field fields) fields refl;
         proved = p.proved;
       }
 
-  login_is : IsTo c request endpoint.Login → repeats_one login_names fields ≡ false → (o : Option ℕ) → signed_user c (field (codes "user") fields) (field (codes "password") fields) ≡ o
-      → prepared c request ≡ Login (word_of_text (field (codes "turn") fields)) o request.first request.second
+  login_is : IsTo c request endpoint.Login → repeats_one login_names fields ≡ false → (o : Option ℕ) → signed_user c (field user_field fields) (field password_field fields) ≡ o
+      → prepared c request ≡ Login (word_of_text (field turn_field fields)) o request.first request.second
   login_is to once o signed =
       prepared_at c request endpoint.Login to
-      ∙ ap (λ b. cond b Twice (Login (word_of_text (field (codes "turn") fields)) (signed_user c (field (codes "user") fields) (field (codes "password") fields)) request.first request.second)) once
-      ∙ ap (λ s. Login (word_of_text (field (codes "turn") fields)) s request.first request.second) signed
+      ∙ ap (λ b. cond b Twice (Login (word_of_text (field turn_field fields)) (signed_user c (field user_field fields) (field password_field fields)) request.first request.second)) once
+      ∙ ap (λ s. Login (word_of_text (field turn_field fields)) s request.first request.second) signed
 
   shown_is : (n : ℕ) → AreApart (map (λ (v : User). v.id) c.users) → repeats_one login_names fields ≡ false → ShowsPassword c fields n
-      → signed_user c (field (codes "user") fields) (field (codes "password") fields) ≡ Some n
+      → signed_user c (field user_field fields) (field password_field fields) ≡ Some n
   shown_is n apart once s =
-      let id : field (codes "user") fields ≡ s.user.id = is_field (codes "user") s.user.id fields (not_twice login_names (codes "user") fields refl once) s.id in
-      let password : field (codes "password") fields ≡ s.password = is_field (codes "password") s.password fields (not_twice login_names (codes "password") fields refl once) s.shown in
-      ap (λ t. signed_user c t (field (codes "password") fields)) id
+      let id : field user_field fields ≡ s.user.id = is_field user_field s.user.id fields (not_twice login_names user_field fields refl once) s.id in
+      let password : field password_field fields ≡ s.password = is_field password_field s.password fields (not_twice login_names password_field fields refl once) s.shown in
+      ap (λ t. signed_user c t (field password_field fields)) id
       ∙ ap (λ t. signed_user c s.user.id t) password
       ∙ proved_signed c s.password n s.user apart s.there s.proved
 
   pub shows_signed : (n : ℕ) → AreApart (map (λ (v : User). v.id) c.users) → IsTo c request endpoint.Login → repeats_one login_names fields ≡ false → ShowsPassword c fields n
-      → prepared c request ≡ Login (word_of_text (field (codes "turn") fields)) (Some n) request.first request.second
+      → prepared c request ≡ Login (word_of_text (field turn_field fields)) (Some n) request.first request.second
   shows_signed n apart to once s = login_is to once (Some n) (shown_is n apart once s)
 
   -- ---- turns
 
-  turn_at : (t : Text) (v : Option Word) → t ≡ field (codes "turn") fields → word_of_text t ≡ v → stands_twice (codes "turn") fields ≡ false → IsTurn fields v
+  turn_at : (t : Text) (v : Option Word) → t ≡ field turn_field fields → word_of_text t ≡ v → stands_twice turn_field fields ≡ false → IsTurn fields v
   turn_at t (Some w) is h once =
       let r = word_of_text_some t w h in
-      (there_at fields (codes "turn") (word_text w) w (field_is (codes "turn") (word_text w) fields (sym is ∙ r.0)) (word_of_text-word_text w r.1), r.1)
+      (there_at fields turn_field (word_text w) w (field_is turn_field (word_text w) fields (sym is ∙ r.0)) (word_of_text-word_text w r.1), r.1)
   turn_at t None is h once = λ w word has.
-      let there : field (codes "turn") fields ≡ word_text w = is_field (codes "turn") (word_text w) fields once (inl has) in
+      let there : field turn_field fields ≡ word_text w = is_field turn_field (word_text w) fields once (inl has) in
       none_some w (sym h ∙ ap word_of_text (is ∙ there) ∙ word_of_text-word_text w word)
 
   pub login_turn : (turn : Option Word) (signed : Option ℕ) (browser session : Option Word) → prepared c request ≡ Login turn signed browser session → IsTurn fields turn
   login_turn turn signed browser session h =
       let l = led_to c request (Login turn signed browser session) h in
-      turn_at (field (codes "turn") fields) turn refl (sym l.turn_is) (not_twice login_names (codes "turn") fields refl l.once)
+      turn_at (field turn_field fields) turn refl (sym l.turn_is) (not_twice login_names turn_field fields refl l.once)
 
   pub consent_turn : (turn : Option Word) (agree : Bool) (browser session : Option Word) → prepared c request ≡ Consent turn agree browser session → IsTurn fields turn
   consent_turn turn agree browser session h =
       let l = led_to c request (Consent turn agree browser session) h in
-      turn_at (field (codes "turn") fields) turn refl (sym l.turn_is) (not_twice consent_names (codes "turn") fields refl l.once)
+      turn_at (field turn_field fields) turn refl (sym l.turn_is) (not_twice consent_names turn_field fields refl l.once)
 
   -- ---- consent forms
 
-  yes_there : IsField fields (codes "agree") (codes "yes") → Has fields (codes "agree", codes "yes")
+  yes_there : IsField fields agree_field agree_value → Has fields (agree_field, agree_value)
   yes_there (inl has) = has
   yes_there (inr absent) = no_cons 121 (codes "es") absent.1
 
-  agreed_yes : (agree : Bool) → agree ≡ bytes_eq (field (codes "agree") fields) (codes "yes") → agree ≡ true → Has fields (codes "agree", codes "yes")
-  agreed_yes agree is h = yes_there (field_is (codes "agree") (codes "yes") fields (same_text (field (codes "agree") fields) (codes "yes") (sym is ∙ h)))
+  agreed_yes : (agree : Bool) → agree ≡ bytes_eq (field agree_field fields) agree_value → agree ≡ true → Has fields (agree_field, agree_value)
+  agreed_yes agree is h = yes_there (field_is agree_field agree_value fields (same_text (field agree_field fields) agree_value (sym is ∙ h)))
 
-  yes_agreed : (agree : Bool) → agree ≡ bytes_eq (field (codes "agree") fields) (codes "yes") → stands_twice (codes "agree") fields ≡ false → Has fields (codes "agree", codes "yes") → agree ≡ true
+  yes_agreed : (agree : Bool) → agree ≡ bytes_eq (field agree_field fields) agree_value → stands_twice agree_field fields ≡ false → Has fields (agree_field, agree_value) → agree ≡ true
   yes_agreed agree is once has =
-      is ∙ text_same (field (codes "agree") fields) (codes "yes") (is_field (codes "agree") (codes "yes") fields once (inl has))
+      is ∙ text_same (field agree_field fields) agree_value (is_field agree_field agree_value fields once (inl has))
 
   pub agreed_exactly : (turn : Option Word) (agree : Bool) (browser session : Option Word) → prepared c request ≡ Consent turn agree browser session
-      → (agree ≡ true) ↔ Has fields (codes "agree", codes "yes")
+      → (agree ≡ true) ↔ Has fields (agree_field, agree_value)
   agreed_exactly turn agree browser session h =
       let l = led_to c request (Consent turn agree browser session) h in
-      (agreed_yes agree l.agree_is, yes_agreed agree l.agree_is (not_twice consent_names (codes "agree") fields refl l.once))
+      (agreed_yes agree l.agree_is, yes_agreed agree l.agree_is (not_twice consent_names agree_field fields refl l.once))

@@ -1,5 +1,5 @@
 -- What is prepared is an ask that requests give.
-use Rattle.std.proofs.Common.{◌≡◌, ◌≤◌, ◌<◌, ℕ, List, length, Bool, true, false, nat_lt, nat_le, ◌&&◌, codes, Option, Some, None, option_and_then, cond, Ok, Err, slice_get, refl, sym, ◌∙◌, ap, arith}
+use Rattle.std.proofs.Common.{◌≡◌, ◌≤◌, ◌<◌, ℕ, List, length, Bool, true, false, nat_lt, nat_le, ◌&&◌, Option, Some, None, option_and_then, cond, Ok, Err, slice_get, refl, sym, ◌∙◌, ap, arith}
 use Rattle.std.specs.Prelude.{IfSome}
 use Rattle.std.proofs.lemmas.Grind.{common_steps}
 use Rattle.std.proofs.lemmas.Option.{slice_get_within}
@@ -8,6 +8,7 @@ use Rattle.sso_base.specs.declared.http.Ask.{Ask}
 use Rattle.client_registry.specs.declared.records.Client.{Client}
 use Rattle.client_registry.specs.Rules.{user_place}
 use Rattle.client_registry.specs.Configuration.{Configuration}
+use Rattle.client_registry.specs.Numbers.{is_client, is_user}
 use Rattle.client_registry.specs.Registered.{IsRegistry}
 use Rattle.request_params.specs.declared.params.Params.{Params}
 use Rattle.auth_request.specs.declared.wish.Verdict.{Verdict}
@@ -20,8 +21,9 @@ use Rattle.token_endpoint.proofs.Requests.{granted}
 use Rattle.token_endpoint.proofs.Refused.{caused}
 use Rattle.op_exchange.specs.declared.ask.OpAsk.{OpAsk}
 use Rattle.op_exchange.specs.declared.ask.OpAsk.TheVariants as ask
-use Rattle.op_exchange.specs.Clients.{is_client, is_user}
-use Rattle.op_exchange.specs.Asks.{is_short_nonce, is_prepared_verdict, is_prepared}
+use Rattle.auth_request.specs.Values.{is_short_nonce}
+use Rattle.op_exchange.specs.Asks.{is_prepared_verdict, is_prepared}
+use Rattle.op_exchange.specs.Fields.{user_field, password_field}
 use Rattle.op_request.specs.PostedForms.{fields_of, field}
 use Rattle.op_request.specs.Prepared.{client_named, with_object, judged_whole, judged_by, if_password, is_password_of, signed_user, prepared}
 use Rattle.op_request.proofs.SignedUsers.{user_within}
@@ -90,7 +92,7 @@ ask_prepared : (c : Configuration) (request : Ask) → IsRegistry c → (x : OpA
 ask_prepared c request r (ask.Authorize verdict browser session) l =
     ap (is_prepared_verdict c) l.verdict ∙ by_prepared c l.params (client_named c l.params) l.params.request
 ask_prepared c request r (ask.Login turn (Some user) browser session) l =
-    signed_is_user c (field (codes "user") (fields_of request.body)) (field (codes "password") (fields_of request.body)) user (sym l.signed_is)
+    signed_is_user c (field user_field (fields_of request.body)) (field password_field (fields_of request.body)) user (sym l.signed_is)
 ask_prepared c request r (ask.Login turn None browser session) l = refl
 ask_prepared c request r (ask.Consent turn agree browser session) l = refl
 ask_prepared c request r (ask.Token (Ok grant)) l =

@@ -1,12 +1,13 @@
 -- A request asks for nothing but a page exactly where a name stands twice in it, and exactly a request that is to no endpoint finds
 -- nothing here.
-use Rattle.std.proofs.Common.{◌≡◌, ◌⊎◌, inl, inr, List, cond, codes, Some, ◌∙◌, ap}
+use Rattle.std.proofs.Common.{◌≡◌, ◌⊎◌, inl, inr, List, cond, Some, ◌∙◌, ap}
 use Rattle.std.specs.Str.{bytes_eq}
 use Rattle.sso_base.specs.Words.{Text, word_of_text}
 use Rattle.sso_base.specs.declared.http.Ask.{Ask}
 use Rattle.client_registry.specs.Configuration.{Configuration}
 use Rattle.request_params.proofs.Requests.{refused-repeats, repeats-refused}
 use Rattle.op_exchange.specs.declared.ask.OpAsk.TheVariants as ask
+use Rattle.op_exchange.specs.Fields.{turn_field, user_field, password_field, agree_field, agree_value}
 use Rattle.op_request.specs.declared.routes.Endpoint.{Endpoint}
 use Rattle.op_request.specs.declared.routes.Endpoint.TheVariants as endpoint
 use Rattle.op_request.specs.PostedForms.{login_names, consent_names, fields_of, field}
@@ -25,13 +26,13 @@ module _ (c : Configuration) (request : Ask) where
   login_twice : RepeatsField c request endpoint.Login login_names → prepared c request ≡ ask.Twice
   login_twice r =
       prepared_at c request endpoint.Login r.to
-      ∙ ap (λ b. cond b ask.Twice (ask.Login (word_of_text (field (codes "turn") (fields_of request.body))) (signed_user c (field (codes "user") (fields_of request.body)) (field (codes "password") (fields_of request.body))) request.first request.second))
+      ∙ ap (λ b. cond b ask.Twice (ask.Login (word_of_text (field turn_field (fields_of request.body))) (signed_user c (field user_field (fields_of request.body)) (field password_field (fields_of request.body))) request.first request.second))
       (one_repeats login_names (fields_of request.body) r.repeats)
 
   consent_twice : RepeatsField c request endpoint.Consent consent_names → prepared c request ≡ ask.Twice
   consent_twice r =
       prepared_at c request endpoint.Consent r.to
-      ∙ ap (λ b. cond b ask.Twice (ask.Consent (word_of_text (field (codes "turn") (fields_of request.body))) (bytes_eq (field (codes "agree") (fields_of request.body)) (codes "yes")) request.first request.second))
+      ∙ ap (λ b. cond b ask.Twice (ask.Consent (word_of_text (field turn_field (fields_of request.body))) (bytes_eq (field agree_field (fields_of request.body)) agree_value) request.first request.second))
       (one_repeats consent_names (fields_of request.body) r.repeats)
 
   pub repeated_twice : RepeatsAName c request → prepared c request ≡ ask.Twice

@@ -10,14 +10,14 @@ use Rattle.hmac256.proofs.OnLiterals.{hmac_on_literals}
 use Rattle.client_registry.specs.declared.records.User.{User}
 use Rattle.client_registry.specs.Configuration.{Configuration}
 use Rattle.request_params.proofs.OnLiterals.{request_params_on_literals}
-use Rattle.auth_request.specs.declared.wish.AuthError.TheVariants.{InvalidRequestObject}
+use Rattle.oidc_words.specs.declared.errors.AuthError.TheVariants.{InvalidRequestObject}
 use Rattle.auth_request.specs.declared.wish.PageNo.TheVariants as page
 use Rattle.auth_request.specs.declared.wish.Verdict.TheVariants as verdict
-use Rattle.auth_request.specs.Words.{words_of}
+use Rattle.oidc_words.specs.Words.{parameter_words}
 use Rattle.auth_request.specs.ClaimsParameter.{claims_of}
 use Rattle.auth_request.specs.Parameters.{asking_of}
 use Rattle.auth_request.specs.Judgement.{errors, judgement}
-use Rattle.configuration_rows.specs.Kinds.{spellings}
+use Rattle.oidc_words.specs.Types.{spellings}
 use Rattle.claim_set.proofs.OnLiterals.{claims_on_literals}
 use Rattle.jws_compact.specs.declared.sealing.Typ.TheVariants.{Jwt}
 use Rattle.jws_compact.specs.Jws.{seal_text}
@@ -152,7 +152,7 @@ abbrev asked : Ask
 asked = got (codes "/op/authorize") form
 
 authorize-granted : prepared here asked ≡ ask.Authorize (verdict.Grant wish) (Some (word 5)) (Some (word 9))
-unfolding prepared request_params_on_literals judgement errors asking_of words_of claims_of spellings
+unfolding prepared request_params_on_literals judgement errors asking_of parameter_words claims_of spellings
 authorize-granted = refl
 
 -- a request object with another nonce, and a text that is none
@@ -163,7 +163,7 @@ abbrev with_object : Ask
 with_object = got (codes "/op/authorize") (form ++ (codes "&request=" ++ object))
 
 authorize-with_an_object : prepared here with_object ≡ ask.Authorize (verdict.Grant (record wish { nonce = Some (codes "inside") })) (Some (word 5)) (Some (word 9))
-unfolding prepared request_params_on_literals judgement errors asking_of words_of claims_of spellings object_read request_of first_in last_in judged jws_on_literals claims_on_literals
+unfolding prepared request_params_on_literals judgement errors asking_of parameter_words claims_of spellings object_read request_of first_in last_in judged jws_on_literals claims_on_literals
 authorize-with_an_object = refl
 
 abbrev with_no_object : Ask
@@ -171,7 +171,7 @@ with_no_object = got (codes "/op/authorize") (form ++ codes "&request=x")
 
 authorize-with_a_refused_object : prepared here with_no_object
     ≡ ask.Authorize (verdict.Refuse (record { redirect = callback_uri; fragment = false; state = Some (codes "state"); code = InvalidRequestObject })) (Some (word 5)) (Some (word 9))
-unfolding prepared request_params_on_literals judgement errors asking_of words_of claims_of spellings object_read jws_on_literals
+unfolding prepared request_params_on_literals judgement errors asking_of parameter_words claims_of spellings object_read jws_on_literals
 authorize-with_a_refused_object = refl
 
 authorize-by_an_empty_form : prepared here (posted (codes "/op/authorize") []) ≡ ask.Authorize (verdict.Page page.Client) (Some (word 5)) (Some (word 9))

@@ -5,9 +5,10 @@ use Rattle.std.proofs.lemmas.Option.{slice_get_within}
 use Rattle.std.specs.List.{position_from}
 use Rattle.std.specs.Str.{bytes_eq}
 use Rattle.sso_base.specs.Words.{Text}
-use Rattle.configuration_rows.specs.Kinds.{has_text}
+use Rattle.sso_base.specs.Texts.{has_text}
 use Rattle.client_registry.specs.declared.records.User.{User}
 use Rattle.client_registry.specs.Configuration.{Configuration}
+use Rattle.client_registry.specs.Numbers.{user_at}
 use Rattle.client_registry.specs.Registered.{AreApart, IsUser, IsRegistry}
 use Rattle.client_registry.specs.Rules.{user_place}
 use Rattle.request_params.proofs.NameLaws.{same_text, text_same}
@@ -90,5 +91,5 @@ user_within id users n h =
     let within : p.past < length users = slice_get_within users p.past p.user p.there in
     omega (arith, p.at, within)
 
-pub user_kept : (c : Configuration) (n : ℕ) (u : User) → IsRegistry c → slice_get c.users n ≡ Some u → IsUser u
+pub user_kept : (c : Configuration) (n : ℕ) (u : User) → IsRegistry c → user_at c n ≡ Some u → IsUser u
 user_kept c n u r is = at_place IsUser c.users n u r.user_rules is

@@ -1,17 +1,18 @@
 -- The forms that the provider's own pages post: that of a login and that of a consent. A field with another name is as if it were
 -- not there, a field that is absent is empty, and no name of the form may stand twice, whatever the values.
-use Rattle.std.specs.Prelude.{ℕ, Bool, nat_lt, List, [], ◌∷◌, length, filter, codes, Option, unwrap_or}
+use Rattle.std.specs.Prelude.{ℕ, Bool, nat_lt, List, [], ◌∷◌, length, filter, Option, unwrap_or}
 use Rattle.std.specs.List.{list_any}
 use Rattle.std.specs.Str.{bytes_eq}
 use Rattle.sso_base.specs.Words.{Text}
 use Rattle.request_params.specs.Form.{Pair, form_pairs}
 use Rattle.request_params.specs.Reading.{value_of}
+use Rattle.op_exchange.specs.Fields.{turn_field, user_field, password_field, agree_field}
 
 abbrev pub login_names : List Text
-login_names = codes "turn" ∷ codes "user" ∷ codes "password" ∷ []
+login_names = turn_field ∷ user_field ∷ password_field ∷ []
 
 abbrev pub consent_names : List Text
-consent_names = codes "turn" ∷ codes "agree" ∷ []
+consent_names = turn_field ∷ agree_field ∷ []
 
 -- the form that was posted; an absent one is empty
 abbrev pub posted : Option (List ℕ) → List ℕ

@@ -1,5 +1,5 @@
 -- What the provider is asked by a request.
-use Rattle.std.specs.Prelude.{ℕ, Bool, true, false, List, codes, Option, Some, None, option_and_then, slice_get, Result, Ok, Err, if◌then◌else◌}
+use Rattle.std.specs.Prelude.{ℕ, Bool, true, false, List, Option, Some, None, option_and_then, Result, Ok, Err, if◌then◌else◌}
 use Rattle.std.specs.Result.{result_ok}
 use Rattle.std.specs.Str.{bytes_eq}
 use Rattle.sso_base.specs.Words.{Text, word_of_text}
@@ -11,6 +11,7 @@ use Rattle.client_registry.specs.declared.records.User.{User}
 use Rattle.client_registry.specs.declared.records.Client.{Client}
 use Rattle.client_registry.specs.Rules.{user_place}
 use Rattle.client_registry.specs.Configuration.{Configuration}
+use Rattle.client_registry.specs.Numbers.{user_at, client_at}
 use Rattle.request_params.specs.declared.params.Params.{Params}
 use Rattle.request_params.specs.declared.no.AskNo.{AskNo}
 use Rattle.request_params.specs.Form.{Pair}
@@ -23,6 +24,7 @@ use Rattle.token_endpoint.specs.Request.{grant_read}
 use Rattle.userinfo.specs.Header.{bearer_read}
 use Rattle.op_exchange.specs.declared.ask.OpAsk.{OpAsk}
 use Rattle.op_exchange.specs.declared.ask.OpAsk.TheVariants as ask
+use Rattle.op_exchange.specs.Fields.{turn_field, user_field, password_field, agree_field, agree_value}
 use Rattle.op_request.specs.declared.routes.Endpoint.{Endpoint}
 use Rattle.op_request.specs.declared.routes.Endpoint.TheVariants as endpoint
 use Rattle.op_request.specs.Routes.{endpoint_asked}
@@ -32,7 +34,7 @@ use Rattle.op_request.specs.PostedForms.{login_names, consent_names, posted, fie
 
 -- the client whose id the request has
 abbrev pub client_named : Configuration → Params → Option Client
-client_named c params = option_and_then (slice_get c.clients) (client_number c params)
+client_named c params = option_and_then (client_at c) (client_number c params)
 
 -- the parameters of a request object over those beside it; none where the object is none of this client for this provider, or
 -- what stands beside it does not allow it (Core 6.1 and 6.3)
@@ -71,7 +73,7 @@ is_password_of None password = false
 is_password_of (Some user) password = bytes_eq (proof_of password user.salt user.rounds) user.proof
 
 abbrev pub if_password : Configuration → Text → ℕ → Option ℕ
-if_password c password n = if is_password_of (slice_get c.users n) password then Some n else None
+if_password c password n = if is_password_of (user_at c n) password then Some n else None
 
 -- the number of the user that has this id and this password
 abbrev pub signed_user : Configuration → Text → Text → Option ℕ
@@ -81,14 +83,14 @@ abbrev pub login_asked : Configuration → Ask → List Pair → OpAsk
 login_asked c request fields =
     if repeats_one login_names fields then ask.Twice
     else
-    ask.Login (word_of_text (field (codes "turn") fields))
-    (signed_user c (field (codes "user") fields) (field (codes "password") fields)) request.first request.second
+    ask.Login (word_of_text (field turn_field fields))
+    (signed_user c (field user_field fields) (field password_field fields)) request.first request.second
 
 abbrev pub consent_asked : Ask → List Pair → OpAsk
 consent_asked request fields =
     if repeats_one consent_names fields then ask.Twice
     else
-    ask.Consent (word_of_text (field (codes "turn") fields)) (bytes_eq (field (codes "agree") fields) (codes "yes"))
+    ask.Consent (word_of_text (field turn_field fields)) (bytes_eq (field agree_field fields) agree_value)
     request.first request.second
 
 -- ---- any request: its first cookie is the browser's word, its second the session's

@@ -1,12 +1,13 @@
 -- What a request to the provider is and what it asks, in plain words.
-use Rattle.std.specs.Prelude.{◌≡◌, ◌⊎◌, ℕ, false, true, List, [], ◌∷◌, ◌++◌, codes, Option, Some, None, slice_get}
+use Rattle.std.specs.Prelude.{◌≡◌, ◌⊎◌, ℕ, false, true, List, [], ◌∷◌, ◌++◌, Option, Some, None}
 use Rattle.sso_base.specs.Words.{Word, Text, IsWord, word_text}
 use Rattle.sso_base.specs.declared.http.Ask.{Ask}
 use Rattle.hmac256.specs.Hmac.{proof_of}
-use Rattle.configuration_rows.specs.Kinds.{has_text}
+use Rattle.sso_base.specs.Texts.{has_text}
 use Rattle.client_registry.specs.declared.records.User.{User}
 use Rattle.client_registry.specs.declared.records.Client.{Client}
 use Rattle.client_registry.specs.Configuration.{Configuration}
+use Rattle.client_registry.specs.Numbers.{user_at, client_at}
 use Rattle.request_params.specs.declared.params.Params.{Params}
 use Rattle.request_params.specs.Form.{Pair}
 use Rattle.request_params.specs.Reading.{kept_pairs, Has, HasRequest, RepeatsFirst}
@@ -18,6 +19,7 @@ use Rattle.request_object.specs.Object.{IsRequestObject}
 use Rattle.token_endpoint.specs.Granted.{HasNo}
 use Rattle.op_exchange.specs.declared.ask.OpAsk.{OpAsk}
 use Rattle.op_exchange.specs.declared.ask.OpAsk.TheVariants as ask
+use Rattle.op_exchange.specs.Fields.{turn_field, user_field, password_field}
 use Rattle.op_request.specs.declared.routes.Endpoint.{Endpoint}
 use Rattle.op_request.specs.declared.routes.Endpoint.TheVariants as endpoint
 use Rattle.op_request.specs.Routes.{Route, routes_of}
@@ -73,16 +75,16 @@ IsField fields name value = Has fields (name, value) ⊎ (HasNo fields name × (
 -- the form has the id of the user of this number, and a password whose proof is the user's (RFC 8018, 5.2)
 pub record ShowsPassword (c : Configuration) (fields : List Pair) (number : ℕ) : Type 0 where
   pub user : User
-  pub there : slice_get c.users number ≡ Some user
-  pub id : IsField fields (codes "user") user.id
+  pub there : user_at c number ≡ Some user
+  pub id : IsField fields user_field user.id
   pub password : Text
-  pub shown : IsField fields (codes "password") password
+  pub shown : IsField fields password_field password
   pub proved : proof_of password user.salt user.rounds ≡ user.proof
 
 -- the word is that of the form's field `turn`, where that is the text of one
 abbrev pub IsTurn : List Pair → Option Word → Type 0
-IsTurn fields (Some w) = Has fields (codes "turn", word_text w) × IsWord w
-IsTurn fields None = (w : Word) → IsWord w → ¬ Has fields (codes "turn", word_text w)
+IsTurn fields (Some w) = Has fields (turn_field, word_text w) × IsWord w
+IsTurn fields None = (w : Word) → IsWord w → ¬ Has fields (turn_field, word_text w)
 
 -- ---- a name that stands twice
 
@@ -109,7 +111,7 @@ pub record HasObject (c : Configuration) (beside inside : Params) : Type 0 where
   pub stands : beside.request ≡ Some object
   pub number : ℕ
   pub client : Client
-  pub there : slice_get c.clients number ≡ Some client
+  pub there : client_at c number ≡ Some client
   pub named : beside.client_id ≡ Some client.id
   pub is_object : IsRequestObject client c.provider.issuer object inside
 

@@ -1,11 +1,12 @@
--- Which endpoint of the provider a request is to, by its method and its path. The paths are this provider's own, but for that
--- of the metadata; they stand below the path of the issuer (OpenID Connect Discovery 1.0, 4).
-use Rattle.std.specs.Prelude.{List, [], ◌∷◌, length, take, drop, codes, Option, Some, None, option_and_then, if◌then◌else◌}
+-- Which endpoint of the provider a request is to, by its method and its path. The paths
+-- stand below the path of the issuer (OpenID Connect Discovery 1.0, 4).
+use Rattle.std.specs.Prelude.{List, [], ◌∷◌, length, take, drop, Option, Some, None, option_and_then, if◌then◌else◌}
 use Rattle.std.specs.Str.{bytes_eq}
 use Rattle.sso_base.specs.Words.{Text}
 use Rattle.sso_base.specs.declared.http.Method.{Method}
 use Rattle.sso_base.specs.declared.http.Method.TheVariants.{Get, Post, Other}
 use Rattle.sso_base.specs.declared.http.Ask.{Ask}
+use Rattle.oidc_words.specs.Paths.{metadata_path, keys_path, authorize_path, token_path, userinfo_path, login_path, consent_path, signout_path}
 use Rattle.op_request.specs.declared.routes.Endpoint.{Endpoint}
 use Rattle.op_request.specs.declared.routes.Endpoint.TheVariants.{Metadata, Keys, Authorization, Login, Consent, Token, UserInfo, SignOut}
 
@@ -18,20 +19,20 @@ Route = Text × Endpoint
 
 abbrev pub get_routes : List Route
 get_routes =
-    (codes "/.well-known/openid-configuration", Metadata)  -- Discovery 4
-    ∷ (codes "/jwks", Keys)  -- Core 10.1
-    ∷ (codes "/authorize", Authorization)  -- Core 3.1.2.1
-    ∷ (codes "/userinfo", UserInfo)  -- Core 5.3.1
+    (metadata_path, Metadata)
+    ∷ (keys_path, Keys)
+    ∷ (authorize_path, Authorization)
+    ∷ (userinfo_path, UserInfo)
     ∷ []
 
 abbrev pub post_routes : List Route
 post_routes =
-    (codes "/authorize", Authorization)  -- Core 3.1.2.1
-    ∷ (codes "/login", Login)
-    ∷ (codes "/consent", Consent)
-    ∷ (codes "/token", Token)  -- RFC 6749, 3.2
-    ∷ (codes "/userinfo", UserInfo)  -- Core 5.3.1
-    ∷ (codes "/signout", SignOut)
+    (authorize_path, Authorization)
+    ∷ (login_path, Login)
+    ∷ (consent_path, Consent)
+    ∷ (token_path, Token)
+    ∷ (userinfo_path, UserInfo)
+    ∷ (signout_path, SignOut)
     ∷ []
 
 abbrev pub routes_of : Method → List Route

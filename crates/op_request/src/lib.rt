@@ -13,8 +13,6 @@ mod law;
 mod posted_forms;
 mod prepare;
 mod routes;
-#[cfg(test)]
-mod tests;
 
 pub use law::{
     asks_have_the_cookies, forms_have_their_turn, logins_are_signed_by_passwords,

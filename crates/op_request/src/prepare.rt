@@ -12,7 +12,7 @@ use crate::routes::{Endpoint, endpoint_asked};
 use auth_request::{Verdict, judge};
 use client_registry::{Client, Registry, User};
 use hmac256::{proof, same};
-use op_exchange::OpAsk;
+use op_exchange::{AGREE_FIELD, AGREE_VALUE, OpAsk, PASSWORD_FIELD, TURN_FIELD, USER_FIELD};
 use request_object::{ObjNo, unseal_request};
 use request_params::{AskNo, Params, merge, read_request};
 use sso_base::{Ask, Blob, Method, NoMemory, Text, Word};
@@ -150,8 +150,12 @@ fn login(alloc: Global, registry: &Registry, ask: &Ask) -> Result<OpAsk, NoMemor
         return Ok(OpAsk::Twice);
     }
     Ok(OpAsk::Login {
-        turn: Word::read(field(&fields, "turn").as_bytes()),
-        signed: signed_user(registry, field(&fields, "user"), field(&fields, "password")),
+        turn: Word::read(field(&fields, TURN_FIELD).as_bytes()),
+        signed: signed_user(
+            registry,
+            field(&fields, USER_FIELD),
+            field(&fields, PASSWORD_FIELD),
+        ),
         browser: ask.first,
         session: ask.second,
     })
@@ -166,8 +170,8 @@ fn consent(alloc: Global, ask: &Ask) -> Result<OpAsk, NoMemory>
         return Ok(OpAsk::Twice);
     }
     Ok(OpAsk::Consent {
-        turn: Word::read(field(&fields, "turn").as_bytes()),
-        agree: field(&fields, "agree") == "yes",
+        turn: Word::read(field(&fields, TURN_FIELD).as_bytes()),
+        agree: field(&fields, AGREE_FIELD) == AGREE_VALUE,
         browser: ask.first,
         session: ask.second,
     })

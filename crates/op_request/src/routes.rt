@@ -3,6 +3,10 @@
 ghost use Rattle.std.specs.Prelude.{◌≡◌, option_map};
 ghost use Rattle.op_request.specs.Routes as spec;
 
+use oidc_words::{
+    AUTHORIZE_PATH, CONSENT_PATH, KEYS_PATH, LOGIN_PATH, METADATA_PATH, SIGNOUT_PATH, TOKEN_PATH,
+    USERINFO_PATH,
+};
 use sso_base::{Ask, Method, Text};
 
 // The endpoints of the provider.
@@ -30,16 +34,16 @@ fn below<'a>(prefix: &Text, path: &'a Text) -> Option<&'a [u8]>
 fn got(path: &[u8]) -> Option<Endpoint>
     ensures { result ≡ spec.endpoint_of spec.get_routes path.now }
 {
-    if path == b"/.well-known/openid-configuration".as_slice() {
+    if path == METADATA_PATH.as_bytes() {
         return Some(Endpoint::Metadata);
     }
-    if path == b"/jwks".as_slice() {
+    if path == KEYS_PATH.as_bytes() {
         return Some(Endpoint::Keys);
     }
-    if path == b"/authorize".as_slice() {
+    if path == AUTHORIZE_PATH.as_bytes() {
         return Some(Endpoint::Authorization);
     }
-    if path == b"/userinfo".as_slice() {
+    if path == USERINFO_PATH.as_bytes() {
         return Some(Endpoint::UserInfo);
     }
     None
@@ -49,22 +53,22 @@ fn got(path: &[u8]) -> Option<Endpoint>
 fn posted_to(path: &[u8]) -> Option<Endpoint>
     ensures { result ≡ spec.endpoint_of spec.post_routes path.now }
 {
-    if path == b"/authorize".as_slice() {
+    if path == AUTHORIZE_PATH.as_bytes() {
         return Some(Endpoint::Authorization);
     }
-    if path == b"/login".as_slice() {
+    if path == LOGIN_PATH.as_bytes() {
         return Some(Endpoint::Login);
     }
-    if path == b"/consent".as_slice() {
+    if path == CONSENT_PATH.as_bytes() {
         return Some(Endpoint::Consent);
     }
-    if path == b"/token".as_slice() {
+    if path == TOKEN_PATH.as_bytes() {
         return Some(Endpoint::Token);
     }
-    if path == b"/userinfo".as_slice() {
+    if path == USERINFO_PATH.as_bytes() {
         return Some(Endpoint::UserInfo);
     }
-    if path == b"/signout".as_slice() {
+    if path == SIGNOUT_PATH.as_bytes() {
         return Some(Endpoint::SignOut);
     }
     None

@@ -5,13 +5,13 @@ use Rattle.std.specs.List.{list_all, AllByRecursion}
 use Rattle.std.proofs.lemmas.Bool.Decides.{nat_tests}
 use Rattle.sso_base.specs.Words.{Word, word_text}
 use Rattle.sso_base.proofs.Spelling.{both_true}
-use Rattle.word_cookie.proofs.Characters.{or_none, not_in_word_text}
+use Rattle.http_reply.proofs.Characters.{or_none, not_in_word_text}
 use Rattle.configuration_rows.specs.declared.kind.Alphabet.TheVariants.{ClientId}
 use Rattle.configuration_rows.specs.Kinds.{allows, is_within}
 use Rattle.client_registry.specs.declared.records.Client.{Client}
 use Rattle.client_registry.specs.Configuration.{Configuration}
+use Rattle.client_registry.specs.Numbers.{id_in, client_id}
 use Rattle.client_registry.specs.Registered.{IsClient, IsRegistry}
-use Rattle.op_exchange.specs.Clients.{id_in, client_id}
 use Rattle.op_response.specs.Told.{is_mark, has_mark}
 
 -- ---- the text of a word

@@ -2,8 +2,8 @@
 use Rattle.std.proofs.Common.{◌≡◌, Bool, List, [], ◌∷◌, map, Option, Some, None, is_some, refl, ap, ◌∙◌}
 use Rattle.std.specs.List.{list_any}
 use Rattle.sso_base.specs.Words.{Word, Text}
-use Rattle.word_cookie.specs.UserAgent.{SetCookie, cookie_read}
-use Rattle.word_cookie.proofs.Reading.{read_of_cookie}
+use Rattle.http_reply.specs.UserAgent.{SetCookie, cookie_read}
+use Rattle.http_reply.proofs.Reading.{read_of_cookie}
 use Rattle.client_registry.specs.Configuration.{Configuration}
 use Rattle.token_endpoint.specs.declared.error.TokenError.TheVariants.{InvalidClient}
 use Rattle.op_exchange.specs.declared.reply.OpReply.{OpReply}
@@ -11,11 +11,12 @@ use Rattle.op_exchange.specs.declared.reply.OpReply.TheVariants as reply
 use Rattle.op_exchange.specs.Replied.{session_given}
 use Rattle.op_response.specs.Cookies.{browser_cookie, session_cookie, session_cookies}
 use Rattle.op_response.specs.Telling.{http_of}
-use Rattle.op_response.specs.Told.{browser_given, named, words_set, kept, is_under, sets_cookie}
+use Rattle.http_reply.specs.Told.{words_named, kept, is_under, sets_cookie}
+use Rattle.op_response.specs.Told.{browser_given, words_set}
 
 -- ---- what is read
 
-session_read : (secure : Bool) (given : Option Word) → map cookie_read (session_cookies secure given) ≡ map (kept secure) (named session_cookie given)
+session_read : (secure : Bool) (given : Option Word) → map cookie_read (session_cookies secure given) ≡ map (kept secure) (words_named session_cookie given)
 session_read secure None = refl
 session_read secure (Some w) = ap (λ (read : Option SetCookie). read ∷ []) (read_of_cookie secure session_cookie w refl)
 

@@ -3,9 +3,12 @@ use Rattle.std.proofs.Common.{◌≡◌, ℕ, Bool, List, [], ◌++◌, codes, O
 use Rattle.std.specs.Str.Iter.{HasSubslice}
 use Rattle.sso_base.specs.Words.{Word, Text, word_text}
 use Rattle.client_registry.specs.Configuration.{Configuration}
-use Rattle.scope_claims.specs.declared.scopes.Scopes.{Scopes}
+use Rattle.oidc_words.specs.Paths.{login_path, consent_path}
+use Rattle.oidc_words.specs.declared.scopes.Scopes.{Scopes}
+use Rattle.op_exchange.specs.Fields.{turn_field}
 use Rattle.op_exchange.specs.declared.reply.OpReply.TheVariants as reply
-use Rattle.op_response.specs.Pages.{again_note, login_text, scope_text, consent_text}
+use Rattle.op_response.specs.Pages.{again_note, login_text, consent_text}
+use Rattle.oidc_words.specs.Scopes.{scope_text}
 use Rattle.op_response.specs.Telling.{http_of}
 
 -- ---- lists
@@ -41,10 +44,16 @@ abbrev form_mark : Text
 form_mark = codes "<form method=\"post\" action=\""
 
 abbrev input_mark : Text
-input_mark = codes "<input type=\"hidden\" name=\"turn\" value=\""
+input_mark = codes "<input type=\"hidden\" name=\"" ++ (turn_field ++ codes "\" value=\"")
 
 abbrev quote_mark : Text
 quote_mark = codes "\">"
+
+abbrev posted_to : Text → Text → Text
+posted_to prefix path = form_mark ++ (prefix ++ (path ++ quote_mark))
+
+abbrev turn_input : Word → Text
+turn_input turn = codes "<input type=\"hidden\" name=\"" ++ (turn_field ++ (codes "\" value=\"" ++ (word_text turn ++ quote_mark)))
 
 -- ---- the login page
 
@@ -54,13 +63,13 @@ login_head = codes "<!doctype html><title>Login</title>"
 abbrev login_fields : Bool → Text
 login_fields again = codes "<input name=\"user\"><input type=\"password\" name=\"password\"><button>Login</button></form>" ++ (again_note again ++ [])
 
-pub login_form : (c : Configuration) (turn browser : Word) (again : Bool) → HasSubslice (http_of c (reply.LoginPage turn browser again)).body (form_mark ++ (c.prefix ++ codes "/login\">"))
+pub login_form : (c : Configuration) (turn browser : Word) (again : Bool) → HasSubslice (http_of c (reply.LoginPage turn browser again)).body (posted_to c.prefix login_path)
 unfolding http_of login_text
-login_form c turn browser again = form_in login_head form_mark c.prefix (codes "/login\">") input_mark (word_text turn) quote_mark (login_fields again)
+login_form c turn browser again = form_in login_head form_mark c.prefix (login_path ++ quote_mark) input_mark (word_text turn) quote_mark (login_fields again)
 
-pub login_turn : (c : Configuration) (turn browser : Word) (again : Bool) → HasSubslice (http_of c (reply.LoginPage turn browser again)).body (input_mark ++ (word_text turn ++ quote_mark))
+pub login_turn : (c : Configuration) (turn browser : Word) (again : Bool) → HasSubslice (http_of c (reply.LoginPage turn browser again)).body (turn_input turn)
 unfolding http_of login_text
-login_turn c turn browser again = field_in login_head form_mark c.prefix (codes "/login\">") input_mark (word_text turn) quote_mark (login_fields again)
+login_turn c turn browser again = field_in login_head form_mark c.prefix (login_path ++ quote_mark) input_mark (word_text turn) quote_mark (login_fields again)
 
 -- ---- the consent page
 
@@ -77,7 +86,7 @@ abbrev consent_head : Text → Scopes → Text
 consent_head client scopes = consent_begin ++ (client ++ (codes ": " ++ (scope_text scopes ++ codes "</p>")))
 
 abbrev consent_form_of : Configuration → Word → Text
-consent_form_of c turn = form_mark ++ (c.prefix ++ (codes "/consent\">" ++ (input_mark ++ (word_text turn ++ (quote_mark ++ consent_fields)))))
+consent_form_of c turn = form_mark ++ (c.prefix ++ ((consent_path ++ quote_mark) ++ (input_mark ++ (word_text turn ++ (quote_mark ++ consent_fields)))))
 
 -- the page is its head and its form
 module _ (c : Configuration) (turn browser : Word) (given : Option Word) (client : Text) (scopes : Scopes) where
@@ -85,15 +94,15 @@ module _ (c : Configuration) (turn browser : Word) (given : Option Word) (client
   unfolding http_of consent_text
   whole = sym (one_of_six consent_begin client (codes ": ") (scope_text scopes) (codes "</p>") (consent_form_of c turn))
 
-  pub consent_form : HasSubslice (http_of c (reply.ConsentPage turn browser given client scopes)).body (form_mark ++ (c.prefix ++ codes "/consent\">"))
+  pub consent_form : HasSubslice (http_of c (reply.ConsentPage turn browser given client scopes)).body (posted_to c.prefix consent_path)
   consent_form =
-      subst (λ t. HasSubslice t (form_mark ++ (c.prefix ++ codes "/consent\">"))) whole
-      (form_in (consent_head client scopes) form_mark c.prefix (codes "/consent\">") input_mark (word_text turn) quote_mark consent_fields)
+      subst (λ t. HasSubslice t (posted_to c.prefix consent_path)) whole
+      (form_in (consent_head client scopes) form_mark c.prefix (consent_path ++ quote_mark) input_mark (word_text turn) quote_mark consent_fields)
 
-  pub consent_turn : HasSubslice (http_of c (reply.ConsentPage turn browser given client scopes)).body (input_mark ++ (word_text turn ++ quote_mark))
+  pub consent_turn : HasSubslice (http_of c (reply.ConsentPage turn browser given client scopes)).body (turn_input turn)
   consent_turn =
-      subst (λ t. HasSubslice t (input_mark ++ (word_text turn ++ quote_mark))) whole
-      (field_in (consent_head client scopes) form_mark c.prefix (codes "/consent\">") input_mark (word_text turn) quote_mark consent_fields)
+      subst (λ t. HasSubslice t (turn_input turn)) whole
+      (field_in (consent_head client scopes) form_mark c.prefix (consent_path ++ quote_mark) input_mark (word_text turn) quote_mark consent_fields)
 
   pub consent_asked : HasSubslice (http_of c (reply.ConsentPage turn browser given client scopes)).body (codes "<p>" ++ (client ++ (codes ": " ++ (scope_text scopes ++ codes "</p>"))))
   consent_asked = (consent_title, consent_form_of c turn, sym whole)

@@ -1,4 +1,3 @@
-pub mod Pieces
 pub mod Characters
 pub mod ScopeTexts
 pub mod CookieLaws

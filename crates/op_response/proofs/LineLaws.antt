@@ -2,12 +2,12 @@
 use Rattle.std.proofs.Common.{◌≡◌, Bool, true, [], ◌∷◌, codes, Option, is_some, sym, ap, ◌∙◌}
 use Rattle.std.proofs.lemmas.List.{append_cancel_left}
 use Rattle.sso_base.specs.Words.{Word, Text}
-use Rattle.auth_request.specs.declared.wish.Refusal.{Refusal}
+use Rattle.oidc_words.specs.declared.errors.Refusal.{Refusal}
 use Rattle.auth_answer.specs.declared.answer.Answer.{Answer}
-use Rattle.auth_answer.specs.ErrorCode.{error_text, error_of}
-use Rattle.auth_answer.proofs.ErrorCodes.{error_of-error_text}
+use Rattle.oidc_words.specs.Errors.{error_text, error_of}
+use Rattle.oidc_words.proofs.ErrorCodes.{error_of-error_text}
 use Rattle.op_exchange.specs.declared.reply.OpReply.TheVariants as reply
-use Rattle.op_response.specs.Joined.{spaced}
+use Rattle.oidc_words.specs.Words.{spaced}
 use Rattle.op_response.specs.Lines.{line_of}
 
 abbrev words : Bool → Bool → Bool → Text

@@ -1,12 +1,15 @@
 -- Locations, statuses, challenges and bodies of replies.
 use Rattle.std.proofs.Common.{◌≡◌, ◌↔◌, ℕ, ◌==◌, Bool, true, false, [], ◌∷◌, ◌++◌, codes, Option, Some, is_some, Ok, refl, sym, ap, ◌∙◌, arith, true≢false}
+use Rattle.std.specs.List.{list_any}
 use Rattle.std.specs.Str.{IsUtf8}
 use Rattle.std.proofs.lemmas.Bool.Decides.{nat_tests}
 use Rattle.sso_base.specs.Words.{Word, Text, word_text}
 use Rattle.sso_base.specs.declared.http.Kind.{Kind}
 use Rattle.sso_base.specs.declared.http.Kind.TheVariants.{Empty, Plain, Json}
 use Rattle.client_registry.specs.Configuration.{Configuration}
-use Rattle.auth_request.specs.declared.wish.Refusal.{Refusal}
+use Rattle.oidc_words.specs.declared.errors.Refusal.{Refusal}
+use Rattle.auth_request.specs.declared.wish.PageNo.{PageNo}
+use Rattle.auth_request.specs.declared.wish.PageNo.TheVariants as page
 use Rattle.auth_answer.specs.declared.answer.Answer.{Answer}
 use Rattle.auth_answer.specs.Printing.{answer_location, refusal_location}
 use Rattle.token_endpoint.specs.declared.error.TokenError.TheVariants.{InvalidClient}
@@ -91,12 +94,19 @@ abbrev is_empty : Kind → Bool
 is_empty Empty = true
 is_empty kind = false
 
-pub plain_is_a_line : (c : Configuration) (r : OpReply) → (http_of c r).kind ≡ Plain → (line : Text) × ((http_of c r).body ≡ line ++ 10 ∷ [])
+error_is_a_line : (why : PageNo) → list_any (λ b. b == 10) (codes "error " ++ page_word why) ≡ false
+error_is_a_line page.Client = refl
+error_is_a_line page.Redirect = refl
+error_is_a_line page.Twice = refl
+error_is_a_line page.Turn = refl
+error_is_a_line page.Browser = refl
+
+pub plain_is_a_line : (c : Configuration) (r : OpReply) → (http_of c r).kind ≡ Plain → (line : Text) × ((http_of c r).body ≡ line ++ 10 ∷ []) × (list_any (λ b. b == 10) line ≡ false)
 unfolding http_of
-plain_is_a_line c (reply.ErrorPage why) e = (codes "error " ++ page_word why, refl)
-plain_is_a_line c (reply.SignedOut messages) e = (codes "signed out", refl)
-plain_is_a_line c reply.NotHere e = (codes "not here", refl)
-plain_is_a_line c reply.Full e = (codes "full", refl)
+plain_is_a_line c (reply.ErrorPage why) e = (codes "error " ++ page_word why, refl, error_is_a_line why)
+plain_is_a_line c (reply.SignedOut messages) e = (codes "signed out", refl, refl)
+plain_is_a_line c reply.NotHere e = (codes "not here", refl, refl)
+plain_is_a_line c reply.Full e = (codes "full", refl, refl)
 plain_is_a_line c (reply.TokenRefused InvalidClient) e = absurd (true≢false (sym (ap is_plain e)))
 plain_is_a_line c (reply.TokenRefused other) e = absurd (true≢false (sym (ap is_plain e)))
 plain_is_a_line c other e = absurd (true≢false (sym (ap is_plain e)))

@@ -1,21 +1,23 @@
 -- The definitions of what is told, computed on replies.
 use Rattle.std.proofs.Common.{◌≡◌, true, false, [], ◌∷◌, ◌++◌, codes, Some, None, refl}
 use Rattle.std.specs.Fmt.{digits}
-use Rattle.auth_request.specs.declared.wish.AuthError.TheVariants.{AccessDenied}
-use Rattle.auth_request.specs.declared.wish.Refusal.{Refusal}
+use Rattle.oidc_words.specs.declared.errors.AuthError.TheVariants.{AccessDenied}
+use Rattle.oidc_words.specs.declared.errors.Refusal.{Refusal}
 use Rattle.auth_request.specs.declared.wish.PageNo.TheVariants as page
 use Rattle.auth_answer.specs.declared.answer.Answer.{Answer}
 use Rattle.auth_answer.proofs.OnLiterals.{auth_answer_on_literals}
 use Rattle.token_endpoint.specs.declared.error.TokenError.TheVariants.{InvalidClient, InvalidGrant}
 use Rattle.sso_base.specs.declared.http.Kind.TheVariants.{Plain}
 use Rattle.sso_base.proofs.OnLiterals.{base64url_on_literals}
-use Rattle.word_cookie.specs.UserAgent.{cookie_read}
+use Rattle.http_reply.specs.UserAgent.{cookie_read}
 use Rattle.op_exchange.specs.declared.reply.OpReply.TheVariants as reply
 use Rattle.op_response.specs.Cookies.{session_cookie, session_cookies}
-use Rattle.op_response.specs.Pages.{login_text, login_page, scope_text, consent_text, consent_page}
+use Rattle.op_response.specs.Pages.{login_text, login_page, consent_text, consent_page}
+use Rattle.oidc_words.specs.Scopes.{scope_text}
 use Rattle.op_response.specs.Lines.{line_of}
 use Rattle.op_response.specs.Telling.{http_of}
-use Rattle.op_response.specs.Told.{words_set, kept, sets_cookie, is_token_response, has_mark}
+use Rattle.http_reply.specs.Told.{kept, sets_cookie}
+use Rattle.op_response.specs.Told.{words_set, is_token_response, has_mark}
 use Rattle.op_exchange.proofs.Sample.{word, sample, profile_scopes, callback_uri}
 
 -- ---- cookies

@@ -1,7 +1,7 @@
 -- The cookies that the provider sets (RFC 6265, 4.1).
 use Rattle.std.specs.Prelude.{Bool, List, [], ◌∷◌, codes, Option, Some, None}
 use Rattle.sso_base.specs.Words.{Word, Text}
-use Rattle.word_cookie.specs.Cookies.{cookie}
+use Rattle.http_reply.specs.Cookies.{cookie}
 
 -- the cookie of a browser that was given a form, and that of a session
 abbrev pub browser_cookie : Text

@@ -1,4 +1,3 @@
-pub mod Joined
 pub mod Cookies
 pub mod Pages
 pub mod Lines

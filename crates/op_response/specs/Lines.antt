@@ -5,11 +5,12 @@ use Rattle.sso_base.specs.Words.{Text}
 use Rattle.auth_request.specs.declared.wish.PageNo.{PageNo}
 use Rattle.auth_request.specs.declared.wish.PageNo.TheVariants as page
 use Rattle.auth_answer.specs.declared.answer.Answer.{Answer}
-use Rattle.auth_answer.specs.ErrorCode.{error_text}
+use Rattle.oidc_words.specs.Errors.{error_text}
 use Rattle.token_endpoint.specs.Errors.{error_code}
 use Rattle.op_exchange.specs.declared.reply.OpReply.{OpReply}
 use Rattle.op_exchange.specs.declared.reply.OpReply.TheVariants as reply
-use Rattle.op_response.specs.Joined.{spaced}
+use Rattle.oidc_words.specs.Words.{spaced}
+use Rattle.oidc_words.specs.Types.{code_word, id_token_word, token_word}
 
 -- what an error page is about
 abbrev pub page_word : PageNo → Text
@@ -22,7 +23,7 @@ page_word page.Browser = codes "browser"
 -- the parts that an answer has
 abbrev pub answer_words : Answer → Text
 answer_words answer =
-    spaced ((true, codes "answer") ∷ (is_some answer.code, codes "code") ∷ (is_some answer.id, codes "id_token") ∷ (is_some answer.access, codes "token") ∷ [])
+    spaced ((true, codes "answer") ∷ (is_some answer.code, code_word) ∷ (is_some answer.id, id_token_word) ∷ (is_some answer.access, token_word) ∷ [])
 
 -- a sign-out, and how many messages tell it
 abbrev pub signed_out : ℕ → Text

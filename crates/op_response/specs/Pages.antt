@@ -7,8 +7,10 @@
 use Rattle.std.specs.Prelude.{Bool, true, false, [], ◌∷◌, codes}
 use Rattle.std.specs.List.{concat}
 use Rattle.sso_base.specs.Words.{Text}
-use Rattle.scope_claims.specs.declared.scopes.Scopes.{Scopes}
-use Rattle.op_response.specs.Joined.{spaced}
+use Rattle.oidc_words.specs.Paths.{login_path, consent_path}
+use Rattle.oidc_words.specs.declared.scopes.Scopes.{Scopes}
+use Rattle.oidc_words.specs.Scopes.{scope_text}
+use Rattle.op_exchange.specs.Fields.{turn_field, user_field, password_field, agree_field, agree_value}
 
 -- ---- the login page
 
@@ -21,9 +23,16 @@ login_text prefix turn note =
     concat (
     codes "<!doctype html><title>Login</title><form method=\"post\" action=\""
     ∷ prefix
-    ∷ codes "/login\"><input type=\"hidden\" name=\"turn\" value=\""
+    ∷ login_path
+    ∷ codes "\"><input type=\"hidden\" name=\""
+    ∷ turn_field
+    ∷ codes "\" value=\""
     ∷ turn
-    ∷ codes "\"><input name=\"user\"><input type=\"password\" name=\"password\"><button>Login</button></form>"
+    ∷ codes "\"><input name=\""
+    ∷ user_field
+    ∷ codes "\"><input type=\"password\" name=\""
+    ∷ password_field
+    ∷ codes "\"><button>Login</button></form>"
     ∷ note ∷ [])
 
 -- the form of a turn, by its text, below the path of the issuer; again after a wrong password
@@ -31,11 +40,6 @@ abbrev pub login_page : Text → Text → Bool → Text
 login_page prefix turn again = login_text prefix turn (again_note again)
 
 -- ---- the consent page
-
--- scope values, with one space between
-abbrev pub scope_text : Scopes → Text
-scope_text s =
-    spaced ((s.openid, codes "openid") ∷ (s.profile, codes "profile") ∷ (s.email, codes "email") ∷ (s.address, codes "address") ∷ (s.phone, codes "phone") ∷ [])
 
 unfoldable pub consent_text : Text → Text → Text → Text → Text
 consent_text prefix turn client scopes =
@@ -46,9 +50,18 @@ consent_text prefix turn client scopes =
     ∷ scopes
     ∷ codes "</p><form method=\"post\" action=\""
     ∷ prefix
-    ∷ codes "/consent\"><input type=\"hidden\" name=\"turn\" value=\""
+    ∷ consent_path
+    ∷ codes "\"><input type=\"hidden\" name=\""
+    ∷ turn_field
+    ∷ codes "\" value=\""
     ∷ turn
-    ∷ codes "\"><button name=\"agree\" value=\"yes\">Yes</button><button name=\"agree\" value=\"no\">No</button></form>" ∷ [])
+    ∷ codes "\"><button name=\""
+    ∷ agree_field
+    ∷ codes "\" value=\""
+    ∷ agree_value
+    ∷ codes "\">Yes</button><button name=\""
+    ∷ agree_field
+    ∷ codes "\" value=\"no\">No</button></form>" ∷ [])
 
 -- the form of a turn, by its text, below the path of the issuer: a client, by its id, and the scope values that it asks for
 abbrev pub consent_page : Text → Text → Text → Scopes → Text

@@ -1,11 +1,12 @@
 -- The provider's replies in HTTP (RFC 9110; OpenID Connect Core 1.0, 3.1.2, 3.1.3 and 5.3).
-use Rattle.std.specs.Prelude.{ℕ, Bool, true, false, List, [], ◌∷◌, ◌++◌, codes, Option, Some, None}
+use Rattle.std.specs.Prelude.{ℕ, Bool, true, false, [], ◌∷◌, ◌++◌, codes, Option, Some, None}
 use Rattle.sso_base.specs.Words.{Word, Text, word_text}
 use Rattle.sso_base.specs.declared.http.HttpReply.{HttpReply}
-use Rattle.sso_base.specs.declared.http.Kind.TheVariants.{Empty, Plain, Html, Json}
-use Rattle.word_cookie.specs.Cookies.{cookie}
+use Rattle.sso_base.specs.declared.http.Kind.TheVariants.{Empty, Json}
+use Rattle.http_reply.specs.Cookies.{cookie}
+use Rattle.http_reply.specs.Replies.{html, plain, sent_to}
 use Rattle.client_registry.specs.Configuration.{Configuration}
-use Rattle.scope_claims.specs.declared.scopes.Scopes.{Scopes}
+use Rattle.oidc_words.specs.declared.scopes.Scopes.{Scopes}
 use Rattle.auth_request.specs.declared.wish.PageNo.{PageNo}
 use Rattle.auth_answer.specs.Printing.{answer_location, refusal_location}
 use Rattle.token_endpoint.specs.declared.error.TokenError.{TokenError}
@@ -20,24 +21,9 @@ use Rattle.op_response.specs.Lines.{page_word}
 
 -- ---- kinds of replies
 
--- a page, with cookies
-abbrev pub html : List Text → Text → HttpReply
-html cookies page =
-    record { status = 200; pragma = false; location = None; cookies = cookies; challenge = None; kind = Html; body = page }
-
--- one line of text
-abbrev pub plain : ℕ → Text → HttpReply
-plain status line =
-    record { status = status; pragma = false; location = None; cookies = []; challenge = None; kind = Plain; body = line ++ 10 ∷ [] }
-
 abbrev pub json : Text → HttpReply
 json text =
     record { status = 200; pragma = false; location = None; cookies = []; challenge = None; kind = Json; body = text }
-
--- the user agent is sent to a location (RFC 9110, 15.4.4)
-abbrev pub sent_to : Text → List Text → HttpReply
-sent_to location cookies =
-    record { status = 303; pragma = false; location = Some location; cookies = cookies; challenge = None; kind = Empty; body = [] }
 
 -- a response of the token endpoint, which no cache keeps (RFC 6749, 5.1 and 5.2)
 abbrev pub token_response : ℕ → Option Text → Text → HttpReply

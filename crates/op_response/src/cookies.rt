@@ -1,12 +1,12 @@
 // The cookies of replies.
 
 ghost use Rattle.std.specs.Prelude.{◌≡◌, ◌++◌, [], ◌∷◌, IfOk, OnOk};
-ghost use Rattle.word_cookie.specs.Cookies.{cookie};
+ghost use Rattle.http_reply.specs.Cookies.{cookie};
 ghost use Rattle.op_response.specs.Cookies as spec;
 
+use http_reply::cookie;
 use sso_base::{NoMemory, Texts, Word};
 use std::alloc::Global;
-use word_cookie::cookie;
 
 // The cookie of a browser that was given a form.
 const BROWSER: &str = "op_b";

@@ -4,8 +4,9 @@ ghost use Rattle.std.specs.Prelude.{◌≡◌, IfOk};
 ghost use Rattle.sso_base.specs.Words.{word_text};
 ghost use Rattle.op_response.specs.Pages as spec;
 
-use crate::joining::{joined, spaced};
-use scope_claims::Scopes;
+use http_reply::joined;
+use oidc_words::{CONSENT_PATH, LOGIN_PATH, Scopes};
+use op_exchange::{AGREE_FIELD, AGREE_VALUE, PASSWORD_FIELD, TURN_FIELD, USER_FIELD};
 use sso_base::{Blob, NoMemory, Text, Word};
 use std::alloc::Global;
 
@@ -27,9 +28,16 @@ fn login_text(alloc: Global, prefix: &str, turn: &str, note: &str) -> Result<Blo
     let pieces = [
         "<!doctype html><title>Login</title><form method=\"post\" action=\"",
         prefix,
-        "/login\"><input type=\"hidden\" name=\"turn\" value=\"",
+        LOGIN_PATH,
+        "\"><input type=\"hidden\" name=\"",
+        TURN_FIELD,
+        "\" value=\"",
         turn,
-        "\"><input name=\"user\"><input type=\"password\" name=\"password\"><button>Login</button></form>",
+        "\"><input name=\"",
+        USER_FIELD,
+        "\"><input type=\"password\" name=\"",
+        PASSWORD_FIELD,
+        "\"><button>Login</button></form>",
         note,
     ];
     Ok(Blob::from_vec(joined(alloc, &pieces)?.into_bytes()))
@@ -46,20 +54,6 @@ pub(crate) fn login_page(
 {
     let turn = turn.to_text(alloc)?;
     login_text(alloc, prefix.as_str(), turn.as_str(), again_note(again))
-}
-
-// These scope values, with one space between.
-fn scope_text(alloc: Global, scopes: &Scopes) -> Result<Text, NoMemory>
-    ensures { IfOk result (λ t. t ≡ spec.scope_text scopes.now) }
-{
-    let words = [
-        (scopes.openid, "openid"),
-        (scopes.profile, "profile"),
-        (scopes.email, "email"),
-        (scopes.address, "address"),
-        (scopes.phone, "phone"),
-    ];
-    spaced(alloc, &words)
 }
 
 // The consent page of a turn, by its text, below the path of the issuer: a client, and scope values.
@@ -80,9 +74,18 @@ fn consent_text(
         scopes,
         "</p><form method=\"post\" action=\"",
         prefix,
-        "/consent\"><input type=\"hidden\" name=\"turn\" value=\"",
+        CONSENT_PATH,
+        "\"><input type=\"hidden\" name=\"",
+        TURN_FIELD,
+        "\" value=\"",
         turn,
-        "\"><button name=\"agree\" value=\"yes\">Yes</button><button name=\"agree\" value=\"no\">No</button></form>",
+        "\"><button name=\"",
+        AGREE_FIELD,
+        "\" value=\"",
+        AGREE_VALUE,
+        "\">Yes</button><button name=\"",
+        AGREE_FIELD,
+        "\" value=\"no\">No</button></form>",
     ];
     Ok(Blob::from_vec(joined(alloc, &pieces)?.into_bytes()))
 }
@@ -98,7 +101,7 @@ pub(crate) fn consent_page(
     ensures { IfOk result (λ b. b ≡ spec.consent_page prefix.now (word_text turn.now) client.now scopes.now) }
 {
     let turn = turn.to_text(alloc)?;
-    let scopes = scope_text(alloc, scopes)?;
+    let scopes = scopes.to_text(alloc)?;
     consent_text(
         alloc,
         prefix.as_str(),

@@ -1,29 +1,32 @@
 // What holds of replies that are told.
 
-ghost use Rattle.std.specs.Prelude.{◌≡◌, ◌++◌, ◌↔◌, ℕ, [], ◌∷◌, Bool, true, false, Option, Some, is_some, codes, map, Ok};
+ghost use Rattle.std.specs.Prelude.{◌≡◌, ◌==◌, ◌++◌, ◌↔◌, ℕ, [], ◌∷◌, Bool, true, false, Option, Some, is_some, codes, map, Ok};
+ghost use Rattle.std.specs.List.{list_any};
 ghost use Rattle.std.specs.Str.{IsUtf8};
 ghost use Rattle.std.specs.Str.Iter.{HasSubslice};
 ghost use Rattle.sso_base.specs.Words.{Word, Text, word_text};
 ghost use Rattle.sso_base.specs.declared.http.Kind.TheVariants as kind;
-ghost use Rattle.word_cookie.specs.UserAgent.{cookie_read};
+ghost use Rattle.http_reply.specs.UserAgent.{cookie_read};
 ghost use Rattle.client_registry.specs.Configuration.{Configuration};
+ghost use Rattle.client_registry.specs.Numbers.{client_id};
 ghost use Rattle.client_registry.specs.Registered.{IsRegistry};
-ghost use Rattle.scope_claims.specs.declared.scopes.Scopes.{Scopes};
-ghost use Rattle.auth_request.specs.declared.wish.Refusal.{Refusal};
-ghost use Rattle.auth_request.specs.Words.{words_of};
-ghost use Rattle.auth_request.specs.Parameters.{scopes_among};
+ghost use Rattle.oidc_words.specs.declared.scopes.Scopes.{Scopes};
+ghost use Rattle.oidc_words.specs.declared.errors.Refusal.{Refusal};
+ghost use Rattle.oidc_words.specs.Paths.{login_path, consent_path};
+ghost use Rattle.oidc_words.specs.Words.{parameter_words};
+ghost use Rattle.oidc_words.specs.Scopes.{scopes_among, scope_text};
 ghost use Rattle.auth_answer.specs.declared.answer.Answer.{Answer};
 ghost use Rattle.auth_answer.specs.Printing.{answer_location, refusal_location};
 ghost use Rattle.token_endpoint.specs.Answer.{tokens_read};
 ghost use Rattle.op_exchange.specs.declared.reply.OpReply.{OpReply};
 ghost use Rattle.op_exchange.specs.declared.reply.OpReply.TheVariants as reply;
-ghost use Rattle.op_exchange.specs.Clients.{client_id};
+ghost use Rattle.op_exchange.specs.Fields.{turn_field};
 ghost use Rattle.op_exchange.specs.Replied.{ends_turn, session_given};
 ghost use Rattle.op_response.specs.Cookies.{browser_cookie, session_cookie};
-ghost use Rattle.op_response.specs.Pages.{scope_text};
 ghost use Rattle.op_response.specs.Telling.{http_of};
 ghost use Rattle.op_response.specs.Lines.{line_of};
-ghost use Rattle.op_response.specs.Told.{browser_given, words_set, kept, sets_cookie, is_token_response, has_mark};
+ghost use Rattle.http_reply.specs.Told.{kept, sets_cookie};
+ghost use Rattle.op_response.specs.Told.{browser_given, words_set, is_token_response, has_mark};
 
 /// The cookies of a reply hold the words that it sets, in order and no others: the browser word of a page, and its session
 /// word where it has one. A user agent reads each under its name as the word's text, for every path, `HttpOnly`,
@@ -56,15 +59,15 @@ pub fn challenges_are_unauthorized()
     ensures { (c : Configuration) (r : OpReply) → ((http_of c r).status ≡ 401) ↔ (is_some (http_of c r).challenge ≡ true) }
 {}
 
-/// The login form and the consent form are posted to the provider's own paths, with the text of their own turn, and a
+/// The login form and the consent form are posted to the paths that the provider serves for them, with the text of their own turn, and a
 /// consent page says which client asks for which scope values.
 pub fn forms_are_posted_to_the_provider()
-    ensures login { (c : Configuration) (turn browser : Word) (again : Bool) → HasSubslice (http_of c (reply.LoginPage turn browser again)).body (codes "<form method=\"post\" action=\"" ++ (c.prefix ++ codes "/login\">")) }
-    ensures login_turn { (c : Configuration) (turn browser : Word) (again : Bool) → HasSubslice (http_of c (reply.LoginPage turn browser again)).body (codes "<input type=\"hidden\" name=\"turn\" value=\"" ++ (word_text turn ++ codes "\">")) }
-    ensures consent { (c : Configuration) (turn browser : Word) (given : Option Word) (client : Text) (scopes : Scopes) → HasSubslice (http_of c (reply.ConsentPage turn browser given client scopes)).body (codes "<form method=\"post\" action=\"" ++ (c.prefix ++ codes "/consent\">")) }
-    ensures consent_turn { (c : Configuration) (turn browser : Word) (given : Option Word) (client : Text) (scopes : Scopes) → HasSubslice (http_of c (reply.ConsentPage turn browser given client scopes)).body (codes "<input type=\"hidden\" name=\"turn\" value=\"" ++ (word_text turn ++ codes "\">")) }
+    ensures login { (c : Configuration) (turn browser : Word) (again : Bool) → HasSubslice (http_of c (reply.LoginPage turn browser again)).body (codes "<form method=\"post\" action=\"" ++ (c.prefix ++ (login_path ++ codes "\">"))) }
+    ensures login_turn { (c : Configuration) (turn browser : Word) (again : Bool) → HasSubslice (http_of c (reply.LoginPage turn browser again)).body (codes "<input type=\"hidden\" name=\"" ++ (turn_field ++ (codes "\" value=\"" ++ (word_text turn ++ codes "\">")))) }
+    ensures consent { (c : Configuration) (turn browser : Word) (given : Option Word) (client : Text) (scopes : Scopes) → HasSubslice (http_of c (reply.ConsentPage turn browser given client scopes)).body (codes "<form method=\"post\" action=\"" ++ (c.prefix ++ (consent_path ++ codes "\">"))) }
+    ensures consent_turn { (c : Configuration) (turn browser : Word) (given : Option Word) (client : Text) (scopes : Scopes) → HasSubslice (http_of c (reply.ConsentPage turn browser given client scopes)).body (codes "<input type=\"hidden\" name=\"" ++ (turn_field ++ (codes "\" value=\"" ++ (word_text turn ++ codes "\">")))) }
     ensures asked { (c : Configuration) (turn browser : Word) (given : Option Word) (client : Text) (scopes : Scopes) → HasSubslice (http_of c (reply.ConsentPage turn browser given client scopes)).body (codes "<p>" ++ (client ++ (codes ": " ++ (scope_text scopes ++ codes "</p>")))) }
-    ensures scopes { (s : Scopes) → scopes_among (words_of (Some (scope_text s))) ≡ s }
+    ensures scopes { (s : Scopes) → scopes_among (parameter_words (Some (scope_text s))) ≡ s }
 {}
 
 /// No word's text, no id of a registry's client and no scope value has a mark that HTML reads, so pages escape nothing.
@@ -76,7 +79,7 @@ pub fn pages_have_nothing_to_escape()
 
 /// A plain body is one line, and a reply of no kind has none.
 pub fn plain_bodies_are_lines()
-    ensures plain { (c : Configuration) (r : OpReply) → (http_of c r).kind ≡ kind.Plain → (line : Text) × ((http_of c r).body ≡ line ++ 10 ∷ []) }
+    ensures plain { (c : Configuration) (r : OpReply) → (http_of c r).kind ≡ kind.Plain → (line : Text) × ((http_of c r).body ≡ line ++ 10 ∷ []) × (list_any (λ b. b == 10) line ≡ false) }
     ensures empty { (c : Configuration) (r : OpReply) → (http_of c r).kind ≡ kind.Empty → (http_of c r).body ≡ [] }
 {}
 

@@ -7,18 +7,14 @@
 //! | `html` | the login page and the consent page |
 //! | `cookies` | the browser's cookie and the session's |
 //! | `lines` | [`op_line`]: the line of a reply |
-//! | `joining` | texts that are joined of pieces and of words |
 //! | `law` | what holds of replies that are told, for the crates above |
 #![tactic(auto)]
 
 mod cookies;
 mod html;
-mod joining;
 mod law;
 mod lines;
 mod telling;
-#[cfg(test)]
-mod tests;
 
 pub use law::{
     challenges_are_unauthorized, cookies_hold_the_words_of_replies,

@@ -3,9 +3,10 @@
 ghost use Rattle.std.specs.Prelude.{◌≡◌, ◌++◌, IfOk};
 ghost use Rattle.op_response.specs.Lines as spec;
 
-use crate::joining::{joined, spaced};
-use auth_answer::{Answer, error_text};
+use auth_answer::Answer;
 use auth_request::PageNo;
+use http_reply::joined;
+use oidc_words::{error_text, spaced};
 use op_exchange::OpReply;
 use sso_base::{NoMemory, Text};
 use std::alloc::Global;

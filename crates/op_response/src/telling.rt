@@ -2,52 +2,24 @@
 
 ghost use Rattle.std.specs.Prelude.{◌≡◌, IfOk};
 ghost use Rattle.op_response.specs.Cookies.{session_cookies};
+ghost use Rattle.http_reply.specs.Replies.{sent_to};
 ghost use Rattle.op_response.specs.Telling as spec;
 
 use crate::cookies::{browser_cookies, push_session};
 use crate::html::{consent_page, login_page};
-use crate::joining::joined;
 use crate::lines::page_word;
 use auth_answer::{print_answer, print_refusal};
 use auth_request::PageNo;
 use client_registry::Registry;
+use http_reply::{html, joined, plain};
+use oidc_words::Scopes;
 use op_exchange::OpReply;
-use scope_claims::Scopes;
 use sso_base::{Blob, HttpReply, Kind, NoMemory, Text, Texts, Word};
 use std::alloc::Global;
 use token_endpoint::{TokenError, print_token_error, print_tokens};
 
 // The body of the reply with the provider's keys (RFC 7517, 5).
 const NO_KEYS: &str = "{\"keys\":[]}";
-
-fn html(cookies: Texts, page: Blob) -> HttpReply
-    ensures { result ≡ spec.html cookies page }
-{
-    HttpReply {
-        status: 200,
-        pragma: false,
-        location: None,
-        cookies,
-        challenge: None,
-        kind: Kind::Html,
-        body: page,
-    }
-}
-
-// A line of text, and its line feed.
-fn plain(alloc: Global, status: u16, line: &str) -> Result<HttpReply, NoMemory>
-    ensures { IfOk result (λ h. h ≡ spec.plain status line.now) }
-{
-    Ok(HttpReply {
-        status,
-        pragma: false,
-        location: None,
-        cookies: Texts::new(alloc),
-        challenge: None,
-        kind: Kind::Plain,
-        body: Blob::from_vec(joined(alloc, &[line, "\n"])?.into_bytes()),
-    })
-}
 
 fn json(alloc: Global, body: &[u8]) -> Result<HttpReply, NoMemory>
     ensures { IfOk result (λ h. h ≡ spec.json body.now) }
@@ -64,25 +36,17 @@ fn json(alloc: Global, body: &[u8]) -> Result<HttpReply, NoMemory>
 }
 
 // The user agent is sent to this location. A session that a login left is set.
-fn sent_to(
+fn sent_with_session(
     alloc: Global,
     secure: bool,
     location: Text,
     session: &Option<Word>,
 ) -> Result<HttpReply, NoMemory>
-    ensures { IfOk result (λ h. h ≡ spec.sent_to location (session_cookies secure session.now)) }
+    ensures { IfOk result (λ h. h ≡ sent_to location (session_cookies secure session.now)) }
 {
     let mut cookies = Texts::new(alloc);
     push_session(&mut cookies, alloc, secure, session)?;
-    Ok(HttpReply {
-        status: 303,
-        pragma: false,
-        location: Some(location),
-        cookies,
-        challenge: None,
-        kind: Kind::Empty,
-        body: Blob::from_vec(Vec::new(alloc)),
-    })
+    Ok(http_reply::sent_to(alloc, location, cookies))
 }
 
 fn token_response(alloc: Global, status: u16, challenge: Option<Text>, body: Blob) -> HttpReply
@@ -205,10 +169,10 @@ pub fn op_http(alloc: Global, registry: &Registry, reply: &OpReply) -> Result<Ht
             scopes,
         } => consent_shown(alloc, registry, turn, browser, session, client, scopes),
         OpReply::Answered { answer, session } => {
-            sent_to(alloc, secure, print_answer(alloc, answer)?, session)
+            sent_with_session(alloc, secure, print_answer(alloc, answer)?, session)
         }
         OpReply::Refused { refusal, session } => {
-            sent_to(alloc, secure, print_refusal(alloc, refusal)?, session)
+            sent_with_session(alloc, secure, print_refusal(alloc, refusal)?, session)
         }
         OpReply::ErrorPage { why } => error_shown(alloc, *why),
         OpReply::Tokens { access, id } => {

@@ -7,19 +7,19 @@ use Rattle.sso_base.specs.Rows.{lives}
 use Rattle.sso_base.specs.declared.history.Entry.{Entry}
 use Rattle.sso_base.proofs.RowLaws.{bool_cases}
 use Rattle.client_registry.specs.Configuration.{Configuration}
+use Rattle.client_registry.specs.Numbers.{is_client}
 use Rattle.token_endpoint.specs.declared.granting.Grant.{Grant}
 use Rattle.token_endpoint.specs.declared.error.TokenError.TheVariants.{InvalidGrant}
 use Rattle.code_grant.specs.declared.rows.CodeRow.{CodeRow}
 use Rattle.code_grant.specs.declared.redeem.Redeem.{Redeem}
 use Rattle.code_grant.specs.declared.redeem.Redeem.TheVariants.{Redeemed, Unknown, OtherClient, Spent, Expired, OtherUri}
 use Rattle.code_grant.specs.Redeeming.{redeem_of}
-use Rattle.code_grant.specs.Rows.{code_usable}
+use Rattle.oidc_words.specs.Lives.{code_usable}
 use Rattle.op_exchange.specs.declared.ask.OpAsk.{OpAsk}
 use Rattle.op_exchange.specs.declared.ask.OpAsk.TheVariants as ask
 use Rattle.op_exchange.specs.declared.reply.OpReply.{OpReply}
 use Rattle.op_exchange.specs.declared.reply.OpReply.TheVariants.{TokenRefused, NotHere, Full}
 use Rattle.op_exchange.specs.Asks.{is_prepared}
-use Rattle.op_exchange.specs.Clients.{is_client}
 use Rattle.op_answer.specs.Past.{OpPast}
 use Rattle.op_answer.specs.Codes.{code_named, held_code, is_spent}
 use Rattle.op_answer.specs.Replies.{tokens_by}

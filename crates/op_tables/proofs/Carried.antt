@@ -1,19 +1,16 @@
 -- The agreement of the tables with the past is carried by one more pair, and so is what holds of every held row.
-use Rattle.std.proofs.Common.{◌≡◌, ◌≤◌, ℕ, Bool, true, false, not, ◌&&◌, nat_le, cond, List, ◌∷◌, length, filter_map, Option, Some, None, Ok, refl, sym, ◌∙◌, ap, arith}
-use Rattle.std.proofs.lemmas.Bool.{le-leb}
+use Rattle.std.proofs.Common.{◌≡◌, ◌≤◌, ℕ, Bool, true, false, not, ◌&&◌, cond, List, ◌∷◌, length, Option, Some, None, Ok, refl, sym, ◌∙◌, ap}
 use Rattle.sso_base.specs.Words.{Word, is_word, word_of_text}
-use Rattle.sso_base.specs.Rows.{put, live_rows}
-use Rattle.sso_base.proofs.Lives.{live_later, live_more}
-use Rattle.scope_claims.specs.declared.scopes.Scopes.{Scopes}
-use Rattle.scope_claims.specs.Claims.{joined}
+use Rattle.oidc_words.specs.declared.scopes.Scopes.{Scopes}
+use Rattle.oidc_words.specs.Scopes.{joined}
 use Rattle.auth_request.specs.declared.wish.Wish.{Wish}
 use Rattle.auth_request.specs.declared.wish.Verdict.TheVariants as verdict
 use Rattle.code_grant.specs.declared.rows.TurnRow.{TurnRow}
 use Rattle.code_grant.specs.declared.rows.SessionRow.{SessionRow}
 use Rattle.code_grant.specs.declared.rows.CodeRow.{CodeRow}
 use Rattle.code_grant.specs.declared.rows.TokenRow.{TokenRow}
-use Rattle.code_grant.specs.Rows.{turn_name, turn_begun, turn_life, session_name, session_begun, session_life, code_name, code_begun, code_life, access_name, access_begun, access_life}
-use Rattle.code_grant.specs.Held.{none_after}
+use Rattle.code_grant.specs.Rows.{turn_name, turn_begun, session_name, session_begun, code_name, code_begun, access_name, access_begun}
+use Rattle.oidc_words.specs.Lives.{turn_life, session_life, code_life, access_life}
 use Rattle.code_grant.specs.Tables.{Tables}
 use Rattle.op_exchange.specs.declared.ask.OpAsk.{OpAsk}
 use Rattle.op_exchange.specs.declared.ask.OpAsk.TheVariants as ask
@@ -29,8 +26,7 @@ use Rattle.op_answer.specs.Consents.{granted_by, turn_agreed}
 use Rattle.op_tables.specs.Agreeing.{Agrees, IsBegun}
 use Rattle.op_tables.specs.Keeping.{FollowsPair}
 use Rattle.op_answer.proofs.KeptNames.{some_same}
-use Rattle.op_tables.proofs.Lookups.{same_later}
-use Rattle.op_tables.proofs.KeptRows.{all_good_after, none_after_later}
+use Rattle.held_rows.proofs.Added.{rows_carried, begun_carried}
 
 -- ---- what no pair changes in a row that it keeps
 
@@ -158,31 +154,6 @@ pub access_made_begun : (held : List TokenRow) (past : OpPast) (p : OpPair) (row
 access_made_begun held past p row h = given_begun past p p.entry.ask p.reply row h
 
 -- ---- one more pair
-
-module _ {R : Type 0} (name : R → Word) (life : ℕ) (begun : R → ℕ) (before at : ℕ) (k : R → Option R) (m : Option R) (held after : List R) where
-  -- what lived of the table, as the pair leaves it, and what it makes
-  abbrev Follows : Type 0
-  Follows = after ≡ put name m (filter_map k (live_rows life begun at held))
-
-  rows_carried : before ≤ at → ((r s : R) → k r ≡ Some s → begun s ≡ begun r) → (rows : List R) → live_rows life begun before held ≡ live_rows life begun before rows
-      → Follows → live_rows life begun at after ≡ live_rows life begun at (put name m (filter_map k rows))
-  rows_carried order same rows agrees follows =
-      let L : List R → List R = λ xs. live_rows life begun at xs in
-      let now : at ≤ at = omega arith in
-      ap L follows
-      ∙ live_more name life begun at at k m (live_rows life begun at held) rows now same
-      (live_later life begun at at now held ∙ same_later name life begun before at order held rows agrees)
-
-  begun_carried : before ≤ at → ((r s : R) → k r ≡ Some s → begun s ≡ begun r) → ((r : R) → m ≡ Some r → begun r ≡ at) → none_after begun before held ≡ true
-      → Follows → none_after begun at after ≡ true
-  begun_carried order same made low follows =
-      let good : R → Bool = λ r. nat_le (begun r) at in
-      let N : ℕ → Bool = λ n. nat_le n at in
-      let A : List R → Bool = λ xs. none_after begun at xs in
-      let now : at ≤ at = omega arith in
-      let keeps : (r s : R) → k r ≡ Some s → good r ≡ true → good s ≡ true = λ r s kept here. ap N (same r s kept) ∙ here in
-      let last : (r : R) → m ≡ Some r → good r ≡ true = λ r e. ap N (made r e) ∙ le-leb at at now in
-      ap A follows ∙ all_good_after good name life begun at k m held keeps last (none_after_later begun before at order held low)
 
 pub agrees_carried : (t u : Tables) (past : OpPast) (p : OpPair) (before : ℕ) → before ≤ p.entry.at → Agrees t past before → FollowsPair t u past p → Agrees u (p ∷ past) p.entry.at
 agrees_carried t u past p before order agrees follows =

@@ -2,8 +2,8 @@
 use Rattle.std.proofs.Common.{◌≡◌, ◌<◌, ◌==◌, ℕ, Bool, true, false, ◌&&◌, ◌||◌, cond, List, length, Option, Some, None, option_map, inl, inr, refl, sym, ◌∙◌, ap, subst}
 use Rattle.std.proofs.lemmas.Bool.{eqb-true, eq-eqb, and_parts}
 use Rattle.sso_base.proofs.RowLaws.{bool_cases, option_cases}
-use Rattle.scope_claims.specs.declared.scopes.Scopes.{Scopes}
-use Rattle.scope_claims.specs.Claims.{no_scopes, joined}
+use Rattle.oidc_words.specs.declared.scopes.Scopes.{Scopes}
+use Rattle.oidc_words.specs.Scopes.{no_scopes, joined}
 use Rattle.request_need.specs.Need.{needed_scopes}
 use Rattle.code_grant.specs.declared.rows.TurnRow.{TurnRow}
 use Rattle.code_grant.specs.declared.rows.SessionRow.{SessionRow}

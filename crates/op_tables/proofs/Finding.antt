@@ -1,18 +1,19 @@
 -- What a pair names is found in tables that agree with the past, once they were purged at its moment.
-use Rattle.std.proofs.Common.{◌≡◌, ◌≤◌, ℕ, Bool, true, false, cond, List, Option, Some, None, option_and_then, inl, inr, refl, sym, ◌∙◌, ap, subst}
+use Rattle.std.proofs.Common.{◌≡◌, ◌≤◌, ℕ, true, List, Option, Some, None, option_and_then, refl, sym, ◌∙◌, ap, subst}
 use Rattle.sso_base.specs.Words.{Word}
-use Rattle.sso_base.specs.Rows.{row_of, lives, if_lives, live_rows}
+use Rattle.sso_base.specs.Rows.{row_of, if_lives, live_rows}
 use Rattle.sso_base.specs.Stands.{IsDistinct}
 use Rattle.sso_base.specs.declared.history.Entry.{Entry}
-use Rattle.sso_base.proofs.RowLaws.{bool_cases, rows_distinct}
+use Rattle.sso_base.proofs.RowLaws.{rows_distinct}
 use Rattle.client_registry.specs.Configuration.{Configuration}
-use Rattle.auth_request.specs.declared.wish.Refusal.{Refusal}
+use Rattle.oidc_words.specs.declared.errors.Refusal.{Refusal}
 use Rattle.auth_answer.specs.declared.answer.Answer.{Answer}
 use Rattle.code_grant.specs.declared.rows.TurnRow.{TurnRow}
 use Rattle.code_grant.specs.declared.rows.SessionRow.{SessionRow}
-use Rattle.code_grant.specs.Rows.{turn_name, turn_begun, turn_life, session_name, session_begun, session_life, code_name, code_begun, code_life}
+use Rattle.code_grant.specs.Rows.{turn_name, turn_begun, session_name, session_begun, code_name, code_begun}
+use Rattle.oidc_words.specs.Lives.{turn_life, session_life, code_life}
 use Rattle.code_grant.specs.Tables.{Tables, purged}
-use Rattle.code_grant.proofs.RowOf.{row_of-live_rows}
+use Rattle.held_rows.proofs.RowOf.{row_of-live_rows}
 use Rattle.op_exchange.specs.declared.ask.OpAsk.{OpAsk}
 use Rattle.op_exchange.specs.declared.ask.OpAsk.TheVariants as ask
 use Rattle.op_exchange.specs.declared.reply.OpReply.{OpReply}
@@ -26,19 +27,9 @@ use Rattle.op_answer.specs.Answering.{op_answer}
 use Rattle.op_answer.specs.Causes.{AnsweredCause, RefusedCause}
 use Rattle.op_tables.specs.Keeping.{FindsCode, FindsAgreement, turn_in, session_in}
 use Rattle.op_answer.proofs.KeptNames.{some_same, turn_names, session_names, code_names}
-use Rattle.op_tables.proofs.Lookups.{same_later}
+use Rattle.held_rows.proofs.Found.{same_later, row_that_lives}
 use Rattle.op_answer.proofs.Answers.{answers_have_a_cause}
 use Rattle.op_answer.proofs.Refusals.{refusals_have_a_cause}
-
--- a row that lives was found
-live_is : {R : Type 0} (life : ℕ) (begun : R → ℕ) (at : ℕ) (found : Option R) (row : R) → option_and_then (if_lives life begun at) found ≡ Some row → found ≡ Some row
-live_is life begun at None row h = cc
-live_is {R} life begun at (Some r) row h =
-    let F : Bool → Option R = λ b. cond b (Some r) None in
-    elim (bool_cases (lives life (begun r) at)) [
-      | inl e ↦ sym (ap F e) ∙ h
-      | inr e ↦ (let none : F false ≡ Some row = sym (ap F e) ∙ h in cc)
-    ]
 
 -- a row of a purged table is one that lives after the past
 found_purged : {R : Type 0} (name : R → Word) (life : ℕ) (begun : R → ℕ) (before at : ℕ) → before ≤ at → (held rows : List R) → IsDistinct name rows
@@ -62,14 +53,14 @@ module _ (t : Tables) (past : OpPast) (before at : ℕ) (order : before ≤ at) 
       found_purged session_name session_life session_begun before at order t.sessions (sessions past) (rows_distinct session_name session_made session_kept session_names past) agrees.sessions named
 
   turn_there : (turn : Option Word) (row : TurnRow) → live_turn past at turn ≡ Some row → turn_in (purged at t) turn ≡ turn_of past turn
-  turn_there turn row live = finds_turn turn ∙ live ∙ sym (live_is turn_life turn_begun at (turn_of past turn) row live)
+  turn_there turn row live = finds_turn turn ∙ live ∙ sym (row_that_lives turn_life turn_begun at (turn_of past turn) row live)
 
   session_there : (turn : Option Word) (row : TurnRow) (session : SessionRow) → live_turn past at turn ≡ Some row → live_session past at row.session ≡ Some session
       → (r : TurnRow) → turn_of past turn ≡ Some r → session_in (purged at t) r.session ≡ session_of past r.session
   session_there turn row session live stands r h =
-      let same : row ≡ r = some_same row r (sym (live_is turn_life turn_begun at (turn_of past turn) row live) ∙ h) in
+      let same : row ≡ r = some_same row r (sym (row_that_lives turn_life turn_begun at (turn_of past turn) row live) ∙ h) in
       let S : TurnRow → Type 0 = λ x. session_in (purged at t) x.session ≡ session_of past x.session in
-      subst S same (finds_session row.session ∙ stands ∙ sym (live_is session_life session_begun at (session_of past row.session) session stands))
+      subst S same (finds_session row.session ∙ stands ∙ sym (row_that_lives session_life session_begun at (session_of past row.session) session stands))
 
 module _ (c : Configuration) (t : Tables) (past : OpPast) (e : Entry OpAsk) (before : ℕ) (order : before ≤ e.at) (agrees : Agrees t past before) where
   agreement_found : (asked : OpAsk) (told : OpReply) → ((answer : Answer) (given : Option Word) → told ≡ Answered answer given → AnsweredCause c past e asked answer given)

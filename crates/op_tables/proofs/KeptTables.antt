@@ -12,7 +12,7 @@ use Rattle.code_grant.specs.declared.rows.TokenRow.{TokenRow}
 use Rattle.code_grant.specs.declared.redeem.Redeem.{Redeem}
 use Rattle.code_grant.specs.declared.redeem.Redeem.TheVariants as answer
 use Rattle.code_grant.specs.Rows.{turn_name, session_name, session_begun, code_name, access_name}
-use Rattle.code_grant.specs.Held.{changed}
+use Rattle.held_rows.specs.Held.{changed, MayAddRow}
 use Rattle.code_grant.specs.Redeeming.{redeem_of}
 use Rattle.code_grant.specs.Tables.{Tables, turn_with, session_with, code_spent, redemption, after_answer, with_turn, with_session, with_code, with_token}
 use Rattle.code_grant.specs.Tables as tables
@@ -20,15 +20,16 @@ use Rattle.op_exchange.specs.declared.ask.OpAsk.{OpAsk}
 use Rattle.op_exchange.specs.declared.ask.OpAsk.TheVariants as ask
 use Rattle.op_exchange.specs.declared.reply.OpReply.{OpReply}
 use Rattle.op_exchange.specs.declared.reply.OpReply.TheVariants as reply
-use Rattle.op_exchange.specs.Replied.{ends_turn}
+use Rattle.op_exchange.specs.Replied.{ends_turn, session_given}
 use Rattle.op_answer.specs.Past.{OpPair, OpPast}
 use Rattle.op_answer.specs.Turns.{turn_named, turn_taken, turn_kept}
-use Rattle.op_answer.specs.Sessions.{session_used, ends_session, and_client, client_answered, session_kept}
+use Rattle.op_answer.specs.Sessions.{session_used, is_replaced, ends_session, and_client, client_answered, session_kept}
 use Rattle.op_answer.specs.Codes.{code_named, is_tokens, is_spent, found_spent, held_code, redeem, code_kept}
 use Rattle.op_answer.specs.AccessTokens.{is_for_code, access_kept}
-use Rattle.op_tables.specs.Keeping.{session_taken, turn_moved, session_replaced, session_ended, ended_if, visited_if, grant_answered, code_asked, TellsRedemption, FindsCode, MayAdd, MayPut, turn_put, session_put, code_put, token_put}
+use Rattle.op_tables.specs.Keeping.{session_taken, turn_moved, session_replaced, session_ended, ended_if, visited_if, grant_answered, code_asked, TellsRedemption, FindsCode, MayPut, turn_put, session_put, code_put, token_put}
 use Rattle.op_answer.proofs.KeptNames.{some_same}
-use Rattle.op_tables.proofs.KeptRows.{bytes_swap, filter_map-same, all_kept, kept_by_test, kept_without, kept_changed, kept_twice, put_pushes, all_without}
+use Rattle.held_rows.proofs.Kept.{bytes_swap, filter_map-same, all_kept, kept_by_test, kept_without, kept_twice, put_pushes, all_without}
+use Rattle.op_tables.proofs.ChangedRows.{kept_changed}
 
 -- ---- tests
 
@@ -43,9 +44,6 @@ not_changed false row made = refl
 not_same : {R : Type 0} (b : Bool) (row : R) → cond (not b) (Some row) (Some row) ≡ Some row
 not_same true row = refl
 not_same false row = refl
-
-one_word : (v w : Word) → bytes_eq v w ≡ true → bytes_eq w v ≡ true
-one_word v w e = bytes_true w v (sym (bytes_same v w e))
 
 -- ---- turns
 
@@ -96,10 +94,6 @@ turns_are_kept past p t =
 
 -- ---- sessions
 
-abbrev ends_for : Option Word → Option Word → Word → Bool
-ends_for presented None w = false
-ends_for presented (Some left) w = is_word presented w && not (bytes_eq left w)
-
 never_both : (b : Bool) → (b && not b) ≡ false
 never_both true = refl
 never_both false = refl
@@ -120,21 +114,15 @@ other_left presented left w false e =
       | inr f ↦ ap A f ∙ sym f
     ]
 
-ends_for_is : (presented left : Option Word) (w : Word) → ends_for presented left w ≡ is_word (session_replaced presented left) w
-ends_for_is None None w = refl
-ends_for_is None (Some left) w = refl
-ends_for_is (Some presented) None w = refl
-ends_for_is (Some presented) (Some left) w = other_left presented left w (bytes_eq presented left) refl
+replaced_is : (presented left : Option Word) (w : Word) → is_replaced presented left w ≡ is_word (session_replaced presented left) w
+replaced_is None None w = refl
+replaced_is None (Some left) w = refl
+replaced_is (Some presented) None w = refl
+replaced_is (Some presented) (Some left) w = other_left presented left w (bytes_eq presented left) refl
 
 ends_session_is : (asked : OpAsk) (told : OpReply) (w : Word) → ends_session asked told w ≡ is_word (session_ended asked told) w
 ends_session_is (ask.SignOut session) (reply.SignedOut messages) w = refl
-ends_session_is (ask.Login turn signed b presented) (reply.ConsentPage v browser (Some left) client scopes) w = ends_for_is presented (Some left) w
-ends_session_is (ask.Login turn signed b presented) (reply.ConsentPage v browser None client scopes) w = ends_for_is presented None w
-ends_session_is (ask.Login turn signed b presented) (reply.Answered answer (Some left)) w = ends_for_is presented (Some left) w
-ends_session_is (ask.Login turn signed b presented) (reply.Answered answer None) w = ends_for_is presented None w
-ends_session_is (ask.Login turn signed b presented) (reply.Refused refusal (Some left)) w = ends_for_is presented (Some left) w
-ends_session_is (ask.Login turn signed b presented) (reply.Refused refusal None) w = ends_for_is presented None w
-ends_session_is (ask.Login turn signed b presented) told w = ends_for_is presented None w
+ends_session_is (ask.Login turn signed b presented) told w = replaced_is presented (session_given told) w
 ends_session_is asked told w = refl
 
 abbrev ended_rule : Option Word → SessionRow → Option SessionRow
@@ -363,7 +351,7 @@ session_pushed row t = refl
 
 -- where the session of its word was ended, it may be added
 pub session_may_start : (row : SessionRow) (reserved : Bool) (rows : List SessionRow) → MayPut session_name session_begun reserved rows row
-    → MayAdd session_name session_begun reserved (without session_name row.word rows) row
+    → MayAddRow session_name session_begun reserved (without session_name row.word rows) row
 session_may_start row reserved rows may =
     record {
       room = may.room;

@@ -5,18 +5,7 @@ use Rattle.sso_base.specs.Words.{Word}
 use Rattle.sso_base.specs.Rows.{without, row_of}
 use Rattle.sso_base.specs.Stands.{IsDistinct}
 use Rattle.sso_base.proofs.RowLaws.{bool_cases, bytes_same}
-
--- no row of the name leaves nothing
-pub without_absent : {R : Type 0} (name : R → Word) (v : Word) (rows : List R) → row_of name v rows ≡ None → without name v rows ≡ rows
-without_absent name v [] h = refl
-without_absent {R} name v (r ∷ rs) h =
-    let G : Bool → Option R = λ b. cond b (Some r) (row_of name v rs) in
-    let F : Bool → List R = λ b. cond b (without name v rs) (r ∷ without name v rs) in
-    let push : List R → List R = λ x. r ∷ x in
-    elim (bool_cases (bytes_eq (name r) v)) [
-      | inl e ↦ (let k : Some r ≡ None = sym (ap G e) ∙ h in cc)
-      | inr e ↦ ap F e ∙ ap push (without_absent name v rs (sym (ap G e) ∙ h))
-    ]
+use Rattle.held_rows.proofs.Kept.{without_none}
 
 -- the row of the name leaves the others
 pub length-without : {R : Type 0} (name : R → Word) (v : Word) (rows : List R) (row : R) → IsDistinct name rows → row_of name v rows ≡ Some row → suc (length (without name v rows)) ≡ length rows
@@ -27,6 +16,6 @@ length-without {R} name v (r ∷ rs) row d h =
     let L : List R → ℕ = λ x. suc (length x) in
     let N : Word → Option R = λ w. row_of name w rs in
     elim (bool_cases (bytes_eq (name r) v)) [
-      | inl e ↦ ap L (ap F e ∙ without_absent name v rs (sym (ap N (bytes_same (name r) v e)) ∙ d.0))
+      | inl e ↦ ap L (ap F e ∙ without_none name v rs (sym (ap N (bytes_same (name r) v e)) ∙ d.0))
       | inr e ↦ ap L (ap F e) ∙ ap suc (length-without name v rs row d.1 (sym (ap G e) ∙ h))
     ]

@@ -1,8 +1,6 @@
-pub mod Lookups
 pub mod NamedRows
 pub mod Leaving
-pub mod LiveRows
-pub mod KeptRows
+pub mod ChangedRows
 pub mod KeptTables
 pub mod ConsentsKept
 pub mod AnswerTells

@@ -4,16 +4,17 @@ use Rattle.sso_base.specs.Words.{Word}
 use Rattle.sso_base.specs.Rows.{row_of, lives}
 use Rattle.sso_base.specs.Stands.{IsDistinct}
 use Rattle.sso_base.proofs.RowLaws.{rows_distinct}
-use Rattle.code_grant.proofs.HeldLaws.{distinct_filter}
+use Rattle.held_rows.proofs.HeldLaws.{distinct_filter}
 use Rattle.code_grant.specs.declared.rows.SessionRow.{SessionRow}
-use Rattle.code_grant.specs.Rows.{turn_name, turn_begun, turn_life, session_name, session_begun, session_life, code_name, code_begun, code_life, access_name, access_begun, access_life}
+use Rattle.code_grant.specs.Rows.{turn_name, turn_begun, session_name, session_begun, code_name, code_begun, access_name, access_begun}
+use Rattle.oidc_words.specs.Lives.{turn_life, session_life, code_life, access_life}
 use Rattle.op_answer.specs.Past.{OpPast}
 use Rattle.op_answer.specs.Turns.{turns, turn_made, turn_kept, live_turns, live_turn}
 use Rattle.op_answer.specs.Sessions.{sessions, session_made, session_kept, live_sessions, live_session}
 use Rattle.op_answer.specs.Codes.{codes_issued, code_made, code_kept, held_codes, held_code}
 use Rattle.op_answer.specs.AccessTokens.{accesses, access_made, access_kept, live_accesses, live_access_token}
 use Rattle.op_answer.proofs.KeptNames.{turn_names, session_names, code_names, access_names}
-use Rattle.op_tables.proofs.Lookups.{found_live}
+use Rattle.held_rows.proofs.Found.{found_live}
 
 module _ (past : OpPast) (at : ℕ) (w : Word) where
   pub turn_named : live_turn past at (Some w) ≡ row_of turn_name w (live_turns past at)

@@ -1,8 +1,10 @@
 -- The definitions computed at the steps of a first login: what each accepts, and what it refuses.
 use Rattle.std.proofs.Common.{◌≡◌, ◌≤◌, true, false, [], ◌∷◌, Some, None, option_and_then, refl, sym, subst, arith}
+use Rattle.held_rows.specs.Held.{MayAddRow}
 use Rattle.sso_base.specs.Words.{Text, word_of_text}
 use Rattle.sso_base.specs.Rows.{row_of}
-use Rattle.scope_claims.specs.Claims.{joined, scopes_with_any}
+use Rattle.oidc_words.specs.Scopes.{joined}
+use Rattle.oidc_words.specs.Claims.{scopes_with_any}
 use Rattle.request_need.specs.Need.{needed_scopes}
 use Rattle.token_endpoint.specs.declared.granting.Grant.{Grant}
 use Rattle.token_endpoint.specs.declared.error.TokenError.TheVariants.{InvalidGrant}
@@ -21,7 +23,7 @@ use Rattle.op_exchange.specs.declared.reply.OpReply.TheVariants.{TokenRefused, N
 use Rattle.op_answer.specs.Sessions.{sessions}
 use Rattle.op_tables.specs.declared.keeping.Agreement.{Agreement}
 use Rattle.op_tables.specs.Agreeing.{Agrees, IsBegun, AreOwn, is_own_turn, is_own_session, is_own_code}
-use Rattle.op_tables.specs.Keeping.{session_taken, turn_moved, session_replaced, session_ended, ended_if, visited_if, grant_answered, code_asked, TellsRedeem, TellsRedemption, FindsCode, agreed_turn, session_in, turn_in, agreement_of, FindsAgreement, MayAdd, MayPut, turn_put, session_put, code_put, token_put, FollowsPair}
+use Rattle.op_tables.specs.Keeping.{session_taken, turn_moved, session_replaced, session_ended, ended_if, visited_if, grant_answered, code_asked, TellsRedeem, TellsRedemption, FindsCode, agreed_turn, session_in, turn_in, agreement_of, FindsAgreement, MayPut, turn_put, session_put, code_put, token_put, FollowsPair}
 use Rattle.op_tables.specs.Taking.{TakesUp}
 use Rattle.op_tables.proofs.ConsentsKept.{consent_is_granted}
 use Rattle.op_exchange.proofs.Sample.{word, words, wish, sample, profile_scopes, callback_uri}
@@ -223,10 +225,10 @@ no_agreement_is_found_in_empty_tables finds = (let k : None ≡ Some taken = fin
 
 -- ---- rows that are put
 
-a_turn_of_another_word_may_be_added : MayAdd turn_name turn_begun true (taken ∷ []) (record opened { word = word 7 })
+a_turn_of_another_word_may_be_added : MayAddRow turn_name turn_begun true (taken ∷ []) (record opened { word = word 7 })
 a_turn_of_another_word_may_be_added = record { room = refl; few = omega arith; unnamed = refl; latest = refl }
 
-a_turn_of_that_word_may_not : MayAdd turn_name turn_begun true (taken ∷ []) opened → ⊥
+a_turn_of_that_word_may_not : MayAddRow turn_name turn_begun true (taken ∷ []) opened → ⊥
 a_turn_of_that_word_may_not may = (let k : Some taken ≡ None = may.unnamed in cc)
 
 a_session_of_that_word_may_be_put : MayPut session_name session_begun true (new_session ∷ []) alice_session

@@ -10,8 +10,8 @@ use Rattle.sso_base.proofs.RowLaws.{bytes_same, bytes_true, bytes_turn}
 use Rattle.client_registry.specs.Configuration.{Configuration}
 use Rattle.code_grant.specs.declared.rows.SessionRow.{SessionRow}
 use Rattle.code_grant.specs.Rows.{session_name}
-use Rattle.code_grant.specs.Held.{most_rows}
-use Rattle.code_grant.proofs.RowOf.{row_of_named}
+use Rattle.held_rows.specs.Held.{most_rows}
+use Rattle.held_rows.proofs.HeldLaws.{row_of_named}
 use Rattle.op_exchange.specs.declared.ask.OpAsk.{OpAsk}
 use Rattle.op_exchange.specs.declared.ask.OpAsk.TheVariants as ask
 use Rattle.op_exchange.specs.declared.reply.OpReply.{OpReply}
@@ -30,10 +30,11 @@ use Rattle.op_answer.proofs.Answers.{answers_have_a_cause}
 use Rattle.op_answer.proofs.Refusals.{refusals_have_a_cause}
 use Rattle.op_tables.proofs.Leaving.{length-without}
 use Rattle.op_tables.proofs.NamedRows.{session_named, sessions_distinct}
-use Rattle.op_tables.proofs.LiveRows.{if_some}
-use Rattle.op_tables.proofs.TakenRows.{few_there, kept_short, without_short, dropped_short, kept_beside}
+use Rattle.held_rows.proofs.Found.{if_some}
+use Rattle.held_rows.proofs.Added.{few_there, kept_short}
+use Rattle.op_tables.proofs.TakenRows.{without_short, dropped_short, kept_beside}
 
-second_false : (a b c d : Bool) → (a || b || c || d) ≡ false → b ≡ false
+pub second_false : (a b c d : Bool) → (a || b || c || d) ≡ false → b ≡ false
 second_false true b c d h = cc
 second_false false true c d h = cc
 second_false false false c d h = refl
@@ -105,7 +106,7 @@ module _ (past : OpPast) (e : Entry OpAsk) where
       → lacks_new_session past e.at renewed presented (Some w) ≡ false → length (without session_name w (filter_map k (live_sessions past e.at))) < most_rows
   few_left k names most user presented w ends None is word room =
       let live : List SessionRow = live_sessions past e.at in
-      let few : length (sessions_beside presented w live) < 65536 = few_there session_name w (sessions_beside presented w live) room in
+      let few : length (sessions_beside presented w live) < 65536 = few_there most_rows session_name w (sessions_beside presented w live) room in
       let short : length (filter_map k live) ≤ length (sessions_beside presented w live) = beside_short k w live presented ends in
       let fewer : length (without session_name w (filter_map k live)) ≤ length (filter_map k live) = without_short session_name w (filter_map k live) in
       omega arith

@@ -4,45 +4,48 @@ use Rattle.std.proofs.lemmas.Bool.{and_parts}
 use Rattle.sso_base.specs.Words.{Word, word_of_text}
 use Rattle.sso_base.specs.Rows.{without, put, row_of, lives, live_rows}
 use Rattle.client_registry.specs.Configuration.{Configuration}
+use Rattle.client_registry.specs.Numbers.{is_client, is_user}
 use Rattle.auth_request.specs.declared.wish.Wish.{Wish}
 use Rattle.auth_request.specs.declared.wish.Verdict.TheVariants as verdict
-use Rattle.scope_claims.specs.declared.scopes.Scopes.{Scopes}
-use Rattle.scope_claims.specs.Claims.{joined}
+use Rattle.oidc_words.specs.declared.scopes.Scopes.{Scopes}
+use Rattle.oidc_words.specs.Scopes.{joined}
 use Rattle.code_grant.specs.declared.rows.TurnRow.{TurnRow}
 use Rattle.code_grant.specs.declared.rows.SessionRow.{SessionRow}
 use Rattle.code_grant.specs.declared.rows.CodeRow.{CodeRow}
 use Rattle.code_grant.specs.declared.rows.TokenRow.{TokenRow}
 use Rattle.code_grant.specs.declared.table.Reserved.{Reserved}
-use Rattle.code_grant.specs.Rows.{turn_name, turn_begun, turn_life, session_name, session_begun, session_life, code_name, code_begun, code_life, access_name, access_begun, access_life}
-use Rattle.code_grant.specs.Held.{most_rows}
+use Rattle.code_grant.specs.Rows.{turn_name, turn_begun, session_name, session_begun, code_name, code_begun, access_name, access_begun}
+use Rattle.oidc_words.specs.Lives.{turn_life, session_life, code_life, access_life}
+use Rattle.held_rows.specs.Held.{most_rows, is_full, MayAddRow}
 use Rattle.code_grant.specs.Consents.{granted_to}
 use Rattle.code_grant.specs.Tables.{Tables, purged}
-use Rattle.code_grant.proofs.HeldLaws.{filter_short}
+use Rattle.held_rows.proofs.HeldLaws.{filter_short}
 use Rattle.op_exchange.specs.declared.ask.OpAsk.{OpAsk}
 use Rattle.op_exchange.specs.declared.ask.OpAsk.TheVariants as ask
 use Rattle.op_exchange.specs.declared.reply.OpReply.{OpReply}
 use Rattle.op_exchange.specs.declared.reply.OpReply.TheVariants as reply
-use Rattle.op_exchange.specs.Clients.{is_client, is_user}
-use Rattle.op_exchange.specs.Asks.{is_prepared_wish, is_short_nonce}
+use Rattle.auth_request.specs.Values.{is_short_nonce}
+use Rattle.op_exchange.specs.Asks.{is_prepared_wish}
 use Rattle.op_answer.specs.Past.{OpPair, OpPast}
 use Rattle.op_answer.specs.Turns.{turns, turn_started, turn_made, turn_kept, live_turns}
 use Rattle.op_answer.specs.Sessions.{sessions, session_made, session_kept, live_sessions, session_of, session_used, client_answered, wish_by}
 use Rattle.op_answer.specs.Codes.{codes_issued, code_issued, code_in, code_made_by, code_made, code_kept, code_of, code_named, held_code}
 use Rattle.op_answer.specs.AccessTokens.{accesses, access_issued, access_answered, access_redeemed, access_given, access_made, access_kept}
 use Rattle.op_answer.specs.Consents.{granted_by, turn_agreed}
-use Rattle.op_answer.specs.Room.{is_full, lacks_turn, lacks_session, lacks_code, lacks_access, access_in}
+use Rattle.op_answer.specs.Room.{lacks_turn, lacks_session, lacks_code, lacks_access, access_in}
 use Rattle.op_answer.specs.Causes.{is_own}
 use Rattle.op_answer.proofs.KeptNames.{some_same, turn_names, code_names, access_names}
 use Rattle.op_answer.proofs.Standing.{own_replies_stand}
 use Rattle.op_tables.specs.Agreeing.{is_own_code}
-use Rattle.op_tables.specs.Keeping.{FindsCode, FindsAgreement, TellsRedemption, MayAdd, MayPut, FollowsPair}
+use Rattle.op_tables.specs.Keeping.{FindsCode, FindsAgreement, TellsRedemption, MayPut, FollowsPair}
 use Rattle.op_tables.specs.Taking.{TakesUp}
 use Rattle.op_tables.proofs.AnswerTells.{IsOfClient, answer_tells}
 use Rattle.op_tables.proofs.Carried.{turn_begun_kept, session_begun_kept, code_begun_kept, access_begun_kept, turn_made_begun, session_made_begun, code_made_begun, access_made_begun}
 use Rattle.op_tables.proofs.Finding.{finds_code, finds_agreement}
-use Rattle.op_tables.proofs.KeptRows.{all_live}
-use Rattle.op_tables.proofs.Lookups.{same_later, found_good}
-use Rattle.op_tables.proofs.TakenRows.{kept_latest, may_add, if_both, if_three, if_has}
+use Rattle.held_rows.proofs.Kept.{all_live}
+use Rattle.held_rows.proofs.Found.{same_later, found_good}
+use Rattle.held_rows.proofs.Added.{kept_latest}
+use Rattle.op_tables.proofs.TakenRows.{may_add_reserved, if_both, if_three, if_has}
 use Rattle.op_tables.proofs.TakenSessions.{few_beside}
 
 -- ---- what was lacking for a row that is made
@@ -66,14 +69,14 @@ fourth_false false false false false h = refl
 
 module _ (past : OpPast) (at : ℕ) where
   turn_lacks : (asked : OpAsk) (told : OpReply) (row : TurnRow) → turn_started at asked told ≡ Some row
-      → (is_own told ≡ true) × (lacks_turn past at asked told ≡ is_full turn_name row.word (live_turns past at))
+      → (is_own told ≡ true) × (lacks_turn past at asked told ≡ is_full most_rows turn_name row.word (live_turns past at))
   turn_lacks (ask.Authorize (verdict.Grant wish) b session) (reply.LoginPage w browser again) row h =
       let made : TurnRow = record { word = w; browser = browser; wish = wish; session = None; in_turn = false; begun = at } in
-      let F : TurnRow → Bool = λ r. is_full turn_name r.word (live_turns past at) in
+      let F : TurnRow → Bool = λ r. is_full most_rows turn_name r.word (live_turns past at) in
       (refl, ap F (some_same made row h))
   turn_lacks (ask.Authorize (verdict.Grant wish) b session) (reply.ConsentPage w browser given client scopes) row h =
       let made : TurnRow = record { word = w; browser = browser; wish = wish; session = session; in_turn = false; begun = at } in
-      let F : TurnRow → Bool = λ r. is_full turn_name r.word (live_turns past at) in
+      let F : TurnRow → Bool = λ r. is_full most_rows turn_name r.word (live_turns past at) in
       (refl, ap F (some_same made row h))
   turn_lacks asked told row h = cc
 
@@ -233,19 +236,19 @@ module _ {t : Tables} {p : OpPair} {turn : Option TurnRow} {session : Option Ses
     has_room : v.reserved ≡ all_reserved
     has_room = kept.reserved ∙ reserved
 
-    turn_fits : (row : TurnRow) → turn ≡ Some row → MayAdd turn_name turn_begun v.reserved.turns v.turns row
+    turn_fits : (row : TurnRow) → turn ≡ Some row → MayAddRow turn_name turn_begun v.reserved.turns v.turns row
     turn_fits row is =
         let made : turn_made (turns past) past p ≡ Some row = sym up.turn_is ∙ is in
         let told = turn_lacks past at p.entry.ask p.reply row made in
         let room = first_false (lacks_turn past at p.entry.ask p.reply) (lacks_session past at p.entry.ask p.reply) (lacks_code past at (code_in p.reply)) (lacks_access past at (access_in p.reply)) (room_for told.0) in
-        let L : List TurnRow → Type 0 = λ xs. MayAdd turn_name turn_begun v.reserved.turns xs row in
-        let B : Reserved → Type 0 = λ r. MayAdd turn_name turn_begun r.turns (filter_map (turn_kept past p) (live_rows turn_life turn_begun at t.turns)) row in
+        let L : List TurnRow → Type 0 = λ xs. MayAddRow turn_name turn_begun v.reserved.turns xs row in
+        let B : Reserved → Type 0 = λ r. MayAddRow turn_name turn_begun r.turns (filter_map (turn_kept past p) (live_rows turn_life turn_begun at t.turns)) row in
         subst L (sym kept.turns) (subst B (sym has_room)
-        (may_add turn_name turn_life turn_begun (turn_kept past p) before at up.order t.turns (turn_names past p) (turn_begun_kept past p) up.begun.turns (turns past) up.agrees.turns row
+        (may_add_reserved turn_name turn_life turn_begun (turn_kept past p) before at up.order t.turns (turn_names past p) (turn_begun_kept past p) up.begun.turns (turns past) up.agrees.turns row
         (turn_made_begun (turns past) past p row made) (sym told.1 ∙ room)))
 
-    pub turn_may : IfSome turn (λ r. r.wish.client < 128) → IfSome turn (λ r. MayAdd turn_name turn_begun v.reserved.turns v.turns r × (r.wish.client < 128))
-    turn_may low = if_both (λ (r : TurnRow). MayAdd turn_name turn_begun v.reserved.turns v.turns r) (λ (r : TurnRow). r.wish.client < 128) turn turn_fits low
+    pub turn_may : IfSome turn (λ r. r.wish.client < 128) → IfSome turn (λ r. MayAddRow turn_name turn_begun v.reserved.turns v.turns r × (r.wish.client < 128))
+    turn_may low = if_both (λ (r : TurnRow). MayAddRow turn_name turn_begun v.reserved.turns v.turns r) (λ (r : TurnRow). r.wish.client < 128) turn turn_fits low
 
     session_fits : length t.sessions ≤ most_rows → (row : SessionRow) → session ≡ Some row → MayPut session_name session_begun v.reserved.sessions v.sessions row
     session_fits most row is =
@@ -262,7 +265,7 @@ module _ {t : Tables} {p : OpPair} {turn : Option TurnRow} {session : Option Ses
         let there : MayPut session_name session_begun true (filter_map (session_kept past p) held) row = record {
           room = refl;
           few = subst F (sym live) (few_beside c past p up.reply_is (subst N live low) row made);
-          latest = kept_latest session_name session_life session_begun (session_kept past p) before at up.order t.sessions (session_begun_kept past p) up.begun.sessions row (session_made_begun (sessions past) past p row made);
+          latest = kept_latest most_rows session_name session_life session_begun (session_kept past p) before at up.order t.sessions (session_begun_kept past p) up.begun.sessions row (session_made_begun (sessions past) past p row made);
         } in
         subst L (sym kept.sessions) (subst B (sym has_room) there)
 
@@ -271,35 +274,35 @@ module _ {t : Tables} {p : OpPair} {turn : Option TurnRow} {session : Option Ses
         let few : (r : SessionRow) → session ≡ Some r → length t.sessions ≤ most_rows = λ r is. if_has (λ (x : SessionRow). length t.sessions ≤ most_rows) session r most is in
         if_both (λ (r : SessionRow). MayPut session_name session_begun v.reserved.sessions v.sessions r) (λ (r : SessionRow). r.user < 512) session (λ r is. session_fits (few r is) r is) low
 
-    code_fits : (row : CodeRow) → code ≡ Some row → MayAdd code_name code_begun v.reserved.codes v.codes row
+    code_fits : (row : CodeRow) → code ≡ Some row → MayAddRow code_name code_begun v.reserved.codes v.codes row
     code_fits row is =
         let made : code_made (codes_issued past) past p ≡ Some row = sym up.code_is ∙ is in
         let word : code_in p.reply ≡ Some row.word = code_by_word (length past) at (code_in p.reply) (wish_by past p.entry.ask) (session_of (p ∷ past) (session_used past p.entry.ask p.reply)) row made in
         let room = third_false (lacks_turn past at p.entry.ask p.reply) (lacks_session past at p.entry.ask p.reply) (lacks_code past at (code_in p.reply)) (lacks_access past at (access_in p.reply)) (room_for (own_code p.reply row.word word)) in
         let F : Option Word → Bool = λ o. lacks_code past at o in
-        let L : List CodeRow → Type 0 = λ xs. MayAdd code_name code_begun v.reserved.codes xs row in
-        let B : Reserved → Type 0 = λ r. MayAdd code_name code_begun r.codes (filter_map (code_kept past p) (live_rows code_life code_begun at t.codes)) row in
+        let L : List CodeRow → Type 0 = λ xs. MayAddRow code_name code_begun v.reserved.codes xs row in
+        let B : Reserved → Type 0 = λ r. MayAddRow code_name code_begun r.codes (filter_map (code_kept past p) (live_rows code_life code_begun at t.codes)) row in
         subst L (sym kept.codes) (subst B (sym has_room)
-        (may_add code_name code_life code_begun (code_kept past p) before at up.order t.codes (code_names past p) (code_begun_kept past p) up.begun.codes (codes_issued past) up.agrees.codes row
+        (may_add_reserved code_name code_life code_begun (code_kept past p) before at up.order t.codes (code_names past p) (code_begun_kept past p) up.begun.codes (codes_issued past) up.agrees.codes row
         (code_made_begun (codes_issued past) past p row made) (sym (ap F word) ∙ room)))
 
-    pub code_may : IfSome code (λ r. (r.user < 512) × (r.wish.client < 128)) → IfSome code (λ r. MayAdd code_name code_begun v.reserved.codes v.codes r × (r.user < 512) × (r.wish.client < 128))
-    code_may low = if_three (λ (r : CodeRow). MayAdd code_name code_begun v.reserved.codes v.codes r) (λ (r : CodeRow). r.user < 512) (λ (r : CodeRow). r.wish.client < 128) code code_fits low
+    pub code_may : IfSome code (λ r. (r.user < 512) × (r.wish.client < 128)) → IfSome code (λ r. MayAddRow code_name code_begun v.reserved.codes v.codes r × (r.user < 512) × (r.wish.client < 128))
+    code_may low = if_three (λ (r : CodeRow). MayAddRow code_name code_begun v.reserved.codes v.codes r) (λ (r : CodeRow). r.user < 512) (λ (r : CodeRow). r.wish.client < 128) code code_fits low
 
-    token_fits : (row : TokenRow) → token ≡ Some row → MayAdd access_name access_begun v.reserved.tokens v.tokens row
+    token_fits : (row : TokenRow) → token ≡ Some row → MayAddRow access_name access_begun v.reserved.tokens v.tokens row
     token_fits row is =
         let made : access_made (accesses past) past p ≡ Some row = sym up.token_is ∙ is in
         let word : access_in p.reply ≡ Some row.word = given_word past p p.entry.ask p.reply row made in
         let room = fourth_false (lacks_turn past at p.entry.ask p.reply) (lacks_session past at p.entry.ask p.reply) (lacks_code past at (code_in p.reply)) (lacks_access past at (access_in p.reply)) (room_for (own_access p.reply row.word word)) in
         let F : Option Word → Bool = λ o. lacks_access past at o in
-        let L : List TokenRow → Type 0 = λ xs. MayAdd access_name access_begun v.reserved.tokens xs row in
-        let B : Reserved → Type 0 = λ r. MayAdd access_name access_begun r.tokens (filter_map (access_kept past p) (live_rows access_life access_begun at t.tokens)) row in
+        let L : List TokenRow → Type 0 = λ xs. MayAddRow access_name access_begun v.reserved.tokens xs row in
+        let B : Reserved → Type 0 = λ r. MayAddRow access_name access_begun r.tokens (filter_map (access_kept past p) (live_rows access_life access_begun at t.tokens)) row in
         subst L (sym kept.tokens) (subst B (sym has_room)
-        (may_add access_name access_life access_begun (access_kept past p) before at up.order t.tokens (access_names past p) (access_begun_kept past p) up.begun.tokens (accesses past) up.agrees.tokens row
+        (may_add_reserved access_name access_life access_begun (access_kept past p) before at up.order t.tokens (access_names past p) (access_begun_kept past p) up.begun.tokens (accesses past) up.agrees.tokens row
         (access_made_begun (accesses past) past p row made) (sym (ap F word) ∙ room)))
 
-    pub token_may : IfSome token (λ r. (r.user < 512) × (r.client < 128)) → IfSome token (λ r. MayAdd access_name access_begun v.reserved.tokens v.tokens r × (r.user < 512) × (r.client < 128))
-    token_may low = if_three (λ (r : TokenRow). MayAdd access_name access_begun v.reserved.tokens v.tokens r) (λ (r : TokenRow). r.user < 512) (λ (r : TokenRow). r.client < 128) token token_fits low
+    pub token_may : IfSome token (λ r. (r.user < 512) × (r.client < 128)) → IfSome token (λ r. MayAddRow access_name access_begun v.reserved.tokens v.tokens r × (r.user < 512) × (r.client < 128))
+    token_may low = if_three (λ (r : TokenRow). MayAddRow access_name access_begun v.reserved.tokens v.tokens r) (λ (r : TokenRow). r.user < 512) (λ (r : TokenRow). r.client < 128) token token_fits low
 
   -- ---- the tables after the pair
 

@@ -3,14 +3,15 @@ use Rattle.std.specs.Prelude.{◌≡◌, ◌<◌, ℕ, Bool, true, ◌&&◌}
 use Rattle.std.specs.List.{list_all}
 use Rattle.sso_base.specs.Rows.{live_rows}
 use Rattle.client_registry.specs.Configuration.{Configuration}
+use Rattle.client_registry.specs.Numbers.{is_user}
 use Rattle.code_grant.specs.declared.rows.TurnRow.{TurnRow}
 use Rattle.code_grant.specs.declared.rows.SessionRow.{SessionRow}
 use Rattle.code_grant.specs.declared.rows.CodeRow.{CodeRow}
-use Rattle.code_grant.specs.Rows.{turn_life, turn_begun, session_life, session_begun, code_life, code_begun, access_life, access_begun}
-use Rattle.code_grant.specs.Held.{none_after}
+use Rattle.oidc_words.specs.Lives.{turn_life, session_life, code_life, access_life}
+use Rattle.code_grant.specs.Rows.{turn_begun, session_begun, code_begun, access_begun}
+use Rattle.held_rows.specs.Held.{none_after}
 use Rattle.code_grant.specs.Consents.{granted_to}
 use Rattle.code_grant.specs.Tables.{Tables}
-use Rattle.op_exchange.specs.Clients.{is_user}
 use Rattle.op_exchange.specs.Asks.{is_prepared_wish}
 use Rattle.op_answer.specs.Past.{OpPast}
 use Rattle.op_answer.specs.Turns.{live_turns}

@@ -4,7 +4,7 @@ use Rattle.std.specs.Prelude.{◌≡◌, ◌≢◌, ◌<◌, ℕ, Bool, true, fa
 use Rattle.std.specs.Str.{bytes_eq}
 use Rattle.sso_base.specs.Words.{Word}
 use Rattle.sso_base.specs.Rows.{without, put, row_of, live_rows}
-use Rattle.scope_claims.specs.Claims.{joined}
+use Rattle.oidc_words.specs.Scopes.{joined}
 use Rattle.request_need.specs.Need.{needed_scopes}
 use Rattle.token_endpoint.specs.declared.granting.Grant.{Grant}
 use Rattle.code_grant.specs.declared.rows.TurnRow.{TurnRow}
@@ -13,15 +13,17 @@ use Rattle.code_grant.specs.declared.rows.CodeRow.{CodeRow}
 use Rattle.code_grant.specs.declared.rows.TokenRow.{TokenRow}
 use Rattle.code_grant.specs.declared.redeem.Redeem.{Redeem}
 use Rattle.code_grant.specs.declared.redeem.Redeem.TheVariants.{Redeemed}
-use Rattle.code_grant.specs.Rows.{turn_name, turn_begun, turn_life, session_name, session_begun, session_life, code_name, code_begun, code_life, access_name, access_begun, access_life}
-use Rattle.code_grant.specs.Held.{none_after, most_rows}
+use Rattle.code_grant.specs.Rows.{turn_name, turn_begun, session_name, session_begun, code_name, code_begun, access_name, access_begun}
+use Rattle.oidc_words.specs.Lives.{turn_life, session_life, code_life, access_life}
+use Rattle.held_rows.specs.Held.{none_after, most_rows}
 use Rattle.code_grant.specs.Consents.{granted_to}
-use Rattle.code_grant.specs.Tables.{Tables, turn_with, turn_set, turn_ended, session_visited, redemption, after_answer}
+use Rattle.code_grant.specs.Tables.{Tables, turn_set, turn_ended, session_visited, redemption, after_answer}
 use Rattle.code_grant.specs.Tables as tables
 use Rattle.op_exchange.specs.declared.ask.OpAsk.{OpAsk}
 use Rattle.op_exchange.specs.declared.ask.OpAsk.TheVariants.{Login, Consent, Token, SignOut}
 use Rattle.op_exchange.specs.declared.reply.OpReply.{OpReply}
-use Rattle.op_exchange.specs.declared.reply.OpReply.TheVariants.{ConsentPage, Answered, Refused, Tokens, TokenRefused, SignedOut}
+use Rattle.op_exchange.specs.declared.reply.OpReply.TheVariants.{ConsentPage, Tokens, TokenRefused, SignedOut}
+use Rattle.op_exchange.specs.Replied.{ends_turn}
 use Rattle.op_tables.specs.declared.keeping.Agreement.{Agreement}
 use Rattle.op_answer.specs.Past.{OpPair, OpPast}
 use Rattle.op_answer.specs.Turns.{turns, turn_made, turn_kept}
@@ -97,8 +99,7 @@ FindsCode codes past at ask = option_and_then (λ w. row_of code_name w codes) (
 
 -- the turn of a consent form that agreed and was answered or refused
 abbrev pub agreed_turn : OpAsk → OpReply → Option Word
-agreed_turn (Consent turn true b session) (Answered answer given) = turn
-agreed_turn (Consent turn true b session) (Refused refusal given) = turn
+agreed_turn (Consent turn true b session) reply = if ends_turn reply then turn else None
 agreed_turn ask reply = None
 
 abbrev pub session_in : Tables → Option Word → Option SessionRow
@@ -121,13 +122,6 @@ pub record FindsAgreement (t : Tables) (past : OpPast) (asked : OpAsk) (reply : 
   pub session : (row : TurnRow) → turn_agreed past asked reply ≡ Some row → session_in t row.session ≡ session_of past row.session
 
 -- ---- rows that are put
-
--- the row may be added to a table: there is room, no row has its name, and none begins later
-pub record MayAdd {R : Type 0} (name : R → Word) (begun : R → ℕ) (reserved : Bool) (rows : List R) (row : R) : Type 0 where
-  pub room : reserved ≡ true
-  pub few : length rows < most_rows
-  pub unnamed : row_of name (name row) rows ≡ None
-  pub latest : none_after begun (begun row) rows ≡ true
 
 -- the row may be put into a table, in place of one of its name
 pub record MayPut {R : Type 0} (name : R → Word) (begun : R → ℕ) (reserved : Bool) (rows : List R) (row : R) : Type 0 where

@@ -4,7 +4,8 @@ ghost use Rattle.std.specs.Prelude.{◌≡◌, ◌<◌, ◌≤◌, ℕ, filter_m
 ghost use Rattle.std.specs.Option.{option_copied};
 ghost use Rattle.sso_base.specs.Words.{Word, word_of_text};
 ghost use Rattle.sso_base.specs.Rows.{put, row_of};
-ghost use Rattle.scope_claims.specs.Claims.{joined};
+ghost use Rattle.oidc_words.specs.Scopes.{joined};
+ghost use Rattle.held_rows.specs.Held.{MayAddRow};
 ghost use Rattle.code_grant.specs.Rows.{turn_name, turn_begun, session_name, session_begun, code_name, code_begun, access_name, access_begun};
 ghost use Rattle.code_grant.specs.Consents.{granted_to};
 ghost use Rattle.op_answer.specs.Past.{OpPast};
@@ -14,22 +15,15 @@ ghost use Rattle.op_answer.specs.Codes as codes;
 ghost use Rattle.op_answer.specs.AccessTokens as tokens;
 ghost use Rattle.op_answer.specs.Consents as consents;
 ghost use Rattle.op_tables.specs.Keeping as spec;
-ghost use Rattle.op_exchange.specs.Replied as replied;
 
 use code_grant::{CodeRow, Grants, SessionRow, TokenRow, TurnRow};
+use oidc_words::Scopes;
 use op_exchange::{OpAsk, OpReply};
 use request_need::needed_scopes;
-use scope_claims::Scopes;
 use sso_base::{Moment, Pair, Word};
 use token_endpoint::Grant;
 
 // ---- turns
-
-fn ends_turn(reply: &OpReply) -> bool
-    ensures { result ≡ replied.ends_turn reply.now }
-{
-    matches!(reply, OpReply::Answered { .. } | OpReply::Refused { .. })
-}
 
 // The turn that a form was posted for.
 fn turn_named(ask: &OpAsk) -> Option<Word>
@@ -71,7 +65,7 @@ pub(crate) fn keep_turns(grants: &mut Grants, pair: &Pair<OpAsk, OpReply>)
 {
     let turn = turn_named(&pair.entry.ask);
     let taken = session_taken(&pair.entry.ask, &pair.reply);
-    move_turn(grants, turn, ends_turn(&pair.reply), taken);
+    move_turn(grants, turn, pair.reply.ends_turn(), taken);
 }
 
 // ---- sessions
@@ -80,13 +74,8 @@ pub(crate) fn keep_turns(grants: &mut Grants, pair: &Pair<OpAsk, OpReply>)
 pub fn session_set(ask: &OpAsk, reply: &OpReply) -> Option<Word>
     ensures { result ≡ sessions.session_set ask.now reply.now }
 {
-    let OpAsk::Login { .. } = ask else {
-        return None;
-    };
-    match reply {
-        OpReply::ConsentPage { session, .. }
-        | OpReply::Answered { session, .. }
-        | OpReply::Refused { session, .. } => *session,
+    match ask {
+        OpAsk::Login { .. } => reply.session_given(),
         _ => None,
     }
 }
@@ -191,7 +180,7 @@ pub(crate) fn keep_codes(grants: &mut Grants, pair: &Pair<OpAsk, OpReply>)
 // ---- rows that are put
 
 fn put_turn(grants: &mut Grants, row: Option<TurnRow>)
-    requires { IfSome row (λ r. spec.MayAdd turn_name turn_begun grants.old.reserved.turns grants.old.turns r × (r.wish.client < 128)) }
+    requires { IfSome row (λ r. MayAddRow turn_name turn_begun grants.old.reserved.turns grants.old.turns r × (r.wish.client < 128)) }
     ensures { grants.new ≡ spec.turn_put row grants.old }
 {
     if let Some(row) = row {
@@ -211,7 +200,7 @@ fn put_session(grants: &mut Grants, row: Option<SessionRow>)
 }
 
 fn put_code(grants: &mut Grants, row: Option<CodeRow>)
-    requires { IfSome row (λ r. spec.MayAdd code_name code_begun grants.old.reserved.codes grants.old.codes r × (r.user < 512) × (r.wish.client < 128)) }
+    requires { IfSome row (λ r. MayAddRow code_name code_begun grants.old.reserved.codes grants.old.codes r × (r.user < 512) × (r.wish.client < 128)) }
     ensures { grants.new ≡ spec.code_put row grants.old }
 {
     if let Some(row) = row {
@@ -220,7 +209,7 @@ fn put_code(grants: &mut Grants, row: Option<CodeRow>)
 }
 
 fn put_token(grants: &mut Grants, row: Option<TokenRow>)
-    requires { IfSome row (λ r. spec.MayAdd access_name access_begun grants.old.reserved.tokens grants.old.tokens r × (r.user < 512) × (r.client < 128)) }
+    requires { IfSome row (λ r. MayAddRow access_name access_begun grants.old.reserved.tokens grants.old.tokens r × (r.user < 512) × (r.client < 128)) }
     ensures { grants.new ≡ spec.token_put row grants.old }
 {
     if let Some(row) = row {
@@ -236,10 +225,10 @@ pub(crate) fn put_rows(
     code: Option<CodeRow>,
     token: Option<TokenRow>,
 )
-    requires turn { IfSome turn (λ r. spec.MayAdd turn_name turn_begun grants.old.reserved.turns grants.old.turns r × (r.wish.client < 128)) }
+    requires turn { IfSome turn (λ r. MayAddRow turn_name turn_begun grants.old.reserved.turns grants.old.turns r × (r.wish.client < 128)) }
     requires session { IfSome session (λ r. spec.MayPut session_name session_begun grants.old.reserved.sessions grants.old.sessions r × (r.user < 512)) }
-    requires code { IfSome code (λ r. spec.MayAdd code_name code_begun grants.old.reserved.codes grants.old.codes r × (r.user < 512) × (r.wish.client < 128)) }
-    requires token { IfSome token (λ r. spec.MayAdd access_name access_begun grants.old.reserved.tokens grants.old.tokens r × (r.user < 512) × (r.client < 128)) }
+    requires code { IfSome code (λ r. MayAddRow code_name code_begun grants.old.reserved.codes grants.old.codes r × (r.user < 512) × (r.wish.client < 128)) }
+    requires token { IfSome token (λ r. MayAddRow access_name access_begun grants.old.reserved.tokens grants.old.tokens r × (r.user < 512) × (r.client < 128)) }
     ensures turns { grants.new.turns ≡ put turn_name turn grants.old.turns }
     ensures sessions { grants.new.sessions ≡ put session_name session grants.old.sessions }
     ensures codes { grants.new.codes ≡ put code_name code grants.old.codes }
@@ -266,16 +255,12 @@ pub(crate) struct Agreement {
 fn agreed_turn(ask: &OpAsk, reply: &OpReply) -> Option<Word>
     ensures { result ≡ spec.agreed_turn ask.now reply.now }
 {
-    let OpAsk::Consent {
-        turn,
-        agree: true,
-        ..
-    } = ask
-    else {
-        return None;
-    };
-    match reply {
-        OpReply::Answered { .. } | OpReply::Refused { .. } => *turn,
+    match ask {
+        OpAsk::Consent {
+            turn,
+            agree: true,
+            ..
+        } if reply.ends_turn() => *turn,
         _ => None,
     }
 }

@@ -2,7 +2,7 @@
 
 ghost use Rattle.std.specs.Prelude.{◌≡◌, ◌<◌, ◌≤◌, ℕ, true, length, IfSome};
 ghost use Rattle.client_registry.specs.Configuration.{Configuration};
-ghost use Rattle.code_grant.specs.Held.{most_rows};
+ghost use Rattle.held_rows.specs.Held.{most_rows};
 ghost use Rattle.op_answer.specs.Past.{OpPast};
 ghost use Rattle.op_tables.specs.Keeping.{FollowsPair};
 ghost use Rattle.op_tables.specs.Taking.{TakesUp};

@@ -1,2 +1,4 @@
 pub mod Keeping
+pub mod PathBelow
+pub mod Below
 mod Samples

@@ -1,8 +1,10 @@
 -- The rule computed on texts that keep it, and on texts that break it.
-use Rattle.std.proofs.Common.{◌≡◌, ℕ, [], ◌∷◌, Bool, codes, true, false, Option, Some, None, option_map, refl}
+use Rattle.std.proofs.Common.{◌≡◌, ℕ, [], ◌∷◌, Bool, List, codes, true, false, is_some, Option, Some, None, option_map, refl, sym, ap, ◌∙◌, true≢false}
 use Rattle.url.proofs.OnLiterals.{url_on_literals}
 use Rattle.registered_url.specs.declared.web_url.WebUrl.{WebUrl}
-use Rattle.registered_url.specs.Rule.{url_of, parts_of, is_same_server}
+use Rattle.url.specs.Parts.{Parts}
+use Rattle.registered_url.specs.Rule.{KeepsUrlRule, kept_parts, url_of, parts_of, is_same_server}
+use Rattle.registered_url.proofs.Keeping.{urls_keep, kept_url}
 use Rattle.registered_url.specs.Query.{query_names}
 use Rattle.std.specs.Str.Lossy.{utf8_lossy, utf8_valid_len, utf8_error_len}
 use Rattle.std.specs.Str.{chars}
@@ -49,6 +51,17 @@ breaks-a_space = refl
 breaks-no_url : url_of (codes "a.b") ≡ none
 unfolding url_on_literals parts_of
 breaks-no_url = refl
+
+-- ---- the rule in literal words
+
+abbrev here : List ℕ
+here = codes "http://127.0.0.1:8081/cb?a=b"
+
+rule-kept_at_this_machine : (url : Parts) × KeepsUrlRule here url × (record { secure = false; host = codes "127.0.0.1"; port = 8081; path = codes "/cb"; query = Some (codes "a=b") } ≡ kept_parts url)
+rule-kept_at_this_machine = urls_keep here _ keeps-http_at_this_machine
+
+rule-broken_by_http_elsewhere : (url : Parts) → KeepsUrlRule (codes "http://a.b/") url → ⊥
+rule-broken_by_http_elsewhere url keeps = true≢false (ap is_some (sym (kept_url (codes "http://a.b/") url keeps) ∙ breaks-http_elsewhere))
 
 -- ---- scheme, host and port
 

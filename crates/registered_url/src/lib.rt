@@ -14,8 +14,6 @@
 mod law;
 mod query;
 mod reading;
-#[cfg(test)]
-mod tests;
 mod web_url;
 
 pub use law::urls_keep_the_rule;

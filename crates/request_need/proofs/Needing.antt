@@ -3,10 +3,11 @@ use Rattle.std.proofs.Common.{◌≡◌, ◌≢◌, ◌≤◌, ◌+◌, ◌-◌,
 use Rattle.sso_base.proofs.Decided.{above_false, not_above, not_not}
 use Rattle.client_registry.specs.declared.records.Client.{Client}
 use Rattle.client_registry.specs.Configuration.{Configuration, subject_at}
-use Rattle.scope_claims.specs.Claims.{is_one_of, covers}
+use Rattle.oidc_words.specs.Words.{is_one_of}
+use Rattle.oidc_words.specs.Scopes.{covers}
 use Rattle.auth_request.specs.declared.wish.Wish.{Wish}
-use Rattle.auth_request.specs.declared.wish.AuthError.{AuthError}
-use Rattle.auth_request.specs.declared.wish.AuthError.TheVariants.{LoginRequired, ConsentRequired, AccessDenied}
+use Rattle.oidc_words.specs.declared.errors.AuthError.{AuthError}
+use Rattle.oidc_words.specs.declared.errors.AuthError.TheVariants.{LoginRequired, ConsentRequired, AccessDenied}
 use Rattle.request_need.specs.declared.need.Need.{Need}
 use Rattle.request_need.specs.declared.need.Need.TheVariants as need
 use Rattle.request_need.specs.declared.standing.Standing.{Standing}
@@ -81,13 +82,16 @@ no_consent false l false false true h = cc
 no_consent false true false false false h = cc
 no_consent false false false false false h = cc
 
-abbrev Refused : Bool → Bool → Bool → AuthError → Type 0
-Refused none foreign turn code = ((code ≡ LoginRequired) × (none ≡ true)) ⊎ ((code ≡ ConsentRequired) × (none ≡ true)) ⊎ ((code ≡ AccessDenied) × (turn ≡ true) × (foreign ≡ true))
+abbrev Refused : Bool → Bool → Bool → Bool → Bool → AuthError → Type 0
+Refused none late foreign unagreed turn code =
+    ((code ≡ LoginRequired) × (none ≡ true) × ((late ≡ true) ⊎ (foreign ≡ true)))
+    ⊎ ((code ≡ ConsentRequired) × (none ≡ true) × (unagreed ≡ true))
+    ⊎ ((code ≡ AccessDenied) × (turn ≡ true) × (foreign ≡ true))
 
-refused : (none late foreign unagreed turn login : Bool) (code : AuthError) → cascade none late foreign unagreed turn login ≡ need.Error code → Refused none foreign turn code
-refused true true f u t g code h = inl (cc, refl)
-refused true false true u t g code h = inl (cc, refl)
-refused true false false true t g code h = inr (inl (cc, refl))
+refused : (none late foreign unagreed turn login : Bool) (code : AuthError) → cascade none late foreign unagreed turn login ≡ need.Error code → Refused none late foreign unagreed turn code
+refused true true f u t g code h = inl (cc, refl, inl refl)
+refused true false true u t g code h = inl (cc, refl, inr refl)
+refused true false false true t g code h = inr (inl (cc, refl, refl))
 refused true false false false true g code h = cc
 refused true false false false false true code h = cc
 refused true false false false false false code h = cc
@@ -121,10 +125,6 @@ not_older (Some m) auth_time at h = not_above (at - auth_time) m (omega (arith, 
 late_in_turn : (turn older : Bool) → turn ≡ true → (not turn && older) ≡ false
 late_in_turn true older h = refl
 late_in_turn false older h = cc
-
-late_out : (turn older : Bool) → turn ≡ false → (not turn && older) ≡ false → older ≡ false
-late_out true older t h = cc
-late_out false older t h = h
 
 not_late_out : (turn older : Bool) → older ≡ false → (not turn && older) ≡ false
 not_late_out true older h = refl
@@ -247,17 +247,19 @@ consent_is_wanted c wish (Some s) at a h =
     let not_wanted : is_unagreed c wish (Some s) ≡ false = not_unagreed c wish s (inl a) in
     no_consent wish.none (is_late wish (Some s) at) (is_foreign c wish (Some s)) s.in_turn wish.login (rw not_wanted at h)
 
-unsigned_refused : (c : Configuration) (wish : Wish) (code : AuthError) (none : Bool) → wish.none ≡ none → unsigned none ≡ need.Error code → HasCause c wish None code
-unsigned_refused c wish code true is h = inl (cc, is)
-unsigned_refused c wish code false is h = cc
+unsigned_refused : (c : Configuration) (wish : Wish) (at : ℕ) (code : AuthError) (none : Bool) → wish.none ≡ none → unsigned none ≡ need.Error code → HasCause c wish None at code
+unsigned_refused c wish at code true is h = inl (cc, is, inl refl)
+unsigned_refused c wish at code false is h = cc
 
-caused : (c : Configuration) (wish : Wish) (s : Standing) (code : AuthError) → Refused wish.none (is_foreign c wish (Some s)) s.in_turn code → HasCause c wish (Some s) code
-caused c wish s code (inl h) = inl h
-caused c wish s code (inr (inl h)) = inr (inl h)
-caused c wish s code (inr (inr h)) = inr (inr (h.0, (h.1, other (subject_at c wish.client s.user) wish.subs h.2)))
+caused : (c : Configuration) (wish : Wish) (s : Standing) (at : ℕ) (code : AuthError)
+    → Refused wish.none (is_late wish (Some s) at) (is_foreign c wish (Some s)) (is_unagreed c wish (Some s)) s.in_turn code
+    → HasCause c wish (Some s) at code
+caused c wish s at code (inl h) = inl (h.0, h.1, inr h.2)
+caused c wish s at code (inr (inl h)) = inr (inl h)
+caused c wish s at code (inr (inr h)) = inr (inr (h.0, (h.1, other (subject_at c wish.client s.user) wish.subs h.2)))
 
-pub refusal_has_its_cause : (c : Configuration) (wish : Wish) (standing : Option Standing) (at : ℕ) (code : AuthError) → needed c wish standing at ≡ need.Error code → HasCause c wish standing code
+pub refusal_has_its_cause : (c : Configuration) (wish : Wish) (standing : Option Standing) (at : ℕ) (code : AuthError) → needed c wish standing at ≡ need.Error code → HasCause c wish standing at code
 unfolding needed
-refusal_has_its_cause c wish None at code h = unsigned_refused c wish code wish.none refl h
+refusal_has_its_cause c wish None at code h = unsigned_refused c wish at code wish.none refl h
 refusal_has_its_cause c wish (Some s) at code h =
-    caused c wish s code (refused wish.none (is_late wish (Some s) at) (is_foreign c wish (Some s)) (is_unagreed c wish (Some s)) s.in_turn wish.login code h)
+    caused c wish s at code (refused wish.none (is_late wish (Some s) at) (is_foreign c wish (Some s)) (is_unagreed c wish (Some s)) s.in_turn wish.login code h)

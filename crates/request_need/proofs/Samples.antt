@@ -1,17 +1,18 @@
 -- Needs, by computation.
 use Rattle.std.proofs.Common.{◌≡◌, ℕ, true, false, [], ◌∷◌, arith, Some, None, codes, inl, inr, refl}
-use Rattle.registered_url.specs.declared.web_url.WebUrl.{WebUrl}
 use Rattle.client_registry.specs.declared.records.User.{User}
 use Rattle.client_registry.specs.declared.records.Client.{Client}
 use Rattle.client_registry.specs.Configuration.{Configuration}
-use Rattle.scope_claims.specs.declared.scopes.Scopes.{Scopes}
-use Rattle.scope_claims.specs.Claims.{no_scopes, joined, scopes_with_any, scopes_with, is_one_of, profile_claims, email_claims, address_claims, phone_claims}
+use Rattle.oidc_words.specs.declared.scopes.Scopes.{Scopes}
+use Rattle.oidc_words.specs.Scopes.{no_scopes, joined}
+use Rattle.oidc_words.specs.Claims.{scopes_with_any, scopes_with, profile_claims, email_claims, address_claims, phone_claims}
+use Rattle.oidc_words.specs.Words.{is_one_of}
 use Rattle.auth_request.specs.declared.wish.Wish.{Wish}
-use Rattle.auth_request.specs.declared.wish.AuthError.TheVariants.{LoginRequired, ConsentRequired, AccessDenied}
+use Rattle.oidc_words.specs.declared.errors.AuthError.TheVariants.{LoginRequired, ConsentRequired, AccessDenied}
 use Rattle.request_need.specs.declared.need.Need.TheVariants.{Login, Consent, Answer, Error}
 use Rattle.request_need.specs.declared.standing.Standing.{Standing}
 use Rattle.request_need.specs.Need.{needed, needed_scopes, IsUserOf}
-use Rattle.request_need.specs.Answerable.{IsAnswerable, IsDenied}
+use Rattle.request_need.specs.Answerable.{IsAnswerable, IsDenied, LacksLogin, HasCause}
 
 -- a client that asks consent, and one that asks none
 abbrev client : Client
@@ -154,6 +155,27 @@ denied = (refl, refl)
 
 not_denied : IsDenied sample wish (Some (standing profile)) → ⊥
 not_denied h = h.1
+
+-- `none` is refused for want of a login where there is none, and not where a session has all that is needed
+abbrev silent : Wish
+silent = record wish { none = true }
+
+nobody_is_a_cause : HasCause sample silent None 1000 LoginRequired
+nobody_is_a_cause = inl (refl, refl, inl refl)
+
+lacks_no_login : LacksLogin sample silent (Some (standing profile)) 1000 → ⊥
+lacks_no_login (inl h) = cc
+lacks_no_login (inr (inl h)) = (let k : false ≡ true = h in cc)
+lacks_no_login (inr (inr h)) = (let k : false ≡ true = h in cc)
+
+known_user_is_no_cause : HasCause sample silent (Some (standing profile)) 1000 LoginRequired → ⊥
+known_user_is_no_cause (inl h) = lacks_no_login h.2
+known_user_is_no_cause (inr (inl h)) = (let k : LoginRequired ≡ ConsentRequired = h.0 in cc)
+known_user_is_no_cause (inr (inr h)) = (let k : LoginRequired ≡ AccessDenied = h.0 in cc)
+
+stranger_is_a_cause : HasCause sample silent (Some (standing no_scopes)) 1000 ConsentRequired
+unfolding needed_scopes joined scopes_with_any
+stranger_is_a_cause = inr (inl (refl, refl, refl))
 
 user_of : IsUserOf sample (Some (standing profile))
 user_of = omega arith

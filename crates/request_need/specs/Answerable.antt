@@ -1,12 +1,14 @@
 -- Which requests may be answered, in the words of the standard (OpenID Connect Core 1.0, 3.1.2.1 and 3.1.2.4).
-use Rattle.std.specs.Prelude.{ℕ, ◌≡◌, ◌≤◌, ◌+◌, ◌⊎◌, true, false, List, Option, Some, None, slice_get}
+use Rattle.std.specs.Prelude.{ℕ, ◌≡◌, ◌≤◌, ◌+◌, ◌⊎◌, true, false, List, Option, Some, None}
 use Rattle.client_registry.specs.Configuration.{Configuration, subject_at}
-use Rattle.scope_claims.specs.Claims.{is_one_of, covers}
+use Rattle.client_registry.specs.Numbers.{client_at}
+use Rattle.oidc_words.specs.Words.{is_one_of}
+use Rattle.oidc_words.specs.Scopes.{covers}
 use Rattle.auth_request.specs.declared.wish.Wish.{Wish}
-use Rattle.auth_request.specs.declared.wish.AuthError.{AuthError}
-use Rattle.auth_request.specs.declared.wish.AuthError.TheVariants.{LoginRequired, ConsentRequired, AccessDenied}
+use Rattle.oidc_words.specs.declared.errors.AuthError.{AuthError}
+use Rattle.oidc_words.specs.declared.errors.AuthError.TheVariants.{LoginRequired, ConsentRequired, AccessDenied}
 use Rattle.request_need.specs.declared.standing.Standing.{Standing}
-use Rattle.request_need.specs.Need.{needed_scopes, asks_consent}
+use Rattle.request_need.specs.Need.{needed_scopes, asks_consent, is_late, is_foreign, is_unagreed}
 
 -- the login is no more seconds ago than `max_age` allows
 abbrev pub IsRecent : Option ℕ → ℕ → ℕ → Type 0
@@ -30,7 +32,7 @@ pub record HasGranted (wish : Wish) (s : Standing) : Type 0 where
 
 -- the client asks no consent, or the user agreed to this request itself, or has granted it before
 abbrev pub HasAgreed : Configuration → Wish → Standing → Type 0
-HasAgreed c wish s = (asks_consent (slice_get c.clients wish.client) ≡ false) ⊎ (s.agreed ≡ true) ⊎ HasGranted wish s
+HasAgreed c wish s = (asks_consent (client_at c wish.client) ≡ false) ⊎ (s.agreed ≡ true) ⊎ HasGranted wish s
 
 pub record IsAnswerable (c : Configuration) (wish : Wish) (s : Standing) (at : ℕ) : Type 0 where
   pub signed_in : HasSignedIn wish s at
@@ -47,7 +49,14 @@ abbrev pub IsDenied : Configuration → Wish → Option Standing → Type 0
 IsDenied c wish None = ⊥
 IsDenied c wish (Some s) = (s.in_turn ≡ true) × IsOther (subject_at c wish.client s.user) wish.subs
 
--- the cause of a refusal: no page may be shown (Core 3.1.2.6, `login_required` and `consent_required`), or access is denied
-abbrev pub HasCause : Configuration → Wish → Option Standing → AuthError → Type 0
-HasCause c wish standing code =
-    ((code ≡ LoginRequired) × (wish.none ≡ true)) ⊎ ((code ≡ ConsentRequired) × (wish.none ≡ true)) ⊎ ((code ≡ AccessDenied) × IsDenied c wish standing)
+-- nobody is logged in, or the login is too old, or another user is asked for: a login is needed
+abbrev pub LacksLogin : Configuration → Wish → Option Standing → ℕ → Type 0
+LacksLogin c wish standing at = (standing ≡ None) ⊎ (is_late wish standing at ≡ true) ⊎ (is_foreign c wish standing ≡ true)
+
+-- the cause of a refusal: a login or a consent is needed and no page may be shown (Core 3.1.2.6, `login_required` and
+-- `consent_required`), or access is denied
+abbrev pub HasCause : Configuration → Wish → Option Standing → ℕ → AuthError → Type 0
+HasCause c wish standing at code =
+    ((code ≡ LoginRequired) × (wish.none ≡ true) × LacksLogin c wish standing at)
+    ⊎ ((code ≡ ConsentRequired) × (wish.none ≡ true) × (is_unagreed c wish standing ≡ true))
+    ⊎ ((code ≡ AccessDenied) × IsDenied c wish standing)

@@ -1,11 +1,14 @@
 -- What an authorization request still needs before it is answered (OpenID Connect Core 1.0, 3.1.2.1, 3.1.2.3 and 3.1.2.4).
-use Rattle.std.specs.Prelude.{ℕ, ◌-◌, ◌<◌, ◌++◌, length, slice_get, Bool, true, false, not, ◌&&◌, ◌||◌, nat_lt, List, Option, Some, None, is_none, if◌then◌else◌}
+use Rattle.std.specs.Prelude.{ℕ, ◌-◌, ◌<◌, ◌++◌, length, Bool, true, false, not, ◌&&◌, ◌||◌, nat_lt, List, Option, Some, None, is_none, if◌then◌else◌}
 use Rattle.client_registry.specs.declared.records.Client.{Client}
 use Rattle.client_registry.specs.Configuration.{Configuration, subject_at}
-use Rattle.scope_claims.specs.declared.scopes.Scopes.{Scopes}
-use Rattle.scope_claims.specs.Claims.{is_one_of, joined, covers, scopes_with_any}
+use Rattle.client_registry.specs.Numbers.{client_at}
+use Rattle.oidc_words.specs.declared.scopes.Scopes.{Scopes}
+use Rattle.oidc_words.specs.Words.{is_one_of}
+use Rattle.oidc_words.specs.Scopes.{joined, covers}
+use Rattle.oidc_words.specs.Claims.{scopes_with_any}
 use Rattle.auth_request.specs.declared.wish.Wish.{Wish}
-use Rattle.auth_request.specs.declared.wish.AuthError.TheVariants.{LoginRequired, ConsentRequired, AccessDenied}
+use Rattle.oidc_words.specs.declared.errors.AuthError.TheVariants.{LoginRequired, ConsentRequired, AccessDenied}
 use Rattle.request_need.specs.declared.need.Need.{Need}
 use Rattle.request_need.specs.declared.need.Need.TheVariants as need
 use Rattle.request_need.specs.declared.standing.Standing.{Standing}
@@ -51,7 +54,7 @@ asks_consent (Some client) = client.asks_consent
 abbrev pub is_unagreed : Configuration → Wish → Option Standing → Bool
 is_unagreed c wish None = false
 is_unagreed c wish (Some s) =
-    asks_consent (slice_get c.clients wish.client)
+    asks_consent (client_at c wish.client)
     && not s.agreed
     && (wish.consent || not (covers s.granted (needed_scopes wish)) || not s.granted.openid)
 

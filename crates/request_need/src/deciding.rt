@@ -1,14 +1,13 @@
 // The need of a request.
 
-ghost use Rattle.std.specs.Prelude.{◌≡◌, ◌<◌, length, option_map, slice_get};
-ghost use Rattle.scope_claims.specs.Claims.{is_one_of as is_one_of_texts};
+ghost use Rattle.std.specs.Prelude.{◌≡◌, ◌<◌, length, option_map};
 ghost use Rattle.request_need.specs.Need as spec;
 
 use crate::need::Need;
 use crate::standing::Standing;
-use auth_request::{AuthError, Wish};
+use auth_request::Wish;
 use client_registry::Registry;
-use scope_claims::Scopes;
+use oidc_words::{AuthError, Scopes};
 use sso_base::{Moment, Text, Texts};
 
 /// The scope values that a consent to the wish is about: those that it names, and those that hold a claim that it asks
@@ -53,23 +52,11 @@ fn is_late(wish: &Wish, standing: Option<&Standing>, at: Moment) -> bool
     }
 }
 
-#[tactic(auto, using(configuration_rows::proofs::Lists::any_rest, crate::proofs::Finding::any_here))]
-fn is_one_of(texts: &Texts, text: &Text) -> bool
-    ensures { result ≡ is_one_of_texts texts.now text.now }
-{
-    for place in 0..texts.count() {
-        if text.equals(texts.at(place).as_str()) {
-            return true;
-        }
-    }
-    false
-}
-
 fn is_none_of(sub: &Text, subs: &Option<Texts>) -> bool
     ensures { result ≡ spec.is_none_of sub.now subs.now }
 {
     match subs {
-        Some(subs) => !is_one_of(subs, sub),
+        Some(subs) => !subs.has(sub.as_str()),
         None => false,
     }
 }

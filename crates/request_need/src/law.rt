@@ -1,9 +1,10 @@
 // What holds of the need of a request, for the crates above.
 
-ghost use Rattle.std.specs.Prelude.{◌≡◌, ◌≢◌, ℕ, true, false, Option, Some, None, slice_get};
+ghost use Rattle.std.specs.Prelude.{◌≡◌, ◌≢◌, ℕ, true, false, Option, Some, None};
 ghost use Rattle.client_registry.specs.Configuration.{Configuration};
+ghost use Rattle.client_registry.specs.Numbers.{client_at};
 ghost use Rattle.auth_request.specs.declared.wish.Wish.{Wish};
-ghost use Rattle.auth_request.specs.declared.wish.AuthError.{AuthError};
+ghost use Rattle.oidc_words.specs.declared.errors.AuthError.{AuthError};
 ghost use Rattle.request_need.specs.declared.standing.Standing.{Standing};
 ghost use Rattle.request_need.specs.declared.need.Need.TheVariants as need;
 ghost use Rattle.request_need.specs.Need.{needed, asks_consent};
@@ -25,11 +26,11 @@ pub fn silent_requests_show_no_page()
 
 /// Consent is never asked for a client that asks none.
 pub fn given_consent_is_not_asked()
-    ensures { (c : Configuration) (wish : Wish) (standing : Option Standing) (at : ℕ) → asks_consent (slice_get c.clients wish.client) ≡ false → needed c wish standing at ≢ need.Consent }
+    ensures { (c : Configuration) (wish : Wish) (standing : Option Standing) (at : ℕ) → asks_consent (client_at c wish.client) ≡ false → needed c wish standing at ≢ need.Consent }
 {}
 
-/// A request is refused where a page is needed and `prompt` is `none`, or where the user who logged in for it is none of
-/// those that are asked for (OpenID Connect Core 1.0, 3.1.2.6).
+/// A request is refused where a login or a consent is needed and `prompt` is `none`, or where the user who logged in for it
+/// is none of those that are asked for (OpenID Connect Core 1.0, 3.1.2.6).
 pub fn refusals_have_their_causes()
-    ensures { (c : Configuration) (wish : Wish) (standing : Option Standing) (at : ℕ) (code : AuthError) → needed c wish standing at ≡ need.Error code → HasCause c wish standing code }
+    ensures { (c : Configuration) (wish : Wish) (standing : Option Standing) (at : ℕ) (code : AuthError) → needed c wish standing at ≡ need.Error code → HasCause c wish standing at code }
 {}

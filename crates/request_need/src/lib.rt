@@ -13,8 +13,6 @@ mod deciding;
 mod law;
 mod need;
 mod standing;
-#[cfg(test)]
-mod tests;
 
 pub use deciding::{decide, needed_scopes};
 pub use law::{

@@ -1,6 +1,6 @@
 // What a request still needs.
 
-use auth_request::AuthError;
+use oidc_words::AuthError;
 
 /// What an authorization request still needs before it is answered.
 #[derive(Clone, Copy, Debug, PartialEq, Eq)]

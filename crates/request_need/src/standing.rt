@@ -1,6 +1,6 @@
 // Who asks, as far as the provider knows.
 
-use scope_claims::Scopes;
+use oidc_words::Scopes;
 
 /// The session with which a request is asked, and what its user has granted.
 #[derive(Clone, Copy, Debug, PartialEq, Eq)]

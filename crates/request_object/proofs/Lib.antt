@@ -1,4 +1,3 @@
-pub mod Among
 pub mod Forms
 pub mod Texts
 pub mod Standing

@@ -7,6 +7,7 @@ use Rattle.std.proofs.lemmas.Str.{is_utf8-from_IsUtf8}
 use Rattle.json.proofs.Printed.Utf8.{IsUtf8-are_ascii}
 use Rattle.serde_json.specs.Data.{Members, no_members, member, string, number, unsigned, negative, boolean, object, array, no_items}
 use Rattle.sso_base.specs.Refusals.{first_refusal}
+use Rattle.sso_base.specs.Texts.{has_text}
 use Rattle.claim_set.specs.Reading.{claims_read, claims_text}
 use Rattle.claim_set.specs.declared.no.ClaimNo.TheVariants.{NotObject, WrongKind}
 use Rattle.claim_set.proofs.OnLiterals.{claims_on_literals}
@@ -22,7 +23,7 @@ use Rattle.request_object.specs.declared.no.ObjNo.{ObjNo}
 use Rattle.request_object.specs.declared.no.ObjNo.TheVariants.{Jws, Claims, Issuer, Audience, Nested}
 use Rattle.request_object.specs.Request.{request_members, request_text}
 use Rattle.request_object.specs.Sealing.{IsSealable, HasTexts}
-use Rattle.request_object.specs.Reading.{digits_in, object_text, text_or, is_other, is_among, lacks, first_in, last_in, judged, request_of, request_read, hides_memory}
+use Rattle.request_object.specs.Reading.{digits_in, object_text, text_or, is_other, lacks, first_in, last_in, judged, request_of, request_read, hides_memory}
 use Rattle.request_object.specs.Object.{IsFor, StandsAs, HasRequest, IsRequestObject, request_refusals}
 use Rattle.request_object.proofs.Standing.{has-request_of}
 use Rattle.request_object.proofs.Objects.{request_read-object, object-request_read, unread, refused as refused_first}
@@ -111,7 +112,7 @@ for_the_issuer_alone = (codes "i" ∷ [], refl, refl)
 
 for_nobody : IsFor (codes "i") (array no_items) → ⊥
 for_nobody (ts, is, among) = no_text ts is among where
-  no_text : (ts : List (List ℕ)) → Some [] ≡ Some ts → is_among (codes "i") ts ≡ true → ⊥
+  no_text : (ts : List (List ℕ)) → Some [] ≡ Some ts → has_text (codes "i") ts ≡ true → ⊥
   no_text [] is among = true≢false (sym among)
   no_text (t ∷ ts) is among = absurd (cc)
 

@@ -4,17 +4,18 @@ use Rattle.std.specs.Prelude.{IfSome}
 use Rattle.serde_json.specs.Data.{Data, Members, string}
 use Rattle.serde_json.specs.Find.{get_member, as_str}
 use Rattle.sso_base.proofs.Refusals.{and_then_ok, forbid_ok}
+use Rattle.sso_base.specs.Texts.{has_text}
 use Rattle.sso_base.proofs.Decided.{not_not, same, are_same}
 use Rattle.claim_set.specs.Kinds.{of_kind, kind_found, data_texts, text_claim, texts_claim}
 use Rattle.claim_set.specs.declared.no.ClaimNo.{ClaimNo}
-use Rattle.claim_set.proofs.KindLaws.{text_found, text_there}
+use Rattle.claim_set.proofs.KindLaws.{text_read, text_there}
 use Rattle.client_registry.specs.declared.records.Client.{Client}
 use Rattle.request_params.specs.declared.params.Params.{Params}
 use Rattle.request_object.specs.declared.raw.FirstClaims.{FirstClaims}
 use Rattle.request_object.specs.declared.raw.LastClaims.{LastClaims}
 use Rattle.request_object.specs.declared.raw.RawRequest.{RawRequest}
 use Rattle.request_object.specs.declared.no.ObjNo.{ObjNo}
-use Rattle.request_object.specs.Reading.{digits_in, object_text, age_claim, claims_claim, first_in, last_in, raw_in, is_other, is_among, lacks, judged, if_raw, request_of}
+use Rattle.request_object.specs.Reading.{digits_in, object_text, age_claim, claims_claim, first_in, last_in, raw_in, is_other, lacks, judged, if_raw, request_of}
 use Rattle.request_object.specs.Object.{IsFor, HasRequest}
 use Rattle.request_object.proofs.Forms.{no_digits, no_object, read_form, stands_form}
 
@@ -37,9 +38,6 @@ aud_has issuer None h = refl
 aud_has issuer (Some d) h = rw (h.1, h.2) refl
 
 module _ (client : Client) (issuer : List ℕ) (ms : Members) (p : Params) (has : HasRequest client issuer ms p) where
-  optional : (name : List ℕ) (v : Option (List ℕ)) → get_member name ms ≡ option_map string v → text_claim name ms ≡ Ok v
-  optional name v h = rw (h) (text_found name v)
-
   absent : (name : List ℕ) (v : Option (List ℕ)) → get_member name ms ≡ None → v ≡ None → text_claim name ms ≡ Ok v
   absent name v h is = rw (h, is) refl
 
@@ -74,24 +72,24 @@ module _ (client : Client) (issuer : List ℕ) (ms : Members) (p : Params) (has 
   first_is = rw (
     aud_read (codes "aud") issuer (get_member (codes "aud") ms) has.for_issuer,
     read_form object_text no_object (codes "claims") (get_member (codes "claims") ms) p.claims has.claims,
-    optional (codes "client_id") p.client_id has.client_id,
+    text_read ms (codes "client_id") p.client_id has.client_id,
     iss_read (codes "iss") client.id (get_member (codes "iss") ms) has.from_client,
     read_form digits_in no_digits (codes "max_age") (get_member (codes "max_age") ms) p.max_age has.max_age,
-    optional (codes "nonce") p.nonce has.nonce,
-    optional (codes "prompt") p.prompt has.prompt,
+    text_read ms (codes "nonce") p.nonce has.nonce,
+    text_read ms (codes "prompt") p.prompt has.prompt,
   )
 
   last_is : last_in ms ≡ Ok last_of
   unfolding last_in last_of
   last_is = rw (
-    optional (codes "redirect_uri") p.redirect_uri has.redirect_uri,
-    optional (codes "registration") p.registration has.registration,
+    text_read ms (codes "redirect_uri") p.redirect_uri has.redirect_uri,
+    text_read ms (codes "registration") p.registration has.registration,
     absent (codes "request") p.request has.no_request has.request,
     absent (codes "request_uri") p.request_uri has.no_request_uri has.request_uri,
-    optional (codes "response_mode") p.response_mode has.response_mode,
-    optional (codes "response_type") p.response_type has.response_type,
-    optional (codes "scope") p.scope has.scope,
-    optional (codes "state") p.state has.state,
+    text_read ms (codes "response_mode") p.response_mode has.response_mode,
+    text_read ms (codes "response_type") p.response_type has.response_type,
+    text_read ms (codes "scope") p.scope has.scope,
+    text_read ms (codes "state") p.state has.state,
   )
 
   raw_is : raw_in ms ≡ Ok raw_of
@@ -118,7 +116,7 @@ iss_stands id (Some s) o is h = rw (is) (ap string (are_same s id h))
 texts_stand : (name issuer : List ℕ) (d : Data) (q : Option (List (List ℕ))) → data_texts d ≡ q → (v : Option (List (List ℕ))) → kind_found name q ≡ Ok v → lacks issuer v ≡ false → IsFor issuer d
 texts_stand name issuer d None is v h has = absurd (cc)
 texts_stand name issuer d (Some ts) is None h has = absurd (cc)
-texts_stand name issuer d (Some ts) is (Some us) h has = (us, is ∙ cc, not_not (is_among issuer us) has)
+texts_stand name issuer d (Some ts) is (Some us) h has = (us, is ∙ cc, not_not (has_text issuer us) has)
 
 aud_stands : (name issuer : List ℕ) (o : Option Data) (v : Option (List (List ℕ))) → of_kind name o data_texts ≡ Ok v → lacks issuer v ≡ false → IfSome o (λ d. IsFor issuer d)
 aud_stands name issuer None v h has = tt

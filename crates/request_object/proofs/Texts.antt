@@ -1,7 +1,5 @@
--- What is written for a claim set is a text, from which the value at a name can be read again.
-use Rattle.std.proofs.Common.{◌≡◌, ℕ, List, true, false, Option, Some, None, is_some, Result, Ok, Err, MatchResult, refl, ap, ◌∙◌}
-use Rattle.std.specs.Result.{IsOk}
-use Rattle.std.specs.Str.{IsUtf8}
+-- From the text that is written for a claim set the value at a name can be read again.
+use Rattle.std.proofs.Common.{◌≡◌, ℕ, List, true, false, Option, Some, None, is_some, Ok, refl, ap, ◌∙◌}
 use Rattle.serde_json.specs.Data.{Data, null, boolean, number, string, array, object, Members}
 use Rattle.serde_json.specs.Find.{get, get_member, as_number}
 use Rattle.serde_json.specs.Read.{read}
@@ -10,16 +8,6 @@ use Rattle.claim_set.specs.Reading.{claims_read}
 use Rattle.claim_set.proofs.Parsing.{read_reads}
 use Rattle.claim_set.proofs.Lookups.{IsWithin-get}
 use Rattle.request_object.specs.Reading.{digits_in}
-
-is_found : {S E : Type 0} (b : List ℕ) (r : Result S E) (P : S → Type 0) (Q : E → Type 0) → MatchResult r P (λ e. ¬ (IsUtf8 b) × Q e) → IsUtf8 b → IsOk r
-is_found b (Ok s) P Q h u = refl
-is_found b (Err e) P Q h u = absurd (h.0 u)
-
--- bytes that are read are found to be a text, where they are looked at as one
-pub is_text : {S E : Type 0} (b looked : List ℕ) (ms : Members) (r : Result S E) (P : S → Type 0) (Q : E → Type 0) → claims_read b ≡ Ok ms → looked ≡ b → MatchResult r P (λ e. ¬ (IsUtf8 looked) × Q e) → IsOk r
-is_text b looked ms r P Q reads same h = is_found looked r P Q h (rw (same) (read_reads b ms reads).utf8)
-
--- ---- the digits of a number, in the text of a claim set
 
 same_object : (d : Data) (ms : Members) (r : Option Data) → r ≡ Some d → r ≡ Some (object ms) → d ≡ object ms
 same_object d ms r h g = cc

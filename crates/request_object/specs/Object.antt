@@ -1,6 +1,7 @@
 -- What a request object is, in the standard's words: a sealed claim set in which the parameters of an authorization
 -- request stand (OpenID Connect Core 1.0, 6.1), and the refusals of one that is none, in order.
 use Rattle.std.specs.Prelude.{◌≡◌, ◌⊎◌, ℕ, List, [], ◌∷◌, Bool, ◌||◌, Option, Some, None, option_map, option_and_then, is_some, codes, IsTrue, IfSome}
+use Rattle.sso_base.specs.Texts.{has_text}
 use Rattle.serde_json.specs.Data.{Data, string, Members}
 use Rattle.serde_json.specs.Find.{get_member, as_str}
 use Rattle.claim_set.specs.Kinds.{data_texts, another_kind}
@@ -10,11 +11,11 @@ use Rattle.client_registry.specs.declared.records.Client.{Client}
 use Rattle.request_params.specs.declared.params.Params.{Params}
 use Rattle.request_object.specs.declared.no.ObjNo.{ObjNo}
 use Rattle.request_object.specs.declared.no.ObjNo.TheVariants.{Claims, Issuer, Audience, Nested}
-use Rattle.request_object.specs.Reading.{digits_in, object_text, text_or, is_other, is_among, lacks}
+use Rattle.request_object.specs.Reading.{digits_in, object_text, text_or, is_other, lacks}
 
 -- the value is a string or an array of strings, and the text is the string or among them (RFC 7519, 4.1.3)
 abbrev pub IsFor : List ℕ → Data → Type 0
-IsFor t d = (ts : List (List ℕ)) × (data_texts d ≡ Some ts) × IsTrue (is_among t ts)
+IsFor t d = (ts : List (List ℕ)) × (data_texts d ≡ Some ts) × IsTrue (has_text t ts)
 
 -- the parameter is absent, or its value is this string, or has this text in another form
 abbrev pub StandsAs : (Data → Option (List ℕ)) → Option Data → Option (List ℕ) → Type 0

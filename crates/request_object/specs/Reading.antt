@@ -1,11 +1,11 @@
 -- The parameters that a request object gives, or why it is refused (OpenID Connect Core 1.0, 6.1 and 6.3).
 use Rattle.std.specs.Prelude.{ℕ, List, Bool, true, false, not, ◌||◌, Option, Some, None, option_map, is_some, Result, Ok, Err, codes}
-use Rattle.std.specs.List.{list_any}
 use Rattle.std.specs.Str.{bytes_eq}
 use Rattle.serde_json.specs.Data.{Data, Members}
 use Rattle.serde_json.specs.Find.{get_member, as_str, as_number, as_object}
 use Rattle.serde_json.specs.Written.{number_text}
 use Rattle.sso_base.specs.Refusals.{and_then, forbid}
+use Rattle.sso_base.specs.Texts.{has_text}
 use Rattle.claim_set.specs.Kinds.{of_kind, text_claim, texts_claim}
 use Rattle.claim_set.specs.Reading.{claims_read, claims_text}
 use Rattle.claim_set.specs.declared.no.ClaimNo.{ClaimNo}
@@ -81,14 +81,10 @@ abbrev pub is_other : List ℕ → Option (List ℕ) → Bool
 is_other t None = false
 is_other t (Some s) = not (bytes_eq s t)
 
--- the text is among the texts
-abbrev pub is_among : List ℕ → List (List ℕ) → Bool
-is_among t ts = list_any (λ s. bytes_eq s t) ts
-
 -- the texts are there, and the text is not among them
 abbrev pub lacks : List ℕ → Option (List (List ℕ)) → Bool
 lacks t None = false
-lacks t (Some ts) = not (is_among t ts)
+lacks t (Some ts) = not (has_text t ts)
 
 -- the parameters, where the object is the client's, for this provider, and with no request inside
 unfoldable pub judged : Client → List ℕ → RawRequest → Result Params ObjNo

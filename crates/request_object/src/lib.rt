@@ -17,8 +17,6 @@ mod no;
 mod raw;
 mod reading;
 mod sealing;
-#[cfg(test)]
-mod tests;
 
 pub use law::{
     parameters_of_their_types_fit, read_objects_are_request_objects,

@@ -34,3 +34,33 @@ impl From<NoMemory> for ObjNo {
         ObjNo::NoMemory
     }
 }
+
+impl From<JwsNo> for ObjNo {
+    ghost use Rattle.std.specs.Prelude.{◌≡◌, IsFalse};
+    ghost use Rattle.request_object.specs.Reading.{as_jws, hides_memory};
+
+    ghost from_gives = { λ given e. (e ≡ as_jws given) × IsFalse (hides_memory e) };
+
+    // The refusal of a sealed text, as that of a request object.
+    fn from(error: JwsNo) -> ObjNo {
+        match error {
+            JwsNo::NoMemory => ObjNo::NoMemory,
+            error => ObjNo::Jws(error),
+        }
+    }
+}
+
+impl From<ClaimNo> for ObjNo {
+    ghost use Rattle.std.specs.Prelude.{◌≡◌, IsFalse};
+    ghost use Rattle.request_object.specs.Reading.{as_claims, hides_memory};
+
+    ghost from_gives = { λ given e. (e ≡ as_claims given) × IsFalse (hides_memory e) };
+
+    // The refusal of claims, as that of a request object.
+    fn from(error: ClaimNo) -> ObjNo {
+        match error {
+            ClaimNo::NoMemory => ObjNo::NoMemory,
+            error => ObjNo::Claims(error),
+        }
+    }
+}

@@ -4,10 +4,9 @@ ghost use Rattle.std.specs.Prelude.{◌≡◌, ◌⊎◌, Ok, Err, IfOk, IfErr, 
 ghost use Rattle.serde_json.specs.Find.{get_member};
 ghost use Rattle.serde_json.specs.View.{view};
 ghost use Rattle.serde_json.specs.Written.{has_float};
-ghost use Rattle.claim_set.specs.Reading.{claims_text};
 ghost use Rattle.request_object.specs.Reading.{digits_in, object_text, age_claim, claims_claim, first_in, last_in, raw_in};
 
-use claim_set::{ClaimNo, ClaimSet, write_claims};
+use claim_set::{ClaimNo, ClaimSet, claims_text, write_claims};
 use serde_json::Value;
 use sso_base::{NoMemory, Text, Texts};
 use std::alloc::Global;
@@ -87,21 +86,12 @@ fn age(alloc: Global, claims: &ClaimSet) -> Result<Option<Text>, ClaimNo>
     }
 }
 
-// The text of a claim set.
-fn text_of(alloc: Global, claims: &ClaimSet) -> Result<Text, NoMemory>
-    ensures { IfOk result (λ t. t ≡ claims_text claims.now) }
-{
-    let written = write_claims(claims)?;
-    let text = std::str::from_utf8(written.as_bytes()).unwrap();
-    Text::new(alloc, text)
-}
-
 // The JSON text of the object that `claims` is, where it is one.
 fn claims_object(alloc: Global, claims: &ClaimSet) -> Result<Option<Text>, NoMemory>
     ensures { IfOk result (λ o. o ≡ option_and_then object_text (get_member (codes "claims") claims.now)) }
 {
     match claims.member("claims") {
-        Ok(Some(asked)) => Ok(Some(text_of(alloc, &asked)?)),
+        Ok(Some(asked)) => Ok(Some(claims_text(&asked)?)),
         Ok(None) => Ok(None),
         Err(ClaimNo::NoMemory) => Err(NoMemory),
         Err(_) => Ok(None),

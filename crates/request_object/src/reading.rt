@@ -3,13 +3,13 @@
 ghost use Rattle.std.specs.Prelude.{◌≡◌, ◌⊎◌, Ok, Err, IfOk, IfErr, IsFalse};
 ghost use Rattle.request_params.specs.declared.params.Params.{Params};
 ghost use Rattle.request_object.specs.Object.{IsRequestObject};
-ghost use Rattle.request_object.specs.Reading.{is_other as is_other_text, is_among, lacks as lacks_text, judged, request_of, request_read, hides_memory, as_claims, as_jws};
+ghost use Rattle.request_object.specs.Reading.{is_other as is_other_text, lacks as lacks_text, judged, request_of, request_read, hides_memory};
 
 use crate::no::ObjNo;
 use crate::raw::{RawRequest, raw_claims};
-use claim_set::{ClaimNo, ClaimSet, read_claims};
+use claim_set::{ClaimSet, read_claims};
 use client_registry::Client;
-use jws_compact::{JwsNo, unseal};
+use jws_compact::unseal;
 use request_params::Params;
 use sso_base::{Text, Texts};
 use std::alloc::Global;
@@ -24,25 +24,13 @@ fn is_other(text: &Text, given: &Option<Text>) -> bool
     }
 }
 
-// Whether the text is among the texts.
-fn has_text(texts: &Texts, text: &str) -> bool
-    ensures { result ≡ is_among text.now texts.now }
-{
-    for i in 0..texts.count() {
-        if texts.at(i).as_str() == text {
-            return true;
-        }
-    }
-    false
-}
-
 // Whether there are texts, and this one is not among them.
 fn lacks(text: &Text, given: &Option<Texts>) -> bool
     ensures { result ≡ lacks_text text.now given.now }
 {
     match given {
         None => false,
-        Some(texts) => !has_text(texts, text.as_str()),
+        Some(texts) => !texts.has(text.as_str()),
     }
 }
 
@@ -80,28 +68,6 @@ fn params_in(client: &Client, issuer: &Text, raw: RawRequest) -> Result<Params, 
     })
 }
 
-// The refusal of claims, as that of a request object.
-fn claims_refused(error: ClaimNo) -> ObjNo
-    ensures refused { result ≡ as_claims error }
-    ensures memory_is_outermost { IsFalse (hides_memory result) }
-{
-    match error {
-        ClaimNo::NoMemory => ObjNo::NoMemory,
-        error => ObjNo::Claims(error),
-    }
-}
-
-// The refusal of a sealed text, as that of a request object.
-fn jws_refused(error: JwsNo) -> ObjNo
-    ensures refused { result ≡ as_jws error }
-    ensures memory_is_outermost { IsFalse (hides_memory result) }
-{
-    match error {
-        JwsNo::NoMemory => ObjNo::NoMemory,
-        error => ObjNo::Jws(error),
-    }
-}
-
 // The parameters that a claim set gives.
 #[tactic(auto, unfolding(crate::specs::Reading::request_of))]
 fn request_in(
@@ -114,10 +80,8 @@ fn request_in(
     ensures err { IfErr result (λ e. (e ≡ ObjNo.NoMemory) ⊎ (request_of client.now issuer.now claims.now ≡ Err e)) }
     ensures memory_is_outermost { IfErr result (λ e. IsFalse (hides_memory e)) }
 {
-    match raw_claims(alloc, claims) {
-        Ok(raw) => params_in(client, issuer, raw),
-        Err(error) => Err(claims_refused(error)),
-    }
+    let raw = raw_claims(alloc, claims)?;
+    params_in(client, issuer, raw)
 }
 
 // The parameters of the request object that a text is, or the first refusal that fits.
@@ -127,14 +91,8 @@ fn opened(alloc: Global, client: &Client, issuer: &Text, text: &[u8]) -> Result<
     ensures refuses { IfErr result (λ e. (e ≡ ObjNo.NoMemory) ⊎ (request_read client.now issuer.now text.now ≡ Err e)) }
     ensures memory_is_outermost { IfErr result (λ e. IsFalse (hides_memory e)) }
 {
-    let opened = match unseal(alloc, client.secret.as_str().as_bytes(), text) {
-        Ok(opened) => opened,
-        Err(error) => return Err(jws_refused(error)),
-    };
-    let claims = match read_claims(alloc, opened.payload.as_bytes()) {
-        Ok(claims) => claims,
-        Err(error) => return Err(claims_refused(error)),
-    };
+    let opened = unseal(alloc, client.secret.as_str().as_bytes(), text)?;
+    let claims = read_claims(alloc, opened.payload.as_bytes())?;
     request_in(alloc, client, issuer, &claims)
 }
 

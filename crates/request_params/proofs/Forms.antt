@@ -10,7 +10,7 @@ use Rattle.std.proofs.lemmas.List.Elements.{All-nil, All-cons}
 use Rattle.form_urlencoded.specs.Form.{raw_pairs, decode, extend_pairs}
 use Rattle.form_urlencoded.proofs.FormLemmas.{IsBytePair, round_trip}
 use Rattle.request_params.specs.Form.{Pair, form_pairs, form_text}
-use Rattle.request_params.proofs.Utf8Bytes.{bytes-IsUtf8}
+use Rattle.sso_base.proofs.Utf8Bytes.{bytes-IsUtf8}
 
 -- both are UTF-8
 abbrev pub IsTextPair : Pair → Type 0

@@ -4,11 +4,11 @@ pub mod Repeated
 pub mod InOrder
 pub mod Requests
 pub mod Lossy
-pub mod Utf8Bytes
 pub mod Forms
 pub mod OnLiterals
 pub mod Printed
 pub mod MergeLaws
 pub mod Whole
-pub mod Answering
+pub mod Cuts
+pub mod Schemes
 mod Samples

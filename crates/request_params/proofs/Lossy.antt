@@ -133,7 +133,3 @@ pub texts_read : (form : List ℕ) (params : Params) → request_read form ≡ O
 texts_read form params h =
     let has = read-request form params h in
     λ name. text_at form name (param_of name params) (has.stands name)
-
-pub are_texts : (form : List ℕ) (r : Result Params AskNo) → IfOk r (λ p. request_read form ≡ Ok p) → IfOk r AreTexts
-are_texts form (Ok p) h = texts_read form p h
-are_texts form (Err e) h = tt

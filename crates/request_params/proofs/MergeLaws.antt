@@ -10,7 +10,8 @@ use Rattle.request_params.specs.declared.name.ParamName.TheVariants.{ResponseTyp
 use Rattle.request_params.specs.declared.no.AskNo.{AskNo}
 use Rattle.request_params.specs.declared.no.AskNo.TheVariants as no
 use Rattle.request_params.specs.Names.{param_of}
-use Rattle.request_params.specs.Merging.{has_word, states_word, differ, merged, request_merged, Agrees, IsOpenid, IsMerged, RefusesMerge}
+use Rattle.oidc_words.specs.Words.{has_word}
+use Rattle.request_params.specs.Merging.{states_word, differ, merged, request_merged, Agrees, IsOpenid, IsMerged, RefusesMerge}
 use Rattle.request_params.proofs.NameLaws.{param_of-params_by, same_params}
 
 -- ---- one parameter
@@ -105,10 +106,6 @@ or_none o q h = ap (λ x. option_or x q) h
 
 param_merged : (outer inner : Params) (name : ParamName) → param_of name (merged outer inner) ≡ option_or (param_of name inner) (param_of name outer)
 param_merged outer inner name = param_of-params_by (λ n. option_or (param_of n inner) (param_of n outer)) name
-
-pub merged_params : (outer inner params : Params) → request_merged outer inner ≡ Ok params → params ≡ merged outer inner
-merged_params outer inner params h =
-    sym (judged_ok (client_differs outer inner) (type_differs outer inner) (scope_lacks outer) (merged outer inner) params (sym (merged_judged outer inner) ∙ h)).3
 
 pub merged-is : (outer inner params : Params) → request_merged outer inner ≡ Ok params → IsMerged outer inner params
 merged-is outer inner params h =

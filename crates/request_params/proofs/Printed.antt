@@ -3,7 +3,7 @@ use Rattle.std.proofs.Common.{◌≡◌, ℕ, suc, arith, List, [], ◌∷◌, �
 use Rattle.std.specs.Prelude.{⊤, IfSome}
 use Rattle.std.specs.List.{list_any}
 use Rattle.std.specs.Str.{IsUtf8, bytes_eq}
-use Rattle.request_params.proofs.Utf8Bytes.{IsUtf8-are_ascii}
+use Rattle.sso_base.proofs.Utf8Bytes.{IsUtf8-are_ascii}
 use Rattle.std.proofs.lemmas.Grind.{common_steps}
 use Rattle.sso_base.specs.Words.{Text}
 use Rattle.request_params.specs.declared.params.Params.{Params}

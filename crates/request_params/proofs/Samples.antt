@@ -1,6 +1,9 @@
 -- The definitions computed on forms that are read and refused, on parameters that are merged and refused, and on locations.
-use Rattle.std.proofs.Common.{◌≡◌, [], ◌∷◌, codes, true, false, Option, Some, None, Result, Ok, Err, refl, sym, ◌∙◌}
+use Rattle.std.proofs.Common.{◌≡◌, [], ◌∷◌, codes, true, false, Option, Some, None, Result, Ok, Err, refl, sym, ap, ◌∙◌, true≢false}
+use Rattle.std.specs.Str.{bytes_eq}
 use Rattle.sso_base.specs.Words.{Text}
+use Rattle.request_params.specs.Scheme.{cut, scheme_of, is_bearer, IsScheme}
+use Rattle.request_params.proofs.Schemes.{scheme_is, has_scheme}
 use Rattle.request_params.specs.declared.params.Params.{Params}
 use Rattle.request_params.specs.declared.name.ParamName.{ParamName}
 use Rattle.request_params.specs.declared.name.ParamName.TheVariants.{ResponseType, ClientId, RedirectUri, Scope, State, Nonce, ResponseMode, Prompt, MaxAge, Claims, Request, RequestUri, Registration}
@@ -9,12 +12,12 @@ use Rattle.request_params.specs.declared.no.AskNo.TheVariants.{Twice, Differs, O
 use Rattle.request_params.specs.Names.{name_of, param_of, no_params, AreTexts}
 use Rattle.request_params.specs.Form.{form_pairs}
 use Rattle.request_params.specs.Reading.{request_read, kept_pairs, RepeatsFirst, HasRequest}
-use Rattle.request_params.specs.Merging.{has_word, request_merged, IsOpenid, IsMerged, RefusesMerge}
+use Rattle.request_params.specs.Merging.{request_merged, IsOpenid, IsMerged, RefusesMerge}
 use Rattle.request_params.specs.Location.{with_query, with_fragment}
 use Rattle.request_params.specs.Printing.{request_form, request_location, IsPrinted}
 use Rattle.request_params.specs.Signed.{outer_params, inner_params, IsSignable}
 use Rattle.request_params.proofs.OnLiterals.{request_params_on_literals}
-use Rattle.request_params.proofs.Utf8Bytes.{IsUtf8-are_ascii}
+use Rattle.sso_base.proofs.Utf8Bytes.{IsUtf8-are_ascii}
 use Rattle.request_params.proofs.Requests.{read-request, request-read, repeats-refused, form_refused}
 use Rattle.request_params.proofs.Printed.{printed_read}
 use Rattle.request_params.proofs.MergeLaws.{merged-is, is-merged, merge_refused, refused_merge}
@@ -64,12 +67,6 @@ repeats-scope : RepeatsFirst (kept_pairs (codes "scope=openid&state=&scope=openi
 repeats-scope = form_refused (codes "scope=openid&state=&scope=openid") _ refuses-a_name_twice
 
 -- ---- merging
-
-word-after_two_spaces : has_word (codes "openid") (codes "x  openid") ≡ true
-word-after_two_spaces = refl
-
-word-not_within_another : has_word (codes "openid") (codes "openidx") ≡ false
-word-not_within_another = refl
 
 abbrev an_outer : Params
 an_outer = record no_params { client_id = Some (codes "a"); response_type = Some (codes "code"); scope = Some (codes "openid"); nonce = Some (codes "n") }
@@ -199,3 +196,32 @@ is_openid-here = record { words = codes "openid"; there = refl; openid = refl }
 
 is_openid-not_without_a_scope : IsOpenid no_params → ⊥
 is_openid-not_without_a_scope o = (let no : None ≡ Some o.words = o.there in cc)
+
+-- ---- schemes
+
+cut-at_the_first : cut 58 (codes "a:b:c") ≡ Some (codes "a", codes "b:c")
+cut-at_the_first = refl
+
+cut-nowhere : cut 58 (codes "abc") ≡ None
+cut-nowhere = refl
+
+scheme-before_the_space : scheme_of (codes "Bearer x y") ≡ codes "Bearer"
+scheme-before_the_space = refl
+
+scheme-the_whole : scheme_of (codes "Bearer") ≡ codes "Bearer"
+scheme-the_whole = refl
+
+bearer-in_any_case : is_bearer (codes "bEARER") ≡ true
+bearer-in_any_case = refl
+
+bearer-not_longer : is_bearer (codes "Bearers") ≡ false
+bearer-not_longer = refl
+
+is_scheme-of_a_header : IsScheme (codes "Basic") (codes "Basic x y")
+is_scheme-of_a_header = has_scheme (codes "Basic x y")
+
+is_scheme-not_two_words : IsScheme (codes "Basic x") (codes "Basic x y") → ⊥
+is_scheme-not_two_words scheme = true≢false scheme.no_space
+
+is_scheme-not_another : IsScheme (codes "Basic") (codes "Bearer x") → ⊥
+is_scheme-not_another scheme = true≢false (ap (bytes_eq (codes "Bearer")) (scheme_is (codes "Basic") (codes "Bearer x") scheme))

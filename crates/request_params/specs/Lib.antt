@@ -7,3 +7,4 @@ pub mod AllNames
 pub mod Location
 pub mod Printing
 pub mod Signed
+pub mod Scheme

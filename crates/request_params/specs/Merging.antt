@@ -1,24 +1,18 @@
 -- A request object's parameters over those beside it (OpenID Connect Core 1.0, 6.1): they win where both are there, but the
 -- request beside it has to be an OAuth 2.0 request of the same client and response type, and an OpenID Connect request.
-use Rattle.std.specs.Prelude.{◌≡◌, ◌⊎◌, IsTrue, Bool, true, false, not, ◌==◌, List, [], ◌∷◌, codes, Option, Some, None, Result, Ok}
+use Rattle.std.specs.Prelude.{◌≡◌, ◌⊎◌, IsTrue, Bool, true, false, not, List, [], ◌∷◌, codes, Option, Some, None, Result, Ok}
 use Rattle.std.specs.Option.{option_or}
-use Rattle.std.specs.List.{list_any, slice_split}
 use Rattle.std.specs.Str.{bytes_eq}
 use Rattle.sso_base.specs.Words.{Text}
 use Rattle.sso_base.specs.Refusals.{first_refusal, and_then}
+use Rattle.oidc_words.specs.Words.{has_word}
+use Rattle.oidc_words.specs.Scopes.{openid_word}
 use Rattle.request_params.specs.declared.params.Params.{Params}
 use Rattle.request_params.specs.declared.name.ParamName.{ParamName}
 use Rattle.request_params.specs.declared.name.ParamName.TheVariants.{ResponseType, ClientId}
 use Rattle.request_params.specs.declared.no.AskNo.{AskNo}
 use Rattle.request_params.specs.declared.no.AskNo.TheVariants.{Twice, Differs, OuterScope, NoMemory}
 use Rattle.request_params.specs.Names.{name_text, param_of, params_by}
-
--- the words of a text, cut at single spaces (RFC 6749, 3.3)
-abbrev pub words_of : Text → List Text
-words_of text = slice_split (λ b. b == 32) text
-
-abbrev pub has_word : Text → Text → Bool
-has_word word text = list_any (λ w. bytes_eq w word) (words_of text)
 
 -- it is there and has the word
 abbrev pub states_word : Text → Option Text → Bool
@@ -39,7 +33,7 @@ abbrev pub merge_refusals : Params → Params → List (Bool × AskNo)
 merge_refusals outer inner =
     differs ClientId outer inner
     ∷ differs ResponseType outer inner
-    ∷ (not (states_word (codes "openid") outer.scope), OuterScope) ∷ []
+    ∷ (not (states_word openid_word outer.scope), OuterScope) ∷ []
 
 -- each parameter of the request object, and the others from beside it
 abbrev pub merged : Params → Params → Params
@@ -61,7 +55,7 @@ pub record Agrees (name : ParamName) (outer inner : Params) : Type 0 where
 pub record IsOpenid (params : Params) : Type 0 where
   pub words : Text
   pub there : params.scope ≡ Some words
-  pub openid : IsTrue (has_word (codes "openid") words)
+  pub openid : IsTrue (has_word openid_word words)
 
 -- the parameters of a request whose request object has the parameters inner, where the parameters outer are beside it
 pub record IsMerged (outer inner params : Params) : Type 0 where

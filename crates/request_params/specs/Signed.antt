@@ -1,6 +1,7 @@
 -- A request with a request object: its parameters beside the object, and in it (OpenID Connect Core 1.0, 6.1).
-use Rattle.std.specs.Prelude.{◌≡◌, codes, Some, None, is_some, IsTrue}
+use Rattle.std.specs.Prelude.{◌≡◌, Some, None, is_some, IsTrue}
 use Rattle.sso_base.specs.Words.{Text}
+use Rattle.oidc_words.specs.Scopes.{openid_word}
 use Rattle.request_params.specs.declared.params.Params.{Params}
 use Rattle.request_params.specs.Names.{no_params}
 
@@ -10,7 +11,7 @@ outer_params params object = record no_params {
   response_type = params.response_type;
   client_id = params.client_id;
   redirect_uri = params.redirect_uri;
-  scope = Some (codes "openid");
+  scope = Some openid_word;
   request = Some object;
 }
 

@@ -6,10 +6,12 @@
 //! | `name` | [`ParamName`], the names of the parameters, and [`ALL_NAMES`] |
 //! | `params` | [`Params`], the parameters of a request |
 //! | `no` | [`AskNo`], why a request is refused |
-//! | `reading` | [`read_request`] reads a form |
+//! | `pairs` | [`read_pairs`] reads the pairs of a form, [`value_of`] looks one up |
+//! | `reading` | [`read_request`] reads a form as a request |
 //! | `merging` | [`merge`] puts the parameters of a request object over those beside it |
 //! | `location` | [`with_query`] and [`with_fragment`] write pairs behind a URL |
 //! | `printing` | [`print_request`] writes the location of a request |
+//! | `scheme` | [`scheme_of`] is the scheme of an `Authorization` header, and [`cut`] what stands after it |
 //! | `law` | what holds of requests, for the crates above |
 #![tactic(auto)]
 
@@ -18,11 +20,11 @@ mod location;
 mod merging;
 mod name;
 mod no;
+mod pairs;
 mod params;
 mod printing;
 mod reading;
-#[cfg(test)]
-mod tests;
+mod scheme;
 
 pub use law::{
     forms_have_their_parameters, merged_parameters_agree, parameters_have_names,
@@ -33,6 +35,8 @@ pub use location::{with_fragment, with_query};
 pub use merging::merge;
 pub use name::{ALL_NAMES, ParamName};
 pub use no::AskNo;
+pub use pairs::{Pair, read_pairs, value_of};
 pub use params::Params;
 pub use printing::print_request;
 pub use reading::read_request;
+pub use scheme::{cut, scheme_of};

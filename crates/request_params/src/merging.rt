@@ -1,33 +1,28 @@
 // The parameters of a request object are put over those beside it.
 
-ghost use Rattle.std.specs.Prelude.{◌≡◌, ◌⊎◌, true, Ok, Err, IfOk, IfErr, IsErrAnd, OnOk, codes};
+ghost use Rattle.std.specs.Prelude.{◌≡◌, ◌⊎◌, true, Ok, Err, IfOk, IfErr, IsErrAnd, OnOk};
 ghost use Rattle.std.specs.Option.{option_or};
 ghost use Rattle.sso_base.specs.Refusals.{first_refusal};
-ghost use Rattle.request_params.specs.Names.{name_text, param_of};
+ghost use Rattle.request_params.specs.Names.{param_of};
 ghost use Rattle.request_params.specs.AllNames.{with_all};
-ghost use Rattle.request_params.specs.Merging.{has_word as has_word_of, states_word, differ, merge_refusals, merged, request_merged, IsMerged, RefusesMerge};
+ghost use Rattle.oidc_words.specs.Scopes.{openid_word};
+ghost use Rattle.request_params.specs.Merging.{states_word, differ, merge_refusals, merged, request_merged, IsMerged, RefusesMerge};
 ghost use Rattle.request_params.specs.declared.params.Params.{Params};
 ghost use Rattle.request_params.specs.declared.no.AskNo.{AskNo};
 
 use crate::name::{ALL_NAMES, ParamName};
 use crate::no::AskNo;
 use crate::params::Params;
+use oidc_words::{OPENID, has_word};
 use sso_base::{NoMemory, Text, copied_text};
 use std::alloc::Global;
 
-// Whether a text has a word. Words stand between single spaces.
-fn has_word(text: &str, word: &str) -> bool
-    ensures { result ≡ has_word_of word.now text.now }
-{
-    text.split(' ').any(|piece| piece == word)
-}
-
 // Whether a scope is there and has the word `openid`.
 fn is_openid(scope: &Option<Text>) -> bool
-    ensures { result ≡ states_word (codes "openid") scope.now }
+    ensures { result ≡ states_word openid_word scope.now }
 {
     match scope {
-        Some(scope) => has_word(scope.as_str(), "openid"),
+        Some(scope) => has_word(scope.as_str(), OPENID),
         None => false,
     }
 }
@@ -43,26 +38,18 @@ fn is_another(outer: &Option<Text>, inner: &Option<Text>) -> bool
     }
 }
 
-// The refusal for a parameter that is another one.
-fn differs(alloc: Global, name: ParamName) -> AskNo
-    ensures { (result ≡ AskNo.NoMemory) ⊎ (result ≡ AskNo.Differs (name_text name)) }
-{
-    match Text::new(alloc, name.as_str()) {
-        Ok(name) => AskNo::Differs(name),
-        Err(NoMemory) => AskNo::NoMemory,
-    }
-}
-
 // The first refusal whose condition holds.
 fn refused(alloc: Global, outer: &Params, inner: &Params) -> Result<(), AskNo>
     ensures ok { OnOk result (first_refusal (merge_refusals outer.now inner.now) ≡ Ok tt) }
     ensures err { IfErr result (λ e. (e ≡ AskNo.NoMemory) ⊎ (first_refusal (merge_refusals outer.now inner.now) ≡ Err e)) }
 {
     if is_another(&outer.client_id, &inner.client_id) {
-        return Err(differs(alloc, ParamName::ClientId));
+        let name = ParamName::ClientId.as_str();
+        return Err(AskNo::Differs(Text::new(alloc, name)?));
     }
     if is_another(&outer.response_type, &inner.response_type) {
-        return Err(differs(alloc, ParamName::ResponseType));
+        let name = ParamName::ResponseType.as_str();
+        return Err(AskNo::Differs(Text::new(alloc, name)?));
     }
     if !is_openid(&outer.scope) {
         return Err(AskNo::OuterScope);

@@ -9,18 +9,31 @@ ghost use Rattle.request_params.specs.Names.{name_text, name_of};
 /// Multiple Response Type Encoding Practices, 2.1).
 #[derive(Clone, Copy, Debug, PartialEq, Eq)]
 pub enum ParamName {
+    /// `response_type` (OpenID Connect Core 1.0, 3).
     ResponseType,
+    /// `client_id` (RFC 6749, 2.2).
     ClientId,
+    /// `redirect_uri` (RFC 6749, 3.1.2).
     RedirectUri,
+    /// `scope` (OpenID Connect Core 1.0, 5.4).
     Scope,
+    /// `state` (RFC 6749, 4.1.1).
     State,
+    /// `nonce` (OpenID Connect Core 1.0, 3.1.2.1).
     Nonce,
+    /// `response_mode` (OpenID Connect Core 1.0, 3.1.2.1).
     ResponseMode,
+    /// `prompt` (OpenID Connect Core 1.0, 3.1.2.1).
     Prompt,
+    /// `max_age` (OpenID Connect Core 1.0, 3.1.2.1).
     MaxAge,
+    /// `claims` (OpenID Connect Core 1.0, 5.5).
     Claims,
+    /// `request` (OpenID Connect Core 1.0, 6.1).
     Request,
+    /// `request_uri` (OpenID Connect Core 1.0, 6.2).
     RequestUri,
+    /// `registration` (OpenID Connect Core 1.0, 7.2.1).
     Registration,
 }
 

@@ -10,18 +10,31 @@ use sso_base::Text;
 /// 7.2.1; OAuth 2.0 Multiple Response Type Encoding Practices, 2.1).
 #[derive(Debug, Drop)]
 pub struct Params {
+    /// What is asked for: a code, an ID Token, or both (OpenID Connect Core 1.0, 3).
     pub response_type: Option<Text>,
+    /// The client (RFC 6749, 2.2).
     pub client_id: Option<Text>,
+    /// Where the answer is sent (RFC 6749, 3.1.2).
     pub redirect_uri: Option<Text>,
+    /// The scope values, `openid` among them (OpenID Connect Core 1.0, 5.4).
     pub scope: Option<Text>,
+    /// What the answer gives back (RFC 6749, 4.1.1).
     pub state: Option<Text>,
+    /// What the ID Token gives back (OpenID Connect Core 1.0, 3.1.2.1).
     pub nonce: Option<Text>,
+    /// How the answer is sent (OpenID Connect Core 1.0, 3.1.2.1).
     pub response_mode: Option<Text>,
+    /// Whether the user is asked to log in or to consent (OpenID Connect Core 1.0, 3.1.2.1).
     pub prompt: Option<Text>,
+    /// How long ago the user may have logged in, in seconds (OpenID Connect Core 1.0, 3.1.2.1).
     pub max_age: Option<Text>,
+    /// The claims that are asked for by name (OpenID Connect Core 1.0, 5.5).
     pub claims: Option<Text>,
+    /// A request object (OpenID Connect Core 1.0, 6.1).
     pub request: Option<Text>,
+    /// Where a request object lies (OpenID Connect Core 1.0, 6.2).
     pub request_uri: Option<Text>,
+    /// What a self-issued provider is told of the client (OpenID Connect Core 1.0, 7.2.1).
     pub registration: Option<Text>,
 }
 

@@ -6,7 +6,7 @@ use Rattle.sso_base.specs.declared.message.Message.{Message}
 use Rattle.id_token.specs.declared.no.IdNo.TheVariants as id_no
 use Rattle.id_token.specs.Judging.{id_judged}
 use Rattle.id_token.specs.HalfHash.{half_hash_of}
-use Rattle.auth_request.specs.declared.wish.AuthError.TheVariants.{AccessDenied}
+use Rattle.oidc_words.specs.declared.errors.AuthError.TheVariants.{AccessDenied}
 use Rattle.token_endpoint.specs.Request.{token_message}
 use Rattle.token_endpoint.specs.declared.no.TokensNo.TheVariants as tokens_no
 use Rattle.login_request.specs.Request.{login_location}

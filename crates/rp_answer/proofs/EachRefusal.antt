@@ -7,7 +7,7 @@ use Rattle.id_token.specs.declared.claims.IdClaims.{IdClaims}
 use Rattle.id_token.specs.declared.no.IdNo.{IdNo}
 use Rattle.id_token.specs.declared.no.IdNo.TheVariants as id_no
 use Rattle.id_token.specs.HalfHash.{half_hash_of}
-use Rattle.auth_request.specs.declared.wish.AuthError.TheVariants.{AccessDenied}
+use Rattle.oidc_words.specs.declared.errors.AuthError.TheVariants.{AccessDenied}
 use Rattle.auth_answer.specs.declared.heard.Heard.{Heard}
 use Rattle.auth_answer.specs.declared.no.AnswerNo.TheVariants as answer_no
 use Rattle.token_endpoint.specs.Request.{token_message}

@@ -1,7 +1,8 @@
--- No pair changes the name of a row that it keeps: a row is kept as it is, or dropped.
-use Rattle.std.proofs.Common.{◌≡◌, Bool, true, false, ◌&&◌, cond, Option, Some, None, unwrap_or, sym, ap}
+-- No pair changes a row that it keeps: a row is kept as it is, or dropped.
+use Rattle.std.proofs.Common.{◌≡◌, Bool, true, false, ◌&&◌, cond, [], ◌∷◌, ◌++◌, Option, Some, None, option_and_then, unwrap_or, sym, ◌∙◌, ap, inl, inr}
 use Rattle.sso_base.specs.Words.{is_word}
-use Rattle.sso_base.specs.Stands.{KeepsNames}
+use Rattle.sso_base.specs.Stands.{KeepsNames, carried}
+use Rattle.sso_base.proofs.RowLaws.{option_cases}
 use Rattle.rp_login.specs.declared.rows.LoginRow.{LoginRow}
 use Rattle.rp_login.specs.declared.rows.PendingRow.{PendingRow}
 use Rattle.rp_login.specs.declared.rows.SessionRow.{SessionRow}
@@ -37,3 +38,15 @@ pending_names past p row after h = ap pending_name (pending_same past p row afte
 
 pub visit_names : KeepsNames visit_name visit_kept
 visit_names past p row after h = ap visit_name (visit_same past p row after h)
+
+-- ---- a row that no pair changes is as it was made
+
+pub carried_same : {R : Type 0} (kept : RpPast → RpPair → R → Option R) → ((past : RpPast) (p : RpPair) (row after : R) → kept past p row ≡ Some after → after ≡ row)
+    → (later before : RpPast) (row after : R) → carried kept later before row ≡ Some after → after ≡ row
+carried_same {R} kept same [] before row after h = sym (some_same row after h)
+carried_same {R} kept same (p ∷ later) before row after h =
+    let A : Option R → Option R = λ o. option_and_then (kept (later ++ before) p) o in
+    elim (option_cases (carried kept later before row)) [
+      | inl none ↦ (let never : A None ≡ Some after = sym (ap A none) ∙ h in cc)
+      | inr some ↦ same (later ++ before) p some.0 after (sym (ap A some.1) ∙ h) ∙ carried_same kept same later before row some.0 some.1
+    ]

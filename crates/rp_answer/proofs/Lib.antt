@@ -10,12 +10,12 @@ pub mod FrontLogin
 pub mod EachRefusal
 pub mod RowSamples
 mod ReplySamples
-mod Legality
+pub mod Legality
 mod CauseSamples
 pub mod KeptNames
 pub mod Drawn
+pub mod Exchanges
 pub mod Entering
 pub mod Counting
 pub mod LoginsOnce
-mod LegalLogins
 mod NoCause

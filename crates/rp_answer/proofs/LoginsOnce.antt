@@ -1,13 +1,12 @@
 -- A login enters at most once. Of the logins and the pending exchanges that stand, at most one is of the login that one pair
 -- began: its exchange is made where the login ends, and who enters ends the one or the other.
 use Rattle.std.proofs.Common.{◌≡◌, ◌≢◌, ℕ, ◌+◌, ◌<◌, ◌≤◌, ◌==◌, nat_lt, Bool, true, false, ◌&&◌, cond, List, [], ◌∷◌, ◌++◌, length, filter_map, Option, Some, None, Ok, option_map, refl, sym, ◌∙◌, ap, inl, inr, arith}
-use Rattle.std.specs.Str.{bytes_eq}
 use Rattle.std.proofs.lemmas.Bool.{ltb-true, ltb-false}
 use Rattle.std.proofs.lemmas.Bool.Decides.{eqb_tells}
 use Rattle.sso_base.specs.Words.{Word, Text, is_word}
 use Rattle.sso_base.specs.Rows.{row_of}
 use Rattle.sso_base.proofs.RowLaws.{bytes_same, bytes_true}
-use Rattle.client_registry.specs.declared.records.Types.{Types}
+use Rattle.oidc_words.specs.declared.response_types.Types.{Types}
 use Rattle.rp_login.specs.declared.rows.LoginRow.{LoginRow}
 use Rattle.rp_login.specs.declared.rows.PendingRow.{PendingRow}
 use Rattle.rp_login.specs.Rows.{login_name, pending_name}
@@ -21,7 +20,8 @@ use Rattle.rp_answer.specs.Logins.{logins, login_of, live_login, login_started, 
 use Rattle.rp_answer.specs.Pendings.{pendings, pending_of, live_pending, pending_by, pending_made, pending_kept, pending_named, ends_pending}
 use Rattle.rp_answer.specs.Legal.{login_entered, login_entered_by}
 use Rattle.rp_answer.proofs.KeptNames.{some_same, login_same, pending_same}
-use Rattle.rp_answer.proofs.Entering.{login_found, pending_found, sent}
+use Rattle.rp_answer.proofs.Exchanges.{login_found, pending_found, sent}
+use Rattle.held_rows.proofs.HeldLaws.{row_of_named}
 use Rattle.rp_answer.proofs.Counting.{one_if, one_if_other, count_by, count_some, count_put, count_kept, count_dropped}
 
 -- ---- which pair began the login of a row
@@ -44,14 +44,8 @@ waiting types past n = waiting_logins past n + waiting_exchanges types past n
 
 -- ---- the row that is found has the name
 
-found_named : {R : Type 0} (name : R → Word) (w : Word) (x row : R) (rows : List R) (same : Bool) → bytes_eq (name x) w ≡ same
-    → (row_of name w rows ≡ Some row → name row ≡ w) → cond same (Some x) (row_of name w rows) ≡ Some row → name row ≡ w
-found_named name w x row rows true e further h = sym (ap name (some_same x row h)) ∙ bytes_same (name x) w e
-found_named name w x row rows false e further h = further h
-
 row_of-named : {R : Type 0} (name : R → Word) (w : Word) (rows : List R) (row : R) → row_of name w rows ≡ Some row → name row ≡ w
-row_of-named name w [] row h = cc
-row_of-named name w (x ∷ rows) row h = found_named name w x row rows (bytes_eq (name x) w) refl (row_of-named name w rows row) h
+row_of-named name w rows row h = bytes_same (name row) w (row_of_named name w rows row h)
 
 -- ---- what a pair drops
 

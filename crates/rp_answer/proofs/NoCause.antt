@@ -5,7 +5,7 @@ use Rattle.sso_base.specs.Words.{Word, Text, word_text}
 use Rattle.sso_base.specs.declared.message.Message.{Message}
 use Rattle.id_token.specs.declared.no.IdNo.{IdNo}
 use Rattle.id_token.specs.Judging.{id_judged}
-use Rattle.auth_request.specs.declared.wish.AuthError.{AuthError}
+use Rattle.oidc_words.specs.declared.errors.AuthError.{AuthError}
 use Rattle.auth_answer.specs.declared.heard.Heard.{Heard}
 use Rattle.token_endpoint.specs.declared.no.TokensNo.TheVariants as tokens_no
 use Rattle.rp_login.specs.declared.table.RpTable.{RpTable}

@@ -12,9 +12,10 @@ use Rattle.rp_exchange.specs.declared.no.Part.TheVariants as part
 use Rattle.rp_exchange.specs.declared.no.RpNo.TheVariants as no
 use Rattle.rp_exchange.specs.declared.reply.RpReply.TheVariants.{Entered, User, Nobody, Refused, NotHere}
 use Rattle.rp_answer.specs.Setup.{party_of, client_of}
-use Rattle.login_request.specs.Parties.{no_party}
+use Rattle.client_registry.specs.Numbers.{no_party}
 use Rattle.rp_answer.specs.Replies.{login_browser, must_hash, may_hash, front_access, front_code, front_rules, back_rules, part_missing, exchange_or_enter, is_other, visited}
-use Rattle.rp_answer.specs.Room.{is_full, if_full, table_lacking, unless_lacking, unless_full}
+use Rattle.held_rows.specs.Held.{most_rows, is_full}
+use Rattle.rp_answer.specs.Room.{if_full, table_lacking, unless_lacking, unless_full}
 use Rattle.rp_answer.specs.Answering.{rp_reply}
 use Rattle.rp_answer.specs.Causes.{is_own}
 use Rattle.rp_answer.proofs.Sample.{word, entry_at, registered, only_code, id_and_token, code_and_id, shop, news_client, shop_setup, news_setup}
@@ -133,17 +134,17 @@ none_is_nobody = refl
 
 -- ---- room
 
-same_name_is_full : is_full login_name (word 2) (login ∷ []) ≡ true
+same_name_is_full : is_full most_rows login_name (word 2) (login ∷ []) ≡ true
 same_name_is_full = refl
 
-other_name_is_not_full : is_full login_name (word 3) (login ∷ []) ≡ false
+other_name_is_not_full : is_full most_rows login_name (word 3) (login ∷ []) ≡ false
 other_name_is_not_full = refl
 
 -- a table holds 65,536 rows, whatever they are
-most_are_full : (w : Word) (rows : List LoginRow) → length rows ≡ 65536 → is_full login_name w rows ≡ true
+most_are_full : (w : Word) (rows : List LoginRow) → length rows ≡ 65536 → is_full most_rows login_name w rows ≡ true
 most_are_full w rows long = rw long refl
 
-one_fewer_is_not_full : (w : Word) (rows : List LoginRow) → length rows ≡ 65535 → row_of login_name w rows ≡ None → is_full login_name w rows ≡ false
+one_fewer_is_not_full : (w : Word) (rows : List LoginRow) → length rows ≡ 65535 → row_of login_name w rows ≡ None → is_full most_rows login_name w rows ≡ false
 one_fewer_is_not_full w rows long absent = rw (long, absent) refl
 
 full_is_named : if_full table.Logins true ≡ Some table.Logins

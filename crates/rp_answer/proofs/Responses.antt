@@ -5,7 +5,7 @@ use Rattle.sso_base.specs.declared.history.Entry.{Entry}
 use Rattle.id_token.specs.declared.claims.IdClaims.{IdClaims}
 use Rattle.id_token.specs.declared.no.IdNo.{IdNo}
 use Rattle.id_token.specs.Judging.{id_judged}
-use Rattle.auth_request.specs.declared.wish.AuthError.{AuthError}
+use Rattle.oidc_words.specs.declared.errors.AuthError.{AuthError}
 use Rattle.auth_answer.specs.declared.heard.Heard.{Heard}
 use Rattle.rp_login.specs.declared.rows.LoginRow.{LoginRow}
 use Rattle.rp_exchange.specs.declared.ask.RpAsk.{RpAsk}

@@ -3,7 +3,7 @@ use Rattle.std.proofs.Common.{◌≡◌, true, false, [], ◌∷◌, Some, None,
 use Rattle.sso_base.specs.Words.{Text, is_word}
 use Rattle.id_token.specs.declared.no.IdNo.{IdNo}
 use Rattle.id_token.specs.declared.no.IdNo.TheVariants as id_no
-use Rattle.auth_request.specs.declared.wish.AuthError.TheVariants.{AccessDenied}
+use Rattle.oidc_words.specs.declared.errors.AuthError.TheVariants.{AccessDenied}
 use Rattle.token_endpoint.specs.declared.no.TokensNo.TheVariants as tokens_no
 use Rattle.rp_login.specs.declared.rows.LoginRow.{LoginRow}
 use Rattle.rp_login.specs.declared.rows.SessionRow.{SessionRow}

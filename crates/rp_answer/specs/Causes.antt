@@ -6,7 +6,7 @@ use Rattle.id_token.specs.declared.claims.IdClaims.{IdClaims}
 use Rattle.id_token.specs.declared.no.IdNo.{IdNo}
 use Rattle.id_token.specs.declared.rules.IdRules.{IdRules}
 use Rattle.id_token.specs.Judging.{id_judged}
-use Rattle.auth_request.specs.declared.wish.AuthError.{AuthError}
+use Rattle.oidc_words.specs.declared.errors.AuthError.{AuthError}
 use Rattle.auth_answer.specs.declared.heard.Heard.{Heard}
 use Rattle.auth_answer.specs.declared.no.AnswerNo.TheVariants as answer_no
 use Rattle.token_endpoint.specs.declared.reading.Tokens.{Tokens}
@@ -75,10 +75,11 @@ pub record GoodClaims (rules : IdRules) (at : ℕ) (id : Option (Result IdClaims
   pub good : Unit {0}
   pub judged : id_judged rules claims at ≡ Ok good
 
--- an ID Token was refused: it could not be read, or its claims are not good by these rules
+-- the claims are not good by these rules, for this reason
 pub record BadClaims (rules : IdRules) (at : ℕ) (claims : IdClaims) (why : IdNo) : Type 0 where
   pub judged : id_judged rules claims at ≡ Err why
 
+-- an ID Token was refused: it could not be read, or its claims are not good by these rules
 abbrev pub IdRefused : IdRules → ℕ → Option (Result IdClaims IdNo) → IdNo → Type 0
 IdRefused rules at None why = ⊥
 IdRefused rules at (Some (Err read)) why = read ≡ why

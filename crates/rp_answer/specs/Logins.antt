@@ -5,7 +5,8 @@ use Rattle.std.specs.List.{list_any}
 use Rattle.sso_base.specs.Words.{Word, is_word, fresh_word}
 use Rattle.sso_base.specs.Rows.{rows_by, row_of, live_rows, if_lives}
 use Rattle.rp_login.specs.declared.rows.LoginRow.{LoginRow}
-use Rattle.rp_login.specs.Rows.{login_name, login_begun, login_life}
+use Rattle.rp_login.specs.Rows.{login_name, login_begun}
+use Rattle.oidc_words.specs.Lives.{login_life}
 use Rattle.rp_exchange.specs.declared.ask.RpAsk.{RpAsk}
 use Rattle.rp_exchange.specs.declared.ask.RpAsk.TheVariants.{Begin}
 use Rattle.rp_exchange.specs.declared.no.RpNo.{RpNo}

@@ -2,11 +2,12 @@
 use Rattle.std.specs.Prelude.{ℕ, Bool, true, false, ◌&&◌, List, Option, Some, None, option_map, option_and_then, if◌then◌else◌}
 use Rattle.sso_base.specs.Words.{Word, is_word}
 use Rattle.sso_base.specs.Rows.{rows_by, row_of, live_rows, if_lives}
-use Rattle.client_registry.specs.declared.records.Types.{Types}
+use Rattle.oidc_words.specs.declared.response_types.Types.{Types}
 use Rattle.rp_login.specs.declared.rows.LoginRow.{LoginRow}
 use Rattle.rp_login.specs.declared.rows.PendingRow.{PendingRow}
 use Rattle.rp_login.specs.declared.rows.Stage.TheVariants as stage
-use Rattle.rp_login.specs.Rows.{pending_name, pending_begun, pending_life}
+use Rattle.rp_login.specs.Rows.{pending_name, pending_begun}
+use Rattle.oidc_words.specs.Lives.{pending_life}
 use Rattle.rp_exchange.specs.declared.ask.RpAsk.{RpAsk}
 use Rattle.rp_exchange.specs.declared.ask.RpAsk.TheVariants as ask
 use Rattle.rp_exchange.specs.declared.no.RpNo.TheVariants as no

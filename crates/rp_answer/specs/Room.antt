@@ -1,13 +1,12 @@
 -- Room: a step that would add a row to a full table, or a second row of one word, changes nothing.
-use Rattle.std.specs.Prelude.{Bool, not, ◌||◌, nat_lt, List, length, Option, Some, None, is_some, if◌then◌else◌}
-use Rattle.sso_base.specs.Words.{Word, fresh_word}
-use Rattle.sso_base.specs.Rows.{row_of}
+use Rattle.std.specs.Prelude.{Bool, Option, Some, None, if◌then◌else◌}
+use Rattle.sso_base.specs.Words.{fresh_word}
 use Rattle.sso_base.specs.declared.history.Entry.{Entry}
 use Rattle.rp_login.specs.declared.table.RpTable.{RpTable}
 use Rattle.rp_login.specs.declared.table.RpTable.TheVariants as table
-use Rattle.rp_login.specs.Held.{most_rows}
+use Rattle.held_rows.specs.Held.{most_rows, is_full}
 use Rattle.rp_login.specs.Rows.{login_name, pending_name, visit_name}
-use Rattle.client_registry.specs.declared.records.Types.{Types}
+use Rattle.oidc_words.specs.declared.response_types.Types.{Types}
 use Rattle.rp_exchange.specs.declared.ask.RpAsk.{RpAsk}
 use Rattle.rp_exchange.specs.declared.no.RpNo.TheVariants as no
 use Rattle.rp_exchange.specs.declared.reply.RpReply.{RpReply}
@@ -17,18 +16,14 @@ use Rattle.rp_answer.specs.Logins.{live_logins}
 use Rattle.rp_answer.specs.Pendings.{live_pendings}
 use Rattle.rp_answer.specs.Visits.{live_visits}
 
--- the rows are as many as a table may hold, or one of them has the name
-abbrev pub is_full : {R : Type 0} → (R → Word) → Word → List R → Bool
-is_full name w rows = not (nat_lt (length rows) most_rows) || is_some (row_of name w rows)
-
 abbrev pub if_full : RpTable → Bool → Option RpTable
 if_full table full = if full then Some table else None
 
 -- the table that has no room for what a reply makes
 abbrev pub table_lacking : Types → RpPast → Entry RpAsk → RpReply → Option RpTable
-table_lacking types past e (Ask to browser) = if_full table.Logins (is_full login_name (fresh_word e.fresh 1) (live_logins past e.at))
-table_lacking types past e (Exchange w message) = if_full table.Pendings (is_full pending_name w (live_pendings types past e.at))
-table_lacking types past e (Entered w sub) = if_full table.Sessions (is_full visit_name w (live_visits types past e.at))
+table_lacking types past e (Ask to browser) = if_full table.Logins (is_full most_rows login_name (fresh_word e.fresh 1) (live_logins past e.at))
+table_lacking types past e (Exchange w message) = if_full table.Pendings (is_full most_rows pending_name w (live_pendings types past e.at))
+table_lacking types past e (Entered w sub) = if_full table.Sessions (is_full most_rows visit_name w (live_visits types past e.at))
 table_lacking types past e reply = None
 
 abbrev pub unless_lacking : RpReply → Option RpTable → RpReply

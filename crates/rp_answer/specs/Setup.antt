@@ -4,7 +4,7 @@ use Rattle.client_registry.specs.declared.records.Client.{Client}
 use Rattle.client_registry.specs.declared.records.Party.{Party}
 use Rattle.client_registry.specs.declared.records.Provider.{Provider}
 use Rattle.client_registry.specs.Configuration.{Configuration}
-use Rattle.login_request.specs.Parties.{party_row, client_row}
+use Rattle.client_registry.specs.Numbers.{party_row, party_client}
 
 -- the configuration, the party's number in it, from 0, and the provider that it trusts
 pub record PartySetup : Type 0 where
@@ -17,4 +17,4 @@ party_of s = party_row s.configuration s.number
 
 -- the client that the party is
 abbrev pub client_of : PartySetup → Client
-client_of s = client_row s.configuration s.number
+client_of s = party_client s.configuration s.number

@@ -3,11 +3,12 @@ use Rattle.std.specs.Prelude.{ℕ, List, Option, Some, None, option_map, option_
 use Rattle.sso_base.specs.Words.{Word}
 use Rattle.sso_base.specs.Rows.{rows_by, row_of, live_rows, if_lives}
 use Rattle.id_token.specs.declared.claims.IdClaims.{IdClaims}
-use Rattle.client_registry.specs.declared.records.Types.{Types}
+use Rattle.oidc_words.specs.declared.response_types.Types.{Types}
 use Rattle.rp_login.specs.declared.rows.LoginRow.{LoginRow}
 use Rattle.rp_login.specs.declared.rows.PendingRow.{PendingRow}
 use Rattle.rp_login.specs.declared.rows.SessionRow.{SessionRow}
-use Rattle.rp_login.specs.Rows.{visit_name, visit_begun, visit_life}
+use Rattle.rp_login.specs.Rows.{visit_name, visit_begun}
+use Rattle.oidc_words.specs.Lives.{visit_life}
 use Rattle.rp_exchange.specs.declared.ask.RpAsk.{RpAsk}
 use Rattle.rp_exchange.specs.declared.ask.RpAsk.TheVariants.{Callback, Tokens}
 use Rattle.rp_exchange.specs.declared.reply.RpReply.{RpReply}

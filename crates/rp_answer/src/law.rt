@@ -1,12 +1,14 @@
 // What holds of a relying party's answers.
 
-ghost use Rattle.std.specs.Prelude.{◌≡◌, ◌↔◌, ℕ, true, ◌∷◌, ◌++◌, Option, Some};
-ghost use Rattle.sso_base.specs.Words.{Word, Text};
+ghost use Rattle.std.specs.Prelude.{◌≡◌, ◌≤◌, ◌↔◌, ℕ, true, List, ◌∷◌, ◌++◌, length, Some};
+ghost use Rattle.sso_base.specs.Words.{Word, Text, word_text};
+ghost use Rattle.sso_base.specs.Drawn.{IsDrawn};
 ghost use Rattle.sso_base.specs.Rows.{row_of};
 ghost use Rattle.sso_base.specs.Stands.{Stands};
+ghost use Rattle.sso_base.specs.Journal.{most_pairs};
 ghost use Rattle.sso_base.specs.declared.history.Entry.{Entry};
 ghost use Rattle.sso_base.specs.declared.message.Message.{Message};
-ghost use Rattle.client_registry.specs.declared.records.Types.{Types};
+ghost use Rattle.oidc_words.specs.declared.response_types.Types.{Types};
 ghost use Rattle.rp_login.specs.declared.rows.LoginRow.{LoginRow};
 ghost use Rattle.rp_login.specs.declared.rows.PendingRow.{PendingRow};
 ghost use Rattle.rp_login.specs.declared.rows.SessionRow.{SessionRow};
@@ -24,7 +26,7 @@ ghost use Rattle.rp_answer.specs.Pendings.{pendings, pending_made, pending_kept}
 ghost use Rattle.rp_answer.specs.Visits.{visits, visit_made, visit_kept};
 ghost use Rattle.rp_answer.specs.Answering.{rp_answer};
 ghost use Rattle.rp_answer.specs.Causes.{is_own, Stood, NoRoom, AskCause, ExchangeCause, EnteredCause, UserCause, NobodyCause, RefusedCause};
-ghost use Rattle.rp_answer.specs.Legal.{IsLegalRp, BegunBy, EnteredBy, LoginEntered, login_entered};
+ghost use Rattle.rp_answer.specs.Legal.{IsLegalRp, IsLegalHistory, BegunBy, ExchangedBy, EnteredBy, LoginEntered, login_entered};
 
 /// A row is found after a past exactly where some pair made it, no later pair made one of its name or ended it, and it is
 /// as the later pairs left it.
@@ -47,19 +49,29 @@ pub fn replies_have_a_cause()
     ensures refusals { (s : PartySetup) (past : RpPast) (e : Entry RpAsk) (why : RpNo) → rp_answer s past e ≡ reply.Refused why → RefusedCause s past e e.ask why }
 {}
 
-/// The state and the nonce of a login, and the word of a session, are drawn words of the one pair that made it.
+/// The state and the nonce of a login, and the word of a pending exchange or of a session, are drawn words of the one pair that
+/// made it. An exchange has the nonce and the begin of its login, which lived then, and a session the subject of the reply. The
+/// text of a drawn word determines it.
 pub fn words_are_drawn()
     ensures logins { (past : RpPast) (state : Word) (login : LoginRow) → row_of login_name state (logins past) ≡ Some login → BegunBy past login }
-    ensures visits { (s : PartySetup) (past : RpPast) (w : Word) (visit : SessionRow) → IsLegalRp s past → row_of visit_name w (visits (party_of s).types past) ≡ Some visit → EnteredBy past w }
+    ensures pendings { (s : PartySetup) (past : RpPast) (w : Word) (row : PendingRow) → IsLegalRp s past → row_of pending_name w (pendings (party_of s).types past) ≡ Some row → ExchangedBy past row }
+    ensures visits { (s : PartySetup) (past : RpPast) (w : Word) (visit : SessionRow) → IsLegalRp s past → row_of visit_name w (visits (party_of s).types past) ≡ Some visit → EnteredBy past visit }
+    ensures texts { (s : PartySetup) (past : RpPast) (v w : Word) → IsLegalRp s past → IsDrawn past v → IsDrawn past w → word_text v ≡ word_text w → v ≡ w }
 {}
 
 /// In any legal past a session begins only where the browser that began a login brought the response of its state, and with
-/// an ID Token of the login's nonce that was judged good (OpenID Connect Core 1.0, 3.1.3.7, 3.2.2.11 and 3.3.2.12).
+/// an ID Token of the login's nonce that was judged good (OpenID Connect Core 1.0, 3.1.3.7, 3.2.2.11 and 3.3.2.12). It is
+/// this login that enters.
 pub fn sessions_need_a_login()
-    ensures { (s : PartySetup) (later earlier : RpPast) (p : RpPair) (w : Word) (sub : Text) → IsLegalRp s (later ++ p ∷ earlier) → p.reply ≡ reply.Entered w sub → LoginEntered s earlier p.entry sub }
+    ensures { (s : PartySetup) (later earlier : RpPast) (p : RpPair) (w : Word) (sub : Text) → IsLegalRp s (later ++ p ∷ earlier) → p.reply ≡ reply.Entered w sub → LoginEntered s earlier p.entry w sub }
 {}
 
 /// A login enters at most once: no two pairs let in the login that one pair began. This holds of any past, legal or not.
 pub fn logins_enter_once()
     ensures { (types : Types) (between earlier : RpPast) (p q : RpPair) (n : ℕ) → login_entered types earlier p ≡ Some n → login_entered types (between ++ p ∷ earlier) q ≡ Some n → ⊥ }
+{}
+
+/// A legal history has at most 262,144 pairs: it weighs at most 268,435,456, and no pair less than 1,024.
+pub fn legal_histories_are_short()
+    ensures { (s : PartySetup) (history : List RpPair) → IsLegalHistory s history → length history ≤ most_pairs }
 {}

@@ -8,5 +8,6 @@
 mod law;
 
 pub use law::{
-    logins_enter_once, replies_have_a_cause, rows_stand, sessions_need_a_login, words_are_drawn,
+    legal_histories_are_short, logins_enter_once, replies_have_a_cause, rows_stand,
+    sessions_need_a_login, words_are_drawn,
 };

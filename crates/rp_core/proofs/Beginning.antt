@@ -13,8 +13,8 @@ none_kept s =
       begun = record { logins = refl; pendings = refl; visits = refl };
     }
 
-pub begins : (s : PartySetup) (history : List RpPair) (t : Tables) → history ≡ [] → t ≡ no_tables → MayServe s → Keeps s history 0 t
+pub begins : (s : PartySetup) (history : List RpPair) (t : Tables) → history ≡ [] → t ≡ no_tables → MayServe s → Keeps s history t
 begins s history t none empty serves =
-    let H : List RpPair → Type 0 = λ h. Keeps s h 0 t in
-    let T : Tables → Type 0 = λ u. Keeps s [] 0 u in
-    subst H (sym none) (subst T (sym empty) (record { tables = none_kept s; weight_is = refl; light = omega arith; legal = tt; serves = serves }))
+    let H : List RpPair → Type 0 = λ h. Keeps s h t in
+    let T : Tables → Type 0 = λ u. Keeps s [] u in
+    subst H (sym none) (subst T (sym empty) (record { tables = none_kept s; legal = record { past = tt; light = omega arith }; serves = serves }))

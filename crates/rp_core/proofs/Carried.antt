@@ -2,11 +2,12 @@
 use Rattle.std.proofs.Common.{◌≡◌, ◌≤◌, ℕ, ◌∷◌, List, length, Option, Some, None, option_map, option_and_then, sym, ap}
 use Rattle.sso_base.specs.Words.{Word, fresh_word}
 use Rattle.id_token.specs.declared.claims.IdClaims.{IdClaims}
-use Rattle.client_registry.specs.declared.records.Types.{Types}
+use Rattle.oidc_words.specs.declared.response_types.Types.{Types}
 use Rattle.rp_login.specs.declared.rows.LoginRow.{LoginRow}
 use Rattle.rp_login.specs.declared.rows.PendingRow.{PendingRow}
 use Rattle.rp_login.specs.declared.rows.SessionRow.{SessionRow}
-use Rattle.rp_login.specs.Rows.{login_name, login_begun, login_life, pending_name, pending_begun, pending_life, visit_name, visit_begun, visit_life}
+use Rattle.rp_login.specs.Rows.{login_name, login_begun, pending_name, pending_begun, visit_name, visit_begun}
+use Rattle.oidc_words.specs.Lives.{login_life, pending_life, visit_life}
 use Rattle.rp_login.specs.Tables.{Tables}
 use Rattle.rp_exchange.specs.declared.ask.RpAsk.{RpAsk}
 use Rattle.rp_exchange.specs.declared.ask.RpAsk.TheVariants as ask
@@ -18,7 +19,7 @@ use Rattle.rp_answer.specs.Logins.{logins, login_started, login_made, login_kept
 use Rattle.rp_answer.specs.Pendings.{pendings, pending_started, pending_by, pending_made, pending_kept}
 use Rattle.rp_answer.specs.Visits.{visits, nonce_by, visit_of, visit_by, visit_made, visit_kept}
 use Rattle.rp_answer.proofs.KeptNames.{some_same, login_same, pending_same, visit_same}
-use Rattle.row_laws.proofs.Added.{rows_carried, begun_carried}
+use Rattle.held_rows.proofs.Added.{rows_carried, begun_carried}
 use Rattle.rp_core.specs.Agreeing.{Agrees, IsBegun}
 use Rattle.rp_core.specs.Keeping.{FollowsPair}
 

@@ -1,8 +1,8 @@
 -- What is kept when a pair is taken up for which room was reserved.
-use Rattle.std.proofs.Common.{◌≡◌, ◌≤◌, ℕ, ◌+◌, List, [], ◌∷◌, ◌++◌, reverse, Option, sym, ◌∙◌, subst, arith}
+use Rattle.std.proofs.Common.{◌≡◌, ◌≤◌, ℕ, ◌+◌, List, [], ◌∷◌, ◌++◌, reverse, Option, sym, subst}
 use Rattle.sso_base.specs.Legal.{last_moment, IsEntry}
 use Rattle.sso_base.specs.Journal.{most_weight, history_weight}
-use Rattle.client_registry.specs.declared.records.Types.{Types}
+use Rattle.oidc_words.specs.declared.response_types.Types.{Types}
 use Rattle.rp_login.specs.declared.rows.LoginRow.{LoginRow}
 use Rattle.rp_login.specs.declared.rows.PendingRow.{PendingRow}
 use Rattle.rp_login.specs.declared.rows.SessionRow.{SessionRow}
@@ -12,8 +12,7 @@ use Rattle.rp_exchange.specs.Weight.{ask_weight}
 use Rattle.rp_answer.specs.Past.{RpPair, RpPast}
 use Rattle.rp_answer.specs.Setup.{PartySetup, party_of}
 use Rattle.rp_answer.specs.Answering.{rp_answer}
-use Rattle.rp_answer.specs.Legal.{IsLegalRp}
-use Rattle.row_laws.proofs.Histories.{weight_more, past_more}
+use Rattle.sso_base.proofs.Histories.{longer_is_legal, past_more}
 use Rattle.rp_core.specs.Relying.{Relying, past_of}
 use Rattle.rp_core.specs.Agreeing.{KeepsPast, Keeps}
 use Rattle.rp_core.specs.Making.{Brings}
@@ -28,13 +27,7 @@ with_room_keeps types past t k =
       begun = record { logins = k.begun.logins; pendings = k.begun.pendings; visits = k.begun.visits };
     }
 
-sum_is : (a b m n : ℕ) → a ≡ m → b ≡ n → a + b ≡ m + n
-sum_is a b m n h k = omega (arith, h, k)
-
-light_by : (a b more : ℕ) → a ≡ b → b + more ≤ most_weight → a + more ≤ most_weight
-light_by a b more h low = omega (arith, h, low)
-
-module _ (s : PartySetup) (history items : List RpPair) (weight more : ℕ) (t reserved u : Tables) (p : RpPair) (login : Option LoginRow) (pending : Option PendingRow) (visit : Option SessionRow) where
+module _ (s : PartySetup) (history items : List RpPair) (more : ℕ) (t reserved u : Tables) (p : RpPair) (login : Option LoginRow) (pending : Option PendingRow) (visit : Option SessionRow) where
   -- what the step has shown when it takes the pair up, of the party as a value
   abbrev pub Shown : Relying → Type 0
   Shown r =
@@ -43,9 +36,9 @@ module _ (s : PartySetup) (history items : List RpPair) (weight more : ℕ) (t r
       × Brings (party_of r.setup).types (past_of r) p login pending visit
       × (history_weight ask_weight r.history + more ≤ most_weight)
 
-  committed : Keeps s history weight t → reserved ≡ with_room t → IsEntry IsRpAsk p.entry → more ≡ ask_weight p.entry.ask → items ≡ history ++ p ∷ []
+  committed : Keeps s history t → reserved ≡ with_room t → IsEntry IsRpAsk p.entry → more ≡ ask_weight p.entry.ask → items ≡ history ++ p ∷ []
       → ((d : PartySetup) (past : RpPast) (before : ℕ) → TakesUp d past before reserved p login pending visit → FollowsPair (party_of d).types reserved u past p)
-      → Shown (record { setup = s; history = history }) → Keeps s items (weight + more) u
+      → Shown (record { setup = s; history = history; tables = t }) → Keeps s items u
   committed keeps room entry more_is items_are follows shown =
       let past : RpPast = reverse history in
       let R : Tables → Type 0 = λ x. KeepsPast (party_of s).types past x in
@@ -53,24 +46,22 @@ module _ (s : PartySetup) (history items : List RpPair) (weight more : ℕ) (t r
       let up : TakesUp s past (last_moment past) reserved p login pending visit = record { order = shown.0; agrees = kept.agrees; begun = kept.begun; reply_is = shown.1; brings = shown.2 } in
       let one : FollowsPair (party_of s).types reserved u past p = follows s past (last_moment past) up in
       let K : RpPast → Type 0 = λ q. KeepsPast (party_of s).types q u in
-      let L : RpPast → Type 0 = λ q. IsLegalRp s q in
-      let I : List RpPair → Type 0 = λ x. Keeps s x (weight + more) u in
-      let all : Keeps s (history ++ p ∷ []) (weight + more) u = record {
-        tables = (subst K (sym (past_more ask_weight history p)) (record {
+      let I : List RpPair → Type 0 = λ x. Keeps s x u in
+      let W : ℕ → Type 0 = λ n. history_weight ask_weight history + n ≤ most_weight in
+      let all : Keeps s (history ++ p ∷ []) u = record {
+        tables = (subst K (sym (past_more history p)) (record {
           agrees = agrees_carried (party_of s).types reserved u past p (last_moment past) shown.0 kept.agrees one;
           begun = is_begun_carried (party_of s).types reserved u past p (last_moment past) shown.0 kept.begun one;
         }));
-        weight_is = sum_is weight more (history_weight ask_weight history) (ask_weight p.entry.ask) keeps.weight_is more_is ∙ sym (weight_more ask_weight history p);
-        light = light_by weight (history_weight ask_weight history) more keeps.weight_is shown.3;
-        legal = subst L (sym (past_more ask_weight history p)) (keeps.legal, entry, shown.0, shown.1);
+        legal = longer_is_legal IsRpAsk (rp_answer s) ask_weight history p keeps.legal entry shown.0 shown.1 (subst W more_is shown.3);
         serves = keeps.serves;
       } in
       subst I (sym items_are) all
 
-  pub committed_as : (r : Relying) → ◌≡◌ {A = Relying} (record { setup = s; history = history }) r → Keeps s history weight t → reserved ≡ with_room t → IsEntry IsRpAsk p.entry → more ≡ ask_weight p.entry.ask
+  pub committed_as : (r : Relying) → ◌≡◌ {A = Relying} (record { setup = s; history = history; tables = t }) r → Keeps s history t → reserved ≡ with_room t → IsEntry IsRpAsk p.entry → more ≡ ask_weight p.entry.ask
       → items ≡ history ++ p ∷ []
       → ((d : PartySetup) (past : RpPast) (before : ℕ) → TakesUp d past before reserved p login pending visit → FollowsPair (party_of d).types reserved u past p)
-      → Shown r → Keeps s items (weight + more) u
+      → Shown r → Keeps s items u
   committed_as r view keeps room entry more_is items_are follows shown =
       let S : Relying → Type 0 = λ x. Shown x in
       committed keeps room entry more_is items_are follows (subst S (sym view) shown)

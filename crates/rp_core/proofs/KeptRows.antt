@@ -2,7 +2,7 @@
 use Rattle.std.proofs.Common.{◌≡◌, Bool, true, false, ◌&&◌, cond, List, filter_map, Option, Some, None, refl, ◌∙◌, ap}
 use Rattle.sso_base.specs.Words.{Word, is_word}
 use Rattle.sso_base.specs.Rows.{without}
-use Rattle.row_laws.proofs.Kept.{bytes_swap, all_kept, kept_without}
+use Rattle.held_rows.proofs.Kept.{bytes_swap, all_kept, kept_without}
 
 both : (a b : Bool) → a ≡ false → (a && b) ≡ false
 both true b h = cc

@@ -6,12 +6,13 @@ use Rattle.sso_base.specs.Words.{Word}
 use Rattle.sso_base.specs.Rows.{row_of, if_lives, live_rows}
 use Rattle.sso_base.specs.Legal.{last_moment}
 use Rattle.sso_base.proofs.RowLaws.{rows_distinct}
-use Rattle.client_registry.specs.declared.records.Types.{Types}
+use Rattle.oidc_words.specs.declared.response_types.Types.{Types}
 use Rattle.rp_login.specs.declared.rows.LoginRow.{LoginRow}
 use Rattle.rp_login.specs.declared.rows.PendingRow.{PendingRow}
 use Rattle.rp_login.specs.declared.rows.SessionRow.{SessionRow}
-use Rattle.rp_login.specs.Rows.{login_name, login_begun, login_life, pending_name, pending_begun, pending_life, visit_name, visit_begun, visit_life}
-use Rattle.rp_login.specs.Held.{most_rows, has_room_for_one}
+use Rattle.rp_login.specs.Rows.{login_name, login_begun, pending_name, pending_begun, visit_name, visit_begun}
+use Rattle.oidc_words.specs.Lives.{login_life, pending_life, visit_life}
+use Rattle.held_rows.specs.Held.{most_rows, has_room_for_one}
 use Rattle.rp_login.specs.Tables.{Tables, AreLogins, ArePendings, AreVisits}
 use Rattle.rp_answer.specs.Past.{RpPair, RpPast}
 use Rattle.rp_answer.specs.Setup.{PartySetup, party_of}
@@ -21,13 +22,13 @@ use Rattle.rp_answer.specs.Visits.{visits, visit_made, visit_kept, live_visits, 
 use Rattle.rp_answer.proofs.KeptNames.{login_names, pending_names, visit_names}
 use Rattle.rp_core.specs.Relying.{Relying, past_of}
 use Rattle.rp_core.specs.Agreeing.{KeepsPast}
-use Rattle.row_laws.proofs.Found.{same_later, found_in_both, found_live}
+use Rattle.held_rows.proofs.Found.{same_later, found_in_both, found_live}
 
 -- the response type that the party asks for
 abbrev pub types_of : Relying → Types
 types_of r = (party_of r.setup).types
 
-module _ (s : PartySetup) (history : List RpPair) (t : Tables) (keeps : KeepsPast (party_of s).types (reverse history) t) (r : Relying) (view : ◌≡◌ {A = Relying} (record { setup = s; history = history }) r) (at : ℕ) (order : last_moment (past_of r) ≤ at) where
+module _ (s : PartySetup) (history : List RpPair) (t : Tables) (keeps : KeepsPast (party_of s).types (reverse history) t) (r : Relying) (view : ◌≡◌ {A = Relying} (record { setup = s; history = history; tables = t }) r) (at : ℕ) (order : last_moment (past_of r) ≤ at) where
   past : RpPast
   past = reverse history
 

@@ -3,7 +3,7 @@ use Rattle.std.proofs.Common.{◌≡◌, length, Option, option_map, option_and_
 use Rattle.sso_base.specs.Words.{Word, Text}
 use Rattle.sso_base.specs.declared.history.Entry.{Entry}
 use Rattle.sso_base.specs.declared.message.Message.{Message}
-use Rattle.client_registry.specs.declared.records.Types.{Types}
+use Rattle.oidc_words.specs.declared.response_types.Types.{Types}
 use Rattle.rp_login.specs.declared.rows.LoginRow.{LoginRow}
 use Rattle.rp_login.specs.declared.rows.PendingRow.{PendingRow}
 use Rattle.rp_login.specs.declared.rows.SessionRow.{SessionRow}
@@ -20,7 +20,7 @@ use Rattle.rp_answer.specs.Visits.{nonce_by, visit_of, visit_by}
 use Rattle.rp_answer.specs.Answering.{rp_answer}
 use Rattle.rp_answer.specs.Causes.{ExchangeCause, EnteredCause}
 use Rattle.rp_answer.proofs.Answers.{exchanges_have_a_cause, entered_have_a_cause}
-use Rattle.rp_answer.proofs.Entering as entering
+use Rattle.rp_answer.proofs.Exchanges as found
 use Rattle.rp_core.specs.Making.{pending_found, nonce_found, visit_found, Brings}
 
 module _ (s : PartySetup) (past : RpPast) (e : Entry RpAsk) where
@@ -29,7 +29,7 @@ module _ (s : PartySetup) (past : RpPast) (e : Entry RpAsk) where
 
   exchange_live : (asked : RpAsk) (w : Word) (message : Message) → ExchangeCause s past e asked w message → live_login past e.at (state_named asked) ≡ login_of past (state_named asked)
   exchange_live (ask.Callback (Ok heard) id browser) w message cause =
-      cause.response.own.live ∙ sym (entering.login_found past e.at heard.state cause.login cause.response.own.live)
+      cause.response.own.live ∙ sym (found.login_found past e.at heard.state cause.login cause.response.own.live)
   exchange_live asked w message cause = absurd cause
 
   pub pending_same : (told : RpReply) → told ≡ rp_answer s past e → pending_found (party_of s).types past e told ≡ pending_by (party_of s).types e.at past e.ask told
@@ -41,10 +41,10 @@ module _ (s : PartySetup) (past : RpPast) (e : Entry RpAsk) where
   entered_nonce : (asked : RpAsk) (w : Word) (sub : Text) → EnteredCause s past e asked w sub → nonce_found (party_of s).types past e asked ≡ nonce_by (party_of s).types past asked
   entered_nonce (ask.Callback (Ok heard) id browser) w sub cause =
       let M : Option LoginRow → Option Word = λ o. option_map (λ (login : LoginRow). login.nonce) o in
-      ap M (cause.response.own.live ∙ sym (entering.login_found past e.at heard.state cause.login cause.response.own.live))
+      ap M (cause.response.own.live ∙ sym (found.login_found past e.at heard.state cause.login cause.response.own.live))
   entered_nonce (ask.Tokens pending (Ok came) id) w sub cause =
       let M : Option PendingRow → Option Word = λ o. option_map (λ (row : PendingRow). row.nonce) o in
-      ap M (cause.live ∙ sym (entering.pending_found (party_of s).types past e.at pending cause.exchange cause.live))
+      ap M (cause.live ∙ sym (found.pending_found (party_of s).types past e.at pending cause.exchange cause.live))
   entered_nonce asked w sub cause = absurd cause
 
   pub visit_same : (told : RpReply) → told ≡ rp_answer s past e → visit_found (party_of s).types past e told ≡ visit_by (party_of s).types e.at past e.ask told

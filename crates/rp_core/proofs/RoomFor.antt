@@ -3,12 +3,13 @@ use Rattle.std.proofs.Common.{◌≡◌, ℕ, Bool, true, false, Option, Some, N
 use Rattle.sso_base.specs.Words.{Word, fresh_word}
 use Rattle.sso_base.specs.declared.history.Entry.{Entry}
 use Rattle.id_token.specs.declared.claims.IdClaims.{IdClaims}
-use Rattle.client_registry.specs.declared.records.Types.{Types}
+use Rattle.oidc_words.specs.declared.response_types.Types.{Types}
 use Rattle.rp_login.specs.declared.rows.LoginRow.{LoginRow}
 use Rattle.rp_login.specs.declared.rows.PendingRow.{PendingRow}
 use Rattle.rp_login.specs.declared.rows.SessionRow.{SessionRow}
 use Rattle.rp_login.specs.declared.table.RpTable.{RpTable}
 use Rattle.rp_login.specs.declared.table.RpTable.TheVariants as table
+use Rattle.held_rows.specs.Held.{most_rows, is_full}
 use Rattle.rp_login.specs.Rows.{login_name, pending_name, visit_name}
 use Rattle.rp_exchange.specs.declared.ask.RpAsk.{RpAsk}
 use Rattle.rp_exchange.specs.declared.ask.RpAsk.TheVariants as ask
@@ -20,7 +21,7 @@ use Rattle.rp_answer.specs.Asked.{state_named, claims_judged}
 use Rattle.rp_answer.specs.Logins.{login_started, login_of, live_logins}
 use Rattle.rp_answer.specs.Pendings.{pending_started, pending_by, live_pendings}
 use Rattle.rp_answer.specs.Visits.{nonce_by, visit_of, visit_by, live_visits}
-use Rattle.rp_answer.specs.Room.{is_full, if_full}
+use Rattle.rp_answer.specs.Room.{if_full}
 use Rattle.rp_answer.specs.Answering.{rp_answer}
 use Rattle.rp_answer.proofs.KeptNames.{some_same}
 use Rattle.rp_answer.proofs.Stood.{own_replies_stand}
@@ -45,26 +46,26 @@ visit_word at w (Some nonce) claims row h = visit_word_for at w nonce claims row
 
 module _ (s : PartySetup) (past : RpPast) (e : Entry RpAsk) where
   pub login_fits : (by : ℕ) (asked : RpAsk) (told : RpReply) (row : LoginRow) → told ≡ rp_answer s past e → login_started by e.at e.fresh asked told ≡ Some row
-      → is_full login_name (login_name row) (live_logins past e.at) ≡ false
+      → is_full most_rows login_name (login_name row) (live_logins past e.at) ≡ false
   login_fits by (ask.Begin presented) (reply.Ask to browser) row answered h =
       let made : LoginRow = record { state = fresh_word e.fresh 1; nonce = fresh_word e.fresh 2; browser = browser; begun = e.at; by = by } in
-      let F : LoginRow → Bool = λ r. is_full login_name (login_name r) (live_logins past e.at) in
+      let F : LoginRow → Bool = λ r. is_full most_rows login_name (login_name r) (live_logins past e.at) in
       ap F (sym (some_same made row h))
-      ∙ not_full table.Logins (is_full login_name (fresh_word e.fresh 1) (live_logins past e.at)) (own_replies_stand s past e (reply.Ask to browser) refl (sym answered)).room
+      ∙ not_full table.Logins (is_full most_rows login_name (fresh_word e.fresh 1) (live_logins past e.at)) (own_replies_stand s past e (reply.Ask to browser) refl (sym answered)).room
   login_fits by asked told row answered h = cc
 
   pub pending_fits : (asked : RpAsk) (told : RpReply) (row : PendingRow) → told ≡ rp_answer s past e → pending_by (party_of s).types e.at past asked told ≡ Some row
-      → is_full pending_name (pending_name row) (live_pendings (party_of s).types past e.at) ≡ false
+      → is_full most_rows pending_name (pending_name row) (live_pendings (party_of s).types past e.at) ≡ false
   pending_fits asked (reply.Exchange w message) row answered h =
-      let F : Word → Bool = λ v. is_full pending_name v (live_pendings (party_of s).types past e.at) in
+      let F : Word → Bool = λ v. is_full most_rows pending_name v (live_pendings (party_of s).types past e.at) in
       ap F (sym (pending_word (party_of s).types e.at asked w (login_of past (state_named asked)) row h))
-      ∙ not_full table.Pendings (is_full pending_name w (live_pendings (party_of s).types past e.at)) (own_replies_stand s past e (reply.Exchange w message) refl (sym answered)).room
+      ∙ not_full table.Pendings (is_full most_rows pending_name w (live_pendings (party_of s).types past e.at)) (own_replies_stand s past e (reply.Exchange w message) refl (sym answered)).room
   pending_fits asked told row answered h = cc
 
   pub visit_fits : (asked : RpAsk) (told : RpReply) (row : SessionRow) → told ≡ rp_answer s past e → visit_by (party_of s).types e.at past asked told ≡ Some row
-      → is_full visit_name (visit_name row) (live_visits (party_of s).types past e.at) ≡ false
+      → is_full most_rows visit_name (visit_name row) (live_visits (party_of s).types past e.at) ≡ false
   visit_fits asked (reply.Entered w sub) row answered h =
-      let F : Word → Bool = λ v. is_full visit_name v (live_visits (party_of s).types past e.at) in
+      let F : Word → Bool = λ v. is_full most_rows visit_name v (live_visits (party_of s).types past e.at) in
       ap F (sym (visit_word e.at w (nonce_by (party_of s).types past asked) (claims_judged (party_of s).types asked) row h))
-      ∙ not_full table.Sessions (is_full visit_name w (live_visits (party_of s).types past e.at)) (own_replies_stand s past e (reply.Entered w sub) refl (sym answered)).room
+      ∙ not_full table.Sessions (is_full most_rows visit_name w (live_visits (party_of s).types past e.at)) (own_replies_stand s past e (reply.Entered w sub) refl (sym answered)).room
   visit_fits asked told row answered h = cc

@@ -7,8 +7,9 @@ use Rattle.rp_login.specs.declared.rows.PendingRow.{PendingRow}
 use Rattle.rp_login.specs.declared.rows.SessionRow.{SessionRow}
 use Rattle.rp_login.specs.declared.rows.SeenRow.{SeenRow}
 use Rattle.rp_login.specs.declared.table.Reserved.{Reserved}
-use Rattle.rp_login.specs.Rows.{login_name, login_begun, login_life, pending_name, pending_begun, pending_life, visit_name, visit_begun, visit_life, seen_begun, seen_life}
-use Rattle.rp_login.specs.Held.{most_rows}
+use Rattle.rp_login.specs.Rows.{login_name, login_begun, pending_name, pending_begun, visit_name, visit_begun, seen_begun}
+use Rattle.oidc_words.specs.Lives.{login_life, pending_life, visit_life, seen_life}
+use Rattle.held_rows.specs.Held.{most_rows, MayAddRow}
 use Rattle.rp_login.specs.Tables.{Tables, purged}
 use Rattle.rp_answer.specs.Past.{RpPair, RpPast}
 use Rattle.rp_answer.specs.Setup.{PartySetup, party_of}
@@ -16,9 +17,9 @@ use Rattle.rp_answer.specs.Logins.{logins, login_made, login_kept}
 use Rattle.rp_answer.specs.Pendings.{pendings, pending_made, pending_kept}
 use Rattle.rp_answer.specs.Visits.{visits, visit_made, visit_kept}
 use Rattle.rp_answer.proofs.KeptNames.{login_names, pending_names, visit_names}
-use Rattle.row_laws.proofs.Kept.{all_kept, put_pushes}
-use Rattle.row_laws.proofs.Added.{MayAdd, may_add}
-use Rattle.rp_core.specs.Keeping.{TakesUp, FollowsPair, MayAddRow, login_put, pending_put, visit_put}
+use Rattle.held_rows.proofs.Kept.{all_kept, put_pushes}
+use Rattle.held_rows.proofs.Added.{MayAdd, may_add}
+use Rattle.rp_core.specs.Keeping.{TakesUp, FollowsPair, login_put, pending_put, visit_put}
 use Rattle.rp_core.proofs.Carried.{login_begun_kept, pending_begun_kept, visit_begun_kept, login_made_begun, pending_made_begun, visit_made_begun}
 use Rattle.rp_core.proofs.KeptTables.{with_logins, with_pendings}
 use Rattle.rp_core.proofs.RoomFor.{login_fits, pending_fits, visit_fits}

@@ -1,19 +1,19 @@
 -- A relying party's tables and the questions of its past: what lives in both at a moment is the same.
-use Rattle.std.specs.Prelude.{◌≡◌, ◌≤◌, ℕ, true, List, [], reverse}
+use Rattle.std.specs.Prelude.{◌≡◌, ℕ, true, List, [], reverse}
 use Rattle.sso_base.specs.Rows.{live_rows}
 use Rattle.sso_base.specs.Legal.{last_moment}
-use Rattle.sso_base.specs.Journal.{most_weight, history_weight}
-use Rattle.client_registry.specs.declared.records.Types.{Types}
-use Rattle.rp_login.specs.Rows.{login_life, login_begun, pending_life, pending_begun, visit_life, visit_begun}
-use Rattle.rp_login.specs.Held.{none_after}
+use Rattle.oidc_words.specs.declared.response_types.Types.{Types}
+use Rattle.oidc_words.specs.Lives.{login_life, pending_life, visit_life}
+use Rattle.rp_login.specs.Rows.{login_begun, pending_begun, visit_begun}
+use Rattle.held_rows.specs.Held.{none_after}
 use Rattle.rp_login.specs.Tables.{Tables}
-use Rattle.rp_exchange.specs.Weight.{ask_weight}
 use Rattle.rp_answer.specs.Past.{RpPair, RpPast}
 use Rattle.rp_answer.specs.Setup.{PartySetup, party_of}
 use Rattle.rp_answer.specs.Logins.{live_logins}
 use Rattle.rp_answer.specs.Pendings.{live_pendings}
 use Rattle.rp_answer.specs.Visits.{live_visits}
-use Rattle.rp_core.specs.Relying.{IsLegalHistory, MayServe}
+use Rattle.rp_answer.specs.Legal.{IsLegalHistory}
+use Rattle.rp_core.specs.Relying.{MayServe}
 
 -- no logout token is accepted so far, so none is remembered
 pub record Agrees (types : Types) (t : Tables) (past : RpPast) (at : ℕ) : Type 0 where
@@ -33,10 +33,8 @@ pub record KeepsPast (types : Types) (past : RpPast) (t : Tables) : Type 0 where
   pub agrees : Agrees types t past (last_moment past)
   pub begun : IsBegun t (last_moment past)
 
--- the history's weight is told, and is one that a history may have; each reply is the answer after what came before it
-pub record Keeps (s : PartySetup) (history : List RpPair) (weight : ℕ) (t : Tables) : Type 0 where
+-- what a party keeps: the tables are those of its history, which is legal
+pub record Keeps (s : PartySetup) (history : List RpPair) (t : Tables) : Type 0 where
   pub tables : KeepsPast (party_of s).types (reverse history) t
-  pub weight_is : weight ≡ history_weight ask_weight history
-  pub light : weight ≤ most_weight
   pub legal : IsLegalHistory s history
   pub serves : MayServe s

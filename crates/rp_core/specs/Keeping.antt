@@ -1,13 +1,12 @@
 -- What the tables are after one more pair.
-use Rattle.std.specs.Prelude.{◌≡◌, ◌<◌, ◌≤◌, ℕ, Bool, true, List, length, filter_map, [], Option, Some, None}
-use Rattle.sso_base.specs.Words.{Word}
-use Rattle.sso_base.specs.Rows.{put, row_of, live_rows}
-use Rattle.client_registry.specs.declared.records.Types.{Types}
+use Rattle.std.specs.Prelude.{◌≡◌, ◌≤◌, ℕ, filter_map, [], Option, Some, None}
+use Rattle.sso_base.specs.Rows.{put, live_rows}
+use Rattle.oidc_words.specs.declared.response_types.Types.{Types}
 use Rattle.rp_login.specs.declared.rows.LoginRow.{LoginRow}
 use Rattle.rp_login.specs.declared.rows.PendingRow.{PendingRow}
 use Rattle.rp_login.specs.declared.rows.SessionRow.{SessionRow}
-use Rattle.rp_login.specs.Rows.{login_name, login_life, login_begun, pending_name, pending_life, pending_begun, visit_name, visit_life, visit_begun}
-use Rattle.rp_login.specs.Held.{most_rows, none_after}
+use Rattle.rp_login.specs.Rows.{login_name, login_begun, pending_name, pending_begun, visit_name, visit_begun}
+use Rattle.oidc_words.specs.Lives.{login_life, pending_life, visit_life}
 use Rattle.rp_login.specs.Tables.{Tables, with_login, with_pending, with_visit}
 use Rattle.rp_answer.specs.Past.{RpPair, RpPast}
 use Rattle.rp_answer.specs.Setup.{PartySetup, party_of}
@@ -35,13 +34,6 @@ pub record TakesUp (s : PartySetup) (past : RpPast) (before : ℕ) (t : Tables) 
   pub brings : Brings (party_of s).types past p login pending visit
 
 -- ---- rows that are added
-
--- the row may be added to a table: there is room, no row has its name, and none begins later
-pub record MayAddRow {R : Type 0} (name : R → Word) (begun : R → ℕ) (reserved : Bool) (rows : List R) (row : R) : Type 0 where
-  pub room : reserved ≡ true
-  pub few : length rows < most_rows
-  pub unnamed : row_of name (name row) rows ≡ None
-  pub latest : none_after begun (begun row) rows ≡ true
 
 abbrev pub login_put : Option LoginRow → Tables → Tables
 login_put None t = t

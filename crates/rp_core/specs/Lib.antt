@@ -2,4 +2,3 @@ pub mod Relying
 pub mod Agreeing
 pub mod Making
 pub mod Keeping
-pub mod Beginnings

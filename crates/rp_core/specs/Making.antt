@@ -2,7 +2,7 @@
 use Rattle.std.specs.Prelude.{◌≡◌, Option, None, option_map, option_and_then}
 use Rattle.sso_base.specs.Words.{Word}
 use Rattle.sso_base.specs.declared.history.Entry.{Entry}
-use Rattle.client_registry.specs.declared.records.Types.{Types}
+use Rattle.oidc_words.specs.declared.response_types.Types.{Types}
 use Rattle.rp_login.specs.declared.rows.LoginRow.{LoginRow}
 use Rattle.rp_login.specs.declared.rows.PendingRow.{PendingRow}
 use Rattle.rp_login.specs.declared.rows.SessionRow.{SessionRow}

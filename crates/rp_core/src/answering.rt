@@ -3,7 +3,6 @@
 ghost use Rattle.std.specs.Prelude.{◌≡◌, ◌≤◌, IfOk};
 ghost use Rattle.sso_base.specs.Legal.{last_moment};
 ghost use Rattle.rp_answer.specs.Answering as spec;
-ghost use Rattle.rp_exchange.specs.Asks as asks;
 ghost use Rattle.rp_core.specs.Relying.{past_of};
 
 use crate::prepared::is_prepared;

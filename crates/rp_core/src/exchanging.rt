@@ -1,7 +1,6 @@
 // The replies to an answer of the token endpoint and to a visit, were there always room.
 
 ghost use Rattle.std.specs.Prelude.{◌≡◌, ◌≤◌, IfOk};
-ghost use Rattle.std.specs.Option.{option_copied};
 ghost use Rattle.sso_base.specs.Legal.{last_moment};
 ghost use Rattle.id_token.specs.Judging.{id_judged};
 ghost use Rattle.rp_answer.specs.Setup.{party_of};

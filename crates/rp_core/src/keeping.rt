@@ -1,8 +1,7 @@
 // A pair is taken up by the tables. It takes no memory.
 
-ghost use Rattle.std.specs.Prelude.{◌≡◌, ◌<◌, true, false, filter_map, length, IfSome, ℕ};
-ghost use Rattle.sso_base.specs.Rows.{put, row_of};
-ghost use Rattle.rp_login.specs.Held.{most_rows, none_after};
+ghost use Rattle.std.specs.Prelude.{◌≡◌, true, false, filter_map, IfSome, ℕ};
+ghost use Rattle.held_rows.specs.Held.{MayAddRow};
 ghost use Rattle.rp_login.specs.Rows.{login_name, login_begun, pending_name, pending_begun, visit_name, visit_begun};
 ghost use Rattle.rp_answer.specs.Past.{RpPast};
 ghost use Rattle.rp_answer.specs.Setup.{PartySetup, party_of};
@@ -78,7 +77,7 @@ fn keep_pendings(tables: &mut Logins, pair: &Pair<RpAsk, RpReply>)
 }
 
 fn add_login(tables: &mut Logins, row: Option<LoginRow>)
-    requires may { IfSome row (λ r. spec.MayAddRow login_name login_begun tables.old.reserved.logins tables.old.logins r) }
+    requires may { IfSome row (λ r. MayAddRow login_name login_begun tables.old.reserved.logins tables.old.logins r) }
     ensures { tables.new ≡ spec.login_put row tables.old }
 {
     if let Some(row) = row {
@@ -87,7 +86,7 @@ fn add_login(tables: &mut Logins, row: Option<LoginRow>)
 }
 
 fn add_pending(tables: &mut Logins, row: Option<PendingRow>)
-    requires may { IfSome row (λ r. spec.MayAddRow pending_name pending_begun tables.old.reserved.pendings tables.old.pendings r) }
+    requires may { IfSome row (λ r. MayAddRow pending_name pending_begun tables.old.reserved.pendings tables.old.pendings r) }
     ensures { tables.new ≡ spec.pending_put row tables.old }
 {
     if let Some(row) = row {
@@ -96,7 +95,7 @@ fn add_pending(tables: &mut Logins, row: Option<PendingRow>)
 }
 
 fn add_visit(tables: &mut Logins, row: Option<SessionRow>)
-    requires may { IfSome row (λ r. spec.MayAddRow visit_name visit_begun tables.old.reserved.visits tables.old.visits r) }
+    requires may { IfSome row (λ r. MayAddRow visit_name visit_begun tables.old.reserved.visits tables.old.visits r) }
     ensures { tables.new ≡ spec.visit_put row tables.old }
 {
     if let Some(row) = row {

@@ -1,6 +1,6 @@
 // The rows that a reply makes. They take memory, so they are made before anything changes.
 
-ghost use Rattle.std.specs.Prelude.{◌≡◌, ◌≤◌, IfOk, length, option_map, Some};
+ghost use Rattle.std.specs.Prelude.{◌≡◌, ◌≤◌, IfOk, length, Some};
 ghost use Rattle.std.specs.Option.{option_copied};
 ghost use Rattle.sso_base.specs.Legal.{last_moment};
 ghost use Rattle.rp_answer.specs.Answering.{rp_answer};
@@ -13,8 +13,8 @@ ghost use Rattle.rp_core.specs.Making as spec;
 ghost use Rattle.rp_core.specs.Relying.{past_of};
 
 use crate::state::RpCore;
-use client_registry::Types;
 use id_token::{IdClaims, IdNo};
+use oidc_words::Types;
 use rp_exchange::{RpAsk, RpReply};
 use rp_login::{LoginRow, PendingRow, SessionRow, Stage};
 use sso_base::{Entry, Moment, NoMemory, Text, Word, copied_text};
@@ -162,7 +162,7 @@ impl RpCore {
     fn place(&self) -> u64
         ensures { result ≡ length (past_of self.now) }
     {
-        self.history.len() as u64
+        self.journal.count()
     }
 
     // The login that an authorization request begins.

@@ -3,16 +3,17 @@
 ghost use Rattle.std.specs.Prelude.{◌≡◌, ◌≤◌, Some};
 ghost use Rattle.std.specs.Option.{option_copied};
 ghost use Rattle.sso_base.specs.Legal.{last_moment};
+ghost use Rattle.held_rows.specs.Held.{most_rows, is_full};
 ghost use Rattle.rp_login.specs.Rows.{login_name, pending_name, visit_name};
 ghost use Rattle.rp_answer.specs.Setup.{party_of};
 ghost use Rattle.rp_answer.specs.Logins as logins;
 ghost use Rattle.rp_answer.specs.Pendings as pendings;
 ghost use Rattle.rp_answer.specs.Visits as visits;
-ghost use Rattle.rp_answer.specs.Room.{is_full};
 ghost use Rattle.rp_core.specs.Relying.{past_of};
 
 use crate::state::RpCore;
-use rp_login::{LOGIN_LIFE, LoginRow, PENDING_LIFE, PendingRow, RpTable, SESSION_LIFE, SessionRow};
+use oidc_words::{LOGIN_LIFE, PENDING_LIFE, VISIT_LIFE};
+use rp_login::{LoginRow, PendingRow, RpTable, SessionRow};
 use sso_base::{Moment, Word, is_live};
 
 impl RpCore {
@@ -60,7 +61,7 @@ impl RpCore {
         let Some(row) = self.logins.session(session) else {
             return None;
         };
-        if is_live(SESSION_LIFE, row.entered, at) {
+        if is_live(VISIT_LIFE, row.entered, at) {
             Some(row)
         } else {
             None
@@ -78,7 +79,7 @@ impl RpCore {
     /// Whether no further login of this state has room.
     pub(crate) fn lacks_login(&self, at: Moment, state: Word) -> bool
         requires { last_moment (past_of self.now) ≤ at }
-        ensures { result ≡ is_full login_name state (logins.live_logins (past_of self.now) at) }
+        ensures { result ≡ is_full most_rows login_name state (logins.live_logins (past_of self.now) at) }
     {
         !self.logins.room(RpTable::Logins, at) || self.live_login(at, Some(state)).is_some()
     }
@@ -86,7 +87,7 @@ impl RpCore {
     /// Whether no further pending exchange of this word has room.
     pub(crate) fn lacks_pending(&self, at: Moment, word: Word) -> bool
         requires { last_moment (past_of self.now) ≤ at }
-        ensures { result ≡ is_full pending_name word (pendings.live_pendings (party_of self.now.setup).types (past_of self.now) at) }
+        ensures { result ≡ is_full most_rows pending_name word (pendings.live_pendings (party_of self.now.setup).types (past_of self.now) at) }
     {
         !self.logins.room(RpTable::Pendings, at) || self.live_pending(at, word).is_some()
     }
@@ -94,7 +95,7 @@ impl RpCore {
     /// Whether no further session of this word has room.
     pub(crate) fn lacks_visit(&self, at: Moment, word: Word) -> bool
         requires { last_moment (past_of self.now) ≤ at }
-        ensures { result ≡ is_full visit_name word (visits.live_visits (party_of self.now.setup).types (past_of self.now) at) }
+        ensures { result ≡ is_full most_rows visit_name word (visits.live_visits (party_of self.now.setup).types (past_of self.now) at) }
     {
         !self.logins.room(RpTable::Sessions, at) || self.live_visit(at, Some(word)).is_some()
     }

@@ -2,7 +2,6 @@
 
 ghost use Rattle.std.specs.Prelude.{◌≡◌, ◌≤◌, IfOk};
 ghost use Rattle.std.specs.Option.{option_copied};
-ghost use Rattle.sso_base.specs.Words.{is_word};
 ghost use Rattle.sso_base.specs.Legal.{last_moment};
 ghost use Rattle.id_token.specs.Judging.{id_judged};
 ghost use Rattle.rp_answer.specs.Asked as asked;
@@ -11,24 +10,14 @@ ghost use Rattle.rp_core.specs.Relying.{past_of};
 
 use crate::state::RpCore;
 use auth_answer::{AnswerNo, Heard};
-use client_registry::Types;
 use id_token::{Half, IdClaims, IdNo, IdRules, half_hash, judge_id};
 use login_request::login_request;
+use oidc_words::Types;
 use rp_exchange::{Part, RpAsk, RpNo, RpReply, copied_id};
 use rp_login::LoginRow;
 use sso_base::{Entry, Moment, NoMemory, Text, Word};
 use std::alloc::Global;
 use token_endpoint::print_grant;
-
-// Whether a word was presented, and it is this one.
-fn is_presented(presented: Option<Word>, word: Word) -> bool
-    ensures { result ≡ is_word presented word }
-{
-    match presented {
-        Some(presented) => presented == word,
-        None => false,
-    }
-}
 
 // The text, where it counts.
 fn text_if(wanted: bool, text: &Option<Text>) -> Option<&Text>
@@ -108,6 +97,8 @@ impl RpCore {
         requires { last_moment (past_of self.now) ≤ entry.now.at }
         ensures { IfOk result (λ r. r ≡ spec.begin self.now.setup (past_of self.now) entry.now presented) }
     {
+        // A count says what every registry keeps: that its issuer is short.
+        let _parties = self.registry.parties();
         let (state, nonce) = (&entry.fresh[1], &entry.fresh[2]);
         let to = login_request(
             alloc,
@@ -291,7 +282,7 @@ impl RpCore {
                 why: RpNo::StaleLogin,
             });
         };
-        if is_presented(browser, login.browser) {
+        if login.browser.is_presented(browser) {
             self.own_response(alloc, entry, login, heard, id)
         } else {
             Ok(RpReply::Refused {

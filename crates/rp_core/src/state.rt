@@ -1,7 +1,8 @@
 // A relying party: what it was set up with, its history, and the tables that answer for the history.
 
-ghost use Rattle.std.specs.Prelude.{◌≡◌, ◌≤◌, true, [], length, IfOk};
+ghost use Rattle.std.specs.Prelude.{◌≡◌, true, [], IfOk};
 ghost use Rattle.sso_base.specs.Legal.{last_moment};
+ghost use Rattle.rp_login.specs.Tables.{no_tables};
 ghost use Rattle.rp_exchange.specs.Parties.{is_served_at};
 ghost use Rattle.rp_answer.specs.Setup.{party_of, client_of};
 ghost use Rattle.rp_core.specs.Agreeing.{Agrees};
@@ -10,19 +11,18 @@ ghost use Rattle.rp_core.specs.Relying.{setup_of, past_of};
 use client_registry::{Client, Party, Provider, Registry};
 use rp_exchange::{RpAsk, RpReply};
 use rp_login::Logins;
-use sso_base::{NoMemory, Pair};
+use sso_base::{Journal, NoMemory};
 use std::alloc::Global;
 use std::marker::Model;
 
 /// A relying party (OpenID Connect Core 1.0, 3), seen as its setup, which is a registry, the number of a party of it and the
-/// provider that the party trusts, and its history, oldest first.
+/// provider that the party trusts, its history, oldest first, and its tables.
 #[derive(Drop)]
 pub struct RpCore {
     pub(crate) registry: Registry,
     pub(crate) number: u32,
     pub(crate) provider: Provider,
-    pub(crate) history: Vec<Pair<RpAsk, RpReply>>,
-    pub(crate) weight: u64,
+    pub(crate) journal: Journal<RpAsk, RpReply>,
     pub(crate) logins: Logins,
 }
 
@@ -36,18 +36,18 @@ impl Model for RpCore {
 
     ghost coded = { Prim.hlevel (codes, members_code) };
 
-    ghost view = { λ c. record { setup = setup_of c.registry c.number c.provider; history = c.history.items } };
+    ghost view = { λ c. record { setup = setup_of c.registry c.number c.provider; history = c.journal.pairs; tables = c.logins } };
 
     ghost use Rattle.rp_core.specs.Agreeing.{Keeps};
 
-    ghost invariant = { λ c. Keeps (setup_of c.registry c.number c.provider) c.history.items c.weight c.logins };
+    ghost invariant = { λ c. Keeps (setup_of c.registry c.number c.provider) c.journal.pairs c.logins };
 }
 
 impl RpCore {
     /// A relying party that was asked nothing: the party of this number in the registry, which trusts this provider.
     ///
     /// So far the response type of the party is `code` or `id_token token`, and it asks for no UserInfo. The provider's issuer
-    /// has at most 200 bytes, as that of a registry has: then each request object can be sealed.
+    /// is the registry's.
     pub fn new(
         alloc: Global,
         registry: Registry,
@@ -55,22 +55,22 @@ impl RpCore {
         provider: Provider,
     ) -> Result<RpCore, NoMemory>
         requires served { is_served_at registry number ≡ true }
-        requires issuer { length provider.issuer ≤ 200 }
-        ensures { IfOk result (λ c. c ≡ record { setup = setup_of registry number provider; history = [] }) }
+        requires issuer { provider.issuer ≡ registry.provider.issuer }
+        ensures { IfOk result (λ c. c ≡ record { setup = setup_of registry number provider; history = []; tables = no_tables }) }
     {
         Ok(RpCore {
             registry,
             number,
             provider,
-            history: Vec::new(alloc),
-            weight: 0,
+            journal: Journal::new(alloc),
             logins: Logins::new(alloc)?,
         })
     }
 
     /// The tables: what lives in them at the moment of the last entry is exactly what lives after the history.
     pub fn tables(&self) -> &Logins
-        ensures { Agrees (party_of self.now.setup).types result.now (past_of self.now) (last_moment (past_of self.now)) }
+        ensures tables { result.now ≡ self.now.tables }
+        ensures agrees { Agrees (party_of self.now.setup).types result.now (past_of self.now) (last_moment (past_of self.now)) }
     {
         &self.logins
     }

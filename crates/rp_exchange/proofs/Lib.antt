@@ -1,5 +1,4 @@
 pub mod Parties
+pub mod LeastWeight
 pub mod Sample
-mod Told
 mod Samples
-mod TextsSoFar

@@ -1,9 +1,8 @@
 -- A number past the last party is none of a party.
-use Rattle.std.proofs.Common.{◌≡◌, ◌≤◌, ℕ, zero, suc, List, [], ◌∷◌, length, None, slice_get, refl, arith}
-use Rattle.client_registry.specs.declared.records.Party.{Party}
+use Rattle.std.proofs.Common.{◌≡◌, ◌≤◌, ℕ, length, None}
+use Rattle.configuration_rows.proofs.Lists.{past_end}
+use Rattle.client_registry.specs.Configuration.{Configuration}
+use Rattle.client_registry.specs.Numbers.{party_at}
 
-pub past_none : (ps : List Party) (n : ℕ) → length ps ≤ n → slice_get ps n ≡ None
-past_none [] zero h = refl
-past_none [] (suc n) h = refl
-past_none (p ∷ ps) zero h = absurd (omega (arith, h))
-past_none (p ∷ ps) (suc n) h = past_none ps n (omega (arith, h))
+pub past_none : (c : Configuration) (n : ℕ) → length c.parties ≤ n → party_at c n ≡ None
+past_none c n h = past_end c.parties n h

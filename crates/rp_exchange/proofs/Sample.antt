@@ -6,7 +6,7 @@ use Rattle.registered_url.specs.declared.web_url.WebUrl.{WebUrl}
 use Rattle.client_registry.specs.declared.records.Provider.{Provider}
 use Rattle.client_registry.specs.declared.records.Client.{Client}
 use Rattle.client_registry.specs.declared.records.Party.{Party}
-use Rattle.client_registry.specs.declared.records.Types.{Types}
+use Rattle.oidc_words.specs.declared.response_types.Types.{Types}
 use Rattle.client_registry.specs.Configuration.{Configuration}
 use Rattle.id_token.specs.declared.claims.IdClaims.{IdClaims}
 

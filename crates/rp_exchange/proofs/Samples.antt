@@ -1,5 +1,9 @@
 -- The definitions computed on small cases: what each accepts, and what it refuses.
-use Rattle.std.proofs.Common.{◌≡◌, true, false, [], Some, None, Ok, Err, codes, refl}
+use Rattle.std.proofs.Common.{◌≡◌, ◌^◌, ℕ, true, false, [], ◌∷◌, replicate, Some, None, Ok, Err, codes, refl, sym, ◌∙◌, true≢false, arith}
+use Rattle.std.specs.Str.{is_utf8}
+use Rattle.std.proofs.lemmas.Str.{is_utf8-from_IsUtf8}
+use Rattle.sso_base.proofs.Spelling.{IsBytes-from_all_bytes}
+use Rattle.sso_base.proofs.Utf8Bytes.{IsUtf8-are_ascii}
 use Rattle.claim_set.specs.declared.no.ClaimNo.TheVariants as claim_no
 use Rattle.claim_set.proofs.OnLiterals.{claims_on_literals}
 use Rattle.jws_compact.specs.declared.no.JwsNo.TheVariants as jws_no
@@ -13,22 +17,24 @@ use Rattle.token_endpoint.specs.declared.no.TokensNo.TheVariants as tokens_no
 use Rattle.userinfo.specs.declared.no.InfoNo.TheVariants as info_no
 use Rattle.rp_exchange.specs.declared.ask.RpAsk.TheVariants as ask
 use Rattle.rp_exchange.specs.Asks.{is_prepared}
-use Rattle.rp_exchange.specs.Parties.{secret_at, name_at, is_served, is_served_at}
+use Rattle.client_registry.specs.Numbers.{party_secret, party_name}
+use Rattle.rp_exchange.specs.Parties.{is_served, is_served_at}
+use Rattle.rp_exchange.specs.Values.{IsHeardValue, IsIdValue, IsLogoutValue, IsTokensValue}
 use Rattle.rp_exchange.specs.Weight.{ask_weight}
 use Rattle.rp_exchange.proofs.Sample.{word, shop, shop_client, sample, alice}
 
 -- ---- parties
 
-secret_of_the_shop : secret_at sample 0 ≡ shop_client.secret
+secret_of_the_shop : party_secret sample 0 ≡ shop_client.secret
 secret_of_the_shop = refl
 
-secret_of_nobody : secret_at sample 2 ≡ []
+secret_of_nobody : party_secret sample 2 ≡ []
 secret_of_nobody = refl
 
-name_of_the_news : name_at sample 1 ≡ codes "news"
+name_of_the_news : party_name sample 1 ≡ codes "news"
 name_of_the_news = refl
 
-name_of_nobody : name_at sample 2 ≡ []
+name_of_nobody : party_name sample 2 ≡ []
 name_of_nobody = refl
 
 shop_is_served : is_served_at sample 0 ≡ true
@@ -129,3 +135,58 @@ weight_of_a_refusal = refl
 
 weight_of_a_logout : ask_weight (ask.Logout (Ok logout)) ≡ 1031
 weight_of_a_logout = refl
+
+-- ---- values of their types
+
+no_text : is_utf8 (255 ∷ []) ≡ false
+unfolding claims_on_literals
+no_text = refl
+
+heard_is_a_value : IsHeardValue heard
+heard_is_a_value = record {
+  state = record { long = refl; bytes = IsBytes-from_all_bytes (word 2) refl };
+  code = IsUtf8-are_ascii (codes "x") refl;
+  access = tt;
+  id = tt;
+}
+
+a_state_of_31_bytes_is_none : IsHeardValue (record heard { state = Some (replicate 31 0) }) → ⊥
+a_state_of_31_bytes_is_none h = let long : ◌≡◌ {A = ℕ} 31 32 = h.state.long in absurd (omega (arith, long))
+
+claims_are_a_value : IsIdValue alice
+claims_are_a_value = record {
+  iss = IsUtf8-are_ascii (codes "http://127.0.0.1:8080") refl;
+  sub = IsUtf8-are_ascii (codes "alice") refl;
+  aud = (IsUtf8-are_ascii (codes "shop-client") refl, tt);
+  azp = tt;
+  exp = omega arith;
+  iat = omega arith;
+  auth_time = tt;
+  nonce = tt;
+  sid = tt;
+  at_hash = tt;
+  c_hash = tt;
+}
+
+an_expiry_of_65_bits_is_none : IsIdValue (record alice { exp = 2 ^ 64 }) → ⊥
+an_expiry_of_65_bits_is_none h = absurd (omega (arith, h.exp))
+
+tokens_are_a_value : IsTokensValue tokens
+tokens_are_a_value = (IsUtf8-are_ascii (codes "a") refl, IsUtf8-are_ascii (codes "h.p.m") refl)
+
+an_access_token_of_other_bytes_is_none : IsTokensValue (record tokens { access = 255 ∷ [] }) → ⊥
+an_access_token_of_other_bytes_is_none h = true≢false (sym (is_utf8-from_IsUtf8 (255 ∷ []) h.0) ∙ no_text)
+
+logout_is_a_value : IsLogoutValue logout
+logout_is_a_value = record {
+  iss = IsUtf8-are_ascii (codes "i") refl;
+  aud = tt;
+  iat = omega arith;
+  exp = omega arith;
+  jti = IsUtf8-are_ascii (codes "j") refl;
+  sub = IsUtf8-are_ascii (codes "alice") refl;
+  sid = tt;
+}
+
+an_identifier_of_other_bytes_is_none : IsLogoutValue (record logout { jti = 255 ∷ [] }) → ⊥
+an_identifier_of_other_bytes_is_none h = true≢false (sym (is_utf8-from_IsUtf8 (255 ∷ []) h.jti) ∙ no_text)

@@ -1,9 +1,12 @@
 -- Asks that hold values of their types: texts in UTF-8, words of 32 bytes, numbers of their size. A definition takes any list
 -- and any number for them; what is promised of texts that are written needs these.
-use Rattle.std.specs.Prelude.{ℕ, ◌<◌, ◌^◌, Option, Result, List, IfSome, IfOk}
+--
+-- What a refusal carries, and those claims of an ID Token that are no fields, are free: no law needs anything of them, they are
+-- passed on and weighed.
+use Rattle.std.specs.Prelude.{Option, Result, IfSome, IfOk}
 use Rattle.std.specs.Str.{IsUtf8}
-use Rattle.std.specs.List.{AllByRecursion}
-use Rattle.sso_base.specs.Words.{Text, IsWord}
+use Rattle.sso_base.specs.Words.{IsWord}
+use Rattle.sso_base.specs.Values.{IsWide, AreTexts}
 use Rattle.id_token.specs.declared.claims.IdClaims.{IdClaims}
 use Rattle.id_token.specs.declared.no.IdNo.{IdNo}
 use Rattle.logout_token.specs.declared.claims.LogoutClaims.{LogoutClaims}
@@ -11,12 +14,6 @@ use Rattle.auth_answer.specs.declared.heard.Heard.{Heard}
 use Rattle.token_endpoint.specs.declared.reading.Tokens.{Tokens}
 use Rattle.rp_exchange.specs.declared.ask.RpAsk.{RpAsk}
 use Rattle.rp_exchange.specs.declared.ask.RpAsk.TheVariants as ask
-
-abbrev pub IsTexts : List Text → Type 0
-IsTexts texts = AllByRecursion IsUtf8 texts
-
-abbrev pub IsWide : ℕ → Type 0
-IsWide n = n < 2 ^ 64
 
 pub record IsHeardValue (heard : Heard) : Type 0 where
   pub state : IfSome heard.state IsWord
@@ -27,7 +24,7 @@ pub record IsHeardValue (heard : Heard) : Type 0 where
 pub record IsIdValue (claims : IdClaims) : Type 0 where
   pub iss : IsUtf8 claims.iss
   pub sub : IsUtf8 claims.sub
-  pub aud : IsTexts claims.aud
+  pub aud : AreTexts claims.aud
   pub azp : IfSome claims.azp IsUtf8
   pub exp : IsWide claims.exp
   pub iat : IsWide claims.iat
@@ -39,7 +36,7 @@ pub record IsIdValue (claims : IdClaims) : Type 0 where
 
 pub record IsLogoutValue (claims : LogoutClaims) : Type 0 where
   pub iss : IsUtf8 claims.iss
-  pub aud : IsTexts claims.aud
+  pub aud : AreTexts claims.aud
   pub iat : IsWide claims.iat
   pub exp : IsWide claims.exp
   pub jti : IsUtf8 claims.jti

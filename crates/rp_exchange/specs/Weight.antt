@@ -1,6 +1,7 @@
 -- What an ask weighs: 1,024 and the bytes of its texts. A claim set counts as the text that is written of it.
-use Rattle.std.specs.Prelude.{ℕ, ◌+◌, List, length, map, sum, Option, Some, None, Result, Ok, Err}
+use Rattle.std.specs.Prelude.{ℕ, ◌+◌, length, Option, Some, None, Result, Ok, Err}
 use Rattle.sso_base.specs.Words.{Text}
+use Rattle.sso_base.specs.Weights.{empty_weight, text_bytes, texts_bytes}
 use Rattle.claim_set.specs.Reading.{claims_text}
 use Rattle.claim_set.specs.declared.no.ClaimNo.{ClaimNo}
 use Rattle.claim_set.specs.declared.no.ClaimNo.TheVariants.{WrongKind}
@@ -20,13 +21,6 @@ use Rattle.userinfo.specs.declared.no.InfoNo.{InfoNo}
 use Rattle.userinfo.specs.declared.no.InfoNo.TheVariants as info_no
 use Rattle.rp_exchange.specs.declared.ask.RpAsk.{RpAsk}
 use Rattle.rp_exchange.specs.declared.ask.RpAsk.TheVariants as ask
-
-abbrev pub text_bytes : Option Text → ℕ
-text_bytes None = 0
-text_bytes (Some t) = length t
-
-abbrev pub texts_bytes : List Text → ℕ
-texts_bytes texts = sum (map (λ (t : Text). length t) texts)
 
 -- ---- the claims of an ID Token, and of a logout token
 
@@ -97,4 +91,4 @@ ask_bytes (ask.Logout claims) = logout_bytes claims
 ask_bytes other = 0
 
 abbrev pub ask_weight : RpAsk → ℕ
-ask_weight asked = 1024 + ask_bytes asked
+ask_weight asked = empty_weight + ask_bytes asked

@@ -8,7 +8,7 @@
 //! | `copies` | equal refusals |
 //! | `serving` | [`is_served`], which relying parties can be served |
 //! | `values` | asks hold values of their types |
-//! | `weight` | [`ask_weight`], what an ask weighs |
+//! | `weight` | what an ask weighs |
 #![tactic(auto)]
 
 mod ask;
@@ -16,8 +16,6 @@ mod copies;
 mod no;
 mod reply;
 mod serving;
-#[cfg(test)]
-mod tests;
 mod values;
 mod weight;
 
@@ -26,5 +24,4 @@ pub use copies::{copied_id, copied_tokens};
 pub use no::{Part, RpNo};
 pub use reply::RpReply;
 pub use serving::is_served;
-pub use values::is_entry;
-pub use weight::ask_weight;
+pub use values::know_rp_entry;

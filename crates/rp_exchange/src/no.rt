@@ -1,8 +1,8 @@
 // Why a relying party refuses.
 
-use auth_request::AuthError;
 use id_token::IdNo;
 use logout_token::LogoutNo;
+use oidc_words::AuthError;
 use rp_login::RpTable;
 use sso_base::Text;
 use token_endpoint::TokensNo;

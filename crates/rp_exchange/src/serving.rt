@@ -3,7 +3,8 @@
 ghost use Rattle.std.specs.Prelude.{◌≡◌, ◌<◌, length, true};
 ghost use Rattle.rp_exchange.specs.Parties as spec;
 
-use client_registry::{Party, Registry, Types};
+use client_registry::{Party, Registry};
+use oidc_words::Types;
 
 fn is_code(types: &Types) -> bool
     ensures { result ≡ spec.is_code types.now }

@@ -1,7 +1,7 @@
 // What an ask weighs. Sums stop at the greatest number of 64 bits.
 
-ghost use Rattle.std.specs.Prelude.{◌≡◌, ◌+◌, List, length, sum, map, IfOk};
-ghost use Rattle.sso_base.specs.Journal.{told_weight};
+ghost use Rattle.std.specs.Prelude.{◌≡◌, length, IfOk};
+ghost use Rattle.sso_base.specs.Weights.{told_weight};
 ghost use Rattle.rp_exchange.specs.Weight as spec;
 
 use crate::ask::RpAsk;
@@ -9,43 +9,14 @@ use auth_answer::{AnswerNo, Heard};
 use claim_set::{ClaimNo, write_claims};
 use id_token::{IdClaims, IdNo};
 use logout_token::{LogoutClaims, LogoutNo};
-use sso_base::{NoMemory, Text, Texts};
+use sso_base::{EMPTY_WEIGHT, NoMemory, Text, Weighed, text_bytes, texts_bytes};
 use token_endpoint::{Tokens, TokensNo};
 use userinfo::InfoNo;
-
-// What any ask weighs at least.
-const LEAST: u64 = 1024;
 
 fn bytes_of(text: &Text) -> u64
     ensures { result ≡ told_weight (length text.now) }
 {
     text.as_str().len() as u64
-}
-
-fn text_bytes(text: &Option<Text>) -> u64
-    ensures { result ≡ told_weight (spec.text_bytes text.now) }
-{
-    match text {
-        Some(text) => bytes_of(text),
-        None => 0,
-    }
-}
-
-// These bytes, and those of one more text.
-fn with_text(bytes: u64, text: &Text) -> u64
-    ensures { result ≡ told_weight (bytes + length text.now) }
-{
-    bytes.saturating_add(text.as_str().len() as u64)
-}
-
-fn texts_bytes(texts: &Texts) -> u64
-    ensures { result ≡ told_weight (spec.texts_bytes texts.now) }
-{
-    let mut bytes: u64 = 0;
-    for place in 0..texts.count() {
-        bytes = with_text(bytes, texts.at(place));
-    }
-    bytes
 }
 
 // The claims of an ID Token that are fields.
@@ -174,10 +145,11 @@ fn ask_bytes(ask: &RpAsk) -> Result<u64, NoMemory>
     })
 }
 
-/// What an ask weighs, or the greatest number of 64 bits where that is less. The claims of an ID Token that are no fields weigh
-/// as much as their text, for which it takes memory.
-pub fn ask_weight(ask: &RpAsk) -> Result<u64, NoMemory>
-    ensures { IfOk result (λ n. n ≡ told_weight (spec.ask_weight ask.now)) }
-{
-    Ok(ask_bytes(ask)?.saturating_add(LEAST))
+impl Weighed for RpAsk {
+    ghost weighs = { spec.ask_weight };
+
+    // The claims of an ID Token that are no fields weigh as much as their text, for which it takes memory.
+    fn weight(&self) -> Result<u64, NoMemory> {
+        Ok(ask_bytes(self)?.saturating_add(EMPTY_WEIGHT))
+    }
 }

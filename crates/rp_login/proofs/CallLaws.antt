@@ -1,29 +1,20 @@
 -- What calls one after another leave of the rows of a name.
-use Rattle.std.proofs.Common.{◌≡◌, true, false, not, List, [], ◌∷◌, Option, Some, None, inl, inr, ◌∙◌, ap, ℕ}
-use Rattle.std.specs.Str.{bytes_eq}
+use Rattle.std.proofs.Common.{◌≡◌, true, false, not, List, [], ◌∷◌, Some, None, ◌∙◌}
 use Rattle.sso_base.specs.Words.{Word}
-use Rattle.sso_base.specs.Rows.{row_of, without, lives}
-use Rattle.sso_base.proofs.RowLaws.{bool_cases, bytes_same, row_of-without_same, row_of-without_other}
+use Rattle.sso_base.specs.Rows.{row_of, lives}
 use Rattle.rp_login.specs.declared.rows.LoginRow.{LoginRow}
 use Rattle.rp_login.specs.declared.rows.PendingRow.{PendingRow}
 use Rattle.rp_login.specs.declared.rows.SessionRow.{SessionRow}
 use Rattle.rp_login.specs.declared.rows.SeenRow.{SeenRow}
 use Rattle.rp_login.specs.Named.{is_meant}
-use Rattle.rp_login.specs.Rows.{login_name, login_life, pending_name, pending_life, visit_name, visit_life, seen_name, seen_life}
+use Rattle.rp_login.specs.Rows.{login_name, pending_name, visit_name, seen_name}
+use Rattle.oidc_words.specs.Lives.{login_life, pending_life, visit_life, seen_life}
 use Rattle.rp_login.specs.Tables.{Tables}
 use Rattle.rp_login.specs.Calls.{Call, reserve, purge, add_login, add_pending, add_session, add_seen, end_login, end_pending, end_session, end_named, after, after_all, adds_login, adds_pending, adds_session, NoneAdds, leaves_seen, AllLeaveSeen}
-use Rattle.rp_login.proofs.HeldLaws.{row_none-filter}
-use Rattle.rp_login.proofs.RowOf.{row_of-push_found, row_of-push_other, row_of-filter_found}
+use Rattle.held_rows.proofs.HeldLaws.{row_none-filter, row_none-without}
+use Rattle.held_rows.proofs.RowOf.{row_of-push_found, row_of-push_other, row_of-filter_found}
 
 -- ---- a row that is gone stays gone
-
-row_none-without : {R : Type 0} (name : R → List ℕ) (v w : List ℕ) (rows : List R) → row_of name w rows ≡ None → row_of name w (without name v rows) ≡ None
-row_none-without {R} name v w rows none =
-    let W : List ℕ → Option R = λ x. row_of name w (without name x rows) in
-    elim (bool_cases (bytes_eq v w)) [
-      | inl e ↦ ap W (bytes_same v w e) ∙ row_of-without_same name w rows
-      | inr e ↦ row_of-without_other name v w rows e ∙ none
-    ]
 
 no_login : (w : Word) (call : Call) (t : Tables) → row_of login_name w t.logins ≡ None → adds_login w call ≡ false → row_of login_name w (after call t).logins ≡ None
 no_login w reserve t none adds = none

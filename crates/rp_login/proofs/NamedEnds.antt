@@ -11,7 +11,7 @@ use Rattle.rp_login.specs.Named.{fits_text, is_meant, IsMeant}
 use Rattle.rp_login.specs.Rows.{visit_name}
 use Rattle.rp_login.specs.Tables.{Tables, AreVisits, named_count}
 use Rattle.rp_login.specs.Calls.{end_named, after}
-use Rattle.rp_login.proofs.RowOf.{row_of-filter, row_of-filter_found}
+use Rattle.held_rows.proofs.RowOf.{row_of-filter, row_of-filter_found}
 
 -- ---- what it means that a session equals each given part
 

@@ -9,9 +9,10 @@ use Rattle.rp_login.specs.declared.rows.SessionRow.{SessionRow}
 use Rattle.rp_login.specs.declared.rows.SeenRow.{SeenRow}
 use Rattle.rp_login.specs.declared.rows.Stage.TheVariants as stage
 use Rattle.rp_login.specs.declared.table.RpTable.TheVariants.{Logins, Pendings, Sessions, Seen}
-use Rattle.rp_login.specs.Held.{IsInOrder, none_after, IsFull}
+use Rattle.held_rows.specs.Held.{IsInOrder, none_after, IsFull}
 use Rattle.rp_login.specs.Named.{is_meant, IsMeant}
-use Rattle.rp_login.specs.Rows.{login_begun, login_life, pending_life, visit_life, seen_name, seen_life}
+use Rattle.rp_login.specs.Rows.{login_begun, seen_name}
+use Rattle.oidc_words.specs.Lives.{login_life, pending_life, visit_life, seen_life}
 use Rattle.rp_login.specs.Tables.{Tables, AreLogins, with_room, purged, has_room, IsFullTable, with_login, with_pending, with_visit, with_seen, login_ended, pending_ended, visit_ended, named_ended, named_count}
 use Rattle.rp_login.specs.Calls.{reserve, purge, add_login, add_pending, add_session, add_seen, end_login, end_named, after_all, adds_login, adds_pending, adds_session, NoneAdds, AllLeaveSeen}
 
@@ -74,6 +75,7 @@ are_logins-two_of_them = record {
   distinct = (refl, (refl, tt));
   ordered = ((omega arith, tt), (tt, tt));
   few = omega arith;
+  sound = (tt, (tt, tt));
 }
 
 are_logins-not_two_of_one_state : AreLogins (login first 1000 ∷ login first 1001 ∷ []) → ⊥
@@ -111,7 +113,7 @@ is_full-65536_rows_that_live : IsFull login_life login_begun 1000 (replicate 655
 is_full-65536_rows_that_live = record { most = length-replicate 65536 (login first 1000); live = live_replicate 65536 (login first 1000) refl }
 
 is_full-not_two_rows : IsFullTable Logins 1000 tables → ⊥
-is_full-not_two_rows full = (let k : 2 ≡ 65536 = full.most in absurd (omega arith))
+is_full-not_two_rows full = (let k : ◌≡◌ {A = ℕ} 2 65536 = full.most in absurd (omega arith))
 
 -- ---- one row more
 

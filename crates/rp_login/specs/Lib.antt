@@ -1,5 +1,4 @@
 pub mod Calls
-pub mod Held
 pub mod Named
 pub mod Room
 pub mod Rows

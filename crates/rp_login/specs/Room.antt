@@ -1,7 +1,6 @@
 -- The view of a relying party's tables, and what it means that room is reserved in them.
-use Rattle.std.specs.Prelude.{◌≡◌, ◌<◌, Bool, true, length}
 use Rattle.rp_login.specs.declared.tables.Logins.TheInside.{Inside}
-use Rattle.rp_login.specs.Held.{Rows}
+use Rattle.held_rows.specs.Held.{HasMemory}
 use Rattle.rp_login.specs.Tables.{Tables}
 
 abbrev pub tables_of : Inside → Tables
@@ -14,9 +13,6 @@ tables_of l = record {
 }
 
 -- where room is reserved, there is memory for one more row
-abbrev pub HasMemory : {R : Type 0} → Bool → Rows R → Type 0
-HasMemory reserved held = reserved ≡ true → length held.rows < held.capacity
-
 pub record IsRoomReserved (l : Inside) : Type 0 where
   pub logins : HasMemory l.reserved.logins l.logins
   pub pendings : HasMemory l.reserved.pendings l.pendings

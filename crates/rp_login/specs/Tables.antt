@@ -9,8 +9,9 @@ use Rattle.rp_login.specs.declared.rows.SeenRow.{SeenRow}
 use Rattle.rp_login.specs.declared.table.RpTable.{RpTable}
 use Rattle.rp_login.specs.declared.table.RpTable.TheVariants.{Logins, Pendings, Sessions, Seen}
 use Rattle.rp_login.specs.declared.table.Reserved.{Reserved}
-use Rattle.rp_login.specs.Rows.{login_name, login_begun, login_life, pending_name, pending_begun, pending_life, visit_name, visit_begun, visit_life, seen_name, seen_begun, seen_life}
-use Rattle.rp_login.specs.Held.{IsHeld, has_room_for_one, IsFull}
+use Rattle.rp_login.specs.Rows.{login_name, login_begun, pending_name, pending_begun, visit_name, visit_begun, seen_name, seen_begun}
+use Rattle.oidc_words.specs.Lives.{login_life, pending_life, visit_life, seen_life}
+use Rattle.held_rows.specs.Held.{IsHeld, AnyRow, has_room_for_one, IsFull}
 use Rattle.rp_login.specs.Named.{is_meant}
 
 -- the held rows of each table in the order in which they were added, and for which tables room for one more row is
@@ -34,16 +35,16 @@ no_tables = record {
 -- ---- what each table keeps: at most 65,536 rows, no two of one name, in the order of the moments from which they live
 
 abbrev pub AreLogins : List LoginRow → Type 0
-AreLogins rows = IsHeld login_name login_begun rows
+AreLogins rows = IsHeld login_name login_begun AnyRow rows
 
 abbrev pub ArePendings : List PendingRow → Type 0
-ArePendings rows = IsHeld pending_name pending_begun rows
+ArePendings rows = IsHeld pending_name pending_begun AnyRow rows
 
 abbrev pub AreVisits : List SessionRow → Type 0
-AreVisits rows = IsHeld visit_name visit_begun rows
+AreVisits rows = IsHeld visit_name visit_begun AnyRow rows
 
 abbrev pub AreSeens : List SeenRow → Type 0
-AreSeens rows = IsHeld seen_name seen_begun rows
+AreSeens rows = IsHeld seen_name seen_begun AnyRow rows
 
 -- ---- room
 

@@ -9,9 +9,10 @@ ghost use Rattle.rp_login.specs.declared.rows.PendingRow.{PendingRow};
 ghost use Rattle.rp_login.specs.declared.rows.SessionRow.{SessionRow};
 ghost use Rattle.rp_login.specs.declared.rows.SeenRow.{SeenRow};
 ghost use Rattle.rp_login.specs.declared.table.RpTable.TheVariants as table;
-ghost use Rattle.rp_login.specs.Held.{most_rows};
+ghost use Rattle.held_rows.specs.Held.{most_rows};
 ghost use Rattle.rp_login.specs.Named.{is_meant, IsMeant};
-ghost use Rattle.rp_login.specs.Rows.{login_name, login_begun, login_life, pending_name, pending_begun, pending_life, visit_name, visit_begun, visit_life, seen_name, seen_begun, seen_life};
+ghost use Rattle.rp_login.specs.Rows.{login_name, login_begun, pending_name, pending_begun, visit_name, visit_begun, seen_name, seen_begun};
+ghost use Rattle.oidc_words.specs.Lives.{login_life, pending_life, visit_life, seen_life};
 ghost use Rattle.rp_login.specs.Tables.{Tables, AreLogins, ArePendings, AreVisits, AreSeens, has_room, named_count};
 ghost use Rattle.rp_login.specs.Calls as calls;
 

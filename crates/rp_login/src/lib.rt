@@ -10,11 +10,9 @@
 //! | `logins`, `pendings`, `sessions`, `seens` | the calls of `Logins` on one table each |
 //! | `rows` | [`LoginRow`], [`PendingRow`] with its [`Stage`], [`SessionRow`], [`SeenRow`] |
 //! | `table` | [`RpTable`] names a table |
-//! | `held` | the held rows of one table, of any kind |
 //! | `law` | what holds of the tables, for the crates above |
 #![tactic(auto)]
 
-mod held;
 mod law;
 mod logins;
 mod pendings;
@@ -23,16 +21,11 @@ mod seens;
 mod sessions;
 mod table;
 mod tables;
-#[cfg(test)]
-mod tests;
 
 pub use law::{
     added_rows_are_found, ended_rows_are_gone, named_sessions_are_ended, purges_leave_what_lives,
     purges_make_the_room, rows_come_back_by_adds_alone, seen_tokens_are_remembered,
 };
-pub use rows::{
-    LOGIN_LIFE, LoginRow, PENDING_LIFE, PendingRow, SEEN_LIFE, SESSION_LIFE, SeenRow, SessionRow,
-    Stage,
-};
+pub use rows::{LoginRow, PendingRow, SeenRow, SessionRow, Stage};
 pub use table::RpTable;
 pub use tables::Logins;

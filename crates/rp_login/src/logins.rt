@@ -1,37 +1,32 @@
 // The logins of a relying party.
 
-ghost use Rattle.std.specs.Prelude.{◌≡◌, ◌<◌, ◌≤◌, true, length, None};
+ghost use Rattle.std.specs.Prelude.{◌≡◌, ◌<◌, true, length, None};
 ghost use Rattle.std.specs.List.{list_any};
 ghost use Rattle.std.specs.Option.{option_copied};
 ghost use Rattle.std.specs.Str.{bytes_eq};
 ghost use Rattle.sso_base.specs.Rows.{row_of, live_rows};
 ghost use Rattle.rp_login.specs.declared.rows.LoginRow.{LoginRow};
-ghost use Rattle.rp_login.specs.Held.{none_after, most_rows};
-ghost use Rattle.rp_login.specs.Rows.{login_name, login_begun, login_life};
+ghost use Rattle.held_rows.specs.Held.{none_after, most_rows};
+ghost use Rattle.rp_login.specs.Rows.{login_name, login_begun};
+ghost use Rattle.oidc_words.specs.Lives.{login_life};
 ghost use Rattle.rp_login.specs.Tables as spec;
 
-use crate::held::Held;
-use crate::rows::{LOGIN_LIFE, LoginRow};
+use crate::rows::LoginRow;
 use crate::tables::Logins;
-use sso_base::{Moment, Word, is_live};
+use held_rows::Test;
+use sso_base::{Moment, Word};
 
-// Whether one of the logins lives at the moment and is of this browser.
-fn is_browser(logins: &[LoginRow], browser: Word, at: Moment) -> bool
-    ensures { result ≡ list_any (λ (login : LoginRow). bytes_eq login.browser browser) (live_rows login_life login_begun at logins.now) }
-{
-    for login in logins {
-        if is_live(LOGIN_LIFE, login.begun, at) && login.browser == browser {
-            return true;
-        }
-    }
-    false
+// The logins of one browser.
+#[derive(Clone, Copy)]
+struct OfBrowser {
+    browser: Word,
 }
 
-impl Held<LoginRow> {
-    fn has_browser(&self, browser: Word, at: Moment) -> bool
-        ensures { result ≡ list_any (λ (login : LoginRow). bytes_eq login.browser browser) (live_rows login_life login_begun at self.now.rows) }
-    {
-        is_browser(&self.rows, browser, at)
+impl Test<LoginRow> for OfBrowser {
+    ghost passes = { λ t login. bytes_eq login.browser t.browser };
+
+    fn passes(&self, login: &LoginRow) -> bool {
+        login.browser == self.browser
     }
 }
 
@@ -52,7 +47,7 @@ impl Logins {
     pub fn has_browser(&self, browser: Word, at: Moment) -> bool
         ensures { result ≡ list_any (λ (login : LoginRow). bytes_eq login.browser browser) (live_rows login_life login_begun at self.now.logins) }
     {
-        self.logins.has_browser(browser, at)
+        self.logins.any_live(&OfBrowser { browser }, at)
     }
 
     /// The login of that state; None exactly where no held login has it. Its life may have ended.

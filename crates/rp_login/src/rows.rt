@@ -1,22 +1,10 @@
 // The rows of a relying party's tables.
 
-ghost use Rattle.std.specs.Prelude.{◌≡◌};
-ghost use Rattle.std.specs.Str.{bytes_eq};
+ghost use Rattle.held_rows.specs.Held.{AnyRow};
 
-use crate::held::Row;
+use held_rows::Row;
+use oidc_words::{LOGIN_LIFE, PENDING_LIFE, SEEN_LIFE, VISIT_LIFE};
 use sso_base::{Moment, Text, Word};
-
-/// How many seconds a login lives.
-pub const LOGIN_LIFE: u32 = 600;
-
-/// How many seconds a pending exchange lives from its question on.
-pub const PENDING_LIFE: u32 = 120;
-
-/// How many seconds a session lives.
-pub const SESSION_LIFE: u32 = 28_800;
-
-/// How many seconds a logout token is remembered.
-pub const SEEN_LIFE: u32 = 661;
 
 /// A login that a browser began, until its callback (OpenID Connect Core 1.0, 3.1.2.1). It lives for 600 seconds.
 #[derive(Clone, Copy, Debug, PartialEq, Eq)]
@@ -25,7 +13,9 @@ pub struct LoginRow {
     pub state: Word,
     /// The cookie of the browser that began it.
     pub browser: Word,
+    /// The `nonce` of the authorization request, which the ID Token must repeat.
     pub nonce: Word,
+    /// When it began.
     pub begun: Moment,
     /// The place in the party's history, counted from 0, of the pair that began it.
     pub by: u64,
@@ -35,13 +25,16 @@ pub struct LoginRow {
 /// endpoint (5.3).
 #[derive(Clone, Copy, Debug, PartialEq, Eq)]
 pub enum Stage {
+    /// For a token response.
     Tokens,
+    /// For a UserInfo response.
     Info,
 }
 
 /// A pending exchange: a question to the provider that waits for its answer. It lives for 120 seconds from `since`.
 #[derive(Debug, Drop)]
 pub struct PendingRow {
+    /// The word that names the exchange.
     pub word: Word,
     /// The nonce of its login.
     pub nonce: Word,
@@ -55,6 +48,7 @@ pub struct PendingRow {
     pub sid: Option<Text>,
     /// The code of its callback.
     pub code: Option<Text>,
+    /// What it waits for.
     pub stage: Stage,
     /// The place in the party's history, counted from 0, of the pair that began its login.
     pub by: u64,
@@ -71,6 +65,7 @@ pub struct SessionRow {
     pub sub: Text,
     /// The `sid` of that token (OpenID Connect Front-Channel Logout 1.0, 3).
     pub sid: Option<Text>,
+    /// When it began.
     pub entered: Moment,
 }
 
@@ -81,26 +76,25 @@ pub struct SeenRow {
     pub jti: Text,
     /// The place in the party's history, counted from 1, at which it was accepted.
     pub place: u64,
+    /// When it was accepted.
     pub accepted: Moment,
 }
 
-fn is_word(word: Word, given: &[u8]) -> bool
-    ensures { result ≡ bytes_eq word given.now }
-{
-    word.bytes().as_slice() == given
-}
-
 impl Row for LoginRow {
+    ghost use Rattle.oidc_words.specs.Lives.{login_life};
+
     ghost name = { λ row. row.state };
 
     ghost begun = { λ row. row.begun };
 
-    ghost LIFE = { 600 };
+    ghost IsSound = { AnyRow };
+
+    ghost LIFE = { login_life };
 
     const LIFE: u32 = LOGIN_LIFE;
 
     fn is_named(&self, given: &[u8]) -> bool {
-        is_word(self.state, given)
+        self.state.is(given)
     }
 
     fn begun(&self) -> Moment {
@@ -109,16 +103,20 @@ impl Row for LoginRow {
 }
 
 impl Row for PendingRow {
+    ghost use Rattle.oidc_words.specs.Lives.{pending_life};
+
     ghost name = { λ row. row.word };
 
     ghost begun = { λ row. row.since };
 
-    ghost LIFE = { 120 };
+    ghost IsSound = { AnyRow };
+
+    ghost LIFE = { pending_life };
 
     const LIFE: u32 = PENDING_LIFE;
 
     fn is_named(&self, given: &[u8]) -> bool {
-        is_word(self.word, given)
+        self.word.is(given)
     }
 
     fn begun(&self) -> Moment {
@@ -127,16 +125,20 @@ impl Row for PendingRow {
 }
 
 impl Row for SessionRow {
+    ghost use Rattle.oidc_words.specs.Lives.{visit_life};
+
     ghost name = { λ row. row.word };
 
     ghost begun = { λ row. row.entered };
 
-    ghost LIFE = { 28800 };
+    ghost IsSound = { AnyRow };
 
-    const LIFE: u32 = SESSION_LIFE;
+    ghost LIFE = { visit_life };
+
+    const LIFE: u32 = VISIT_LIFE;
 
     fn is_named(&self, given: &[u8]) -> bool {
-        is_word(self.word, given)
+        self.word.is(given)
     }
 
     fn begun(&self) -> Moment {
@@ -145,11 +147,15 @@ impl Row for SessionRow {
 }
 
 impl Row for SeenRow {
+    ghost use Rattle.oidc_words.specs.Lives.{seen_life};
+
     ghost name = { λ row. row.jti };
 
     ghost begun = { λ row. row.accepted };
 
-    ghost LIFE = { 661 };
+    ghost IsSound = { AnyRow };
+
+    ghost LIFE = { seen_life };
 
     const LIFE: u32 = SEEN_LIFE;
 

@@ -3,7 +3,7 @@
 ghost use Rattle.std.specs.Prelude.{◌≡◌, ◌<◌, true, length, None};
 ghost use Rattle.std.specs.Option.{option_copied};
 ghost use Rattle.sso_base.specs.Rows.{row_of};
-ghost use Rattle.rp_login.specs.Held.{none_after, most_rows};
+ghost use Rattle.held_rows.specs.Held.{none_after, most_rows};
 ghost use Rattle.rp_login.specs.Rows.{seen_name, seen_begun};
 ghost use Rattle.rp_login.specs.Tables as spec;
 

@@ -1,16 +1,16 @@
 // The sessions of a relying party.
 
-ghost use Rattle.std.specs.Prelude.{◌≡◌, ◌<◌, ◌≤◌, true, not, ◌||◌, length, filter, None, is_some, option_map};
+ghost use Rattle.std.specs.Prelude.{◌≡◌, ◌<◌, true, ◌||◌, length, None, is_some, option_map};
 ghost use Rattle.std.specs.Option.{option_copied};
 ghost use Rattle.sso_base.specs.Rows.{row_of};
-ghost use Rattle.rp_login.specs.Held.{none_after, most_rows};
+ghost use Rattle.held_rows.specs.Held.{none_after, most_rows};
 ghost use Rattle.rp_login.specs.Named.{fits_text, is_meant};
 ghost use Rattle.rp_login.specs.Rows.{visit_name, visit_begun};
 ghost use Rattle.rp_login.specs.Tables as spec;
 
-use crate::held::Held;
 use crate::rows::SessionRow;
 use crate::tables::Logins;
+use held_rows::Test;
 use sso_base::{Text, Word};
 
 // Whether the part is not given, or is this text.
@@ -31,16 +31,18 @@ fn is_named(visit: &SessionRow, sub: Option<&[u8]>, sid: Option<&[u8]>) -> bool
     fits(sub, Some(&visit.sub)) && fits(sid, visit.sid.as_ref())
 }
 
-impl Held<SessionRow> {
-    // Takes out the sessions that equal each given part, and answers their number.
-    fn end_named(&mut self, sub: Option<&[u8]>, sid: Option<&[u8]>) -> u32
-        ensures count { result ≡ length (filter (is_meant (option_map (λ p. p.now) sub.entry) (option_map (λ p. p.now) sid.entry)) self.old.rows) }
-        ensures rows { self.new ≡ record self.old { rows = filter (λ visit. not (is_meant (option_map (λ p. p.now) sub.entry) (option_map (λ p. p.now) sid.entry) visit)) self.old.rows } }
-        ensures bound { length self.new.rows ≤ length self.old.rows }
-    {
-        let before = self.rows.len();
-        self.rows.retain(|visit| !is_named(visit, sub, sid));
-        (before - self.rows.len()) as u32
+// The sessions that equal each given part.
+#[derive(Clone, Copy)]
+struct Meant<'a> {
+    sub: Option<&'a [u8]>,
+    sid: Option<&'a [u8]>,
+}
+
+impl Test<SessionRow> for Meant<'_> {
+    ghost passes = { λ t visit. is_meant (option_map (λ p. p.now) t.sub) (option_map (λ p. p.now) t.sid) visit };
+
+    fn passes(&self, visit: &SessionRow) -> bool {
+        is_named(visit, self.sub, self.sid)
     }
 }
 
@@ -82,6 +84,6 @@ impl Logins {
         ensures count { result ≡ spec.named_count (option_map (λ p. p.now) sub.entry) (option_map (λ p. p.now) sid.entry) self.old }
         ensures rows { self.new ≡ spec.named_ended (option_map (λ p. p.now) sub.entry) (option_map (λ p. p.now) sid.entry) self.old }
     {
-        self.visits.end_named(sub, sid)
+        self.visits.take_out(&Meant { sub, sid })
     }
 }

@@ -3,17 +3,25 @@
 /// A table of a relying party.
 #[derive(Clone, Copy, Debug, PartialEq, Eq)]
 pub enum RpTable {
+    /// The logins that were begun.
     Logins,
+    /// The pending exchanges.
     Pendings,
+    /// The sessions.
     Sessions,
+    /// The logout tokens that were accepted.
     Seen,
 }
 
 /// For which tables room for one more row is reserved.
 #[derive(Clone, Copy, Debug)]
 pub struct Reserved {
+    /// For a login.
     pub logins: bool,
+    /// For a pending exchange.
     pub pendings: bool,
+    /// For a session.
     pub visits: bool,
+    /// For a logout token.
     pub seens: bool,
 }

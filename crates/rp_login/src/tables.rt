@@ -3,9 +3,9 @@
 ghost use Rattle.std.specs.Prelude.{◌≡◌, false, IfOk, OnOk, OnErr};
 ghost use Rattle.rp_login.specs.Tables as spec;
 
-use crate::held::Held;
 use crate::rows::{LoginRow, PendingRow, SeenRow, SessionRow};
 use crate::table::{Reserved, RpTable};
+use held_rows::Held;
 use sso_base::{Moment, NoMemory};
 use std::alloc::Global;
 use std::marker::Model;

@@ -3,6 +3,7 @@ use Rattle.std.proofs.Common.{◌≡◌, ℕ, List, Option, Some, None, option_m
 use Rattle.sso_base.specs.Words.{Word, Text}
 use Rattle.sso_base.specs.declared.http.Ask.{Ask}
 use Rattle.client_registry.specs.Configuration.{Configuration}
+use Rattle.client_registry.specs.Numbers.{party_secret}
 use Rattle.client_registry.specs.Registered.{IsRegistry}
 use Rattle.id_token.specs.declared.claims.IdClaims.{IdClaims}
 use Rattle.id_token.specs.declared.no.IdNo.{IdNo}
@@ -14,7 +15,6 @@ use Rattle.auth_answer.specs.declared.no.AnswerNo.{AnswerNo}
 use Rattle.auth_answer.specs.Reading.{answer_read, HasAnswer, RefusesAnswer}
 use Rattle.auth_answer.proofs.HeardParts.{read-answer, answer-read, answer_refused, refused_answer}
 use Rattle.rp_exchange.specs.declared.ask.RpAsk.TheVariants as ask
-use Rattle.rp_exchange.specs.Parties.{secret_at}
 use Rattle.rp_request.specs.declared.routes.Endpoint.{Endpoint}
 use Rattle.rp_request.specs.declared.routes.Endpoint.TheVariants as endpoint
 use Rattle.rp_request.specs.Prepared.{response_in, callback_asked, asked_at, endpoint_at, prepared}
@@ -70,41 +70,41 @@ module _ (c : Configuration) (n : ℕ) (request : Ask) where
   response = response_in request.method request
 
   callback_at : (o : Option Endpoint) (r : Result Heard AnswerNo) (id : Option IdRead) (browser : Option Word)
-      → asked_at (secret_at c n) request o ≡ ask.Callback r id browser → callback_asked (secret_at c n) request.first (answer_read response) ≡ ask.Callback r id browser
+      → asked_at (party_secret c n) request o ≡ ask.Callback r id browser → callback_asked (party_secret c n) request.first (answer_read response) ≡ ask.Callback r id browser
   callback_at None r id browser h = absurd (cc)
   callback_at (Some endpoint.Login) r id browser h = absurd (cc)
   callback_at (Some endpoint.Home) r id browser h = absurd (cc)
   callback_at (Some endpoint.Redirection) r id browser h = h
 
   callback_of : (r : Result Heard AnswerNo) (id : Option IdRead) (browser : Option Word) → prepared c n request ≡ ask.Callback r id browser
-      → callback_asked (secret_at c n) request.first (answer_read response) ≡ ask.Callback r id browser
+      → callback_asked (party_secret c n) request.first (answer_read response) ≡ ask.Callback r id browser
   unfolding prepared
   callback_of r id browser h = callback_at (endpoint_at c n request) r id browser h
 
-  made_of : (heard : Heard) (id : Option IdRead) (browser : Option Word) → prepared c n request ≡ ask.Callback (Ok heard) id browser → HasHeard (secret_at c n) (answer_read response) heard id
-  made_of heard id browser h = heard_in (secret_at c n) request.first (answer_read response) heard id browser (callback_of (Ok heard) id browser h)
+  made_of : (heard : Heard) (id : Option IdRead) (browser : Option Word) → prepared c n request ≡ ask.Callback (Ok heard) id browser → HasHeard (party_secret c n) (answer_read response) heard id
+  made_of heard id browser h = heard_in (party_secret c n) request.first (answer_read response) heard id browser (callback_of (Ok heard) id browser h)
 
   pub has_answer : (heard : Heard) (id : Option IdRead) (browser : Option Word) → prepared c n request ≡ ask.Callback (Ok heard) id browser → HasAnswer response heard
   has_answer heard id browser h = read-answer response heard (made_of heard id browser h).response
 
   pub hears_answer : (heard : Heard) → IsRegistry c → IsTo c n request endpoint.Redirection → HasAnswer response heard
-      → prepared c n request ≡ ask.Callback (Ok heard) (option_map (id_read (secret_at c n)) heard.id) request.first
+      → prepared c n request ≡ ask.Callback (Ok heard) (option_map (id_read (party_secret c n)) heard.id) request.first
   hears_answer heard r to has =
-      prepared_at c n request endpoint.Redirection r to ∙ ap (callback_asked (secret_at c n) request.first) (answer-read response heard has)
+      prepared_at c n request endpoint.Redirection r to ∙ ap (callback_asked (party_secret c n) request.first) (answer-read response heard has)
 
   pub refuses_answer : (why : AnswerNo) (id : Option IdRead) (browser : Option Word) → prepared c n request ≡ ask.Callback (Err why) id browser → RefusesAnswer response why
   refuses_answer why id browser h =
-      answer_refused response why (refused_in (secret_at c n) request.first (answer_read response) why id browser (callback_of (Err why) id browser h))
+      answer_refused response why (refused_in (party_secret c n) request.first (answer_read response) why id browser (callback_of (Err why) id browser h))
 
   pub answer_refuses : (why : AnswerNo) → IsRegistry c → IsTo c n request endpoint.Redirection → RefusesAnswer response why → prepared c n request ≡ ask.Callback (Err why) None request.first
   answer_refuses why r to refuses =
-      prepared_at c n request endpoint.Redirection r to ∙ ap (callback_asked (secret_at c n) request.first) (refused_answer response why refuses)
+      prepared_at c n request endpoint.Redirection r to ∙ ap (callback_asked (party_secret c n) request.first) (refused_answer response why refuses)
 
-  pub callback_opened : (heard : Heard) (id : Option IdRead) (browser : Option Word) → prepared c n request ≡ ask.Callback (Ok heard) id browser → IsOpened (secret_at c n) heard.id id
+  pub callback_opened : (heard : Heard) (id : Option IdRead) (browser : Option Word) → prepared c n request ≡ ask.Callback (Ok heard) id browser → IsOpened (party_secret c n) heard.id id
   callback_opened heard id browser h =
-      subst (IsOpened (secret_at c n) heard.id) (sym (made_of heard id browser h).read) (opened_if_there (secret_at c n) heard.id)
+      subst (IsOpened (party_secret c n) heard.id) (sym (made_of heard id browser h).read) (opened_if_there (party_secret c n) heard.id)
 
   pub callback_accepted : (heard : Heard) (id : Option IdRead) (browser : Option Word) (text : Text) (claims : IdClaims) → prepared c n request ≡ ask.Callback (Ok heard) id browser
-      → heard.id ≡ Some text → IsIdToken (secret_at c n) text claims → id ≡ Some (Ok claims)
+      → heard.id ≡ Some text → IsIdToken (party_secret c n) text claims → id ≡ Some (Ok claims)
   callback_accepted heard id browser text claims h there token =
-      accepted_text (secret_at c n) text claims id ((made_of heard id browser h).read ∙ ap (option_map (id_read (secret_at c n))) there) token
+      accepted_text (party_secret c n) text claims id ((made_of heard id browser h).read ∙ ap (option_map (id_read (party_secret c n))) there) token

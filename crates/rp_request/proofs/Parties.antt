@@ -2,9 +2,10 @@
 use Rattle.std.proofs.Common.{◌≡◌, ◌<◌, ℕ, zero, suc, List, [], ◌∷◌, length, Bool, true, false, ◌||◌, codes, Some, slice_get, refl, subst}
 use Rattle.std.specs.List.{AllByRecursion}
 use Rattle.std.specs.Str.{bytes_eq}
-use Rattle.configuration_rows.specs.Kinds.{has_text}
+use Rattle.sso_base.specs.Texts.{has_text}
 use Rattle.client_registry.specs.declared.records.Party.{Party}
 use Rattle.client_registry.specs.Configuration.{Configuration}
+use Rattle.client_registry.specs.Numbers.{party_at}
 use Rattle.client_registry.specs.Registered.{IsParty, IsRegistry}
 
 same_party : (p q : Party) → Some p ≡ Some q → p ≡ q
@@ -16,7 +17,7 @@ at_place P [] n p all is = absurd (cc)
 at_place P (q ∷ ps) zero p all is = subst P (same_party q p is) all.0
 at_place P (q ∷ ps) (suc n) p all is = at_place P ps n p all.1 is
 
-pub known_client : (c : Configuration) (n : ℕ) (party : Party) → IsRegistry c → slice_get c.parties n ≡ Some party → party.client < length c.clients
+pub known_client : (c : Configuration) (n : ℕ) (party : Party) → IsRegistry c → party_at c n ≡ Some party → party.client < length c.clients
 known_client c n party r is = at_place (λ (p : Party). p.client < length c.clients) c.parties n party r.known is
 
 neither : (a b : Bool) → (a || b) ≡ false → (a ≡ false) × (b ≡ false)

@@ -5,6 +5,7 @@ use Rattle.sso_base.specs.Words.{Word, Text}
 use Rattle.sso_base.specs.declared.http.Ask.{Ask}
 use Rattle.sso_base.specs.declared.message.Answered.{Answered}
 use Rattle.client_registry.specs.Configuration.{Configuration}
+use Rattle.client_registry.specs.Numbers.{party_secret}
 use Rattle.id_token.specs.Reading.{id_read}
 use Rattle.auth_answer.specs.declared.heard.Heard.{Heard}
 use Rattle.auth_answer.specs.declared.no.AnswerNo.{AnswerNo}
@@ -15,7 +16,6 @@ use Rattle.token_endpoint.specs.declared.reading.Tokens.{Tokens}
 use Rattle.token_endpoint.specs.declared.no.TokensNo.{TokensNo}
 use Rattle.token_endpoint.specs.Answer.{tokens_read}
 use Rattle.rp_exchange.specs.Asks.{is_read_of, is_tokens_refusal, is_prepared}
-use Rattle.rp_exchange.specs.Parties.{secret_at}
 use Rattle.rp_request.specs.declared.routes.Endpoint.{Endpoint}
 use Rattle.rp_request.specs.declared.routes.Endpoint.TheVariants as endpoint
 use Rattle.rp_request.specs.Prepared.{response_in, callback_asked, asked_at, endpoint_at, prepared, tokens_asked, tokens_prepared}
@@ -39,7 +39,7 @@ prepared_at secret request (Some endpoint.Redirection) =
 
 pub always_prepared : (c : Configuration) (n : ℕ) (request : Ask) → is_prepared (prepared c n request) ≡ true
 unfolding prepared
-always_prepared c n request = prepared_at (secret_at c n) request (endpoint_at c n request)
+always_prepared c n request = prepared_at (party_secret c n) request (endpoint_at c n request)
 
 answer_prepared : (secret : Text) (pending : Word) (r : Result Tokens TokensNo) → IfErr r (λ e. is_tokens_refusal e ≡ true) → is_prepared (tokens_asked secret pending r) ≡ true
 answer_prepared secret pending (Ok tokens) h = id_is_read secret tokens.id
@@ -47,4 +47,4 @@ answer_prepared secret pending (Err why) h = ap (λ b. b && true) h
 
 pub always_answered : (c : Configuration) (n : ℕ) (pending : Word) (answer : Answered) → is_prepared (tokens_prepared c n pending answer) ≡ true
 unfolding tokens_prepared
-always_answered c n pending answer = answer_prepared (secret_at c n) pending (tokens_read answer) (tokens_refused answer)
+always_answered c n pending answer = answer_prepared (party_secret c n) pending (tokens_read answer) (tokens_refused answer)

@@ -9,12 +9,12 @@ use Rattle.sso_base.specs.declared.http.Method.TheVariants.{Get, Post, Other}
 use Rattle.sso_base.specs.declared.http.Ask.{Ask}
 use Rattle.client_registry.specs.declared.records.Party.{Party}
 use Rattle.client_registry.specs.Configuration.{Configuration}
+use Rattle.client_registry.specs.Numbers.{party_secret}
 use Rattle.client_registry.specs.Registered.{IsRegistry}
 use Rattle.auth_answer.specs.declared.heard.Heard.{Heard}
 use Rattle.auth_answer.specs.declared.no.AnswerNo.{AnswerNo}
 use Rattle.auth_answer.specs.Reading.{answer_read}
 use Rattle.rp_exchange.specs.declared.ask.RpAsk.TheVariants as ask
-use Rattle.rp_exchange.specs.Parties.{secret_at}
 use Rattle.rp_request.specs.declared.routes.Endpoint.{Endpoint}
 use Rattle.rp_request.specs.declared.routes.Endpoint.TheVariants as endpoint
 use Rattle.rp_request.specs.Routes.{Route, get_routes, post_routes, routes_of, endpoint_of, endpoint_asked}
@@ -100,13 +100,13 @@ module _ (c : Configuration) (n : ℕ) (request : Ask) where
   pub asked_to : (e : Endpoint) → endpoint_at c n request ≡ Some e → IsTo c n request e
   asked_to e h = asked_by (slice_get c.parties n) e refl h
 
-  pub prepared_at : (e : Endpoint) → IsRegistry c → IsTo c n request e → prepared c n request ≡ asked_at (secret_at c n) request (Some e)
+  pub prepared_at : (e : Endpoint) → IsRegistry c → IsTo c n request e → prepared c n request ≡ asked_at (party_secret c n) request (Some e)
   unfolding prepared
-  prepared_at e r to = ap (asked_at (secret_at c n) request) (to_asked e r to)
+  prepared_at e r to = ap (asked_at (party_secret c n) request) (to_asked e r to)
 
   -- ---- no endpoint
 
-  nowhere : (o : Option Endpoint) → endpoint_at c n request ≡ o → ((e : Endpoint) → ¬ IsTo c n request e) → asked_at (secret_at c n) request o ≡ ask.NotHere
+  nowhere : (o : Option Endpoint) → endpoint_at c n request ≡ o → ((e : Endpoint) → ¬ IsTo c n request e) → asked_at (party_secret c n) request o ≡ ask.NotHere
   nowhere None is none = refl
   nowhere (Some e) is none = absurd (none e (asked_to e is))
 
@@ -118,11 +118,11 @@ module _ (c : Configuration) (n : ℕ) (request : Ask) where
   heard_somewhere secret (Ok heard) = λ h. cc
   heard_somewhere secret (Err why) = λ h. cc
 
-  none_at : (o : Option Endpoint) → asked_at (secret_at c n) request o ≡ ask.NotHere → o ≡ None
+  none_at : (o : Option Endpoint) → asked_at (party_secret c n) request o ≡ ask.NotHere → o ≡ None
   none_at None h = refl
   none_at (Some endpoint.Login) h = absurd (cc)
   none_at (Some endpoint.Home) h = absurd (cc)
-  none_at (Some endpoint.Redirection) h = absurd (heard_somewhere (secret_at c n) (answer_read (response_in request.method request)) h)
+  none_at (Some endpoint.Redirection) h = absurd (heard_somewhere (party_secret c n) (answer_read (response_in request.method request)) h)
 
   pub not_here_to_none : prepared c n request ≡ ask.NotHere → (e : Endpoint) → ¬ IsTo c n request e
   unfolding prepared
@@ -134,11 +134,11 @@ module _ (c : Configuration) (n : ℕ) (request : Ask) where
   heard_own secret (Ok heard) e h = h
   heard_own secret (Err why) e h = h
 
-  own_at : (o : Option Endpoint) (e : Endpoint) → own_endpoint (asked_at (secret_at c n) request o) ≡ Some e → o ≡ Some e
+  own_at : (o : Option Endpoint) (e : Endpoint) → own_endpoint (asked_at (party_secret c n) request o) ≡ Some e → o ≡ Some e
   own_at None e h = absurd (cc)
   own_at (Some endpoint.Login) e h = h
   own_at (Some endpoint.Home) e h = h
-  own_at (Some endpoint.Redirection) e h = heard_own (secret_at c n) (answer_read (response_in request.method request)) e h
+  own_at (Some endpoint.Redirection) e h = heard_own (party_secret c n) (answer_read (response_in request.method request)) e h
 
   pub own_to : (e : Endpoint) → own_endpoint (prepared c n request) ≡ Some e → IsTo c n request e
   unfolding prepared
@@ -150,11 +150,11 @@ module _ (c : Configuration) (n : ℕ) (request : Ask) where
   heard_cookies secret (Ok heard) = refl
   heard_cookies secret (Err why) = refl
 
-  cookies_at : (o : Option Endpoint) → HasCookies request (asked_at (secret_at c n) request o)
+  cookies_at : (o : Option Endpoint) → HasCookies request (asked_at (party_secret c n) request o)
   cookies_at None = tt
   cookies_at (Some endpoint.Login) = refl
   cookies_at (Some endpoint.Home) = refl
-  cookies_at (Some endpoint.Redirection) = heard_cookies (secret_at c n) (answer_read (response_in request.method request))
+  cookies_at (Some endpoint.Redirection) = heard_cookies (party_secret c n) (answer_read (response_in request.method request))
 
   pub has_cookies : HasCookies request (prepared c n request)
   unfolding prepared

@@ -1,5 +1,5 @@
 -- What a request asks of a relying party, and what the token endpoint's answer does.
-use Rattle.std.specs.Prelude.{ℕ, List, [], Option, Some, None, option_map, option_and_then, unwrap_or, Result, Ok, Err, slice_get}
+use Rattle.std.specs.Prelude.{ℕ, List, [], Option, Some, None, option_map, option_and_then, unwrap_or, Result, Ok, Err}
 use Rattle.sso_base.specs.Words.{Word, Text}
 use Rattle.sso_base.specs.declared.http.Method.{Method}
 use Rattle.sso_base.specs.declared.http.Method.TheVariants.{Post}
@@ -7,6 +7,7 @@ use Rattle.sso_base.specs.declared.http.Ask.{Ask}
 use Rattle.sso_base.specs.declared.message.Answered.{Answered}
 use Rattle.client_registry.specs.declared.records.Party.{Party}
 use Rattle.client_registry.specs.Configuration.{Configuration}
+use Rattle.client_registry.specs.Numbers.{party_at, party_secret}
 use Rattle.id_token.specs.Reading.{id_read}
 use Rattle.auth_answer.specs.declared.heard.Heard.{Heard}
 use Rattle.auth_answer.specs.declared.no.AnswerNo.{AnswerNo}
@@ -16,7 +17,6 @@ use Rattle.token_endpoint.specs.declared.no.TokensNo.{TokensNo}
 use Rattle.token_endpoint.specs.Answer.{tokens_read}
 use Rattle.rp_exchange.specs.declared.ask.RpAsk.{RpAsk}
 use Rattle.rp_exchange.specs.declared.ask.RpAsk.TheVariants as ask
-use Rattle.rp_exchange.specs.Parties.{secret_at}
 use Rattle.rp_request.specs.declared.routes.Endpoint.{Endpoint}
 use Rattle.rp_request.specs.declared.routes.Endpoint.TheVariants as endpoint
 use Rattle.rp_request.specs.Routes.{endpoint_asked}
@@ -47,11 +47,11 @@ asked_at secret request (Some endpoint.Redirection) = callback_asked secret requ
 
 -- the endpoint that a request to the party of this number is to
 abbrev pub endpoint_at : Configuration → ℕ → Ask → Option Endpoint
-endpoint_at c n request = option_and_then (λ (party : Party). endpoint_asked party.redirect_url.path request) (slice_get c.parties n)
+endpoint_at c n request = option_and_then (λ (party : Party). endpoint_asked party.redirect_url.path request) (party_at c n)
 
 -- what a request asks of the party of this number
 unfoldable pub prepared : Configuration → ℕ → Ask → RpAsk
-prepared c n request = asked_at (secret_at c n) request (endpoint_at c n request)
+prepared c n request = asked_at (party_secret c n) request (endpoint_at c n request)
 
 -- ---- a token endpoint's answer (Core 3.1.3.3)
 
@@ -61,4 +61,4 @@ tokens_asked secret pending (Err why) = ask.Tokens pending (Err why) None
 
 -- what such an answer asks of the party of this number, in the exchange that waits for it under this word
 unfoldable pub tokens_prepared : Configuration → ℕ → Word → Answered → RpAsk
-tokens_prepared c n pending answer = tokens_asked (secret_at c n) pending (tokens_read answer)
+tokens_prepared c n pending answer = tokens_asked (party_secret c n) pending (tokens_read answer)

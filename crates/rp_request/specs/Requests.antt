@@ -1,9 +1,10 @@
 -- What a request to a relying party is and what it asks, in plain words.
-use Rattle.std.specs.Prelude.{◌≡◌, ◌⊎◌, ℕ, List, [], ◌∷◌, Option, Some, None, Result, Ok, Err, slice_get}
+use Rattle.std.specs.Prelude.{◌≡◌, ◌⊎◌, ℕ, List, [], ◌∷◌, Option, Some, None, Result, Ok, Err}
 use Rattle.sso_base.specs.Words.{Text}
 use Rattle.sso_base.specs.declared.http.Ask.{Ask}
 use Rattle.client_registry.specs.declared.records.Party.{Party}
 use Rattle.client_registry.specs.Configuration.{Configuration}
+use Rattle.client_registry.specs.Numbers.{party_at}
 use Rattle.id_token.specs.declared.claims.IdClaims.{IdClaims}
 use Rattle.id_token.specs.declared.no.IdNo.{IdNo}
 use Rattle.id_token.specs.Token.{IsIdToken}
@@ -23,7 +24,7 @@ IsListed route (first ∷ routes) = (first ≡ route) ⊎ IsListed route routes
 -- redirection URI
 pub record IsTo (c : Configuration) (n : ℕ) (request : Ask) (e : Endpoint) : Type 0 where
   pub party : Party
-  pub there : slice_get c.parties n ≡ Some party
+  pub there : party_at c n ≡ Some party
   pub listed : IsListed (request.path, e) (routes_of request.method party.redirect_url.path)
 
 -- the endpoint to which an ask belongs

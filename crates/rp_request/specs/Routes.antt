@@ -1,11 +1,12 @@
 -- Which endpoint of a relying party a request is to, by its method and its path. The paths are this party's own, but for that of
 -- its redirection URI.
-use Rattle.std.specs.Prelude.{List, [], ◌∷◌, codes, Option, Some, None, if◌then◌else◌}
+use Rattle.std.specs.Prelude.{List, [], ◌∷◌, Option, Some, None, if◌then◌else◌}
 use Rattle.std.specs.Str.{bytes_eq}
 use Rattle.sso_base.specs.Words.{Text}
 use Rattle.sso_base.specs.declared.http.Method.{Method}
 use Rattle.sso_base.specs.declared.http.Method.TheVariants.{Get, Post, Other}
 use Rattle.sso_base.specs.declared.http.Ask.{Ask}
+use Rattle.oidc_words.specs.Paths.{home_path, begin_path}
 use Rattle.rp_request.specs.declared.routes.Endpoint.{Endpoint}
 use Rattle.rp_request.specs.declared.routes.Endpoint.TheVariants.{Login, Home, Redirection}
 
@@ -13,7 +14,7 @@ abbrev pub Route : Type 0
 Route = Text × Endpoint
 
 abbrev pub get_routes : Text → List Route
-get_routes redirection = (codes "/login", Login) ∷ (codes "/", Home) ∷ (redirection, Redirection) ∷ []
+get_routes redirection = (begin_path, Login) ∷ (home_path, Home) ∷ (redirection, Redirection) ∷ []
 
 abbrev pub post_routes : Text → List Route
 post_routes redirection = (redirection, Redirection) ∷ []

@@ -5,6 +5,7 @@ ghost use Rattle.sso_base.specs.Words.{Word, Text};
 ghost use Rattle.sso_base.specs.declared.http.Ask.{Ask};
 ghost use Rattle.sso_base.specs.declared.message.Answered.{Answered};
 ghost use Rattle.client_registry.specs.Configuration.{Configuration};
+ghost use Rattle.client_registry.specs.Numbers.{party_secret};
 ghost use Rattle.client_registry.specs.Registered.{IsRegistry};
 ghost use Rattle.id_token.specs.declared.claims.IdClaims.{IdClaims};
 ghost use Rattle.id_token.specs.declared.no.IdNo.{IdNo};
@@ -18,7 +19,6 @@ ghost use Rattle.token_endpoint.specs.declared.no.TokensNo.{TokensNo};
 ghost use Rattle.token_endpoint.specs.Answer.{tokens_read, HasTokens};
 ghost use Rattle.rp_exchange.specs.declared.ask.RpAsk.TheVariants as ask;
 ghost use Rattle.rp_exchange.specs.Asks.{is_prepared};
-ghost use Rattle.rp_exchange.specs.Parties.{secret_at};
 ghost use Rattle.rp_request.specs.declared.routes.Endpoint.{Endpoint};
 ghost use Rattle.rp_request.specs.declared.routes.Endpoint.TheVariants as endpoint;
 ghost use Rattle.rp_request.specs.Prepared.{response_in, prepared, tokens_prepared};
@@ -36,7 +36,7 @@ pub fn requests_are_told_by_method_and_path()
 /// exactly where no name of a part stands twice in the form, and it is refused with the first such name elsewhere (RFC 6749, 3.1).
 pub fn callbacks_are_read_from_forms()
     ensures heard { (c : Configuration) (n : ℕ) (request : Ask) (heard : Heard) (id : Option (Result IdClaims IdNo)) (browser : Option Word) → prepared c n request ≡ ask.Callback (Ok heard) id browser → HasAnswer (response_in request.method request) heard }
-    ensures hears { (c : Configuration) (n : ℕ) (request : Ask) (heard : Heard) → IsRegistry c → IsTo c n request endpoint.Redirection → HasAnswer (response_in request.method request) heard → prepared c n request ≡ ask.Callback (Ok heard) (option_map (id_read (secret_at c n)) heard.id) request.first }
+    ensures hears { (c : Configuration) (n : ℕ) (request : Ask) (heard : Heard) → IsRegistry c → IsTo c n request endpoint.Redirection → HasAnswer (response_in request.method request) heard → prepared c n request ≡ ask.Callback (Ok heard) (option_map (id_read (party_secret c n)) heard.id) request.first }
     ensures refused { (c : Configuration) (n : ℕ) (request : Ask) (why : AnswerNo) (id : Option (Result IdClaims IdNo)) (browser : Option Word) → prepared c n request ≡ ask.Callback (Err why) id browser → RefusesAnswer (response_in request.method request) why }
     ensures refuses { (c : Configuration) (n : ℕ) (request : Ask) (why : AnswerNo) → IsRegistry c → IsTo c n request endpoint.Redirection → RefusesAnswer (response_in request.method request) why → prepared c n request ≡ ask.Callback (Err why) None request.first }
 {}
@@ -44,23 +44,23 @@ pub fn callbacks_are_read_from_forms()
 /// What is read of the ID Token in an authorization response are its claims, exactly where it is an ID Token under the secret of the
 /// client that the party is (OpenID Connect Core 1.0, 3.1.3.7, step 8; 10.1). Nothing is read exactly where there is none.
 pub fn id_tokens_are_opened_by_the_secret()
-    ensures opened { (c : Configuration) (n : ℕ) (request : Ask) (heard : Heard) (id : Option (Result IdClaims IdNo)) (browser : Option Word) → prepared c n request ≡ ask.Callback (Ok heard) id browser → IsOpened (secret_at c n) heard.id id }
-    ensures accepted { (c : Configuration) (n : ℕ) (request : Ask) (heard : Heard) (id : Option (Result IdClaims IdNo)) (browser : Option Word) (text : Text) (claims : IdClaims) → prepared c n request ≡ ask.Callback (Ok heard) id browser → heard.id ≡ Some text → IsIdToken (secret_at c n) text claims → id ≡ Some (Ok claims) }
+    ensures opened { (c : Configuration) (n : ℕ) (request : Ask) (heard : Heard) (id : Option (Result IdClaims IdNo)) (browser : Option Word) → prepared c n request ≡ ask.Callback (Ok heard) id browser → IsOpened (party_secret c n) heard.id id }
+    ensures accepted { (c : Configuration) (n : ℕ) (request : Ask) (heard : Heard) (id : Option (Result IdClaims IdNo)) (browser : Option Word) (text : Text) (claims : IdClaims) → prepared c n request ≡ ask.Callback (Ok heard) id browser → heard.id ≡ Some text → IsIdToken (party_secret c n) text claims → id ≡ Some (Ok claims) }
 {}
 
 /// What the token endpoint answers is asked of the exchange that waits for it. Its tokens are those of a successful response, exactly
 /// where it is one (Core 3.1.3.3), and else it is refused for the first reason, with no ID Token.
 pub fn token_answers_are_read_for_their_exchange()
     ensures read { (c : Configuration) (n : ℕ) (pending w : Word) (answer : Answered) (tokens : Tokens) (id : Option (Result IdClaims IdNo)) → tokens_prepared c n pending answer ≡ ask.Tokens w (Ok tokens) id → (w ≡ pending) × HasTokens answer tokens }
-    ensures reads { (c : Configuration) (n : ℕ) (pending : Word) (answer : Answered) (tokens : Tokens) → HasTokens answer tokens → tokens_prepared c n pending answer ≡ ask.Tokens pending (Ok tokens) (Some (id_read (secret_at c n) tokens.id)) }
+    ensures reads { (c : Configuration) (n : ℕ) (pending : Word) (answer : Answered) (tokens : Tokens) → HasTokens answer tokens → tokens_prepared c n pending answer ≡ ask.Tokens pending (Ok tokens) (Some (id_read (party_secret c n) tokens.id)) }
     ensures refuses { (c : Configuration) (n : ℕ) (pending : Word) (answer : Answered) (why : TokensNo) → tokens_read answer ≡ Err why → tokens_prepared c n pending answer ≡ ask.Tokens pending (Err why) None }
 {}
 
 /// What is read of the ID Token among the tokens are its claims, exactly where it is an ID Token under the secret of the client that
 /// the party is.
 pub fn token_answers_have_opened_id_tokens()
-    ensures opened { (c : Configuration) (n : ℕ) (pending w : Word) (answer : Answered) (tokens : Tokens) (id : Option (Result IdClaims IdNo)) → tokens_prepared c n pending answer ≡ ask.Tokens w (Ok tokens) id → IsOpened (secret_at c n) (Some tokens.id) id }
-    ensures accepted { (c : Configuration) (n : ℕ) (pending w : Word) (answer : Answered) (tokens : Tokens) (id : Option (Result IdClaims IdNo)) (claims : IdClaims) → tokens_prepared c n pending answer ≡ ask.Tokens w (Ok tokens) id → IsIdToken (secret_at c n) tokens.id claims → id ≡ Some (Ok claims) }
+    ensures opened { (c : Configuration) (n : ℕ) (pending w : Word) (answer : Answered) (tokens : Tokens) (id : Option (Result IdClaims IdNo)) → tokens_prepared c n pending answer ≡ ask.Tokens w (Ok tokens) id → IsOpened (party_secret c n) (Some tokens.id) id }
+    ensures accepted { (c : Configuration) (n : ℕ) (pending w : Word) (answer : Answered) (tokens : Tokens) (id : Option (Result IdClaims IdNo)) (claims : IdClaims) → tokens_prepared c n pending answer ≡ ask.Tokens w (Ok tokens) id → IsIdToken (party_secret c n) tokens.id claims → id ≡ Some (Ok claims) }
 {}
 
 /// An ask has the words of the request's cookies: the browser's is the first, the session's the second.

@@ -12,8 +12,6 @@
 mod law;
 mod prepare;
 mod routes;
-#[cfg(test)]
-mod tests;
 
 pub use law::{
     asks_have_the_cookies, callbacks_are_read_from_forms, id_tokens_are_opened_by_the_secret,

@@ -3,7 +3,8 @@
 ghost use Rattle.std.specs.Prelude.{◌≡◌, ◌<◌, length, IfOk, IsTrue, option_map};
 ghost use Rattle.id_token.specs.Reading.{id_read};
 ghost use Rattle.auth_answer.specs.Reading.{answer_read};
-ghost use Rattle.rp_exchange.specs.Parties.{secret_at, is_served_at};
+ghost use Rattle.client_registry.specs.Numbers.{party_secret};
+ghost use Rattle.rp_exchange.specs.Parties.{is_served_at};
 ghost use Rattle.rp_request.specs.Prepared as spec;
 
 use crate::routes::{Endpoint, endpoint_asked};
@@ -22,7 +23,7 @@ type IdRead = Result<IdClaims, IdNo>;
 #[tactic(auto, using(crate::proofs::Parties::known_client))]
 fn secret_of(registry: &Registry, party: u32) -> &[u8]
     requires { party < length registry.now.parties }
-    ensures { result.now ≡ secret_at registry.now party }
+    ensures { result.now ≡ party_secret registry.now party }
 {
     // A count says what every registry keeps: that the client of each of its parties is there.
     let _parties = registry.parties();

@@ -3,6 +3,7 @@
 ghost use Rattle.std.specs.Prelude.{◌≡◌};
 ghost use Rattle.rp_request.specs.Routes as spec;
 
+use oidc_words::{BEGIN_PATH, HOME_PATH};
 use sso_base::{Ask, Method, Text};
 
 // The endpoints of a relying party.
@@ -21,10 +22,10 @@ fn got(redirection: &Text, path: &Text) -> Option<Endpoint>
     ensures { result ≡ spec.endpoint_of (spec.get_routes redirection.now) path.now }
 {
     let path = path.as_str();
-    if path == "/login" {
+    if path == BEGIN_PATH {
         return Some(Endpoint::Login);
     }
-    if path == "/" {
+    if path == HOME_PATH {
         return Some(Endpoint::Home);
     }
     if path == redirection.as_str() {

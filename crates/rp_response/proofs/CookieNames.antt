@@ -8,13 +8,13 @@ use Rattle.std.proofs.lemmas.List.{append_cancel_left}
 use Rattle.std.proofs.lemmas.Slice.Eq.{bytes_eq-Decides}
 use Rattle.sso_base.specs.Words.{Text}
 use Rattle.sso_base.proofs.Spelling.{both_true}
-use Rattle.word_cookie.specs.UserAgent.{is_token_byte, is_cookie_name}
+use Rattle.http_reply.specs.UserAgent.{is_token_byte, is_cookie_name}
 use Rattle.configuration_rows.specs.declared.kind.Alphabet.TheVariants.{PartyName}
 use Rattle.configuration_rows.specs.Kinds.{allows, is_within}
 use Rattle.client_registry.specs.declared.records.Party.{Party}
 use Rattle.client_registry.specs.Configuration.{Configuration}
+use Rattle.client_registry.specs.Numbers.{name_in, party_name}
 use Rattle.client_registry.specs.Registered.{IsParty, IsRegistry}
-use Rattle.rp_exchange.specs.Parties.{name_in, name_at}
 use Rattle.rp_response.specs.Cookies.{browser_cookie, session_cookie}
 
 -- ---- characters
@@ -47,11 +47,11 @@ names_bytes [] (suc n) all = refl
 names_bytes (p ∷ ps) zero all = name_bytes p all.0
 names_bytes (p ∷ ps) (suc n) all = names_bytes ps n all.1
 
-pub browser_name : (c : Configuration) (n : ℕ) → IsRegistry c → is_cookie_name (browser_cookie (name_at c n)) ≡ true
-browser_name c n r = ended_name (name_at c n) 95 (codes "b") (names_bytes c.parties n r.party_rules) refl
+pub browser_name : (c : Configuration) (n : ℕ) → IsRegistry c → is_cookie_name (browser_cookie (party_name c n)) ≡ true
+browser_name c n r = ended_name (party_name c n) 95 (codes "b") (names_bytes c.parties n r.party_rules) refl
 
-pub session_name : (c : Configuration) (n : ℕ) → IsRegistry c → is_cookie_name (session_cookie (name_at c n)) ≡ true
-session_name c n r = ended_name (name_at c n) 95 (codes "s") (names_bytes c.parties n r.party_rules) refl
+pub session_name : (c : Configuration) (n : ℕ) → IsRegistry c → is_cookie_name (session_cookie (party_name c n)) ≡ true
+session_name c n r = ended_name (party_name c n) 95 (codes "s") (names_bytes c.parties n r.party_rules) refl
 
 -- ---- names that differ
 

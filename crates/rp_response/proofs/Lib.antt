@@ -1,4 +1,3 @@
-pub mod Pieces
 pub mod CookieNames
 pub mod CookieLaws
 pub mod ReplyLaws

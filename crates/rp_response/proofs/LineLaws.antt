@@ -3,9 +3,9 @@ use Rattle.std.proofs.Common.{◌≡◌, ℕ, codes, refl, sym, ap, ◌∙◌}
 use Rattle.std.proofs.lemmas.List.{append_cancel_left}
 use Rattle.sso_base.specs.Words.{Word, Text}
 use Rattle.sso_base.specs.declared.message.Message.{Message}
-use Rattle.auth_request.specs.declared.wish.AuthError.{AuthError}
-use Rattle.auth_answer.specs.ErrorCode.{error_text, error_of}
-use Rattle.auth_answer.proofs.ErrorCodes.{error_of-error_text}
+use Rattle.oidc_words.specs.declared.errors.AuthError.{AuthError}
+use Rattle.oidc_words.specs.Errors.{error_text, error_of}
+use Rattle.oidc_words.proofs.ErrorCodes.{error_of-error_text}
 use Rattle.rp_exchange.specs.declared.no.RpNo.TheVariants as no
 use Rattle.rp_exchange.specs.declared.reply.RpReply.TheVariants as reply
 use Rattle.rp_response.specs.Lines.{line_of}

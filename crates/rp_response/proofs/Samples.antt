@@ -3,14 +3,15 @@ use Rattle.std.proofs.Common.{◌≡◌, true, false, [], ◌∷◌, ◌++◌, c
 use Rattle.std.specs.Fmt.{digits}
 use Rattle.sso_base.specs.declared.http.Kind.TheVariants.{Empty, Plain}
 use Rattle.sso_base.proofs.OnLiterals.{base64url_on_literals}
-use Rattle.word_cookie.specs.UserAgent.{cookie_read}
+use Rattle.http_reply.specs.UserAgent.{cookie_read}
 use Rattle.jws_compact.specs.declared.no.JwsNo.TheVariants as jws_no
+use Rattle.jws_compact.specs.Names.{jws_name}
 use Rattle.claim_set.specs.declared.no.ClaimNo.TheVariants as claim_no
 use Rattle.id_token.specs.declared.no.IdNo.TheVariants as id_no
 use Rattle.logout_token.specs.declared.no.LogoutNo.TheVariants as logout_no
 use Rattle.token_endpoint.specs.declared.no.TokensNo.TheVariants as tokens_no
 use Rattle.userinfo.specs.declared.no.InfoNo.TheVariants as info_no
-use Rattle.auth_request.specs.declared.wish.AuthError.TheVariants.{AccessDenied, Other}
+use Rattle.oidc_words.specs.declared.errors.AuthError.TheVariants.{AccessDenied, Other}
 use Rattle.auth_answer.proofs.OnLiterals.{auth_answer_on_literals}
 use Rattle.rp_login.specs.declared.table.RpTable.TheVariants.{Logins}
 use Rattle.rp_exchange.specs.declared.no.Part.TheVariants.{Code}
@@ -20,7 +21,8 @@ use Rattle.rp_exchange.proofs.Sample.{word, sample}
 use Rattle.rp_response.specs.Cookies.{browser_cookie, session_cookie}
 use Rattle.rp_response.specs.Lines.{line_of}
 use Rattle.rp_response.specs.Telling.{http_of}
-use Rattle.rp_response.specs.Told.{words_set, kept, sets_cookie, sends_on, is_full}
+use Rattle.http_reply.specs.Told.{kept, sets_cookie}
+use Rattle.rp_response.specs.Told.{words_set, sends_on, is_full}
 
 -- ---- cookies
 
@@ -52,7 +54,7 @@ session_told = refl
 
 refusal_told : http_of sample 0 (reply.Refused (no.Id (id_no.Jws jws_no.BadMac)))
     ≡ record { status = 400; pragma = false; location = None; cookies = []; challenge = None; kind = Plain; body = codes "refused Id Jws BadMac" ++ 10 ∷ [] }
-unfolding http_of
+unfolding http_of jws_name
 refusal_told = refl
 
 full_told : (http_of sample 0 (reply.Refused (no.Full Logins))).status ≡ 503

@@ -3,7 +3,7 @@
 use Rattle.std.specs.Prelude.{◌++◌, codes}
 use Rattle.sso_base.specs.Words.{Text}
 use Rattle.jws_compact.specs.declared.no.JwsNo.{JwsNo}
-use Rattle.jws_compact.specs.declared.no.JwsNo.TheVariants as jws_no
+use Rattle.jws_compact.specs.Names.{jws_name}
 use Rattle.claim_set.specs.declared.no.ClaimNo.{ClaimNo}
 use Rattle.claim_set.specs.declared.no.ClaimNo.TheVariants as claim_no
 use Rattle.id_token.specs.declared.no.IdNo.{IdNo}
@@ -14,23 +14,11 @@ use Rattle.token_endpoint.specs.declared.no.TokensNo.{TokensNo}
 use Rattle.token_endpoint.specs.declared.no.TokensNo.TheVariants as tokens_no
 use Rattle.userinfo.specs.declared.no.InfoNo.{InfoNo}
 use Rattle.userinfo.specs.declared.no.InfoNo.TheVariants as info_no
-use Rattle.auth_answer.specs.ErrorCode.{error_text}
+use Rattle.oidc_words.specs.Errors.{error_text}
 use Rattle.rp_exchange.specs.declared.no.RpNo.{RpNo}
 use Rattle.rp_exchange.specs.declared.no.RpNo.TheVariants as no
 
 -- ---- refusals inside others
-
-abbrev pub jws_name : JwsNo → Text
-jws_name jws_no.NoMemory = codes "NoMemory"
-jws_name jws_no.TooLong = codes "TooLong"
-jws_name jws_no.NotThreeParts = codes "NotThreeParts"
-jws_name jws_no.HeaderSpelling = codes "HeaderSpelling"
-jws_name jws_no.PayloadSpelling = codes "PayloadSpelling"
-jws_name jws_no.MacSpelling = codes "MacSpelling"
-jws_name jws_no.HeaderNotObject = codes "HeaderNotObject"
-jws_name jws_no.AlgNotHs256 = codes "AlgNotHs256"
-jws_name jws_no.Crit = codes "Crit"
-jws_name jws_no.BadMac = codes "BadMac"
 
 abbrev pub claim_name : ClaimNo → Text
 claim_name claim_no.NoMemory = codes "NoMemory"

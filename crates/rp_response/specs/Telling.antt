@@ -1,37 +1,20 @@
 -- A relying party's replies in HTTP (RFC 9110; OpenID Connect Core 1.0, 3.1.2.1 and 3.2.2.5; OpenID Connect Back-Channel Logout 1.0,
 -- 2.8).
-use Rattle.std.specs.Prelude.{ℕ, Bool, false, List, [], ◌∷◌, ◌++◌, codes, Some, None}
+use Rattle.std.specs.Prelude.{ℕ, Bool, [], ◌∷◌, ◌++◌, codes}
 use Rattle.sso_base.specs.Words.{Word, Text}
 use Rattle.sso_base.specs.declared.http.HttpReply.{HttpReply}
-use Rattle.sso_base.specs.declared.http.Kind.TheVariants.{Empty, Plain, Html}
-use Rattle.word_cookie.specs.Cookies.{cookie}
+use Rattle.http_reply.specs.Cookies.{cookie}
+use Rattle.http_reply.specs.Replies.{html, plain, empty, sent_to}
 use Rattle.client_registry.specs.Configuration.{Configuration}
+use Rattle.client_registry.specs.Numbers.{party_name}
 use Rattle.rp_exchange.specs.declared.no.RpNo.{RpNo}
 use Rattle.rp_exchange.specs.declared.no.RpNo.TheVariants as no
 use Rattle.rp_exchange.specs.declared.reply.RpReply.{RpReply}
 use Rattle.rp_exchange.specs.declared.reply.RpReply.TheVariants as reply
-use Rattle.rp_exchange.specs.Parties.{name_at}
+use Rattle.oidc_words.specs.Paths.{home_path}
 use Rattle.rp_response.specs.Cookies.{browser_cookie, session_cookie}
 use Rattle.rp_response.specs.Page.{fragment_page}
 use Rattle.rp_response.specs.Refusals.{refusal_line}
-
--- ---- kinds of replies
-
-abbrev pub html : Text → HttpReply
-html page = record { status = 200; pragma = false; location = None; cookies = []; challenge = None; kind = Html; body = page }
-
--- one line of text
-abbrev pub plain : ℕ → Text → HttpReply
-plain status line =
-    record { status = status; pragma = false; location = None; cookies = []; challenge = None; kind = Plain; body = line ++ 10 ∷ [] }
-
-abbrev pub empty : HttpReply
-empty = record { status = 200; pragma = false; location = None; cookies = []; challenge = None; kind = Empty; body = [] }
-
--- the user agent is sent to a location (RFC 9110, 15.4.4)
-abbrev pub sent_to : Text → List Text → HttpReply
-sent_to location cookies =
-    record { status = 303; pragma = false; location = Some location; cookies = cookies; challenge = None; kind = Empty; body = [] }
 
 -- ---- logins, at the party of a name
 
@@ -39,10 +22,10 @@ abbrev pub asked : Bool → Text → Text → Word → HttpReply
 asked secure party to browser = sent_to to (cookie secure (browser_cookie party) browser ∷ [])
 
 abbrev pub entered : Bool → Text → Word → HttpReply
-entered secure party session = sent_to (codes "/") (cookie secure (session_cookie party) session ∷ [])
+entered secure party session = sent_to home_path (cookie secure (session_cookie party) session ∷ [])
 
 abbrev pub fragment : HttpReply
-fragment = html fragment_page
+fragment = html [] fragment_page
 
 abbrev pub user : Text → HttpReply
 user sub = plain 200 (codes "user " ++ sub)
@@ -59,11 +42,11 @@ refused why = plain (refused_status why) (refusal_line why)
 -- ---- each reply, at the party of this number
 
 unfoldable pub http_of : Configuration → ℕ → RpReply → HttpReply
-http_of c n (reply.Ask to browser) = asked c.secure (name_at c n) to browser
+http_of c n (reply.Ask to browser) = asked c.secure (party_name c n) to browser
 http_of c n reply.Fragment = fragment
 http_of c n (reply.Exchange pending message) = plain 502 (codes "pending")
 http_of c n (reply.Fetch pending message) = plain 502 (codes "pending")
-http_of c n (reply.Entered session sub) = entered c.secure (name_at c n) session
+http_of c n (reply.Entered session sub) = entered c.secure (party_name c n) session
 http_of c n (reply.User sub) = user sub
 http_of c n reply.Nobody = plain 200 (codes "nobody")
 http_of c n (reply.Left ended) = plain 200 (codes "left")

@@ -1,13 +1,12 @@
 // The cookies of replies.
 
 ghost use Rattle.std.specs.Prelude.{◌≡◌, ◌++◌, [], ◌∷◌, IfOk};
-ghost use Rattle.word_cookie.specs.Cookies.{cookie};
+ghost use Rattle.http_reply.specs.Cookies.{cookie};
 ghost use Rattle.rp_response.specs.Cookies as spec;
 
-use crate::joining::phrase;
+use http_reply::{cookie, phrase};
 use sso_base::{NoMemory, Text, Texts, Word};
 use std::alloc::Global;
-use word_cookie::cookie;
 
 // The cookie alone whose name is the party's and then this ending.
 fn one_cookie(

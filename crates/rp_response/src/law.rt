@@ -5,34 +5,36 @@ ghost use Rattle.std.specs.Str.Iter.{HasSubslice};
 ghost use Rattle.sso_base.specs.Words.{Word, Text};
 ghost use Rattle.sso_base.specs.declared.http.Kind.TheVariants as kind;
 ghost use Rattle.sso_base.specs.declared.message.Message.{Message};
-ghost use Rattle.word_cookie.specs.UserAgent.{cookie_read};
+ghost use Rattle.http_reply.specs.UserAgent.{cookie_read};
 ghost use Rattle.client_registry.specs.Configuration.{Configuration};
+ghost use Rattle.client_registry.specs.Numbers.{party_name};
 ghost use Rattle.client_registry.specs.Registered.{IsRegistry};
-ghost use Rattle.auth_request.specs.declared.wish.AuthError.{AuthError};
+ghost use Rattle.oidc_words.specs.Paths.{home_path};
+ghost use Rattle.oidc_words.specs.declared.errors.AuthError.{AuthError};
 ghost use Rattle.rp_exchange.specs.declared.no.RpNo.{RpNo};
 ghost use Rattle.rp_exchange.specs.declared.no.RpNo.TheVariants as no;
 ghost use Rattle.rp_exchange.specs.declared.reply.RpReply.{RpReply};
 ghost use Rattle.rp_exchange.specs.declared.reply.RpReply.TheVariants as reply;
-ghost use Rattle.rp_exchange.specs.Parties.{name_at};
 ghost use Rattle.rp_response.specs.Cookies.{browser_cookie, session_cookie};
 ghost use Rattle.rp_response.specs.Telling.{http_of};
 ghost use Rattle.rp_response.specs.Lines.{line_of};
-ghost use Rattle.rp_response.specs.Told.{browser_given, session_given, words_set, kept, sets_cookie, sends_on, is_full};
+ghost use Rattle.http_reply.specs.Told.{kept, sets_cookie};
+ghost use Rattle.rp_response.specs.Told.{browser_given, session_given, words_set, sends_on, is_full};
 
 /// The cookies of a reply hold the words that it sets and no others: a login that begins that of its browser, and one that
 /// entered that of its session. A user agent reads each under its name as the word's text, for every path, `HttpOnly`,
 /// `SameSite=Lax` and, exactly where the issuer is https, `Secure` (RFC 6265, 5.2).
 pub fn cookies_hold_the_words_of_replies()
-    ensures read { (c : Configuration) (n : ℕ) (r : RpReply) → IsRegistry c → map cookie_read (http_of c n r).cookies ≡ map (kept c.secure) (words_set (name_at c n) r) }
-    ensures browser { (c : Configuration) (n : ℕ) (r : RpReply) → IsRegistry c → sets_cookie (browser_cookie (name_at c n)) (http_of c n r).cookies ≡ is_some (browser_given r) }
-    ensures session { (c : Configuration) (n : ℕ) (r : RpReply) → IsRegistry c → sets_cookie (session_cookie (name_at c n)) (http_of c n r).cookies ≡ is_some (session_given r) }
+    ensures read { (c : Configuration) (n : ℕ) (r : RpReply) → IsRegistry c → map cookie_read (http_of c n r).cookies ≡ map (kept c.secure) (words_set (party_name c n) r) }
+    ensures browser { (c : Configuration) (n : ℕ) (r : RpReply) → IsRegistry c → sets_cookie (browser_cookie (party_name c n)) (http_of c n r).cookies ≡ is_some (browser_given r) }
+    ensures session { (c : Configuration) (n : ℕ) (r : RpReply) → IsRegistry c → sets_cookie (session_cookie (party_name c n)) (http_of c n r).cookies ≡ is_some (session_given r) }
 {}
 
 /// A login that begins, and one that entered, send the user agent on, with status 303: to the provider, and to where it is told who
 /// is logged in. No other reply does.
 pub fn logins_send_the_user_agent_on()
     ensures ask { (c : Configuration) (n : ℕ) (to : Text) (browser : Word) → (http_of c n (reply.Ask to browser)).location ≡ Some to }
-    ensures entered { (c : Configuration) (n : ℕ) (session : Word) (sub : Text) → (http_of c n (reply.Entered session sub)).location ≡ Some (codes "/") }
+    ensures entered { (c : Configuration) (n : ℕ) (session : Word) (sub : Text) → (http_of c n (reply.Entered session sub)).location ≡ Some home_path }
     ensures location { (c : Configuration) (n : ℕ) (r : RpReply) → is_some (http_of c n r).location ≡ sends_on r }
     ensures status { (c : Configuration) (n : ℕ) (r : RpReply) → ((http_of c n r).status ≡ 303) ↔ (sends_on r ≡ true) }
 {}

@@ -8,19 +8,15 @@
 //! | `cookies` | the browser's cookie and the session's |
 //! | `lines` | [`rp_line`]: the line of a reply |
 //! | `refusals` | how refusals are named |
-//! | `joining` | texts that are joined of pieces |
 //! | `law` | what holds of replies that are told, for the crates above |
 #![tactic(auto)]
 
 mod cookies;
-mod joining;
 mod law;
 mod lines;
 mod page;
 mod refusals;
 mod telling;
-#[cfg(test)]
-mod tests;
 
 pub use law::{
     cookies_hold_the_words_of_replies, lines_tell_no_words_and_no_values,

@@ -3,8 +3,8 @@
 ghost use Rattle.std.specs.Prelude.{◌≡◌, IfOk};
 ghost use Rattle.rp_response.specs.Lines as spec;
 
-use crate::joining::phrase;
 use crate::refusals::refusal_line;
+use http_reply::phrase;
 use rp_exchange::RpReply;
 use sso_base::{NoMemory, Text};
 use std::alloc::Global;

@@ -1,116 +1,105 @@
 // How refusals are named: by their own name, and then by that of the refusal inside.
 
-ghost use Rattle.std.specs.Prelude.{◌≡◌, IfOk};
+ghost use Rattle.std.specs.Prelude.{◌≡◌, ◌++◌, IfOk};
 ghost use Rattle.rp_response.specs.Refusals as spec;
 
-use crate::joining::phrase;
-use auth_answer::error_text;
 use claim_set::ClaimNo;
+use http_reply::phrase;
 use id_token::IdNo;
-use jws_compact::JwsNo;
 use logout_token::LogoutNo;
+use oidc_words::error_text;
 use rp_exchange::RpNo;
 use sso_base::{NoMemory, Text};
 use std::alloc::Global;
 use token_endpoint::TokensNo;
 use userinfo::InfoNo;
 
-// The refusal of a sealed text, inside another.
-fn jws_words(why: JwsNo) -> &'static str
-    ensures { result.now ≡ spec.jws_words why }
-{
-    match why {
-        JwsNo::NoMemory => "Jws NoMemory",
-        JwsNo::TooLong => "Jws TooLong",
-        JwsNo::NotThreeParts => "Jws NotThreeParts",
-        JwsNo::HeaderSpelling => "Jws HeaderSpelling",
-        JwsNo::PayloadSpelling => "Jws PayloadSpelling",
-        JwsNo::MacSpelling => "Jws MacSpelling",
-        JwsNo::HeaderNotObject => "Jws HeaderNotObject",
-        JwsNo::AlgNotHs256 => "Jws AlgNotHs256",
-        JwsNo::Crit => "Jws Crit",
-        JwsNo::BadMac => "Jws BadMac",
-    }
-}
-
 // The refusal of claims, inside another.
-fn claims_words(why: &ClaimNo) -> &'static str
-    ensures { result.now ≡ spec.claims_words why.now }
+fn claim_name(why: &ClaimNo) -> &'static str
+    ensures { result.now ≡ spec.claim_name why.now }
 {
     match why {
-        ClaimNo::NoMemory => "Claims NoMemory",
-        ClaimNo::NotJson => "Claims NotJson",
-        ClaimNo::NotObject => "Claims NotObject",
-        ClaimNo::WrongKind(_) => "Claims WrongKind",
+        ClaimNo::NoMemory => "NoMemory",
+        ClaimNo::NotJson => "NotJson",
+        ClaimNo::NotObject => "NotObject",
+        ClaimNo::WrongKind(_) => "WrongKind",
     }
 }
 
-// The refusal of an ID Token.
-fn id_words(why: &IdNo) -> &'static str
-    ensures { result.now ≡ spec.id_words why.now }
+// The refusal of an ID Token: its name, and that of the refusal inside. So with those that follow.
+fn id_words(why: &IdNo) -> (&'static str, &'static str)
+    ensures { result.0.now ++ result.1.now ≡ spec.id_words why.now }
 {
     match why {
-        IdNo::NoMemory => "NoMemory",
-        IdNo::Jws(why) => jws_words(*why),
-        IdNo::Claims(why) => claims_words(why),
-        IdNo::Missing(_) => "Missing",
-        IdNo::Issuer => "Issuer",
-        IdNo::Audience => "Audience",
-        IdNo::Azp => "Azp",
-        IdNo::Expired(_) => "Expired",
-        IdNo::TooOld(_) => "TooOld",
-        IdNo::FromFuture(_) => "FromFuture",
-        IdNo::Nonce => "Nonce",
-        IdNo::AuthTime => "AuthTime",
-        IdNo::TokenHash => "TokenHash",
-        IdNo::CodeHash => "CodeHash",
+        IdNo::NoMemory => ("NoMemory", ""),
+        IdNo::Jws(why) => ("Jws ", why.name()),
+        IdNo::Claims(why) => ("Claims ", claim_name(why)),
+        IdNo::Missing(_) => ("Missing", ""),
+        IdNo::Issuer => ("Issuer", ""),
+        IdNo::Audience => ("Audience", ""),
+        IdNo::Azp => ("Azp", ""),
+        IdNo::Expired(_) => ("Expired", ""),
+        IdNo::TooOld(_) => ("TooOld", ""),
+        IdNo::FromFuture(_) => ("FromFuture", ""),
+        IdNo::Nonce => ("Nonce", ""),
+        IdNo::AuthTime => ("AuthTime", ""),
+        IdNo::TokenHash => ("TokenHash", ""),
+        IdNo::CodeHash => ("CodeHash", ""),
     }
 }
 
 // The refusal of a token response.
-fn tokens_words(why: &TokensNo) -> &'static str
-    ensures { result.now ≡ spec.tokens_words why.now }
+fn tokens_words(why: &TokensNo) -> (&'static str, &'static str)
+    ensures { result.0.now ++ result.1.now ≡ spec.tokens_words why.now }
 {
     match why {
-        TokensNo::Status(_) => "Status",
-        TokensNo::Claims(why) => claims_words(why),
-        TokensNo::Missing(_) => "Missing",
-        TokensNo::NotBearer => "NotBearer",
-        TokensNo::NoMemory => "NoMemory",
+        TokensNo::Status(_) => ("Status", ""),
+        TokensNo::Claims(why) => ("Claims ", claim_name(why)),
+        TokensNo::Missing(_) => ("Missing", ""),
+        TokensNo::NotBearer => ("NotBearer", ""),
+        TokensNo::NoMemory => ("NoMemory", ""),
     }
 }
 
 // The refusal of a UserInfo response.
-fn info_words(why: &InfoNo) -> &'static str
-    ensures { result.now ≡ spec.info_words why.now }
+fn info_words(why: &InfoNo) -> (&'static str, &'static str)
+    ensures { result.0.now ++ result.1.now ≡ spec.info_words why.now }
 {
     match why {
-        InfoNo::NoMemory => "NoMemory",
-        InfoNo::Status(_) => "Status",
-        InfoNo::Claims(why) => claims_words(why),
-        InfoNo::NoSub => "NoSub",
+        InfoNo::NoMemory => ("NoMemory", ""),
+        InfoNo::Status(_) => ("Status", ""),
+        InfoNo::Claims(why) => ("Claims ", claim_name(why)),
+        InfoNo::NoSub => ("NoSub", ""),
     }
 }
 
 // The refusal of a logout token.
-fn logout_words(why: &LogoutNo) -> &'static str
-    ensures { result.now ≡ spec.logout_words why.now }
+fn logout_words(why: &LogoutNo) -> (&'static str, &'static str)
+    ensures { result.0.now ++ result.1.now ≡ spec.logout_words why.now }
 {
     match why {
-        LogoutNo::NoMemory => "NoMemory",
-        LogoutNo::Jws(why) => jws_words(*why),
-        LogoutNo::Claims(why) => claims_words(why),
-        LogoutNo::WrongTyp => "WrongTyp",
-        LogoutNo::Missing(_) => "Missing",
-        LogoutNo::NoEvent => "NoEvent",
-        LogoutNo::HasNonce => "HasNonce",
-        LogoutNo::NamesNobody => "NamesNobody",
-        LogoutNo::Issuer => "Issuer",
-        LogoutNo::Audience => "Audience",
-        LogoutNo::Expired(_) => "Expired",
-        LogoutNo::TooOld(_) => "TooOld",
-        LogoutNo::FromFuture(_) => "FromFuture",
+        LogoutNo::NoMemory => ("NoMemory", ""),
+        LogoutNo::Jws(why) => ("Jws ", why.name()),
+        LogoutNo::Claims(why) => ("Claims ", claim_name(why)),
+        LogoutNo::WrongTyp => ("WrongTyp", ""),
+        LogoutNo::Missing(_) => ("Missing", ""),
+        LogoutNo::NoEvent => ("NoEvent", ""),
+        LogoutNo::HasNonce => ("HasNonce", ""),
+        LogoutNo::NamesNobody => ("NamesNobody", ""),
+        LogoutNo::Issuer => ("Issuer", ""),
+        LogoutNo::Audience => ("Audience", ""),
+        LogoutNo::Expired(_) => ("Expired", ""),
+        LogoutNo::TooOld(_) => ("TooOld", ""),
+        LogoutNo::FromFuture(_) => ("FromFuture", ""),
     }
+}
+
+// A refusal, and the name of the one inside.
+fn told(alloc: Global, first: &str, own: &str, inside: &str) -> Result<Text, NoMemory>
+    ensures { IfOk result (λ t. t ≡ first.now ++ (own.now ++ inside.now)) }
+{
+    let words = phrase(alloc, own, inside)?;
+    phrase(alloc, first, words.as_str())
 }
 
 // The line of a refusal.
@@ -124,13 +113,25 @@ pub(crate) fn refusal_line(alloc: Global, why: &RpNo) -> Result<Text, NoMemory>
         RpNo::WrongBrowser => Text::new(alloc, "refused WrongBrowser"),
         RpNo::Provider(code) => phrase(alloc, "refused Provider ", error_text(*code)),
         RpNo::Missing(_) => Text::new(alloc, "refused Missing"),
-        RpNo::Id(why) => phrase(alloc, "refused Id ", id_words(why)),
+        RpNo::Id(why) => {
+            let (own, inside) = id_words(why);
+            told(alloc, "refused Id ", own, inside)
+        }
         RpNo::StalePending => Text::new(alloc, "refused StalePending"),
-        RpNo::Tokens(why) => phrase(alloc, "refused Tokens ", tokens_words(why)),
-        RpNo::Info(why) => phrase(alloc, "refused Info ", info_words(why)),
+        RpNo::Tokens(why) => {
+            let (own, inside) = tokens_words(why);
+            told(alloc, "refused Tokens ", own, inside)
+        }
+        RpNo::Info(why) => {
+            let (own, inside) = info_words(why);
+            told(alloc, "refused Info ", own, inside)
+        }
         RpNo::SubjectDiffers => Text::new(alloc, "refused SubjectDiffers"),
         RpNo::Full(_) => Text::new(alloc, "refused Full"),
-        RpNo::Logout(why) => phrase(alloc, "refused Logout ", logout_words(why)),
+        RpNo::Logout(why) => {
+            let (own, inside) = logout_words(why);
+            told(alloc, "refused Logout ", own, inside)
+        }
         RpNo::Seen(_) => Text::new(alloc, "refused Seen"),
     }
 }

@@ -4,72 +4,14 @@ ghost use Rattle.std.specs.Prelude.{◌≡◌, ◌<◌, length, IfOk};
 ghost use Rattle.rp_response.specs.Telling as spec;
 
 use crate::cookies::{browser_cookies, session_cookies};
-use crate::joining::{joined, phrase};
 use crate::page::fragment_page;
 use crate::refusals::refusal_line;
 use client_registry::Registry;
+use http_reply::{empty, html, phrase, plain, sent_to};
+use oidc_words::HOME_PATH;
 use rp_exchange::{RpNo, RpReply};
-use sso_base::{Blob, HttpReply, Kind, NoMemory, Text, Texts, Word};
+use sso_base::{HttpReply, NoMemory, Text, Texts, Word};
 use std::alloc::Global;
-
-fn html(alloc: Global, page: Blob) -> HttpReply
-    ensures { result ≡ spec.html page }
-{
-    HttpReply {
-        status: 200,
-        pragma: false,
-        location: None,
-        cookies: Texts::new(alloc),
-        challenge: None,
-        kind: Kind::Html,
-        body: page,
-    }
-}
-
-// A line of text, and its line feed.
-fn plain(alloc: Global, status: u16, line: &str) -> Result<HttpReply, NoMemory>
-    ensures { IfOk result (λ h. h ≡ spec.plain status line.now) }
-{
-    Ok(HttpReply {
-        status,
-        pragma: false,
-        location: None,
-        cookies: Texts::new(alloc),
-        challenge: None,
-        kind: Kind::Plain,
-        body: Blob::from_vec(joined(alloc, &[line, "\n"])?.into_bytes()),
-    })
-}
-
-// A reply with nothing in it.
-fn empty(alloc: Global) -> HttpReply
-    ensures { result ≡ spec.empty }
-{
-    HttpReply {
-        status: 200,
-        pragma: false,
-        location: None,
-        cookies: Texts::new(alloc),
-        challenge: None,
-        kind: Kind::Empty,
-        body: Blob::from_vec(Vec::new(alloc)),
-    }
-}
-
-// The user agent is sent to this location, with these cookies.
-fn sent_to(alloc: Global, location: Text, cookies: Texts) -> HttpReply
-    ensures { result ≡ spec.sent_to location cookies }
-{
-    HttpReply {
-        status: 303,
-        pragma: false,
-        location: Some(location),
-        cookies,
-        challenge: None,
-        kind: Kind::Empty,
-        body: Blob::from_vec(Vec::new(alloc)),
-    }
-}
 
 fn asked(
     alloc: Global,
@@ -88,14 +30,14 @@ fn entered(alloc: Global, secure: bool, party: &Text, session: &Word) -> Result<
     ensures { IfOk result (λ h. h ≡ spec.entered secure party.now session.now) }
 {
     let cookies = session_cookies(alloc, secure, party, session)?;
-    Ok(sent_to(alloc, Text::new(alloc, "/")?, cookies))
+    Ok(sent_to(alloc, Text::new(alloc, HOME_PATH)?, cookies))
 }
 
 fn fragment(alloc: Global) -> Result<HttpReply, NoMemory>
     ensures { IfOk result (λ h. h ≡ spec.fragment) }
 {
     let page = fragment_page(alloc)?;
-    Ok(html(alloc, page))
+    Ok(html(Texts::new(alloc), page))
 }
 
 fn user(alloc: Global, sub: &Text) -> Result<HttpReply, NoMemory>

@@ -6,26 +6,9 @@ use client_registry::{Registry, read_registry};
 use op_core::OpCore;
 use op_exchange::OpReply;
 use op_request::prepare_op;
+use sample_rows::{ALICE, PROVIDER, SHOP_CLIENT};
 use sso_base::{Ask, Blob, Core, CoreNo, Method, Moment, NoMemory, Text, Word};
 use std::alloc::Global;
-
-// One user with the password `password`, and one client.
-const CONFIGURATION: &str = "version = 1
-[provider]
-issuer = \"http://127.0.0.1:8080\"
-listen = \"127.0.0.1:8080\"
-salt = \"00112233445566778899aabbccddeeff\"
-[[user]]
-id = \"alice\"
-salt = \"73616c74\"
-rounds = 1
-proof = \"120fb6cffcf8b32c43e7225256c4f837a86548c92ccc35480805987cb70be17b\"
-[[client]]
-id = \"shop-client\"
-secret = \"shop-secret-shop-secret-shop-secret\"
-redirect_uris = [\"http://127.0.0.1:8081/cb\"]
-consent = \"given\"
-";
 
 const QUERY: &str =
     "client_id=shop-client&redirect_uri=http%3A%2F%2F127.0.0.1%3A8081%2Fcb&response_type=code&scope=openid&nonce=n";
@@ -43,8 +26,12 @@ struct Run {
     requests: u64,
 }
 
+// One user with the password `password`, and one client.
 fn registry(alloc: Global) -> Option<Registry> {
-    read_registry(alloc, CONFIGURATION.as_bytes()).ok()
+    let file = [PROVIDER, ALICE, SHOP_CLIENT, "consent = \"given\"\n"]
+        .concat(alloc)
+        .ok()?;
+    read_registry(alloc, file.as_bytes()).ok()
 }
 
 fn core(alloc: Global) -> Option<OpCore> {
@@ -182,7 +169,8 @@ fn tokens_of(run: &mut Run, alloc: Global, at: Moment, count: u32) -> Result<u32
     Ok(tokens)
 }
 
-/// How many of `count` logins end with tokens. None where memory runs out.
+/// How many of `count` logins end with tokens. None where memory runs out, or where the provider's history is full, which it is
+/// from about 87,000 logins on.
 pub fn logins(alloc: Global, count: u32) -> Option<u32> {
     let at = Moment::new(1000)?;
     let mut run = begin(alloc)?;

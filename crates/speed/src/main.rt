@@ -2,7 +2,8 @@
 //!
 //! - `speed mac COUNT` prints the last of so many MACs of 200 bytes, in hex.
 //! - `speed proof ROUNDS` prints the proof of one password at so many rounds, in hex. None is one.
-//! - `speed logins COUNT` makes so many logins at a provider, and prints how many ended with tokens.
+//! - `speed logins COUNT` makes so many logins at a provider, and prints how many ended with tokens. It says so where memory runs
+//!   out or the provider's history is full.
 //! - Other words, or none, are a short run of all three.
 #![tactic(auto)]
 
@@ -25,7 +26,7 @@ fn print_proof<R: Runtime>(rt: &R, rounds: u32) -> io::Result<()> {
 fn print_logins(rt: &HostRuntime, count: u32) -> io::Result<()> {
     match logins::logins(rt.alloc(), count) {
         Some(tokens) => println!(rt; "{}", tokens),
-        None => println!(rt; "no memory"),
+        None => println!(rt; "no memory, or the history is full"),
     }
 }
 

@@ -13,9 +13,10 @@ use Rattle.sso_base.proofs.RowLaws.{bool_cases, bytes_same}
 use Rattle.jws_compact.specs.declared.no.JwsNo.{JwsNo}
 use Rattle.jws_compact.specs.declared.unsealing.Unsealed.{Unsealed}
 use Rattle.jws_compact.specs.Jws.{verdict}
+use Rattle.jws_compact.specs.Names.{jws_name}
 use Rattle.oidc_replay.specs.declared.trace.TraceNo.{TraceNo}
 use Rattle.oidc_replay.specs.Trace.{Told, trace_of}
-use Rattle.sso.specs.Answer.{Answer, word_at, is_replay, is_token, is_command, config_name, trace_name, secret_name, token_name, registry_name, configuration_refusal, configuration_no, not_taken, unless_refused, trace_answer, answer_to, without_feed, is_secret, jws_name, token_refusal, verdict_answer, token_answer}
+use Rattle.sso.specs.Answer.{Answer, word_at, is_replay, is_token, is_command, config_name, trace_name, secret_name, token_name, registry_name, configuration_refusal, configuration_no, not_taken, unless_refused, trace_answer, answer_to, without_feed, is_secret, token_refusal, verdict_answer, token_answer}
 use Rattle.sso.specs.Ends.{IsContent, IsConfigurationNo, IsTokenNo, IsTextOf, status_of_both, status_for}
 use Rattle.sso.specs.Outcomes.{PlaysWell, AnswersReplay, AnswersToken, MayReplay, MayOpen, MayAnswer, IsWritten, usage_answer, shelf_answer}
 use Rattle.sso.proofs.Endings.{Call, Ending, IsAnswered, usage_ends, shelf_ends, configuration_ends, trace_ends, token_ends, replay_ends, opening_ends, sink_ends}

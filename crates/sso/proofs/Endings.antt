@@ -4,7 +4,8 @@ use Rattle.sso_base.specs.Words.{Text}
 use Rattle.sso_base.specs.Faults.{Rose}
 use Rattle.sso_base.specs.Outside.{Content, Takes}
 use Rattle.sso.specs.Answer.{is_replay, is_token, is_command, usage_text, shelf_text}
-use Rattle.sso.specs.Ends.{ShowsUsage, ReportsShelf, RefusesConfiguration, RefusesTrace, RefusesToken, Replays, OpensToken, StopsWriting, status_for, IsStatus, IsStatusOf}
+use Rattle.sso.specs.Ends.{ShowsUsage, ReportsShelf, RefusesConfiguration, RefusesTrace, RefusesToken, OpensToken, StopsWriting, status_for, IsStatus, IsStatusOf}
+use Rattle.sso.specs.SignOn.{Replays}
 
 -- what is given to a call, and the counts of faults after it
 pub record Call : Type 0 where

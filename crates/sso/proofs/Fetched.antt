@@ -1,5 +1,5 @@
 -- What is fetched of contents answers as the whole contents do.
-use Rattle.std.proofs.Common.{◌≡◌, ℕ, ◌<◌, ◌≤◌, ◌+◌, ◌-◌, nat_lt, nat_le, nat_eq, Bool, true, false, cond, List, [], ◌∷◌, length, take, drop, codes, Option, Some, None, Result, Ok, Err, inl, inr, arith, refl, ap, ◌∙◌, sym, subst}
+use Rattle.std.proofs.Common.{◌≡◌, ℕ, ◌<◌, ◌≤◌, ◌+◌, ◌-◌, nat_lt, nat_le, Bool, true, false, cond, List, length, take, drop, codes, Option, Some, None, Result, Ok, Err, inl, inr, arith, ap, ◌∙◌, sym, subst}
 use Rattle.std.proofs.lemmas.List.{take_all, length-take-le}
 use Rattle.std.proofs.lemmas.Bool.{and_right}
 use Rattle.std.proofs.lemmas.Bool.Decides.{leb_tells}

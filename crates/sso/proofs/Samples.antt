@@ -22,13 +22,15 @@ use Rattle.jws_compact.specs.declared.no.JwsNo.TheVariants.{NotThreeParts}
 use Rattle.jws_compact.specs.declared.unsealing.Unsealed.{Unsealed}
 use Rattle.jws_compact.specs.Jws.{verdict}
 use Rattle.jws_compact.proofs.OnLiterals.{jws_on_literals}
+use Rattle.jws_compact.specs.Names.{jws_name}
 use Rattle.oidc_replay.specs.declared.trace.TraceNo.TheVariants as no
 use Rattle.oidc_replay.specs.Trace.{Told, trace_of}
 use Rattle.oidc_replay.specs.Replay.{play_of, text_of}
 use Rattle.oidc_replay.proofs.Order.{told_read}
 use Rattle.oidc_replay.proofs.Plays.{play_meets, play_signs}
-use Rattle.sso.specs.Answer.{answer_to, not_taken, unless_refused, trace_answer, registry_name, configuration_no, configuration_text, usage_text, refused_text, without_feed, jws_name, token_text, token_answer}
-use Rattle.sso.specs.Ends.{ShowsUsage, ReportsShelf, IsConfigurationNo, RefusesConfiguration, RefusesTrace, RefusesToken, Replays, OpensToken, IsTokenNo, status_for}
+use Rattle.sso.specs.Answer.{answer_to, not_taken, unless_refused, trace_answer, registry_name, configuration_no, configuration_text, usage_text, refused_text, without_feed, token_text, token_answer}
+use Rattle.sso.specs.Ends.{ShowsUsage, ReportsShelf, IsConfigurationNo, RefusesConfiguration, RefusesTrace, RefusesToken, OpensToken, IsTokenNo, status_for}
+use Rattle.sso.specs.SignOn.{Replays}
 
 -- a configuration that stands for the small one, and what is read of it
 abbrev small : List ℕ

@@ -4,9 +4,9 @@ use Rattle.std.specs.Fmt.{decimal}
 use Rattle.std.specs.Str.{bytes_eq}
 use Rattle.sso_base.specs.Words.{Text}
 use Rattle.jws_compact.specs.declared.no.JwsNo.{JwsNo}
-use Rattle.jws_compact.specs.declared.no.JwsNo.TheVariants as jws
 use Rattle.jws_compact.specs.declared.unsealing.Unsealed.{Unsealed}
 use Rattle.jws_compact.specs.Jws.{verdict}
+use Rattle.jws_compact.specs.Names.{jws_name}
 use Rattle.configuration_rows.specs.declared.no.RegNo.{RegNo}
 use Rattle.configuration_rows.specs.declared.no.RegNo.TheVariants as reg
 use Rattle.client_registry.specs.Configuration.{Configuration}
@@ -113,19 +113,6 @@ without_feed bytes =
 -- a secret has 1 to 128 bytes
 abbrev pub is_secret : List ℕ → Bool
 is_secret bytes = nat_lt 0 (length bytes) && nat_le (length bytes) 128
-
--- the name of a refusal
-unfoldable pub jws_name : JwsNo → Text
-jws_name jws.NoMemory = []
-jws_name jws.TooLong = codes "TooLong"
-jws_name jws.NotThreeParts = codes "NotThreeParts"
-jws_name jws.HeaderSpelling = codes "HeaderSpelling"
-jws_name jws.PayloadSpelling = codes "PayloadSpelling"
-jws_name jws.MacSpelling = codes "MacSpelling"
-jws_name jws.HeaderNotObject = codes "HeaderNotObject"
-jws_name jws.AlgNotHs256 = codes "AlgNotHs256"
-jws_name jws.Crit = codes "Crit"
-jws_name jws.BadMac = codes "BadMac"
 
 -- the text of a token that is refused, by the name of the refusal
 unfoldable pub token_text : Text → Text

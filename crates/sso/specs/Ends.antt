@@ -8,15 +8,13 @@ use Rattle.sso_base.specs.Outside.{Content, content_of, Takes, TakesFront}
 use Rattle.jws_compact.specs.declared.no.JwsNo.{JwsNo}
 use Rattle.jws_compact.specs.declared.unsealing.Unsealed.{Unsealed}
 use Rattle.jws_compact.specs.Jws.{verdict}
+use Rattle.jws_compact.specs.Names.{jws_name}
 use Rattle.configuration_rows.specs.declared.no.RegNo.{RegNo}
 use Rattle.client_registry.specs.Configuration.{Configuration}
 use Rattle.client_registry.specs.Reading.{registry_read}
 use Rattle.oidc_replay.specs.declared.trace.TraceNo.{TraceNo}
-use Rattle.oidc_replay.specs.Trace.{Told, trace_of}
-use Rattle.oidc_replay.specs.Replay.{play_of, text_of}
-use Rattle.sso_world.specs.Premises.{MeetsPremises}
-use Rattle.sso_world.specs.Agreement.{SignsOn}
-use Rattle.sso.specs.Answer.{Answer, is_replay, is_token, is_command, config_name, trace_name, secret_name, token_name, usage_text, shelf_text, registry_name, configuration_text, refused_text, answer_to, without_feed, is_secret, jws_name, token_text, token_answer}
+use Rattle.oidc_replay.specs.Trace.{trace_of}
+use Rattle.sso.specs.Answer.{Answer, is_replay, is_token, is_command, config_name, trace_name, secret_name, token_name, usage_text, shelf_text, registry_name, configuration_text, refused_text, answer_to, without_feed, is_secret, token_text, token_answer}
 
 -- this content stands under this name, where the shelf tells
 abbrev pub IsContent : Option (List Content) → Text → List ℕ → Type 0
@@ -60,21 +58,6 @@ pub record RefusesTrace (small : List ℕ) (contents : Option (List Content)) (w
   pub why : TraceNo
   pub refused : trace_of trace ≡ Err why
   pub wrote : Takes old new (refused_text why)
-
--- The configuration is taken, the trace is accepted, and the text of its play was written. The reading of that same play is a run of the sign-on
--- machine at every prefix, and after each prefix the live rows are the sessions that the relying party's history calls live.
-pub record Replays (small : List ℕ) (contents : Option (List Content)) (words : List Text) (old new : Option (List ℕ)) : Type 0 where
-  pub words_are : is_replay words ≡ true
-  pub config_there : IsContent contents (config_name words) small
-  pub configuration : Configuration
-  pub read : registry_read small ≡ Ok configuration
-  pub trace : List ℕ
-  pub trace_there : IsContent contents (trace_name words) trace
-  pub told : Told
-  pub accepted : trace_of trace ≡ Ok told
-  pub wrote : Takes old new (text_of told)
-  pub premises : MeetsPremises (play_of told)
-  pub signs : SignsOn (play_of told)
 
 -- The secret has 1 to 128 bytes and the token is sealed under it, each without a line feed at its end, and the payload was
 -- written.

@@ -1,3 +1,4 @@
 pub mod Answer
 pub mod Ends
 pub mod Outcomes
+pub mod SignOn

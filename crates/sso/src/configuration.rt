@@ -1,6 +1,6 @@
 //! What is answered to a configuration that is not taken.
 
-ghost use Rattle.std.specs.Prelude.{◌≡◌, ◌∷◌, ◌++◌, [], IfOk, option_map, codes, string_bytes};
+ghost use Rattle.std.specs.Prelude.{◌≡◌, ◌∷◌, ◌++◌, IfOk, option_map, codes, string_bytes};
 ghost use Rattle.sso.specs.Answer.{registry_name, configuration_refusal, configuration_no};
 
 use crate::mini::MINI;

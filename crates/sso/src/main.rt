@@ -3,9 +3,10 @@
 //!
 //! | Module | What it has | Its definitions, in `specs/` |
 //! |---|---|---|
-//! | `top` | the top call, over any shelf and sink | `Ends` |
+//! | `top` | the top call, over any shelf and sink | `Ends`, `SignOn` |
 //! | `command` | what the words ask for, with contents fetched for it | `Outcomes` |
 //! | `outcome` | the answers of `replay`, and those of no command | `Answer`, `Outcomes` |
+//! | `configuration` | the answers to a configuration that is not taken | `Answer` |
 //! | `token` | the answers of `token` | `Answer` |
 //! | `mini` | the small configuration | |
 //! | `words`, `shelf`, `sink` | the machine's words, files and output | |

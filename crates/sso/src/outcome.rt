@@ -1,7 +1,6 @@
 //! What is answered to words that are no command, where the shelf failed, and to a configuration and a trace.
 
-ghost use Rattle.std.specs.Prelude.{◌≡◌, ◌++◌, [], ◌∷◌, IfOk, codes};
-ghost use Rattle.std.specs.Fmt.{decimal};
+ghost use Rattle.std.specs.Prelude.{◌≡◌, IfOk};
 ghost use Rattle.oidc_replay.specs.Trace.{trace_of};
 ghost use Rattle.sso.specs.Answer.{trace_answer, answer_to, refused_text, shelf_text, usage_text};
 ghost use Rattle.sso.specs.Outcomes.{PlaysWell, shelf_answer, usage_answer};
@@ -16,7 +15,9 @@ use std::marker::Model;
 /// A status, and the text that is written before the program ends with it.
 #[derive(Debug, Drop)]
 pub struct Outcome {
+    /// The exit status, as long as the whole text can be written.
     pub status: u8,
+    /// What is written to standard output.
     pub text: Blob,
 }
 

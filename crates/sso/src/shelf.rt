@@ -1,6 +1,6 @@
 //! Files as a shelf.
 
-ghost use Rattle.std.specs.Prelude.{◌≡◌, ◌≤◌, ℕ, List, Option, None, IfOk, length};
+ghost use Rattle.std.specs.Prelude.{◌≡◌, ◌≤◌, None, IfOk, length};
 
 use sso_base::{Blob, NoMemory, Shelf, ShelfNo, Text};
 use std::alloc::Global;

@@ -1,6 +1,6 @@
 //! Writers as sinks.
 
-ghost use Rattle.std.specs.Prelude.{◌≡◌, ◌≤◌, ℕ, List, Option, None};
+ghost use Rattle.std.specs.Prelude.{◌≡◌, Option, None};
 
 use sso_base::{Sink, SinkFault};
 use std::io::{ErrorKind, Write};

@@ -1,5 +1,5 @@
-//! The top call over contents in memory, and the words of the program. The command `token` has its tests in
-//! `token`, and configurations that are refused have theirs in `configuration`.
+//! The top call over contents in memory, and the words of the program. The command `token` has its tests in `token`,
+//! configurations that are refused have theirs in `configuration`, and sinks and shelves in `outside`.
 
 use crate::mini::MINI;
 use crate::sink::WriterSink;
@@ -13,6 +13,7 @@ use std::io::{ErrorKind, Write};
 use std::test::Fail;
 
 mod configuration;
+mod outside;
 mod token;
 
 const HEADER: &str = "sso-trace 1 000000000000000000000000000000000000000000000000\n";

@@ -1,7 +1,7 @@
 //! What is answered to a secret and a token.
 
-ghost use Rattle.std.specs.Prelude.{◌≡◌, ◌∷◌, ◌++◌, [], IfOk, codes};
-ghost use Rattle.sso.specs.Answer.{without_feed, jws_name, token_text, payload_answer, token_refusal, token_answer};
+ghost use Rattle.std.specs.Prelude.{◌≡◌, IfOk};
+ghost use Rattle.sso.specs.Answer.{without_feed, token_text, payload_answer, token_refusal, token_answer};
 
 use crate::outcome::Outcome;
 use jws_compact::{JwsNo, unseal};
@@ -16,25 +16,6 @@ fn without_feed(bytes: &[u8]) -> &[u8]
     ensures { result.now ≡ without_feed bytes.now }
 {
     bytes.strip_suffix(b"\n").unwrap_or(bytes)
-}
-
-/// The name of a refusal, as it is printed.
-#[tactic(auto, unfolding(crate::specs::Answer::jws_name))]
-fn name_of(why: JwsNo) -> &'static str
-    ensures { result.now ≡ jws_name why }
-{
-    match why {
-        JwsNo::NoMemory => "",
-        JwsNo::TooLong => "TooLong",
-        JwsNo::NotThreeParts => "NotThreeParts",
-        JwsNo::HeaderSpelling => "HeaderSpelling",
-        JwsNo::PayloadSpelling => "PayloadSpelling",
-        JwsNo::MacSpelling => "MacSpelling",
-        JwsNo::HeaderNotObject => "HeaderNotObject",
-        JwsNo::AlgNotHs256 => "AlgNotHs256",
-        JwsNo::Crit => "Crit",
-        JwsNo::BadMac => "BadMac",
-    }
 }
 
 /// The answer to a token that is refused, by the name of the refusal.
@@ -73,6 +54,6 @@ pub fn answer_token(alloc: Global, secret: &[u8], token: &[u8]) -> Result<Outcom
     match unseal(alloc, secret, without_feed(token)) {
         Ok(unsealed) => opening(alloc, unsealed.payload.as_bytes()),
         Err(JwsNo::NoMemory) => Err(NoMemory),
-        Err(why) => refusal(alloc, name_of(why)),
+        Err(why) => refusal(alloc, why.name()),
     }
 }

@@ -1,9 +1,10 @@
 //! The top call.
 
-ghost use Rattle.std.specs.Prelude.{◌≡◌, ◌⊎◌, ◌≤◌, ℕ, true, false, List, Some};
+ghost use Rattle.std.specs.Prelude.{◌≡◌, ◌⊎◌, ◌≤◌, true, false, List, Some};
 ghost use Rattle.sso_base.specs.Outside.{Content};
 ghost use Rattle.sso.specs.Answer.{is_replay, is_token, is_command};
-ghost use Rattle.sso.specs.Ends.{ShowsUsage, ReportsShelf, RefusesConfiguration, RefusesTrace, RefusesToken, Replays, OpensToken, StopsWriting, status_for, IsStatus, IsStatusOf};
+ghost use Rattle.sso.specs.Ends.{ShowsUsage, ReportsShelf, RefusesConfiguration, RefusesTrace, RefusesToken, OpensToken, StopsWriting, status_for, IsStatus, IsStatusOf};
+ghost use Rattle.sso.specs.SignOn.{Replays};
 ghost use Rattle.sso.specs.Outcomes.{IsWritten};
 
 use crate::command::answer_words;

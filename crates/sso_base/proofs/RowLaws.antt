@@ -131,7 +131,7 @@ distinct_without {R} name w (r ∷ rs) d =
       | inr e ↦ subst D (sym e) (none_without name (name r) w rs d.0, distinct_without name w rs d.1)
     ]
 
-distinct_push : {R : Type 0} (name : R → Word) (row : R) (rows : List R) → IsDistinct name rows → row_of name (name row) rows ≡ None → IsDistinct name (rows ++ row ∷ [])
+pub distinct_push : {R : Type 0} (name : R → Word) (row : R) (rows : List R) → IsDistinct name rows → row_of name (name row) rows ≡ None → IsDistinct name (rows ++ row ∷ [])
 distinct_push name row [] d h = (refl, tt)
 distinct_push {R} name row (r ∷ rs) d h =
     let G : Bool → Option R = λ b. cond b (Some r) (row_of name (name row) rs) in

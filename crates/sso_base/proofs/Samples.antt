@@ -1,19 +1,23 @@
 -- The definitions computed on small cases: what each accepts, and what it refuses.
-use Rattle.std.proofs.Common.{◌≡◌, ◌==◌, nat_lt, Result, ℕ, codes, replicate, ◌++◌, ◌-◌, ◌^◌, ◌<◌, ◌≤◌, true, false, List, [], ◌∷◌, length, take, Option, Some, None, Ok, Err, refl, ap, subst, suc, zero, arith, if◌then◌else◌}
+use Rattle.std.proofs.Common.{◌≡◌, ◌==◌, nat_lt, Result, ℕ, codes, replicate, ◌++◌, ◌-◌, ◌^◌, ◌<◌, ◌≤◌, true, false, List, [], ◌∷◌, length, take, Option, Some, None, Ok, Err, refl, ap, ◌∙◌, subst, suc, zero, arith, if◌then◌else◌}
 use Rattle.std.specs.Str.{bytes_eq}
 use Rattle.sso_base.specs.declared.history.Entry.{Entry}
 use Rattle.sso_base.specs.declared.history.Pair.{Pair}
-use Rattle.sso_base.specs.Base64Url.{b64u, unb64u}
+use Rattle.sso_base.specs.Base64Url.{b64u, unb64u, all_bytes}
 use Rattle.sso_base.specs.Words.{Word, IsWord, is_word, fresh_word, word_text, word_of_text}
 use Rattle.sso_base.proofs.OnLiterals.{base64url_on_literals}
 use Rattle.sso_base.proofs.Spelling.{IsBytes-from_all_bytes}
 use Rattle.sso_base.specs.Faults.{Rose, HasCause}
 use Rattle.sso_base.specs.Outside.{Content, Takes, TakesFront, content_of, Fetches}
-use Rattle.sso_base.specs.OnlyText.{is_only}
-use Rattle.sso_base.specs.Refusals.{first_refusal, and_then}
+use Rattle.sso_base.specs.Texts.{has_text, is_only}
+use Rattle.sso_base.specs.Values.{AreWords}
+use Rattle.sso_base.specs.Weights.{told_weight, texts_bytes}
+use Rattle.sso_base.specs.Journal.{IsLegalHistoryBy, entry_moment, extended, history_weight}
+use Rattle.sso_base.specs.Refusals.{first_refusal, and_then, demand, forbid}
 use Rattle.sso_base.specs.Rows.{without, put, row_of, rows_by, lives, if_lives, live_rows}
 use Rattle.sso_base.specs.Stands.{is_named, carried, NoneMakes, Stands, KeepsNames, IsDistinct}
 use Rattle.sso_base.specs.Legal.{last_moment, IsEntry, IsLegalBy}
+use Rattle.sso_base.specs.Drawn.{IsDrawn}
 use Rattle.sso_base.proofs.Literal.{stands-row_of, row_of-stands}
 
 -- ---- lives of 600 seconds from 1000
@@ -283,14 +287,26 @@ counted past e = length past
 abbrev Any : ℕ → Type 0
 Any ask = Unit {0}
 
+abbrev same_bytes : ℕ → Word
+same_bytes n = replicate 32 n
+
+ones_word : IsWord (same_bytes 1)
+ones_word = record { long = refl; bytes = IsBytes-from_all_bytes (same_bytes 1) refl }
+
+word_of_same : (n : ℕ) → all_bytes (same_bytes n) ≡ true → IsWord (same_bytes n)
+word_of_same n h = record { long = refl; bytes = IsBytes-from_all_bytes (same_bytes n) h }
+
 abbrev drawn : List Word
-drawn = front ∷ back ∷ front ∷ back ∷ []
+drawn = same_bytes 1 ∷ same_bytes 2 ∷ same_bytes 3 ∷ same_bytes 4 ∷ []
+
+drawn_words : AreWords drawn
+drawn_words = (word_of_same 1 refl, (word_of_same 2 refl, (word_of_same 3 refl, (word_of_same 4 refl, tt))))
 
 abbrev pair : ℕ → ℕ → Pair ℕ ℕ
 pair at reply = record { entry = record { at = at; fresh = drawn; ask = 0 }; reply = reply }
 
 legal-two_pairs : IsLegalBy Any counted (pair 7 1 ∷ pair 7 0 ∷ [])
-legal-two_pairs = ((tt, record { words = refl; ask = tt }, omega arith, refl), record { words = refl; ask = tt }, omega arith, refl)
+legal-two_pairs = ((tt, record { moment = omega arith; four = refl; words = drawn_words; ask = tt }, omega arith, refl), record { moment = omega arith; four = refl; words = drawn_words; ask = tt }, omega arith, refl)
 
 legal-not_with_a_wrong_reply : IsLegalBy Any counted (pair 7 2 ∷ pair 7 0 ∷ []) → ⊥
 legal-not_with_a_wrong_reply (before, entry, order, reply) = (let wrong : ◌≡◌ {A = ℕ} 2 1 = reply in omega arith)
@@ -299,7 +315,107 @@ legal-not_where_time_goes_back : IsLegalBy Any counted (pair 6 1 ∷ pair 7 0 �
 legal-not_where_time_goes_back (before, entry, order, reply) = (let back : 7 ≤ 6 = order in omega arith)
 
 entry-not_with_three_words : IsEntry Any (record { at = 7; fresh = front ∷ back ∷ front ∷ []; ask = 0 }) → ⊥
-entry-not_with_three_words e = (let three : ◌≡◌ {A = ℕ} 3 4 = e.words in omega arith)
+entry-not_with_three_words e = (let three : ◌≡◌ {A = ℕ} 3 4 = e.four in omega arith)
+
+entry-not_with_a_word_of_other_numbers : IsEntry Any (record { at = 7; fresh = same_bytes 1 ∷ same_bytes 1 ∷ same_bytes 1 ∷ same_bytes 256 ∷ []; ask = 0 }) → ⊥
+entry-not_with_a_word_of_other_numbers e = (let wide : 256 < 256 = e.words.1.1.1.0.bytes 0 in omega arith)
+
+entry-not_after_the_latest_moment : IsEntry Any (record { at = 1099511000001; fresh = drawn; ask = 0 }) → ⊥
+entry-not_after_the_latest_moment e = (let late : 1099511000001 ≤ 1099511000000 = e.moment in omega arith)
+
+abbrev ok_or_three : ℕ → Result ℕ ℕ
+ok_or_three n = Ok n
+
+-- ---- words that were drawn
+
+is_drawn-the_last_of_four : IsDrawn (pair 7 0 ∷ []) (same_bytes 4)
+is_drawn-the_last_of_four = record { later = []; maker = pair 7 0; earlier = []; parts = refl; number = 3; low = omega arith; drawn = refl }
+
+no_parts : (later : List (Pair ℕ ℕ)) (p : Pair ℕ ℕ) (earlier : List (Pair ℕ ℕ)) → [] ≡ later ++ p ∷ earlier → ⊥
+no_parts [] p earlier h = cc
+no_parts (q ∷ later) p earlier h = cc
+
+is_drawn-not_for_nothing : (w : Word) → IsDrawn {A = ℕ} {R = ℕ} [] w → ⊥
+is_drawn-not_for_nothing w d = no_parts d.later d.maker d.earlier d.parts
+
+one_part : (later : List (Pair ℕ ℕ)) (p q : Pair ℕ ℕ) (earlier : List (Pair ℕ ℕ)) → q ∷ [] ≡ later ++ p ∷ earlier → p ≡ q
+one_part [] p q earlier h = cc
+one_part (r ∷ later) p q earlier h = let rest : [] ≡ later ++ p ∷ earlier = cc in absurd (no_parts later p earlier rest)
+
+other_than_four : (number : ℕ) → number < 4 → same_bytes 9 ≡ fresh_word drawn number → ⊥
+other_than_four zero l h = cc
+other_than_four (suc zero) l h = cc
+other_than_four (suc (suc zero)) l h = cc
+other_than_four (suc (suc (suc zero))) l h = cc
+other_than_four (suc (suc (suc (suc number)))) l h = omega (arith, l)
+
+is_drawn-not_for_another_word : IsDrawn (pair 7 0 ∷ []) (same_bytes 9) → ⊥
+is_drawn-not_for_another_word d =
+    let same : d.maker ≡ pair 7 0 = one_part d.later d.maker (pair 7 0) d.earlier d.parts in
+    let W : Pair ℕ ℕ → Word = λ p. fresh_word p.entry.fresh d.number in
+    other_than_four d.number d.low (d.drawn ∙ ap W same)
+
+-- ---- time never goes back, and what is told in 64 bits
+
+entry_moment-of_the_last_entry : entry_moment (pair 7 0 ∷ pair 8 1 ∷ []) 6 ≡ 8
+entry_moment-of_the_last_entry = refl
+
+entry_moment-of_now : entry_moment (pair 7 0 ∷ pair 8 1 ∷ []) 9 ≡ 9
+entry_moment-of_now = refl
+
+entry_moment-of_the_first_entry : entry_moment {A = ℕ} {R = ℕ} [] 0 ≡ 0
+entry_moment-of_the_first_entry = refl
+
+extended-by_an_entry_that_is_late : extended (pair 8 0 ∷ []) 6 drawn 0 1 ≡ pair 8 0 ∷ pair 8 1 ∷ []
+extended-by_an_entry_that_is_late = refl
+
+told_weight-of_64_bits : told_weight (2 ^ 64 - 1) ≡ 2 ^ 64 - 1
+told_weight-of_64_bits = refl
+
+told_weight-of_more : told_weight (2 ^ 64) ≡ 2 ^ 64 - 1
+told_weight-of_more = refl
+
+texts_bytes-of_two : texts_bytes (codes "ab" ∷ codes "c" ∷ []) ≡ 3
+texts_bytes-of_two = refl
+
+-- ---- refusals one after another
+
+demand-what_is_there : demand 3 (Some 5) (λ (n : ℕ). ok_or_three (suc n)) ≡ ok_or_three 6
+demand-what_is_there = refl
+
+demand-nothing : demand 3 None (λ (n : ℕ). ok_or_three n) ≡ Err 3
+demand-nothing = refl
+
+forbid-what_is_not : forbid 3 false (ok_or_three 5) ≡ ok_or_three 5
+forbid-what_is_not = refl
+
+forbid-what_is : forbid 3 true (ok_or_three 5) ≡ Err 3
+forbid-what_is = refl
+
+-- ---- a legal history weighs no more than a history may
+
+abbrev weighs_four : ℕ → ℕ
+weighs_four n = 4
+
+history_weight-of_two_pairs : history_weight weighs_four (pair 7 0 ∷ pair 8 1 ∷ []) ≡ 8
+history_weight-of_two_pairs = refl
+
+abbrev weighs_it : ℕ → ℕ → ℕ
+weighs_it n asked = n
+
+legal_history-of_one_pair : IsLegalHistoryBy Any counted (weighs_it 268435456) (pair 7 0 ∷ [])
+legal_history-of_one_pair = record { past = (tt, record { moment = omega arith; four = refl; words = drawn_words; ask = tt }, omega arith, refl); light = omega arith }
+
+legal_history-not_of_too_much : IsLegalHistoryBy Any counted (weighs_it 268435457) (pair 7 0 ∷ []) → ⊥
+legal_history-not_of_too_much legal = (let heavy : 268435457 ≤ 268435456 = legal.light in omega arith)
+
+-- ---- texts in a list
+
+has_text-the_second : has_text (codes "b") (codes "a" ∷ codes "b" ∷ []) ≡ true
+has_text-the_second = refl
+
+has_text-not_a_part : has_text (codes "a") (codes "ab" ∷ []) ≡ false
+has_text-not_a_part = refl
 
 last_moment-of_the_newest_pair : last_moment (pair 8 1 ∷ pair 7 0 ∷ []) ≡ 8
 last_moment-of_the_newest_pair = refl

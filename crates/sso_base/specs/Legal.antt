@@ -3,15 +3,18 @@
 use Rattle.std.specs.Prelude.{◌≡◌, ◌≤◌, ℕ, List, [], ◌∷◌, length}
 use Rattle.sso_base.specs.declared.history.Entry.{Entry}
 use Rattle.sso_base.specs.declared.history.Pair.{Pair}
+use Rattle.sso_base.specs.Values.{AreWords, latest_moment}
 
 -- the moment of the last pair, 0 where there is none
 abbrev pub last_moment : {A R : Type 0} → List (Pair A R) → ℕ
 last_moment [] = 0
 last_moment (p ∷ past) = p.entry.at
 
--- An entry has four fresh words and an ask that a request can make; which asks these are is said by the role.
+-- An entry has a moment, four fresh words and an ask that a request can make; which asks these are is said by the role.
 pub record IsEntry {A : Type 0} (IsAsk : A → Type 0) (e : Entry A) : Type 0 where
-  pub words : length e.fresh ≡ 4
+  pub moment : e.at ≤ latest_moment
+  pub four : length e.fresh ≡ 4
+  pub words : AreWords e.fresh
   pub ask : IsAsk e.ask
 
 -- a past whose replies are the answers of a core

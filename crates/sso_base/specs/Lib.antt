@@ -1,8 +1,11 @@
 pub mod Base64Url
 pub mod Faults
 pub mod Journal
+pub mod Drawn
 pub mod Legal
-pub mod OnlyText
+pub mod Texts
+pub mod Values
+pub mod Weights
 pub mod Outside
 pub mod Refusals
 pub mod Rows

@@ -56,6 +56,8 @@ pub struct HttpReply {
     pub cookies: Texts,
     /// The value of its `WWW-Authenticate` header (RFC 9110, 11.6.1).
     pub challenge: Option<Text>,
+    /// What its body is, and by which headers it is told.
     pub kind: Kind,
+    /// Its body.
     pub body: Blob,
 }

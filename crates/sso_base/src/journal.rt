@@ -1,81 +1,137 @@
-ghost use Rattle.std.specs.Prelude.{◌≡◌, ℕ, ◌+◌, ◌<◌, ◌≤◌, List, ◌++◌, length, Err, IfOk, OnErr};
-ghost use Rattle.sso_base.specs.declared.history.Pair.{Pair};
-ghost use Rattle.sso_base.specs.Journal.{most_weight, history_weight, told_weight, extended};
+//! What a core keeps of its history, beside its tables.
 
+ghost use Rattle.std.specs.Prelude.{◌≡◌, ℕ, ◌+◌, ◌<◌, ◌≤◌, List, [], ◌∷◌, ◌++◌, length, reverse, Err, IfOk, OnOk};
+ghost use Rattle.sso_base.specs.Legal.{last_moment};
+ghost use Rattle.sso_base.specs.Journal as spec;
+ghost use Rattle.sso_base.specs.Weights.{told_weight};
+
+use crate::history::{Entry, Pair};
 use crate::memory::NoMemory;
 use crate::moment::Moment;
+use crate::step::CoreNo;
 use crate::word::Word;
 use std::alloc::Global;
+use std::marker::Model;
 
-/// Why a core took no step. Its history and its setup are as they were.
-#[derive(Clone, Copy, Debug, PartialEq, Eq)]
-pub enum CoreNo {
-    /// Memory ran out.
-    NoMemory,
-    /// The history and the entry weigh more than 268,435,456 together. The number is the weight of the history.
-    JournalFull(u64),
+// The weight that a history may have.
+const MOST_WEIGHT: u64 = 268_435_456;
+
+/// An ask with a weight.
+pub trait Weighed {
+    /// The weight.
+    ghost weighs: { Self → ℕ };
+
+    /// The weight, or the greatest number of 64 bits where that is less.
+    fn weight(&self) -> Result<u64, NoMemory>
+        ensures { IfOk result (λ n. n ≡ told_weight (weighs self.now)) };
 }
 
-impl From<NoMemory> for CoreNo {
-    ghost use Rattle.std.specs.Prelude.{◌≡◌};
-    ghost use Rattle.sso_base.specs.declared.journal.CoreNo.TheVariants as no;
+/// A history that weighs at most 268,435,456, seen as the list of its pairs, oldest first, and for how many it has memory.
+#[derive(Drop)]
+pub struct Journal<A: Weighed + Drop, R: Drop> {
+    pairs: Vec<Pair<A, R>>,
+    weight: u64,
+}
 
-    ghost from_gives = { λ _ e. e ≡ no.NoMemory };
+impl<A: Weighed + Drop, R: Drop> Model for Journal<A, R> {
+    ghost use Rattle.std.specs.Vec.{vec_capacity};
+    ghost use Rattle.sso_base.specs.Journal.{Journaled, IsWeighed};
 
-    fn from(_error: NoMemory) -> CoreNo {
-        CoreNo::NoMemory
+    ghost Value = { Journaled A R };
+
+    ghost view = { λ j. record { pairs = j.pairs.items; capacity = vec_capacity j.pairs } };
+
+    ghost invariant = { λ j. IsWeighed A.weighs j.pairs.items j.weight };
+}
+
+impl<A: Weighed + Drop, R: Drop> Journal<A, R> {
+    /// No pair.
+    pub fn new(alloc: Global) -> Journal<A, R>
+        ensures { result.pairs ≡ [] }
+    {
+        Journal {
+            pairs: Vec::new(alloc),
+            weight: 0,
+        }
     }
-}
 
-/// What takes asks, one after another, and stores them with its replies. What it replies is said by which histories are
-/// legal.
-pub trait Core: Send + Drop {
-    type Ask: Drop;
+    /// How many pairs there are.
+    pub fn count(&self) -> u64
+        ensures { result ≡ length self.now.pairs }
+    {
+        self.pairs.len() as u64
+    }
 
-    type Reply: Drop;
+    /// The pairs.
+    pub fn pairs(&self) -> &[Pair<A, R>]
+        ensures pairs { result.now ≡ self.now.pairs }
+        ensures light { spec.history_weight A.weighs self.now.pairs ≤ spec.most_weight }
+    {
+        &self.pairs
+    }
 
-    /// The type of what it was set up with.
-    ghost Setup: { Type 0 };
+    // Whether an ask of this weight may be taken up; else the weight of the history.
+    fn room_for(&self, weight: u64) -> Result<(), CoreNo>
+        ensures ok { OnOk result (spec.history_weight A.weighs self.now.pairs + weight ≤ spec.most_weight) }
+        ensures full { (no : CoreNo) → result ≡ Err no → (no ≡ CoreNo.JournalFull (spec.history_weight A.weighs self.now.pairs)) × (spec.most_weight < spec.history_weight A.weighs self.now.pairs + weight) }
+    {
+        if MOST_WEIGHT - self.weight < weight {
+            return Err(CoreNo::JournalFull(self.weight));
+        }
+        Ok(())
+    }
 
-    /// What it was set up with.
-    ghost setup: { Self → Setup };
+    /// The weight of an ask that may be taken up: the history has room for it. Else the weight of the history, where memory
+    /// does not run out.
+    pub fn admit(&self, ask: &A) -> Result<u64, CoreNo>
+        ensures weight { IfOk result (λ weight. weight ≡ A.weighs ask.now) }
+        ensures room { OnOk result (spec.history_weight A.weighs self.now.pairs + A.weighs ask.now ≤ spec.most_weight) }
+        ensures full { (w : ℕ) → result ≡ Err (CoreNo.JournalFull w) → (w ≡ spec.history_weight A.weighs self.now.pairs) × (spec.most_weight < w + A.weighs ask.now) }
+    {
+        let weight = ask.weight()?;
+        self.room_for(weight)?;
+        Ok(weight)
+    }
 
-    /// What it was asked and what it replied, oldest first.
-    ghost history: { Self → List (Pair Self.Ask Self.Reply) };
+    // The moment that the next entry holds: time never goes back.
+    fn moment_after(&self, at: Moment) -> Moment
+        ensures { result ≡ spec.entry_moment self.now.pairs at }
+    {
+        match self.pairs.last() {
+            Some(pair) if at.seconds() < pair.entry.at.seconds() => pair.entry.at,
+            _ => at,
+        }
+    }
 
-    /// The weight of an ask.
-    ghost weighs: { Self.Ask → ℕ };
+    /// The entry of an ask at this moment or, where that is later, the last one's.
+    pub fn entry(&self, at: Moment, fresh: [Word; 4], ask: A) -> Entry<A>
+        ensures entry { result ≡ spec.entry_of self.now.pairs at fresh ask }
+        ensures order { last_moment (reverse self.now.pairs) ≤ result.at }
+    {
+        Entry {
+            at: self.moment_after(at),
+            fresh,
+            ask,
+        }
+    }
 
-    /// Which histories are legal for a setup.
-    ghost is_legal: { Setup → List (Pair Self.Ask Self.Reply) → Type 0 };
+    /// Makes room for one more pair.
+    pub fn reserve(&mut self) -> Result<(), NoMemory>
+        ensures pairs { self.new.pairs ≡ self.old.pairs }
+        ensures room { OnOk result (length self.new.pairs < self.new.capacity) }
+    {
+        self.pairs.reserve(1)?;
+        Ok(())
+    }
 
-    /// Replies to the ask, and stores both with the later of this moment and the last one, and with the drawn words.
-    fn step(
-        &mut self,
-        alloc: Global,
-        at: Moment,
-        fresh: [Word; 4],
-        ask: Self::Ask,
-    ) -> Result<Self::Reply, CoreNo>
-        ensures ok { IfOk result (λ reply. history self.new ≡ extended (history self.old) at fresh ask reply) }
-        ensures err { OnErr result (history self.new ≡ history self.old) }
-        ensures setup { setup self.new ≡ setup self.old }
-        ensures legal { is_legal (setup self.new) (history self.new) }
-        ensures room { IfOk result (λ reply. history_weight weighs (history self.old) + weighs ask ≤ most_weight) }
-        ensures full { (w : ℕ) → (result ≡ Err (CoreNo.JournalFull w)) → (w ≡ history_weight weighs (history self.old)) × (most_weight < w + weighs ask) };
-
-    /// The weight of an ask, or the greatest number of 64 bits where that is less.
-    fn weight(ask: &Self::Ask) -> Result<u64, NoMemory>
-        ensures { IfOk result (λ n. n ≡ told_weight (weighs ask.now)) };
-
-    /// How many pairs the history has.
-    fn count(&self) -> u64
-        ensures count { result ≡ length (history self.now) }
-        ensures legal { is_legal (setup self.now) (history self.now) };
-
-    /// Each beginning of a legal history is legal.
-    ghost beginnings_are_legal: { (s : Setup) (front rest : List (Pair Self.Ask Self.Reply)) → is_legal s (front ++ rest) → is_legal s front };
-
-    /// No ask weighs less than 1,024.
-    ghost least_weight: { (asked : Self.Ask) → 1024 ≤ weighs asked };
+    /// Adds a pair, for which room was made.
+    pub fn push(&mut self, pair: Pair<A, R>, weight: u64)
+        requires reserved { length self.old.pairs < self.old.capacity }
+        requires weight { weight ≡ A.weighs pair.entry.ask }
+        requires room { spec.history_weight A.weighs self.old.pairs + weight ≤ spec.most_weight }
+        ensures { self.new.pairs ≡ self.old.pairs ++ pair ∷ [] }
+    {
+        self.pairs.push_reserved(pair);
+        self.weight += weight;
+    }
 }

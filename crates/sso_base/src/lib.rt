@@ -10,7 +10,9 @@
 //! | `message` | `Message` and `Answered`: what servers send each other |
 //! | `http` | `Ask` and `HttpReply`: requests and replies, as far as HTTP carries them |
 //! | `history` | `Entry` and `Pair`: what a core was asked, and what it replied |
-//! | `journal` | `Core`: what takes asks one after another, and stores its history |
+//! | `journal` | `Journal`: what a core keeps of its history, and what it may weigh |
+//! | `step` | `Core`: what takes asks one after another, and stores its history |
+//! | `values`, `weights` | what types say of their values, and what texts weigh |
 //! | `rows` | rows with names, found, put and removed |
 //! | `sink`, `sink_memory` | where bytes are written to |
 //! | `shelf`, `shelf_memory` | where contents are fetched from |
@@ -29,22 +31,29 @@ mod shelf;
 mod shelf_memory;
 mod sink;
 mod sink_memory;
-#[cfg(test)]
-mod tests;
+mod step;
 mod text;
+mod values;
+mod weights;
 mod word;
 
 pub use history::{Entry, Pair};
 pub use http::{Ask, HttpReply, Kind, Method};
-pub use journal::{Core, CoreNo};
+pub use journal::{Journal, Weighed};
 pub use law::words_have_one_text;
 pub use memory::NoMemory;
 pub use message::{Answered, Message, copied_text};
-pub use moment::Moment;
+pub use moment::{LATEST_MOMENT, Moment};
 pub use rows::{Named, find_row, is_live, put_row, remove_row};
 pub use shelf::{Shelf, ShelfNo};
 pub use shelf_memory::{FaultyShelf, File, MemoryShelf};
 pub use sink::{Sink, SinkFault, write_whole};
 pub use sink_memory::{FaultySink, MemorySink};
+pub use step::{Core, CoreNo};
 pub use text::{Blob, Text, Texts};
+pub use values::{
+    know_entry, know_number, know_number_if, know_text_if, know_texts, know_texts_if, know_word,
+    know_word_if,
+};
+pub use weights::{EMPTY_WEIGHT, text_bytes, texts_bytes, texts_bytes_if};
 pub use word::Word;

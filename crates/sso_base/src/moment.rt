@@ -1,7 +1,11 @@
 ghost use Rattle.std.specs.Prelude.{◌≡◌, ◌≤◌};
 ghost use Rattle.std.specs.Option.{SomeIff};
+ghost use Rattle.sso_base.specs.Values.{latest_moment};
 
 use std::marker::Model;
+
+/// The latest moment, in seconds since the epoch: so a moment and all lives from it have 40 bits (own).
+pub const LATEST_MOMENT: u64 = 1_099_511_000_000;
 
 /// A number of seconds since the epoch, at most 1,099,511,000,000.
 #[derive(Clone, Copy, Debug, PartialEq, Eq)]
@@ -11,12 +15,13 @@ pub struct Moment {
 
 impl Model for Moment {
     ghost use Rattle.std.specs.Prelude.{ℕ, ◌≤◌};
+    ghost use Rattle.sso_base.specs.Values.{latest_moment};
 
     ghost Value = { ℕ };
 
     ghost view = { λ m. m.seconds };
 
-    ghost invariant = { λ m. m.seconds ≤ 1_099_511_000_000 };
+    ghost invariant = { λ m. m.seconds ≤ latest_moment };
 
     ghost inverse = { λ n. record { seconds = n } };
 }
@@ -24,9 +29,9 @@ impl Model for Moment {
 impl Moment {
     /// The moment of this number of seconds; None exactly above 1,099,511,000,000.
     pub fn new(seconds: u64) -> Option<Moment>
-        ensures { SomeIff result (seconds ≤ 1_099_511_000_000) seconds }
+        ensures { SomeIff result (seconds ≤ latest_moment) seconds }
     {
-        if seconds <= 1_099_511_000_000 {
+        if seconds <= LATEST_MOMENT {
             Some(Moment { seconds })
         } else {
             None
@@ -36,7 +41,7 @@ impl Moment {
     /// The number of seconds.
     pub fn seconds(&self) -> u64
         ensures value { result ≡ self.now }
-        ensures bound { self.now ≤ 1_099_511_000_000 }
+        ensures bound { self.now ≤ latest_moment }
     {
         self.seconds
     }

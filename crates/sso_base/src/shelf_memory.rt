@@ -11,7 +11,9 @@ use std::marker::Model;
 /// A name with its content.
 #[derive(Debug, Drop)]
 pub struct File {
+    /// By which it is asked for.
     pub name: Text,
+    /// Its bytes.
     pub content: Blob,
 }
 

@@ -1,6 +1,6 @@
 ghost use Rattle.std.specs.Prelude.{◌≡◌, ◌<◌, List, [], ◌∷◌, ◌++◌, length, IfOk, OnOk, OnErr, slice_get, Some, string_bytes};
 ghost use Rattle.std.specs.Str.{IsUtf8, bytes_eq};
-ghost use Rattle.sso_base.specs.OnlyText.{is_only as is_only_of};
+ghost use Rattle.sso_base.specs.Texts.{has_text, is_only as is_only_of};
 
 use crate::memory::NoMemory;
 use std::alloc::Global;
@@ -152,6 +152,19 @@ impl Texts {
         ensures { slice_get self.now place ≡ Some result.now }
     {
         &self.items[place]
+    }
+
+    /// Whether the text is one of these. It takes no memory.
+    #[tactic(auto, using(crate::proofs::ListSteps::drop_at))]
+    pub fn has(&self, text: &str) -> bool
+        ensures { result ≡ has_text text.now self.now }
+    {
+        for place in 0..self.count() {
+            if text == self.at(place).as_str() {
+                return true;
+            }
+        }
+        false
     }
 
     /// Whether there is a text, and each is this one. It takes no memory.

@@ -1,5 +1,6 @@
 ghost use Rattle.std.specs.Prelude.{◌≡◌, length, IfOk};
-ghost use Rattle.sso_base.specs.Words.{IsWord, word_text, word_of_text};
+ghost use Rattle.std.specs.Str.{bytes_eq};
+ghost use Rattle.sso_base.specs.Words.{IsWord, is_word, word_text, word_of_text};
 
 use crate::memory::NoMemory;
 use crate::text::Text;
@@ -42,6 +43,23 @@ impl Word {
         ensures { result ≡ self.now }
     {
         self.bytes
+    }
+
+    /// Whether its bytes are these.
+    pub fn is(&self, bytes: &[u8]) -> bool
+        ensures { result ≡ bytes_eq self.now bytes.now }
+    {
+        self.bytes.as_slice() == bytes
+    }
+
+    /// Whether a word was presented, and it is this one.
+    pub fn is_presented(&self, presented: Option<Word>) -> bool
+        ensures { result ≡ is_word presented self.now }
+    {
+        match presented {
+            Some(presented) => presented == *self,
+            None => false,
+        }
     }
 
     /// Its text: 43 characters of base64url without padding (RFC 4648, 5).

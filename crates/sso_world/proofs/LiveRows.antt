@@ -11,8 +11,9 @@ use Rattle.sso_base.specs.Rows.{without, put, lives, live_rows}
 use Rattle.sso_base.proofs.Lives.{live_later}
 use Rattle.sso_base.proofs.RowLaws.{bool_cases}
 use Rattle.sso_model.specs.Rows.{Live}
+use Rattle.oidc_words.specs.Lives.{visit_life}
 use Rattle.sso_world.specs.declared.place.Place.{Place}
-use Rattle.sso_world.specs.Party.{RpPast, RpPair, Visit, visits, visit_name, visit_begun, visit_life, visit_made, visit_kept, live_visits}
+use Rattle.sso_world.specs.Party.{RpPast, RpPair, Visit, visits, visit_name, visit_begun, visit_made, visit_kept, live_visits}
 use Rattle.sso_world.specs.World.{World, rp_past}
 use Rattle.sso_world.specs.Reading.{machine_of, moment_of, is_after, is_over}
 use Rattle.sso_world.specs.Agreement.{Each, IsSameSession, LiveRowsAgree}

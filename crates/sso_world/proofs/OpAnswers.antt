@@ -6,6 +6,7 @@ use Rattle.sso_base.specs.Words.{Word, is_word, fresh_word}
 use Rattle.sso_base.specs.Rows.{row_of}
 use Rattle.sso_base.proofs.RowLaws.{bool_cases, option_cases}
 use Rattle.sso_model.specs.Lists.{Has}
+use Rattle.oidc_words.specs.Lives.{session_life}
 use Rattle.sso_world.specs.declared.provider.Wish.{Wish}
 use Rattle.sso_world.specs.declared.provider.Answer.{Answer}
 use Rattle.sso_world.specs.declared.provider.PageNo.TheVariants as page
@@ -16,7 +17,7 @@ use Rattle.sso_world.specs.declared.provider.OpReply.TheVariants.{LoginPage, Ans
 use Rattle.sso_world.specs.declared.provider_rows.Turn.{Turn}
 use Rattle.sso_world.specs.declared.provider_rows.Session.{Session}
 use Rattle.sso_world.specs.Configuration.{is_user, subject, user_of_subject}
-use Rattle.sso_world.specs.Provider.{OpPast, session_name, session_life, session_begun, session_renewed, session_set, live_in, live_turn, live_session, turns, sessions}
+use Rattle.sso_world.specs.Provider.{OpPast, session_name, session_begun, session_renewed, session_set, live_in, live_turn, live_session, turns, sessions}
 use Rattle.sso_world.specs.ProviderAnswer.{answer_for, authorize, login, login_signed, session_left, if_of_user, op_answer, op_reply}
 use Rattle.sso_world.proofs.Shared.{row_of-has, lives_some}
 

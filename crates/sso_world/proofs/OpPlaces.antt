@@ -11,6 +11,7 @@ use Rattle.sso_model.specs.Rows.{Began, Signed, Answered, Entered, Live, Machine
 use Rattle.sso_model.specs.Machine.{IsRun, after, after_all}
 use Rattle.sso_model.proofs.ListLaws.{all_weaker, all_has, has_append_right}
 use Rattle.sso_model.proofs.RunLaws.{Apart}
+use Rattle.oidc_words.specs.Lives.{turn_life, session_life}
 use Rattle.sso_world.specs.declared.token.Claims.{Claims}
 use Rattle.sso_world.specs.declared.place.Place.{Place}
 use Rattle.sso_world.specs.declared.place.Place.TheVariants.{Provider}
@@ -23,7 +24,7 @@ use Rattle.sso_world.specs.declared.provider.OpReply.TheVariants as op
 use Rattle.sso_world.specs.declared.provider_rows.Turn.{Turn}
 use Rattle.sso_world.specs.declared.provider_rows.Session.{Session}
 use Rattle.sso_world.specs.Configuration.{client_number, is_user}
-use Rattle.sso_world.specs.Provider.{OpPair, OpPast, session_name, session_made, session_kept, session_renewed, session_of, live_in, live_session, turn_of, turn_life, turn_begun, session_life, session_begun, sessions}
+use Rattle.sso_world.specs.Provider.{OpPair, OpPast, session_name, session_made, session_kept, session_renewed, session_of, live_in, live_session, turn_of, turn_begun, session_begun, sessions}
 use Rattle.sso_world.specs.Party.{Visit, logins, visits, live_visits}
 use Rattle.sso_world.specs.World.{World, browser_of, op_past, rp_past, fresh_of, drawn}
 use Rattle.sso_world.specs.Premises.{IsLegalWorld, HasDistinctWords, IsUnleaked, presented, words_in, written, written_by}

@@ -6,10 +6,11 @@ use Rattle.sso_base.specs.Words.{Word, fresh_word}
 use Rattle.sso_base.specs.Rows.{row_of}
 use Rattle.sso_model.specs.Lists.{Has}
 use Rattle.sso_model.proofs.ListLaws.{all_weaker, all_has}
+use Rattle.oidc_words.specs.Lives.{session_life}
 use Rattle.sso_world.specs.declared.place.Place.{Place}
 use Rattle.sso_world.specs.declared.place.Place.TheVariants.{Provider, Party, Nothing}
 use Rattle.sso_world.specs.declared.provider_rows.Session.{Session}
-use Rattle.sso_world.specs.Provider.{OpPair, OpPast, session_name, session_life, session_begun, session_renewed, session_set, session_made, session_made_by, session_kept, signed_user, live_in, sessions}
+use Rattle.sso_world.specs.Provider.{OpPair, OpPast, session_name, session_begun, session_renewed, session_set, session_made, session_made_by, session_kept, signed_user, live_in, sessions}
 use Rattle.sso_world.specs.World.{World, op_past, drawn}
 use Rattle.sso_world.specs.Premises.{IsLegalWorld}
 use Rattle.sso_world.proofs.Shared.{all_rows_after, session_same, row_of-has, lives_some, drawn_more, legal_before, fresh_drawn}

@@ -9,6 +9,7 @@ use Rattle.sso_base.specs.Rows.{row_of, lives, if_lives}
 use Rattle.sso_base.proofs.RowLaws.{bool_cases, option_cases, bytes_same}
 use Rattle.sso_model.specs.Lists.{Has}
 use Rattle.sso_model.proofs.ListLaws.{all_weaker, all_has, all_append, has_append_left, has_append_right, distinct_tail, distinct_apart}
+use Rattle.oidc_words.specs.Lives.{session_life}
 use Rattle.sso_world.specs.declared.provider.OpAsk.{OpAsk}
 use Rattle.sso_world.specs.declared.provider.OpAsk.TheVariants as op_ask
 use Rattle.sso_world.specs.declared.provider.OpReply.{OpReply}
@@ -27,7 +28,7 @@ use Rattle.sso_world.specs.declared.token.Claims.{Claims}
 use Rattle.sso_world.specs.declared.place.Place.{Place}
 use Rattle.sso_world.specs.declared.place.FirstAsk.{FirstAsk}
 use Rattle.sso_world.specs.Configuration.{signed_by}
-use Rattle.sso_world.specs.Provider.{OpPast, turns, session_name, session_begun, session_life, sessions, live_session, session_renewed, has_turn_browser, live_turn}
+use Rattle.sso_world.specs.Provider.{OpPast, turns, session_name, session_begun, sessions, live_session, session_renewed, has_turn_browser, live_turn}
 use Rattle.sso_world.specs.ProviderAnswer.{page_browser, authorize, session_left, login_signed, login, op_reply, op_answer}
 use Rattle.sso_world.specs.Party.{RpPast, logins, has_login_browser, live_login}
 use Rattle.sso_world.specs.PartyAnswer.{login_browser, call_back, enter, rp_reply, rp_answer}

@@ -1,5 +1,5 @@
 -- A play is legal: each reply is an answer by construction, and no moment is earlier than the one before.
-use Rattle.std.proofs.Common.{ℕ, ◌≤◌, max, true, false, cond, List, [], ◌∷◌, Option, Some, None, refl, arith}
+use Rattle.std.proofs.Common.{ℕ, ◌≤◌, true, false, cond, List, [], ◌∷◌, Option, Some, None, refl, arith}
 use Rattle.std.specs.Str.{bytes_eq}
 use Rattle.std.specs.Prelude.{codes}
 use Rattle.sso_base.specs.Words.{Word}
@@ -28,13 +28,6 @@ rp_latest [] = omega arith
 rp_latest (Provider browser p ∷ world) = let older : last_moment (rp_past world) ≤ latest world = rp_latest world in omega arith
 rp_latest (Party browser p ∷ world) = omega arith
 rp_latest (Nothing ∷ world) = rp_latest world
-
--- with the place of one more line, the latest place is not later than that line
-pub latest_next : (seed : List ℕ) (world : World) (browser at : ℕ) (asked : FirstAsk) → latest world ≤ at → latest (line_place seed world browser at asked ∷ world) ≤ at
-latest_next seed world browser at asked later =
-    let both : max at (latest world) ≤ at = omega arith in
-    line_cases (λ (x : Place). latest (x ∷ world) ≤ at) seed world browser at asked
-    (record { nothing = later; authorize = λ to. both; login = λ turn user password. both; begin = both; callback = λ answer has. both })
 
 -- whoever signs in is a user of the configuration
 signed_asks : (turn : Word) (user password : List ℕ) (browser session : Option Word) → IsOpAsk (Login turn (signed_by user password) browser session)

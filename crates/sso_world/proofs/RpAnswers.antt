@@ -5,6 +5,7 @@ use Rattle.std.specs.Str.{bytes_eq}
 use Rattle.sso_base.specs.declared.history.Entry.{Entry}
 use Rattle.sso_base.specs.Words.{Word, Text, is_word, fresh_word}
 use Rattle.sso_base.proofs.RowLaws.{bool_cases, bytes_same}
+use Rattle.oidc_words.specs.Lives.{login_life}
 use Rattle.sso_world.specs.declared.token.Claims.{Claims}
 use Rattle.sso_world.specs.declared.token.IdNo.{IdNo}
 use Rattle.sso_world.specs.declared.provider.Wish.{Wish}
@@ -17,7 +18,7 @@ use Rattle.sso_world.specs.declared.party.RpReply.TheVariants.{Ask, Entered, Ref
 use Rattle.sso_world.specs.declared.party_rows.Login.{Login}
 use Rattle.sso_base.proofs.Refusals.{none_holds}
 use Rattle.sso_world.specs.Token.{conditions, judgement}
-use Rattle.sso_world.specs.Party.{RpPast, login_name, login_begun, login_life, logins, login_of, live_login}
+use Rattle.sso_world.specs.Party.{RpPast, login_name, login_begun, logins, login_of, live_login}
 use Rattle.sso_world.specs.PartyAnswer.{login_browser, enter, call_back, rp_reply, rp_answer}
 use Rattle.sso_model.specs.Lists.{Has}
 use Rattle.sso_world.proofs.Shared.{row_of-has, lives_some}

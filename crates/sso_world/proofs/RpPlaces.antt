@@ -13,6 +13,7 @@ use Rattle.sso_model.specs.Rows.{Began, Signed, Answered, Entered as EnteredRow,
 use Rattle.sso_model.specs.Machine.{IsRun, MayTake, IsAnsweredFor, after, after_all}
 use Rattle.sso_model.proofs.ListLaws.{all_weaker, all_has, all_filter, all_append}
 use Rattle.sso_model.proofs.RunLaws.{Apart, apart_filter, apart_push, lapses_run, lapses_after, run_append, after_append}
+use Rattle.oidc_words.specs.Lives.{visit_life}
 use Rattle.sso_world.specs.declared.token.Claims.{Claims}
 use Rattle.sso_world.specs.declared.provider.Wish.{Wish}
 use Rattle.sso_world.specs.declared.party.RpNo.{RpNo}
@@ -25,7 +26,7 @@ use Rattle.sso_world.specs.declared.place.Place.{Place}
 use Rattle.sso_world.specs.declared.place.Place.TheVariants.{Party, Nothing}
 use Rattle.sso_world.specs.Configuration.{client_number, user_of_subject}
 use Rattle.sso_world.specs.Provider.{sessions}
-use Rattle.sso_world.specs.Party.{RpPair, RpPast, Visit, logins, login_name, login_kept, visits, visit_name, visit_made, visit_from, visit_life, visit_begun, live_visits}
+use Rattle.sso_world.specs.Party.{RpPair, RpPast, Visit, logins, login_name, login_kept, visits, visit_name, visit_made, visit_from, visit_begun, live_visits}
 use Rattle.sso_world.specs.World.{World, op_past, rp_past, fresh_of, drawn}
 use Rattle.sso_world.specs.Premises.{IsLegalWorld, HasDistinctWords, IsUnleaked, IsUnforged, words_in, written}
 use Rattle.sso_world.specs.Reading.{is_over, lapses, party_steps, enter_of, steps_at, machine_of}

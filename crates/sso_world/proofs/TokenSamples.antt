@@ -4,7 +4,7 @@ use Rattle.sso_base.specs.Words.{Word, Text}
 use Rattle.sso_world.specs.declared.token.Claims.{Claims}
 use Rattle.sso_world.specs.declared.token.IdNo.TheVariants.{Issuer, Audience, Expired, TooOld, FromFuture, Nonce}
 use Rattle.sso_world.specs.Configuration.{issuer, client_id, is_user, subject, user_named, user_of_subject, signed_by}
-use Rattle.sso_base.specs.OnlyText.{is_only}
+use Rattle.sso_base.specs.Texts.{is_only}
 use Rattle.sso_world.specs.Token.{judgement}
 
 -- ---- Users and their passwords

@@ -1,3 +1,4 @@
+pub mod Legal
 pub mod Agreement
 pub mod Configuration
 pub mod Party

@@ -5,6 +5,7 @@ use Rattle.std.specs.List.{list_any}
 use Rattle.sso_base.specs.declared.history.Pair.{Pair}
 use Rattle.sso_base.specs.Words.{Word, Text, is_word, fresh_word}
 use Rattle.sso_base.specs.Rows.{rows_by, row_of, live_rows, if_lives}
+use Rattle.oidc_words.specs.Lives.{login_life, visit_life}
 use Rattle.sso_world.specs.declared.token.Claims.{Claims}
 use Rattle.sso_world.specs.declared.party.RpNo.{RpNo}
 use Rattle.sso_world.specs.declared.party.RpNo.TheVariants as no
@@ -27,10 +28,6 @@ login_name login = login.state
 
 abbrev pub login_begun : Login → ℕ
 login_begun login = login.begun
-
--- seconds
-abbrev pub login_life : ℕ
-login_life = 600
 
 -- A login is made where a browser was sent to the provider.
 abbrev pub login_started : ℕ → List Word → RpAsk → RpReply → Option Login
@@ -86,10 +83,6 @@ visit_name visit = visit.word
 
 abbrev pub visit_begun : Visit → ℕ
 visit_begun visit = visit.entered
-
--- seconds
-abbrev pub visit_life : ℕ
-visit_life = 28800
 
 abbrev pub visit_from : ℕ → Word → Claims → Login → Visit
 visit_from at w id login = record { word = w; nonce = login.nonce; sub = id.sub; sid = id.sid; entered = at }

@@ -3,7 +3,7 @@
 use Rattle.std.specs.Prelude.{◌≡◌, List, [], ◌∷◌, ◌++◌, Option, Some, None}
 use Rattle.std.specs.List.{AllByRecursion}
 use Rattle.sso_base.specs.Words.{Word}
-use Rattle.sso_base.specs.Legal.{IsLegalBy}
+use Rattle.sso_world.specs.Legal.{IsLegalBy}
 use Rattle.sso_model.specs.Lists.{Has, AreDistinct}
 use Rattle.sso_world.specs.declared.token.Claims.{Claims}
 use Rattle.sso_world.specs.declared.place.Place.{Place}

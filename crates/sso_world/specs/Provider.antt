@@ -5,6 +5,7 @@ use Rattle.std.specs.List.{list_any}
 use Rattle.sso_base.specs.declared.history.Pair.{Pair}
 use Rattle.sso_base.specs.Words.{Word, is_word, fresh_word}
 use Rattle.sso_base.specs.Rows.{rows_by, row_of, live_rows, if_lives}
+use Rattle.oidc_words.specs.Lives.{turn_life, session_life}
 use Rattle.sso_world.specs.declared.provider.OpAsk.{OpAsk}
 use Rattle.sso_world.specs.declared.provider.OpAsk.TheVariants.{Authorize, Login}
 use Rattle.sso_world.specs.declared.provider.OpReply.{OpReply}
@@ -45,10 +46,6 @@ turns past = rows_by turn_name turn_made turn_kept past
 abbrev pub turn_begun : Turn → ℕ
 turn_begun turn = turn.begun
 
--- seconds
-abbrev pub turn_life : ℕ
-turn_life = 600
-
 abbrev pub turn_of : OpPast → Word → Option Turn
 turn_of past w = row_of turn_name w (turns past)
 
@@ -66,10 +63,6 @@ session_name session = session.word
 
 abbrev pub session_begun : Session → ℕ
 session_begun session = session.auth_time
-
--- seconds
-abbrev pub session_life : ℕ
-session_life = 43200
 
 -- the row of a word, where it lives
 abbrev pub live_in : ℕ → Word → List Session → Option Session

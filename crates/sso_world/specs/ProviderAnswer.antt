@@ -3,6 +3,7 @@
 use Rattle.std.specs.Prelude.{◌≡◌, ℕ, ◌+◌, ◌==◌, true, false, not, List, [], ◌∷◌, Option, Some, None, option_and_then, if◌then◌else◌}
 use Rattle.sso_base.specs.declared.history.Entry.{Entry}
 use Rattle.sso_base.specs.Words.{Word, is_word, fresh_word}
+use Rattle.oidc_words.specs.Lives.{id_token_life}
 use Rattle.sso_world.specs.declared.token.Claims.{Claims}
 use Rattle.sso_world.specs.declared.provider.Wish.{Wish}
 use Rattle.sso_world.specs.declared.provider.Answer.{Answer}
@@ -22,14 +23,14 @@ IsOpAsk (ask.Authorize wish browser session) = Unit {0}
 IsOpAsk (ask.Login turn None browser session) = Unit {0}
 IsOpAsk (ask.Login turn (Some user) browser session) = is_user user ≡ true
 
--- the claims of an ID Token for this wish and session; it lives for 300 seconds
+-- the claims of an ID Token for this wish and session
 abbrev pub claims_of : Wish → Session → ℕ → Claims
 claims_of wish session at =
     record {
       iss = issuer;
       sub = subject session.user;
       aud = client_id ∷ [];
-      exp = at + 300;
+      exp = at + id_token_life;
       iat = at;
       auth_time = session.auth_time;
       nonce = wish.nonce;

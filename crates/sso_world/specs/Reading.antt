@@ -1,6 +1,7 @@
 -- The reading of a world: the steps of the sign-on machine that its places make.
 use Rattle.std.specs.Prelude.{ℕ, suc, ◌+◌, nat_le, Bool, false, List, [], ◌∷◌, ◌++◌, length, filter, map, Option, Some, None, option_and_then, option_map}
 use Rattle.sso_base.specs.Words.{Word, fresh_word}
+use Rattle.oidc_words.specs.Lives.{visit_life}
 use Rattle.sso_model.specs.Rows.{Live, Machine, Step, begin, sign, answer, enter, lapse, unnamed}
 use Rattle.sso_model.specs.Machine.{start, after_all}
 use Rattle.sso_world.specs.declared.place.Place.{Place}
@@ -19,7 +20,7 @@ use Rattle.sso_world.specs.declared.party.RpReply.TheVariants as rp
 use Rattle.sso_world.specs.declared.party_rows.Login.{Login as LoginRow}
 use Rattle.sso_world.specs.Configuration.{client_number, user_of_subject}
 use Rattle.sso_world.specs.Provider.{OpPair, OpPast, turn_of, session_of, live_session, session_set, signed_user}
-use Rattle.sso_world.specs.Party.{RpPair, RpPast, login_of, visit_life}
+use Rattle.sso_world.specs.Party.{RpPair, RpPast, login_of}
 use Rattle.sso_world.specs.World.{World, place_at, op_past, rp_past}
 
 -- ---- The provider

@@ -1,6 +1,6 @@
 //! The jars of the browsers: of each cookie, the word that was set last.
 
-ghost use Rattle.std.specs.Prelude.{◌≡◌, List, reverse};
+ghost use Rattle.std.specs.Prelude.{◌≡◌, reverse};
 ghost use Rattle.sso_world.specs.World.{jar, op_browser_set, op_session_set, rp_browser_set};
 
 use crate::party::RpReply;

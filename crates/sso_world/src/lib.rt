@@ -7,9 +7,10 @@
 //! | `token` | the claims of an ID Token and their judgement | `Token` |
 //! | `provider`, `provider_rows`, `provider_answer` | what the provider is asked and replies; its turns and sessions | `Provider`, `ProviderAnswer` |
 //! | `party`, `party_rows`, `party_answer` | the same of the relying party; its logins | `Party`, `PartyAnswer` |
+//! | `rows`, `tables` | what one more pair, and one more place, make of the tables of both roles | `Provider`, `Party` |
 //! | `place`, `jar`, `world` | places, cookies, and the world that lines make | `World`, `Play` |
 //! | `text` | the printed lines | `Text` |
-//! | `law` | the laws of these definitions | `Premises`, `Reading`, `Agreement` |
+//! | `law` | the laws of these definitions | `Legal`, `Premises`, `Reading`, `Agreement`, `Playing` |
 #![tactic(auto)]
 
 mod configuration;
@@ -24,8 +25,6 @@ mod provider_answer;
 mod provider_rows;
 mod rows;
 mod tables;
-#[cfg(test)]
-mod tests;
 mod text;
 mod token;
 mod world;

@@ -1,12 +1,11 @@
 //! The relying party's answer (OpenID Connect Core 1.0, 3.1.2.1 and 3.2.2.11).
 
-ghost use Rattle.std.specs.Prelude.{◌≡◌, IfOk, List};
+ghost use Rattle.std.specs.Prelude.{◌≡◌, IfOk};
 ghost use Rattle.sso_world.specs.PartyAnswer.{login_browser, begin_login, call_back};
 
 use crate::party::{RpAsk, RpNo, RpReply};
 use crate::party_rows::{Login, is_login_browser};
 use crate::provider::Wish;
-use crate::provider_answer::is_presented;
 use crate::token::{Claims, judge_id};
 use sso_base::{Entry, Moment, NoMemory, Word};
 use std::alloc::Global;
@@ -49,7 +48,7 @@ pub fn answer_callback(
             why: RpNo::StaleLogin,
         });
     };
-    if !is_presented(browser, &login.browser) {
+    if !login.browser.is_presented(*browser) {
         return Ok(RpReply::Refused {
             why: RpNo::WrongBrowser,
         });

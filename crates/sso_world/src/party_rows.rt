@@ -1,20 +1,26 @@
 //! The relying party's logins.
 
-ghost use Rattle.std.specs.Prelude.{◌≡◌, ◌<◌, List, vec_len, option_and_then};
+ghost use Rattle.std.specs.Prelude.{◌≡◌, ◌<◌, vec_len, option_and_then};
 ghost use Rattle.std.specs.Vec.{vec_capacity};
 ghost use Rattle.sso_base.specs.Rows.{rows_after, row_of, if_lives};
-ghost use Rattle.sso_world.specs.Party.{RpPast, login_name, login_begun, login_life, login_started, login_made, login_ended, login_kept, has_login_browser};
+ghost use Rattle.oidc_words.specs.Lives.{login_life};
+ghost use Rattle.sso_world.specs.Party.{RpPast, login_name, login_begun, login_started, login_made, login_ended, login_kept, has_login_browser};
 
 use crate::party::{RpAsk, RpNo, RpPair, RpReply};
 use crate::rows::{add_row, end_row};
+use oidc_words::LOGIN_LIFE;
 use sso_base::{Moment, Named, Word, find_row, is_live};
 
-/// A login that a browser began. It lives for 600 seconds.
+/// A login that a browser began. It lives for [`LOGIN_LIFE`] seconds.
 #[derive(Clone, Copy, Debug)]
 pub struct Login {
+    /// `state` of its authorization request, which the answer must bring back.
     pub state: Word,
+    /// `nonce` of its authorization request, which the ID Token must have.
     pub nonce: Word,
+    /// The browser cookie that the callback must present.
     pub browser: Word,
+    /// When it was begun, in seconds since the epoch.
     pub begun: Moment,
 }
 
@@ -31,7 +37,7 @@ pub fn find_live_login(logins: &[Login], at: Moment, state: Word) -> Option<Logi
     ensures { result ≡ option_and_then (if_lives login_life login_begun at) (row_of login_name state logins.now) }
 {
     let login = *find_row(logins, state)?;
-    if is_live(600, login.begun, at) {
+    if is_live(LOGIN_LIFE, login.begun, at) {
         Some(login)
     } else {
         None
@@ -43,7 +49,7 @@ pub fn is_login_browser(logins: &[Login], at: Moment, browser: &Word) -> bool
     ensures { result ≡ has_login_browser logins.now at browser.now }
 {
     for login in logins {
-        if is_live(600, login.begun, at) && login.browser == *browser {
+        if is_live(LOGIN_LIFE, login.begun, at) && login.browser == *browser {
             return true;
         }
     }

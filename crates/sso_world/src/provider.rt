@@ -10,15 +10,20 @@ use std::alloc::Global;
 /// (OpenID Connect Core 1.0, 3.1.2.1).
 #[derive(Clone, Copy, Debug, PartialEq, Eq)]
 pub struct Wish {
+    /// What ties the answer to the login.
     pub state: Word,
+    /// What ties the ID Token to the login.
     pub nonce: Word,
 }
 
 /// A successful authentication response (OpenID Connect Core 1.0, 3.2.2.5): the state, an access token and an ID Token.
 #[derive(Debug, Drop)]
 pub struct Answer {
+    /// `state` of the authorization request.
     pub state: Word,
+    /// The access token.
     pub access: Word,
+    /// The claims of the ID Token.
     pub id: Claims,
 }
 

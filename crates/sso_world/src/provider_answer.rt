@@ -1,25 +1,15 @@
 //! The provider's answer (OpenID Connect Core 1.0, 3.2.2.1 to 3.2.2.5).
 
-ghost use Rattle.std.specs.Prelude.{◌≡◌, IfOk, List, Some};
-ghost use Rattle.sso_base.specs.Words.{is_word};
+ghost use Rattle.std.specs.Prelude.{◌≡◌, IfOk, Some};
 ghost use Rattle.sso_world.specs.ProviderAnswer.{claims_of, answer_for, page_browser, authorize, session_left, answered_with, login};
 
 use crate::configuration::{only_client, provider_issuer, subject_of};
 use crate::provider::{Answer, OpAsk, OpReply, PageNo, Wish};
 use crate::provider_rows::{Session, Turn, is_turn_browser, renew_session};
 use crate::token::Claims;
+use oidc_words::ID_TOKEN_LIFE;
 use sso_base::{Entry, Moment, NoMemory, Text, Texts, Word};
 use std::alloc::Global;
-
-/// Whether a word was presented, and it is this one.
-pub fn is_presented(presented: &Option<Word>, word: &Word) -> bool
-    ensures { result ≡ is_word presented.now word.now }
-{
-    match presented {
-        None => false,
-        Some(presented) => presented == word,
-    }
-}
 
 fn claims_for(alloc: Global, wish: &Wish, session: &Session, at: Moment) -> Result<Claims, NoMemory>
     ensures { IfOk result (λ claims. claims ≡ claims_of wish.now session.now at) }
@@ -30,7 +20,7 @@ fn claims_for(alloc: Global, wish: &Wish, session: &Session, at: Moment) -> Resu
         iss: Text::new(alloc, provider_issuer())?,
         sub: Text::new(alloc, subject_of(session.user))?,
         aud,
-        exp: at.seconds() + 300,
+        exp: at.seconds() + ID_TOKEN_LIFE,
         iat: at.seconds(),
         auth_time: session.auth_time.seconds(),
         nonce: wish.nonce,
@@ -132,7 +122,7 @@ pub fn answer_login(
     let Some(turn) = turn else {
         return Ok(OpReply::ErrorPage { why: PageNo::Turn });
     };
-    if !is_presented(browser, &turn.browser) {
+    if !turn.browser.is_presented(*browser) {
         return Ok(OpReply::ErrorPage {
             why: PageNo::Browser,
         });

@@ -1,20 +1,26 @@
 //! The provider's turns and sessions.
 
-ghost use Rattle.std.specs.Prelude.{◌≡◌, ◌<◌, List, vec_len, option_and_then};
+ghost use Rattle.std.specs.Prelude.{◌≡◌, ◌<◌, vec_len, option_and_then};
 ghost use Rattle.std.specs.Vec.{vec_capacity};
 ghost use Rattle.sso_base.specs.Rows.{rows_after, row_of, if_lives};
-ghost use Rattle.sso_world.specs.Provider.{OpPast, turn_name, turn_begun, turn_life, turn_started, turn_made, turn_ended, turn_kept, has_turn_browser, session_name, session_begun, session_life, session_renewed, live_in, session_made, session_made_by, session_set, signed_user, session_ended, session_kept};
+ghost use Rattle.oidc_words.specs.Lives.{turn_life};
+ghost use Rattle.sso_world.specs.Provider.{OpPast, turn_name, turn_begun, turn_started, turn_made, turn_ended, turn_kept, has_turn_browser, session_name, session_renewed, live_in, session_made, session_made_by, session_set, signed_user, session_ended, session_kept};
 
 use crate::provider::{OpAsk, OpPair, OpReply, Wish};
 use crate::rows::{add_row, end_row};
+use oidc_words::{SESSION_LIFE, TURN_LIFE};
 use sso_base::{Moment, Named, Word, find_row, is_live};
 
-/// A turn: an authorization request whose login page waits for a password. It lives for 600 seconds.
+/// A turn: an authorization request whose login page waits for a password. It lives for [`TURN_LIFE`] seconds.
 #[derive(Clone, Copy, Debug)]
 pub struct Turn {
+    /// The random word that the login form carries.
     pub word: Word,
+    /// The browser cookie that a login must present.
     pub browser: Word,
+    /// What the authorization request wants.
     pub wish: Wish,
+    /// When the authorization request came, in seconds since the epoch.
     pub begun: Moment,
 }
 
@@ -26,12 +32,16 @@ impl Named for Turn {
     }
 }
 
-/// A session: a user who signed in. It lives for 43,200 seconds from the last password.
+/// A session: a user who signed in. It lives for [`SESSION_LIFE`] seconds from the last password.
 #[derive(Clone, Copy, Debug)]
 pub struct Session {
+    /// The session cookie.
     pub word: Word,
+    /// Its identifier in ID Tokens, `sid` (OpenID Connect Back-Channel Logout 1.0, 2.1).
     pub sid: Word,
+    /// The number of the user.
     pub user: u32,
+    /// When the user last gave the password, in seconds since the epoch.
     pub auth_time: Moment,
 }
 
@@ -48,7 +58,7 @@ pub fn find_live_turn(turns: &[Turn], at: Moment, word: Word) -> Option<Turn>
     ensures { result ≡ option_and_then (if_lives turn_life turn_begun at) (row_of turn_name word turns.now) }
 {
     let turn = *find_row(turns, word)?;
-    if is_live(600, turn.begun, at) {
+    if is_live(TURN_LIFE, turn.begun, at) {
         Some(turn)
     } else {
         None
@@ -60,7 +70,7 @@ pub fn is_turn_browser(turns: &[Turn], at: Moment, browser: &Word) -> bool
     ensures { result ≡ has_turn_browser turns.now at browser.now }
 {
     for turn in turns {
-        if is_live(600, turn.begun, at) && turn.browser == *browser {
+        if is_live(TURN_LIFE, turn.begun, at) && turn.browser == *browser {
             return true;
         }
     }
@@ -104,7 +114,7 @@ pub fn find_live_session(sessions: &[Session], at: Moment, word: Word) -> Option
     ensures { result ≡ live_in at word sessions.now }
 {
     let session = *find_row(sessions, word)?;
-    if is_live(43_200, session.auth_time, at) {
+    if is_live(SESSION_LIFE, session.auth_time, at) {
         Some(session)
     } else {
         None

@@ -1,6 +1,6 @@
 //! The printed lines.
 
-ghost use Rattle.std.specs.Prelude.{◌≡◌, ◌++◌, List, reverse, OnOk, IfOk, string_bytes};
+ghost use Rattle.std.specs.Prelude.{◌≡◌, ◌++◌, reverse, OnOk, IfOk, string_bytes};
 ghost use Rattle.sso_world.specs.Text.{op_phrase, refused_phrase, rp_phrase, phrase, line_text, lines_text, world_text};
 
 use crate::party::{RpNo, RpReply};

@@ -4,20 +4,28 @@ ghost use Rattle.std.specs.Prelude.{◌≡◌, IfOk};
 ghost use Rattle.sso_world.specs.Token.{judgement};
 
 use crate::configuration::{only_client, provider_issuer};
+use oidc_words::{LEEWAY, OLDEST};
 use sso_base::{Moment, NoMemory, Text, Texts, Word};
 use std::alloc::Global;
 
-/// The claims of an ID Token (OpenID Connect Core 1.0, 2). Times are seconds since the epoch. The nonce and the session
-/// identifier are the words themselves.
+/// The claims of an ID Token (OpenID Connect Core 1.0, 2). The nonce and the session identifier are the words themselves.
 #[derive(Debug, Drop)]
 pub struct Claims {
+    /// The issuer.
     pub iss: Text,
+    /// The subject: who signed in.
     pub sub: Text,
+    /// The audience: the clients that it is for.
     pub aud: Texts,
+    /// From when on it is no longer good, in seconds since the epoch.
     pub exp: u64,
+    /// When it was issued, in seconds since the epoch.
     pub iat: u64,
+    /// When the user last gave the password, in seconds since the epoch.
     pub auth_time: u64,
+    /// `nonce` of the authorization request.
     pub nonce: Word,
+    /// The identifier of the provider's session (OpenID Connect Back-Channel Logout 1.0, 2.1).
     pub sid: Word,
 }
 
@@ -46,11 +54,11 @@ pub enum IdNo {
     Issuer,
     /// The client is not in `aud`, or anybody else is.
     Audience,
-    /// 60 seconds or more have passed since `exp`.
+    /// [`LEEWAY`] seconds or more have passed since `exp`.
     Expired(u64),
-    /// More than 600 seconds have passed since `iat`.
+    /// More than [`OLDEST`] seconds have passed since `iat`.
     TooOld(u64),
-    /// `iat` is more than 60 seconds ahead.
+    /// `iat` is more than [`LEEWAY`] seconds ahead.
     FromFuture(u64),
     /// `nonce` is not the login's.
     Nonce,
@@ -67,13 +75,13 @@ pub fn judge_id(claims: &Claims, nonce: &Word, at: Moment) -> Result<(), IdNo>
     if !claims.aud.is_only(only_client()) {
         return Err(IdNo::Audience);
     }
-    if claims.exp.saturating_add(60) <= now {
+    if claims.exp.saturating_add(LEEWAY) <= now {
         return Err(IdNo::Expired(claims.exp));
     }
-    if claims.iat.saturating_add(600) < now {
+    if claims.iat.saturating_add(OLDEST) < now {
         return Err(IdNo::TooOld(claims.iat));
     }
-    if now + 60 < claims.iat {
+    if now + LEEWAY < claims.iat {
         return Err(IdNo::FromFuture(claims.iat));
     }
     if claims.nonce != *nonce {

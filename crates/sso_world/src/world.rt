@@ -1,11 +1,11 @@
 //! The world of first traces: the provider, its relying party and the browsers, with all that happened.
 
-ghost use Rattle.std.specs.Prelude.{◌≡◌, ◌≤◌, ◌^◌, true, List, length, reverse, Some, option_and_then, OnOk, OnErr, IfOk};
+ghost use Rattle.std.specs.Prelude.{◌≡◌, ◌≤◌, ◌^◌, true, length, reverse, Some, option_and_then, OnOk, OnErr, IfOk};
 ghost use Rattle.sso_world.specs.Provider.{live_in};
 ghost use Rattle.sso_world.specs.World.{op_past, rp_past, place_at, latest};
 ghost use Rattle.sso_world.specs.ProviderAnswer.{op_answer};
 ghost use Rattle.sso_world.specs.PartyAnswer.{rp_answer};
-ghost use Rattle.sso_world.specs.Play.{word_at, words_after, asked_provider, asked_party, follow_op, follow_rp, followed, post_login, posted, line_place, is_place, is_there, empty_play, played};
+ghost use Rattle.sso_world.specs.Play.{word_at, words_after, asked_provider, asked_party, follow_op, follow_rp, followed, posted, line_place, is_place, is_there, empty_play, played};
 ghost use Rattle.sso_world.specs.Premises.{MeetsPremises};
 ghost use Rattle.sso_world.specs.Agreement.{SignsOn};
 ghost use Rattle.sso_world.specs.Text.{world_text};

@@ -6,7 +6,7 @@ use Rattle.std.proofs.lemmas.Slice.Eq.{bytes_eq-Decides}
 use Rattle.client_registry.specs.declared.records.Client.{Client}
 use Rattle.client_registry.specs.Records.{client_place}
 use Rattle.client_registry.specs.Registered.{AreApart}
-use Rattle.configuration_rows.specs.Kinds.{has_text}
+use Rattle.sso_base.specs.Texts.{has_text}
 use Rattle.token_endpoint.proofs.Joined.{either_false}
 
 abbrev place_from : List ℕ → ℕ → List Client → Option ℕ

@@ -1,6 +1,5 @@
 pub mod Joined
 pub mod Spelled
-pub mod Cuts
 pub mod Lookups
 pub mod Clients
 pub mod Headers
@@ -10,6 +9,5 @@ pub mod Refused
 pub mod RoundTrip
 pub mod Responses
 pub mod Fitting
-pub mod Answered
 pub mod OnLiterals
 mod Samples

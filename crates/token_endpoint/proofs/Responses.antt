@@ -16,7 +16,7 @@ use Rattle.claim_set.specs.Kinds.{text_claim}
 use Rattle.claim_set.specs.Reading.{Reads, claims_read, claims_text}
 use Rattle.claim_set.specs.declared.no.ClaimNo.{ClaimNo}
 use Rattle.claim_set.proofs.Building.{get-put_all}
-use Rattle.claim_set.proofs.KindLaws.{text_there, is_there, after_kind, after_demand, refused_of, is_refused, is_accepted}
+use Rattle.claim_set.proofs.KindLaws.{text_read, text_there, is_there, after_kind, after_demand, refused_of, is_refused, is_accepted}
 use Rattle.claim_set.proofs.Parsing.{read_reads, reads_read}
 use Rattle.claim_set.proofs.Written.{claims_read-claims_text}
 use Rattle.claim_set.proofs.OnLiterals.{claims_on_literals}
@@ -27,7 +27,8 @@ use Rattle.token_endpoint.specs.declared.no.TokensNo.TheVariants.{Status, Claims
 use Rattle.token_endpoint.specs.declared.error.TokenError.{TokenError}
 use Rattle.token_endpoint.specs.declared.error.TokenError.TheVariants.{InvalidRequest, InvalidClient, InvalidGrant, UnsupportedGrantType}
 use Rattle.token_endpoint.specs.Errors.{error_code, error_text}
-use Rattle.token_endpoint.specs.Answer.{token_entries, tokens_text, is_bearer, raw_in, whole, if_raw, tokens_in, if_claims, tokens_read, HasTokens, is_other_type, token_refusals}
+use Rattle.request_params.specs.Scheme.{is_bearer}
+use Rattle.token_endpoint.specs.Answer.{token_entries, tokens_text, raw_in, whole, if_raw, tokens_in, if_claims, tokens_read, HasTokens, is_other_type, token_refusals}
 use Rattle.sso_base.proofs.WordUtf8.{IsUtf8-word_text}
 use Rattle.token_endpoint.proofs.Fitting.{tokens_fit}
 
@@ -67,16 +68,13 @@ members_judged a ms h r = claims_judged a h ∙ ap if_claims (reads_read a.body 
 
 -- ---- what stands there is read
 
-named : (ms : Members) (name t : Text) → get_member name ms ≡ Some (string t) → text_claim name ms ≡ Ok (Some t)
-named ms name t h = rw h
-
 abbrev raw_of : Text → Text → Text → RawTokens
 raw_of access id kind = record { access = Some access; id = Some id; kind = Some kind }
 
 raw_is : (ms : Members) (access id kind : Text) → get_member (codes "access_token") ms ≡ Some (string access) → get_member (codes "id_token") ms ≡ Some (string id) → get_member (codes "token_type") ms ≡ Some (string kind)
     → raw_in ms ≡ Ok (raw_of access id kind)
 unfolding raw_in
-raw_is ms access id kind a i k = rw (named ms (codes "access_token") access a, named ms (codes "id_token") id i, named ms (codes "token_type") kind k)
+raw_is ms access id kind a i k = rw (text_read ms (codes "access_token") (Some access) a, text_read ms (codes "id_token") (Some id) i, text_read ms (codes "token_type") (Some kind) k)
 
 whole_is : (t : Tokens) (kind : Text) → str_to_ascii_lowercase kind ≡ codes "bearer" → whole (raw_of t.access t.id kind) ≡ Ok t
 unfolding whole

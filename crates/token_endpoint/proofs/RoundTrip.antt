@@ -21,9 +21,10 @@ use Rattle.request_params.specs.Reading.{Has, StandOnce}
 use Rattle.request_params.proofs.Values.{has_its_name}
 use Rattle.request_params.proofs.Forms.{AreTextPairs, form_pairs-form_text}
 use Rattle.request_params.proofs.OnLiterals.{request_params_on_literals}
-use Rattle.request_params.proofs.Utf8Bytes.{bytes-IsUtf8, IsUtf8-are_ascii}
+use Rattle.sso_base.proofs.Utf8Bytes.{bytes-IsUtf8, IsUtf8-are_ascii}
 use Rattle.token_endpoint.specs.Base64.{b64}
-use Rattle.token_endpoint.specs.Basic.{basic_auth, has_byte, IsBasic}
+use Rattle.request_params.specs.Scheme.{has_byte}
+use Rattle.token_endpoint.specs.Basic.{basic_auth, IsBasic}
 use Rattle.token_endpoint.specs.Request.{grant_pairs, token_message, grant_read}
 use Rattle.token_endpoint.specs.Granted.{credentials_of, Authenticates, IsGrant}
 use Rattle.token_endpoint.proofs.Joined.{both_true}

@@ -1,11 +1,13 @@
 -- Successful token responses (RFC 6749, 5.1; OpenID Connect Core 1.0, 3.1.3.3), written and read.
 use Rattle.std.specs.Prelude.{◌≡◌, ◌==◌, Bool, true, false, not, List, [], ◌∷◌, codes, Option, Some, None, option_and_then, Result, Ok, Err}
-use Rattle.std.specs.Str.{bytes_eq, str_to_ascii_lowercase}
+use Rattle.std.specs.Str.{str_to_ascii_lowercase}
 use Rattle.serde_json.specs.Data.{string, Members, no_members}
 use Rattle.serde_json.specs.Find.{get_member, as_str}
 use Rattle.sso_base.specs.Words.{Text}
 use Rattle.sso_base.specs.Refusals.{and_then, demand, forbid}
 use Rattle.sso_base.specs.declared.message.Answered.{Answered}
+use Rattle.oidc_words.specs.Lives.{access_life}
+use Rattle.request_params.specs.Scheme.{is_bearer}
 use Rattle.claim_set.specs.Building.{Entry, put_all, number_value}
 use Rattle.claim_set.specs.Kinds.{text_claim, another_kind, absent}
 use Rattle.claim_set.specs.Reading.{Reads, claims_read, claims_text}
@@ -18,11 +20,11 @@ use Rattle.token_endpoint.specs.declared.no.TokensNo.TheVariants.{Status, Claims
 
 -- ---- writing
 
--- the members of a response: the access token, which lives for 3,600 seconds, and the ID Token
+-- the members of a response: the access token with its life, and the ID Token
 abbrev pub token_entries : Text → Text → List Entry
 token_entries access id =
     (codes "access_token", Some (string access))
-    ∷ (codes "expires_in", Some (number_value 3600))
+    ∷ (codes "expires_in", Some (number_value access_life))
     ∷ (codes "id_token", Some (string id))
     ∷ (codes "token_type", Some (string (codes "Bearer"))) ∷ []
 
@@ -31,10 +33,6 @@ unfoldable pub tokens_text : Text → Text → Text
 tokens_text access id = claims_text (put_all (token_entries access id) no_members)
 
 -- ---- reading
-
--- the type of an access token is `Bearer`, in any case (RFC 6749, 5.1; RFC 6750, 4)
-abbrev pub is_bearer : Text → Bool
-is_bearer kind = bytes_eq (str_to_ascii_lowercase kind) (codes "bearer")
 
 -- the members, as far as they are there; the first of another kind, by name, is refused
 unfoldable pub raw_in : Members → Result RawTokens ClaimNo

@@ -1,11 +1,12 @@
 -- Client authentication at the token endpoint: by HTTP Basic, or by parameters of the request (RFC 6749, 2.3.1; OpenID Connect
 -- Core 1.0, 9). `basic` is the request's `Authorization` header, where its scheme is `Basic`, and `ps` are its parameters.
-use Rattle.std.specs.Prelude.{ℕ, Bool, false, not, ◌&&◌, List, [], ◌∷◌, codes, Option, Some, None, option_map, option_and_then, is_some, is_none, unwrap_or, Result, Ok, slice_get, if◌then◌else◌}
+use Rattle.std.specs.Prelude.{ℕ, Bool, false, not, ◌&&◌, List, [], ◌∷◌, codes, Option, Some, None, option_map, option_and_then, is_some, is_none, unwrap_or, Result, Ok, if◌then◌else◌}
 use Rattle.std.specs.Str.{bytes_eq}
 use Rattle.sso_base.specs.Words.{Text}
 use Rattle.sso_base.specs.Refusals.{first_refusal, and_then}
 use Rattle.client_registry.specs.declared.records.Client.{Client}
 use Rattle.client_registry.specs.Configuration.{Configuration}
+use Rattle.client_registry.specs.Numbers.{client_at}
 use Rattle.client_registry.specs.Records.{client_place}
 use Rattle.request_params.specs.Form.{Pair}
 use Rattle.request_params.specs.Reading.{value_of, first_repeated}
@@ -32,7 +33,7 @@ has_secret secret None = false
 has_secret secret (Some client) = bytes_eq client.secret secret
 
 abbrev pub if_secret : Configuration → Text → ℕ → Option ℕ
-if_secret c secret n = if has_secret secret (slice_get c.clients n) then Some n else None
+if_secret c secret n = if has_secret secret (client_at c n) then Some n else None
 
 -- the number of the client that has this id and this secret
 abbrev pub client_with : Configuration → Credentials → Option ℕ

@@ -1,30 +1,17 @@
 -- HTTP Basic as clients use it: an `Authorization` header that shows a client's id and secret (RFC 7617, 2; RFC 6749, 2.3.1;
 -- OpenID Connect Core 1.0, 9, `client_secret_basic`).
-use Rattle.std.specs.Prelude.{◌≡◌, ◌⊎◌, ℕ, ◌==◌, Bool, IsFalse, List, [], ◌∷◌, ◌++◌, codes, Option, Some, None, option_map, option_and_then, if◌then◌else◌}
-use Rattle.std.specs.List.{list_any}
+use Rattle.std.specs.Prelude.{◌≡◌, ℕ, Bool, IsFalse, List, ◌∷◌, ◌++◌, codes, Option, Some, None, option_map, option_and_then, if◌then◌else◌}
 use Rattle.std.specs.Str.{bytes_eq, str_to_ascii_lowercase}
 use Rattle.base64.specs.GeneralPurpose.{IsBytes}
 use Rattle.form_urlencoded.specs.Form.{byte_serialize}
 use Rattle.sso_base.specs.Words.{Text}
 use Rattle.client_registry.specs.declared.records.Client.{Client}
 use Rattle.request_params.specs.Form.{text_of}
+use Rattle.request_params.specs.Scheme.{cut, scheme_of, has_byte}
 use Rattle.token_endpoint.specs.declared.basic.Credentials.{Credentials}
 use Rattle.token_endpoint.specs.Base64.{b64, unb64}
 
 -- ---- reading
-
--- what stands before and after the first of these bytes, where there is one
-abbrev pub cut : ℕ → List ℕ → Option (List ℕ × List ℕ)
-cut mark [] = None
-cut mark (x ∷ t) = if x == mark then Some ([], t) else option_map (λ parts. (x ∷ parts.0, parts.1)) (cut mark t)
-
-abbrev pub first_part : List ℕ → Option (List ℕ × List ℕ) → List ℕ
-first_part whole None = whole
-first_part whole (Some parts) = parts.0
-
--- the scheme of a header: what stands before its first space, or the whole where there is none (RFC 9110, 11.6.2)
-abbrev pub scheme_of : List ℕ → List ℕ
-scheme_of header = first_part header (cut 32 header)
 
 -- the scheme is `Basic`, in any case (RFC 9110, 11.1)
 abbrev pub is_basic_scheme : List ℕ → Bool
@@ -54,14 +41,6 @@ unfoldable pub basic_auth : Client → Text
 basic_auth client = codes "Basic " ++ b64 (byte_serialize client.id ++ codes ":" ++ byte_serialize client.secret)
 
 -- ---- the same, literally
-
-abbrev pub has_byte : ℕ → List ℕ → Bool
-has_byte mark t = list_any (λ x. x == mark) t
-
--- s stands before the first space of the header, or is all of it where there is none
-pub record IsScheme (s header : List ℕ) : Type 0 where
-  pub no_space : IsFalse (has_byte 32 s)
-  pub parts : (header ≡ s) ⊎ ((rest : List ℕ) × (header ≡ s ++ 32 ∷ rest))
 
 -- the header is `Basic` in any case, one space, and the base64 of an id, a colon and a secret, each written as a form writes
 -- it, and these are the credentials

@@ -1,9 +1,10 @@
 -- What a token request is, in the standard's words, and why one is refused (RFC 6749, 2.3.1, 4.1.3 and 5.2; OpenID Connect Core
 -- 1.0, 3.1.3.1 and 9).
-use Rattle.std.specs.Prelude.{◌≡◌, ◌≢◌, ◌⊎◌, ℕ, List, codes, Option, Some, None, slice_get}
+use Rattle.std.specs.Prelude.{◌≡◌, ◌≢◌, ◌⊎◌, ℕ, List, codes, Option, Some, None}
 use Rattle.sso_base.specs.Words.{Text}
 use Rattle.client_registry.specs.declared.records.Client.{Client}
 use Rattle.client_registry.specs.Configuration.{Configuration}
+use Rattle.client_registry.specs.Numbers.{client_at}
 use Rattle.request_params.specs.Form.{Pair, form_pairs}
 use Rattle.request_params.specs.Reading.{Has, StandOnce, RepeatsFirst}
 use Rattle.token_endpoint.specs.declared.basic.Credentials.{Credentials}
@@ -41,7 +42,7 @@ credentials_of client = record { id = client.id; secret = client.secret }
 -- the request shows the id and the secret of the client of this number
 pub record Authenticates (c : Configuration) (auth : Option (List ℕ)) (ps : List Pair) (n : ℕ) : Type 0 where
   pub client : Client
-  pub there : slice_get c.clients n ≡ Some client
+  pub there : client_at c n ≡ Some client
   pub shows : Shows auth ps (credentials_of client)
 
 -- ---- what is granted

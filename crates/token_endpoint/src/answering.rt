@@ -7,14 +7,12 @@ ghost use Rattle.token_endpoint.specs.Errors.{error_text};
 
 use crate::error::TokenError;
 use claim_set::{ClaimSet, write_claims};
+use oidc_words::ACCESS_LIFE;
 use sso_base::{Blob, NoMemory, Text, Word};
 use std::alloc::Global;
 
-// How long an access token lives, in seconds.
-const LIFE: u64 = 3600;
-
 /// The body of an answer to a granted request (RFC 6749, 5.1; OpenID Connect Core 1.0, 3.1.3.3): a JSON object on one line,
-/// with `access_token`, the text of the word, `expires_in`, which is 3,600 seconds, `id_token`, and `token_type`, which is
+/// with `access_token`, the text of the word, `expires_in`, its life in seconds, `id_token`, and `token_type`, which is
 /// `Bearer`.
 #[tactic(auto, unfolding(crate::specs::Answer::tokens_text))]
 pub fn print_tokens(alloc: Global, access: &Word, id: &Text) -> Result<Blob, NoMemory>
@@ -23,7 +21,7 @@ pub fn print_tokens(alloc: Global, access: &Word, id: &Text) -> Result<Blob, NoM
     let access = access.to_text(alloc)?;
     let mut set = ClaimSet::new(alloc);
     set.put_text("access_token", access.as_str())?;
-    set.put_number("expires_in", LIFE)?;
+    set.put_number("expires_in", ACCESS_LIFE as u64)?;
     set.put_text("id_token", id.as_str())?;
     set.put_text("token_type", "Bearer")?;
     write_claims(&set)

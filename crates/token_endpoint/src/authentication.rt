@@ -5,16 +5,17 @@ ghost use Rattle.token_endpoint.specs.Authentication as spec;
 
 use crate::basic::{Credentials, basic_header, read_basic};
 use crate::no::GrantNo;
-use crate::parameters::{Parameter, first_repeated, value};
+use crate::parameters::first_repeated;
 use client_registry::Registry;
+use request_params::{Pair, value_of};
 use sso_base::{NoMemory, Text};
 use std::alloc::Global;
 
 // Whether a parameter of the name is there.
-fn is_there(parameters: &[Parameter], name: &str) -> bool
+fn is_there(parameters: &[Pair], name: &str) -> bool
     ensures { result ≡ spec.is_there name.now parameters.now }
 {
-    value(parameters, name).is_some()
+    value_of(parameters, name).is_some()
 }
 
 /// Whether a parameter is there, and is another text.
@@ -51,11 +52,11 @@ fn by_basic(registry: &Registry, shown: &Credentials, named: Option<&Text>) -> O
 }
 
 // The number of the client whose id and secret the parameters show.
-fn by_parameters(registry: &Registry, parameters: &[Parameter]) -> Option<u32>
+fn by_parameters(registry: &Registry, parameters: &[Pair]) -> Option<u32>
     ensures { result ≡ spec.client_shown registry.now None parameters.now }
 {
-    let id = value(parameters, "client_id")?;
-    let secret = value(parameters, "client_secret")?;
+    let id = value_of(parameters, "client_id")?;
+    let secret = value_of(parameters, "client_secret")?;
     client_with(registry, id, secret)
 }
 
@@ -64,7 +65,7 @@ fn client_shown(
     alloc: Global,
     registry: &Registry,
     basic: Option<&[u8]>,
-    parameters: &[Parameter],
+    parameters: &[Pair],
 ) -> Result<Option<u32>, NoMemory>
     ensures { IfOk result (λ o. o ≡ spec.client_shown registry.now (option_map (λ h. h.now) basic.entry) parameters.now) }
 {
@@ -72,7 +73,7 @@ fn client_shown(
         return Ok(by_parameters(registry, parameters));
     };
     match read_basic(alloc, header)? {
-        Some(shown) => Ok(by_basic(registry, &shown, value(parameters, "client_id"))),
+        Some(shown) => Ok(by_basic(registry, &shown, value_of(parameters, "client_id"))),
         None => Ok(None),
     }
 }
@@ -84,7 +85,7 @@ pub(crate) fn read_client(
     alloc: Global,
     registry: &Registry,
     auth: Option<&[u8]>,
-    parameters: &[Parameter],
+    parameters: &[Pair],
 ) -> Result<u32, GrantNo>
     ensures ok { IfOk result (λ n. spec.client_read registry.now (option_map (λ h. h.now) auth.entry) parameters.now ≡ Ok n) }
     ensures err { IfErr result (λ e. (e ≡ GrantNo.NoMemory) ⊎ (spec.client_read registry.now (option_map (λ h. h.now) auth.entry) parameters.now ≡ Err e)) }

@@ -4,12 +4,13 @@ ghost use Rattle.std.specs.Prelude.{◌≡◌, IfOk, option_map, string_bytes};
 ghost use Rattle.form_urlencoded.specs.Form.{byte_serialize};
 ghost use Rattle.request_params.specs.Form.{text_of};
 ghost use Rattle.token_endpoint.specs.Base64.{unb64};
-ghost use Rattle.token_endpoint.specs.Basic.{cut as cut_of, is_basic_scheme, scheme_of as scheme, basic_header as basic_header_of, divided as divided_of, basic_read, basic_auth};
+ghost use Rattle.token_endpoint.specs.Basic.{is_basic_scheme, basic_header as basic_header_of, divided as divided_of, basic_read, basic_auth};
 
 use base64::DecodeAllocError;
 use base64::engine::general_purpose::STANDARD;
 use client_registry::Client;
 use form_urlencoded::{Serializer, decode};
+use request_params::{cut, scheme_of};
 use sso_base::{NoMemory, Text};
 use std::alloc::Global;
 
@@ -18,28 +19,6 @@ use std::alloc::Global;
 pub(crate) struct Credentials {
     pub(crate) id: Text,
     pub(crate) secret: Text,
-}
-
-// What stands before and after the first of these bytes, where there is one.
-fn cut(bytes: &[u8], mark: u8) -> Option<(&[u8], &[u8])>
-    ensures { option_map (λ parts. (parts.0.now, parts.1.now)) result ≡ cut_of mark bytes.now }
-{
-    for (place, byte) in bytes.iter().enumerate() {
-        if *byte == mark {
-            return Some((&bytes[..place], &bytes[place + 1..]));
-        }
-    }
-    None
-}
-
-// The scheme of a header (RFC 9110, 11.6.2).
-fn scheme_of(header: &[u8]) -> &[u8]
-    ensures { result.now ≡ scheme header.now }
-{
-    match cut(header, b' ') {
-        Some((scheme, _rest)) => scheme,
-        None => header,
-    }
 }
 
 // Whether the scheme is `Basic`, in any case (RFC 9110, 11.1).

@@ -7,9 +7,9 @@ ghost use Rattle.token_endpoint.specs.Granted.{IsGrant, Cause};
 
 use crate::authentication::{is_other, read_client};
 use crate::no::GrantNo;
-use crate::parameters::{Parameter, read_parameters, value};
 use client_registry::Registry;
-use sso_base::{NoMemory, Text};
+use request_params::{Pair, read_pairs, value_of};
+use sso_base::Text;
 use std::alloc::Global;
 
 /// What a client asks tokens for (RFC 6749, 4.1.3).
@@ -23,34 +23,24 @@ pub struct Grant {
     pub redirect: Text,
 }
 
-// The refusal for want of a parameter.
-fn missing(alloc: Global, name: &str) -> GrantNo
-    ensures { (result ≡ GrantNo.NoMemory) ⊎ (result ≡ GrantNo.Missing name.now) }
-{
-    match Text::new(alloc, name) {
-        Ok(name) => GrantNo::Missing(name),
-        Err(NoMemory) => GrantNo::NoMemory,
-    }
-}
-
 // What the client of this number asks for.
 #[tactic(auto, unfolding(crate::specs::Request::code_read))]
-fn read_code(alloc: Global, parameters: &[Parameter], client: u32) -> Result<Grant, GrantNo>
+fn read_code(alloc: Global, parameters: &[Pair], client: u32) -> Result<Grant, GrantNo>
     ensures ok { IfOk result (λ g. code_read parameters.now client ≡ Ok g) }
     ensures err { IfErr result (λ e. (e ≡ GrantNo.NoMemory) ⊎ (code_read parameters.now client ≡ Err e)) }
 {
-    let kind = value(parameters, "grant_type");
+    let kind = value_of(parameters, "grant_type");
     if is_other("authorization_code", kind) {
         return Err(GrantNo::OtherGrant);
     }
     if kind.is_none() {
-        return Err(missing(alloc, "grant_type"));
+        return Err(GrantNo::Missing(Text::new(alloc, "grant_type")?));
     }
-    let Some(code) = value(parameters, "code") else {
-        return Err(missing(alloc, "code"));
+    let Some(code) = value_of(parameters, "code") else {
+        return Err(GrantNo::Missing(Text::new(alloc, "code")?));
     };
-    let Some(redirect) = value(parameters, "redirect_uri") else {
-        return Err(missing(alloc, "redirect_uri"));
+    let Some(redirect) = value_of(parameters, "redirect_uri") else {
+        return Err(GrantNo::Missing(Text::new(alloc, "redirect_uri")?));
     };
     Ok(Grant {
         client,
@@ -73,7 +63,7 @@ fn granted(
     let Some(form) = body else {
         return Err(GrantNo::BadForm);
     };
-    let parameters = read_parameters(alloc, form)?;
+    let parameters = read_pairs(alloc, form)?;
     let client = read_client(alloc, registry, auth, &parameters)?;
     read_code(alloc, &parameters, client)
 }

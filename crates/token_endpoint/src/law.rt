@@ -1,6 +1,6 @@
 // What holds of token requests and their answers, for the crates above.
 
-ghost use Rattle.std.specs.Prelude.{◌≡◌, ◌≢◌, ◌++◌, ℕ, List, Bool, true, false, codes, Option, Some, None, Ok, Err, IsOk, slice_get};
+ghost use Rattle.std.specs.Prelude.{◌≡◌, ◌≢◌, ◌++◌, ℕ, List, Bool, true, false, codes, Option, Some, None, Ok, Err, IsOk};
 ghost use Rattle.std.specs.Str.{IsUtf8};
 ghost use Rattle.form_urlencoded.specs.Form.{byte_serialize};
 ghost use Rattle.json.specs.Print.{quoted};
@@ -12,17 +12,19 @@ ghost use Rattle.claim_set.specs.declared.no.ClaimNo.{ClaimNo};
 ghost use Rattle.claim_set.specs.Reading.{Reads, claims_read};
 ghost use Rattle.client_registry.specs.declared.records.Client.{Client};
 ghost use Rattle.client_registry.specs.Configuration.{Configuration};
+ghost use Rattle.client_registry.specs.Numbers.{client_at};
 ghost use Rattle.client_registry.specs.Registered.{IsRegistry};
 ghost use Rattle.request_params.specs.Form.{form_pairs};
 ghost use Rattle.token_endpoint.specs.declared.basic.Credentials.{Credentials};
 ghost use Rattle.token_endpoint.specs.declared.granting.Grant.{Grant};
+ghost use Rattle.request_params.specs.Scheme.{IsScheme};
 ghost use Rattle.token_endpoint.specs.declared.error.TokenError.{TokenError};
 ghost use Rattle.token_endpoint.specs.declared.no.GrantNo.{GrantNo};
 ghost use Rattle.token_endpoint.specs.declared.no.GrantNo.TheVariants as no;
 ghost use Rattle.token_endpoint.specs.declared.no.TokensNo.{TokensNo};
 ghost use Rattle.token_endpoint.specs.declared.no.TokensNo.TheVariants as tokens_no;
 ghost use Rattle.token_endpoint.specs.declared.reading.Tokens.{Tokens};
-ghost use Rattle.token_endpoint.specs.Basic.{is_basic_scheme, basic_header, basic_read, IsScheme, IsBasic};
+ghost use Rattle.token_endpoint.specs.Basic.{is_basic_scheme, basic_header, basic_read, IsBasic};
 ghost use Rattle.token_endpoint.specs.Request.{grant_refusals, grant_read, token_message};
 ghost use Rattle.token_endpoint.specs.Granted.{Shows, credentials_of, IsGrant, Cause};
 ghost use Rattle.token_endpoint.specs.Errors.{error_code, error_text};
@@ -47,7 +49,7 @@ pub fn requests_are_granted_literally()
 /// Nobody gets a grant without the secret of the client that it is for: this is a client of the registry, and the request
 /// shows its id and its secret.
 pub fn granted_clients_show_their_secret()
-    ensures { (c : Configuration) (auth body : Option (List ℕ)) (g : Grant) → grant_read c auth body ≡ Ok g → (client : Client) × (slice_get c.clients g.client ≡ Some client) × ((form : List ℕ) × (body ≡ Some form) × Shows auth (form_pairs form) (credentials_of client)) }
+    ensures { (c : Configuration) (auth body : Option (List ℕ)) (g : Grant) → grant_read c auth body ≡ Ok g → (client : Client) × (client_at c g.client ≡ Some client) × ((form : List ℕ) × (body ≡ Some form) × Shows auth (form_pairs form) (credentials_of client)) }
 {}
 
 /// A request without a body is `BadForm`. Any other is refused where one of the conditions `grant_refusals` holds, of which
@@ -61,7 +63,7 @@ pub fn refused_requests_have_a_cause()
 
 /// The request that is written for a client of a registry is granted to this client, for the same code and redirection URI.
 pub fn printed_requests_are_granted()
-    ensures { (c : Configuration) (n : ℕ) (k : Client) (endpoint code redirect : Text) → IsRegistry c → slice_get c.clients n ≡ Some k → IsUtf8 code → IsUtf8 redirect → grant_read c (token_message k endpoint code redirect).auth (token_message k endpoint code redirect).body ≡ Ok (record { client = n; code = code; redirect = redirect }) }
+    ensures { (c : Configuration) (n : ℕ) (k : Client) (endpoint code redirect : Text) → IsRegistry c → client_at c n ≡ Some k → IsUtf8 code → IsUtf8 redirect → grant_read c (token_message k endpoint code redirect).auth (token_message k endpoint code redirect).body ≡ Ok (record { client = n; code = code; redirect = redirect }) }
 {}
 
 /// The body of the request that is written is this text.

@@ -28,8 +28,6 @@ mod law;
 mod no;
 mod parameters;
 mod reading;
-#[cfg(test)]
-mod tests;
 
 pub use answering::{print_token_error, print_tokens};
 pub use asking::print_grant;

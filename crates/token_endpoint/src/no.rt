@@ -63,3 +63,17 @@ impl From<NoMemory> for TokensNo {
         TokensNo::NoMemory
     }
 }
+
+impl From<ClaimNo> for TokensNo {
+    ghost use Rattle.std.specs.Prelude.{◌≡◌, IsFalse};
+    ghost use Rattle.token_endpoint.specs.Answer.{as_claims, hides_memory};
+
+    ghost from_gives = { λ error e. (e ≡ as_claims error) × IsFalse (hides_memory e) };
+
+    fn from(error: ClaimNo) -> TokensNo {
+        match error {
+            ClaimNo::NoMemory => TokensNo::NoMemory,
+            error => TokensNo::Claims(error),
+        }
+    }
+}

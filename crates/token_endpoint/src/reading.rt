@@ -1,11 +1,12 @@
 // An answer to a token request is read, or refused for the first reason that fits.
 
 ghost use Rattle.std.specs.Prelude.{◌≡◌, ◌⊎◌, Ok, Err, IfOk, IfErr, IsFalse};
-ghost use Rattle.token_endpoint.specs.Answer.{is_bearer as is_bearer_type, raw_in, whole, tokens_in, tokens_read, as_claims, hides_memory, HasTokens};
+ghost use Rattle.request_params.specs.Scheme.{is_bearer as is_bearer_type};
+ghost use Rattle.token_endpoint.specs.Answer.{raw_in, whole, tokens_in, tokens_read, hides_memory, HasTokens};
 
 use crate::no::TokensNo;
 use claim_set::{ClaimNo, ClaimSet, read_claims};
-use sso_base::{Answered, NoMemory, Text};
+use sso_base::{Answered, Text};
 use std::alloc::Global;
 
 /// The tokens of a successful answer to a token request (OpenID Connect Core 1.0, 3.1.3.3).
@@ -23,28 +24,6 @@ struct RawTokens {
     access: Option<Text>,
     id: Option<Text>,
     kind: Option<Text>,
-}
-
-// The refusal for want of a member.
-fn missing(alloc: Global, name: &str) -> TokensNo
-    ensures missing { (result ≡ TokensNo.NoMemory) ⊎ (result ≡ TokensNo.Missing name.now) }
-    ensures memory_is_outermost { IsFalse (hides_memory result) }
-{
-    match Text::new(alloc, name) {
-        Ok(name) => TokensNo::Missing(name),
-        Err(NoMemory) => TokensNo::NoMemory,
-    }
-}
-
-// The refusal of claims, as that of an answer.
-fn claims_refused(error: ClaimNo) -> TokensNo
-    ensures refused { result ≡ as_claims error }
-    ensures memory_is_outermost { IsFalse (hides_memory result) }
-{
-    match error {
-        ClaimNo::NoMemory => TokensNo::NoMemory,
-        error => TokensNo::Claims(error),
-    }
 }
 
 // The members, as far as they are there. They are asked for in the order of their names, so that the first of another kind is
@@ -76,13 +55,13 @@ fn whole_tokens(alloc: Global, raw: RawTokens) -> Result<Tokens, TokensNo>
 {
     let RawTokens { access, id, kind } = raw;
     let Some(access) = access else {
-        return Err(missing(alloc, "access_token"));
+        return Err(TokensNo::Missing(Text::new(alloc, "access_token")?));
     };
     let Some(kind) = kind else {
-        return Err(missing(alloc, "token_type"));
+        return Err(TokensNo::Missing(Text::new(alloc, "token_type")?));
     };
     let Some(id) = id else {
-        return Err(missing(alloc, "id_token"));
+        return Err(TokensNo::Missing(Text::new(alloc, "id_token")?));
     };
     if !is_bearer(&kind) {
         return Err(TokensNo::NotBearer);
@@ -97,10 +76,8 @@ fn claimed_tokens(alloc: Global, claims: &ClaimSet) -> Result<Tokens, TokensNo>
     ensures err { IfErr result (λ e. (e ≡ TokensNo.NoMemory) ⊎ (tokens_in claims.now ≡ Err e)) }
     ensures memory_is_outermost { IfErr result (λ e. IsFalse (hides_memory e)) }
 {
-    match raw_tokens(claims) {
-        Ok(raw) => whole_tokens(alloc, raw),
-        Err(error) => Err(claims_refused(error)),
-    }
+    let raw = raw_tokens(claims)?;
+    whole_tokens(alloc, raw)
 }
 
 // The tokens that an answer has.
@@ -113,10 +90,8 @@ fn answered_tokens(alloc: Global, answer: &Answered) -> Result<Tokens, TokensNo>
     if answer.status != 200 {
         return Err(TokensNo::Status(answer.status));
     }
-    match read_claims(alloc, answer.body.as_bytes()) {
-        Ok(claims) => claimed_tokens(alloc, &claims),
-        Err(error) => Err(claims_refused(error)),
-    }
+    let claims = read_claims(alloc, answer.body.as_bytes())?;
+    claimed_tokens(alloc, &claims)
 }
 
 /// The tokens that an answer to a token request has (RFC 6749, 5.1; OpenID Connect Core 1.0, 3.1.3.3).

@@ -12,8 +12,6 @@
 
 mod law;
 mod requests;
-#[cfg(test)]
-mod tests;
 
 pub use law::{id_tokens_are_no_logout_tokens, logout_tokens_are_no_id_tokens};
 pub use requests::{

@@ -1,5 +1,5 @@
 -- An answer is read exactly where it is a UserInfo response, and others are refused for the first reason.
-use Rattle.std.proofs.Common.{◌≡◌, ◌≢◌, ◌⊎◌, inl, inr, ◌==◌, ℕ, true, false, not, List, Option, Some, None, Result, Ok, Err, codes, refl, sym, ap, ◌∙◌, arith}
+use Rattle.std.proofs.Common.{◌≡◌, ◌≢◌, ◌==◌, ℕ, true, false, not, List, Option, Some, None, Result, Ok, Err, codes, refl, sym, ap, ◌∙◌, arith}
 use Rattle.std.proofs.lemmas.Bool.Decides.{nat_tests}
 use Rattle.serde_json.specs.Data.{string, Members}
 use Rattle.serde_json.specs.Find.{get_member}
@@ -66,18 +66,3 @@ sub_read ms t h = rw h refl
 
 pub info_is_read : (a : Answered) (t : List ℕ) → IsUserInfo a t → info_read a ≡ sub_ok t
 info_is_read a t i = members_judged a i.claims i.status i.reads ∙ sub_read i.claims t i.names
-
--- ---- what is answered
-
-not_both : {Z : Type 0} (t : List ℕ) (e : InfoNo) → sub_ok t ≡ Err e → Z
-not_both t e h = absurd (cc)
-
-one_sub : (s t : List ℕ) → sub_ok s ≡ sub_ok t → s ≡ t
-one_sub s t h = cc
-
-pub same_sub : (a : Answered) (t u : List ℕ) → IsUserInfo a t → info_read a ≡ sub_ok u → u ≡ t
-same_sub a t u i h = one_sub u t (sym h ∙ info_is_read a t i)
-
-pub only_memory_at : (a : Answered) (t : List ℕ) → IsUserInfo a t → (e : InfoNo) → (e ≡ no.NoMemory) ⊎ (info_read a ≡ Err e) → e ≡ no.NoMemory
-only_memory_at a t i e (inl is) = is
-only_memory_at a t i e (inr h) = not_both t e (sym (info_is_read a t i) ∙ h)

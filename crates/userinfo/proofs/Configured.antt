@@ -1,45 +1,28 @@
--- The claims that a configuration gives users are standard claims.
-use Rattle.std.proofs.Common.{◌≡◌, ℕ, List, Bool, true, false, cond, codes, Option, Some, None, option_and_then, refl, sym, ap, ◌∙◌, subst}
-use Rattle.std.specs.Str.{bytes_eq}
-use Rattle.std.proofs.lemmas.Slice.Eq.{bytes_eq-Decides}
+-- The claims that a configuration gives users are standard claims, and so are those of the users of a registry.
+use Rattle.std.proofs.Common.{◌≡◌, ℕ, List, true, false, Option, Some, None, is_some, option_and_then, refl, sym, ap, ◌∙◌, subst, true≢false}
 use Rattle.toml.specs.Data.{Data, Members, no_members, member, as_table}
 use Rattle.serde_json.specs.Data as json
 use Rattle.serde_json.specs.Find.{get_member}
 use Rattle.serde_json.proofs.Views.{get_member-put_other}
-use Rattle.configuration_rows.specs.Claims.{text_claims, flag_claims, is_one_of, text_value, flag_value, seconds_value, address_value, claim_value, claims_onto, claims_in}
-use Rattle.scope_claims.specs.Claims.{profile_claims, email_claims, address_claims, phone_claims, is_claim_of, is_standard_claim}
-use Rattle.scope_claims.proofs.Asking.{at_name}
+use Rattle.oidc_words.specs.declared.claims.ClaimKind.{ClaimKind}
+use Rattle.oidc_words.specs.Claims.{is_standard_claim, kind_of}
+use Rattle.oidc_words.proofs.ClaimKinds.{has_kind as kind_is_standard}
+use Rattle.configuration_rows.specs.Claims.{kind_value, claim_value, claims_onto, claims_in}
+use Rattle.client_registry.specs.declared.records.User.{User}
+use Rattle.client_registry.specs.ClaimKinds.{has_kind, AreKnown}
+use Rattle.client_registry.specs.Configuration.{Configuration}
+use Rattle.client_registry.specs.Numbers.{user_at}
+use Rattle.client_registry.specs.Registered.{HoldsClaims, IsRegistry}
+use Rattle.userinfo.specs.Held.{claims_of, user_claims}
+use Rattle.userinfo.proofs.UserTexts.{text_is, user_holds}
 
-text_is_standard : (k : List ℕ) → is_one_of text_claims k ≡ true → is_standard_claim k ≡ true
-unfolding text_claims is_claim_of profile_claims email_claims address_claims phone_claims
-text_is_standard k h = at_name (λ n. is_standard_claim n ≡ true) text_claims k (refl, (refl, (refl, (refl, (refl, (refl, (refl, (refl, (refl, (refl, (refl, (refl, (refl, (refl, (refl, tt))))))))))))))) h
-
-flag_is_standard : (k : List ℕ) → is_one_of flag_claims k ≡ true → is_standard_claim k ≡ true
-unfolding flag_claims is_claim_of profile_claims email_claims address_claims phone_claims
-flag_is_standard k h = at_name (λ n. is_standard_claim n ≡ true) flag_claims k (refl, (refl, tt)) h
-
-updated_at_is_standard : is_standard_claim (codes "updated_at") ≡ true
-unfolding is_claim_of profile_claims email_claims address_claims phone_claims
-updated_at_is_standard = refl
-
-address_is_standard : is_standard_claim (codes "address") ≡ true
-unfolding is_claim_of profile_claims email_claims address_claims phone_claims
-address_is_standard = refl
-
-named : (k n : List ℕ) → bytes_eq k n ≡ true → is_standard_claim n ≡ true → is_standard_claim k ≡ true
-named k n is h = let same : k ≡ n = (bytes_eq-Decides k n).0 is in subst (λ x. is_standard_claim x ≡ true) (sym same) h
-
-known_at : (k : List ℕ) (d : Data) (v : json.Data) (p q r s : Bool) → is_one_of text_claims k ≡ p → is_one_of flag_claims k ≡ q → bytes_eq k (codes "updated_at") ≡ r → bytes_eq k (codes "address") ≡ s
-    → cond p (text_value d) (cond q (flag_value d) (cond r (seconds_value d) (cond s (address_value d) None))) ≡ Some v → is_standard_claim k ≡ true
-known_at k d v true q r s e f g i h = text_is_standard k e
-known_at k d v false true r s e f g i h = flag_is_standard k f
-known_at k d v false false true s e f g i h = named k (codes "updated_at") g updated_at_is_standard
-known_at k d v false false false true e f g i h = named k (codes "address") i address_is_standard
-known_at k d v false false false false e f g i h = absurd (cc)
+known_at : (o : Option ClaimKind) (d : Data) (v : json.Data) → kind_value o d ≡ Some v → is_some o ≡ true
+known_at None d v h = absurd (cc)
+known_at (Some kind) d v h = refl
 
 -- a claim that is given a value is a standard claim
 known : (k : List ℕ) (d : Data) (v : json.Data) → claim_value k d ≡ Some v → is_standard_claim k ≡ true
-known k d v h = known_at k d v (is_one_of text_claims k) (is_one_of flag_claims k) (bytes_eq k (codes "updated_at")) (bytes_eq k (codes "address")) refl refl refl refl h
+known k d v h = sym (kind_is_standard k) ∙ known_at (kind_of k) d v h
 
 not_both : (k n : List ℕ) → is_standard_claim k ≡ true → is_standard_claim n ≡ false → n ≡ k → ⊥
 not_both k n h g same = absurd (cc (ap is_standard_claim same, h, g))
@@ -60,3 +43,27 @@ in_table (Some rest) n ms h e = none_onto n rest json.no_members ms h refl e
 
 pub configured_are_standard : (d : Data) (ms : json.Members) (k : List ℕ) → claims_in d ≡ Some ms → is_standard_claim k ≡ false → get_member k ms ≡ None
 configured_are_standard d ms k e h = in_table (as_table d) k ms h e
+
+-- ---- the users of a registry
+
+none_known : AreKnown json.no_members
+none_known k d e = absurd (cc)
+
+known_at_place : (c : Configuration) (n : ℕ) (o : Option User) → IsRegistry c → user_at c n ≡ o → AreKnown (claims_of o)
+known_at_place c n None r is = none_known
+known_at_place c n (Some u) r is = let h : HoldsClaims u.claims = user_holds c n u r is in subst AreKnown (sym (text_is u.claims h)) h.known
+
+pub user_has_kinds : (c : Configuration) (n : ℕ) (k : List ℕ) (d : json.Data) → IsRegistry c → get_member k (user_claims c n) ≡ Some d → has_kind (kind_of k) d ≡ true
+unfolding user_claims
+user_has_kinds c n k d r e = known_at_place c n (user_at c n) r refl k d e
+
+kind_there : (o : Option ClaimKind) (d : json.Data) → has_kind o d ≡ true → is_some o ≡ true
+kind_there None d h = absurd (true≢false (sym h))
+kind_there (Some kind) d h = refl
+
+no_other : (k : List ℕ) (o : Option json.Data) → is_standard_claim k ≡ false → ((d : json.Data) → o ≡ Some d → has_kind (kind_of k) d ≡ true) → o ≡ None
+no_other k None h kinds = refl
+no_other k (Some d) h kinds = absurd (true≢false (sym (sym (kind_is_standard k) ∙ kind_there (kind_of k) d (kinds d refl)) ∙ h))
+
+pub user_has_no_others : (c : Configuration) (n : ℕ) (k : List ℕ) → IsRegistry c → is_standard_claim k ≡ false → get_member k (user_claims c n) ≡ None
+user_has_no_others c n k r h = no_other k (get_member k (user_claims c n)) h (λ d e. user_has_kinds c n k d r e)

@@ -1,9 +1,8 @@
-pub mod Among
 pub mod Sifting
 pub mod UserTexts
 pub mod Filtered
 pub mod Told
-pub mod Schemes
+pub mod BearerHeaders
 pub mod Answering
 pub mod RoundTrip
 pub mod Configured

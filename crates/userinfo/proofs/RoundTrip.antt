@@ -10,7 +10,7 @@ use Rattle.claim_set.proofs.Parsing.{read_reads}
 use Rattle.claim_set.proofs.Written.{claims_read-claims_text}
 use Rattle.client_registry.specs.Configuration.{Configuration, subject_at}
 use Rattle.client_registry.specs.Registered.{IsRegistry}
-use Rattle.scope_claims.specs.declared.scopes.Scopes.{Scopes}
+use Rattle.oidc_words.specs.declared.scopes.Scopes.{Scopes}
 use Rattle.userinfo.specs.declared.no.InfoNo.TheVariants as no
 use Rattle.userinfo.specs.Held.{info_members}
 use Rattle.userinfo.specs.Answer.{sub_in, if_claims, info_read}

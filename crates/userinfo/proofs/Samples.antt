@@ -10,16 +10,17 @@ use Rattle.claim_set.specs.declared.no.ClaimNo.TheVariants as claims
 use Rattle.claim_set.proofs.OnLiterals.{claims_on_literals}
 use Rattle.client_registry.specs.declared.records.User.{User}
 use Rattle.client_registry.specs.Configuration.{Configuration}
-use Rattle.scope_claims.specs.declared.scopes.Scopes.{Scopes}
-use Rattle.scope_claims.specs.Claims.{profile_claims, email_claims, address_claims, phone_claims, is_claim_of, no_scopes, all_scopes}
+use Rattle.oidc_words.specs.declared.scopes.Scopes.{Scopes}
+use Rattle.oidc_words.specs.Claims.{profile_claims, email_claims, address_claims, phone_claims, is_claim_of}
+use Rattle.oidc_words.specs.Scopes.{no_scopes, all_scopes}
 use Rattle.userinfo.specs.declared.header.Bearer.TheVariants.{Absent, Unreadable, Given}
 use Rattle.userinfo.specs.declared.no.InfoNo.{InfoNo}
 use Rattle.userinfo.specs.declared.no.InfoNo.TheVariants as no
 use Rattle.userinfo.specs.Held.{is_wanted, members_with, text_claims, user_claims, held_members, info_members}
-use Rattle.userinfo.specs.Header.{scheme_of, after_space, is_bearer, bearer_read, IsScheme, IsBearer}
+use Rattle.userinfo.specs.Header.{bearer_read, IsBearer}
 use Rattle.userinfo.specs.Request.{info_message}
 use Rattle.userinfo.specs.Answer.{info_read, IsUserInfo, hides_memory, as_claims}
-use Rattle.userinfo.proofs.Schemes.{bearer_is_read, has_scheme, one_scheme}
+use Rattle.userinfo.proofs.BearerHeaders.{bearer_is_read}
 use Rattle.userinfo.proofs.Answering.{read_is_info}
 
 -- ---- what is wanted
@@ -107,30 +108,6 @@ unfolding info_members held_members user_claims
 info-of_nothing = refl
 
 -- ---- headers
-
-scheme-before_the_space : scheme_of (codes "Bearer x y") ≡ codes "Bearer"
-scheme-before_the_space = refl
-
-scheme-the_whole : scheme_of (codes "Bearer") ≡ codes "Bearer"
-scheme-the_whole = refl
-
-after_space-the_first : after_space (codes "Bearer x y") ≡ Some (codes "x y")
-after_space-the_first = refl
-
-after_space-none : after_space (codes "Bearer") ≡ None
-after_space-none = refl
-
-bearer-in_any_case : is_bearer (codes "bEARER") ≡ true
-bearer-in_any_case = refl
-
-bearer-not_longer : is_bearer (codes "Bearers") ≡ false
-bearer-not_longer = refl
-
-is_scheme-of_a_header : IsScheme (codes "Basic") (codes "Basic x y")
-is_scheme-of_a_header = has_scheme (codes "Basic x y")
-
-is_scheme-not_two_words : IsScheme (codes "Basic x") (codes "Basic x y") → ⊥
-is_scheme-not_two_words h = cc h.no_space
 
 -- 31 zero bytes and a one; by another program its text is 41 times `A` and then `AE`
 abbrev one : Word

@@ -16,9 +16,10 @@ use Rattle.claim_set.proofs.Sizes.{length-claims_text-put, length-quoted}
 use Rattle.client_registry.specs.declared.records.User.{User}
 use Rattle.client_registry.specs.Configuration.{Configuration, subject_at}
 use Rattle.client_registry.specs.Registered.{IsUser, IsSubject, IsRegistry}
-use Rattle.scope_claims.specs.declared.scopes.Scopes.{Scopes}
-use Rattle.scope_claims.specs.Claims.{is_one_of, is_claim_of, is_standard_claim}
-use Rattle.scope_claims.proofs.Asking.{asked_are_standard}
+use Rattle.oidc_words.specs.declared.scopes.Scopes.{Scopes}
+use Rattle.oidc_words.specs.Words.{is_one_of}
+use Rattle.oidc_words.specs.Claims.{is_claim_of, is_standard_claim}
+use Rattle.oidc_words.proofs.Asking.{asked_are_standard}
 use Rattle.userinfo.specs.Held.{is_wanted, text_claims, claims_of, user_claims, held_members, info_members}
 use Rattle.userinfo.proofs.Filtered.{get-members_with, ClaimsFit-members_with, length-members_with}
 use Rattle.userinfo.proofs.UserTexts.{at_place, text_is, text_reads, text_fits, user_holds}

@@ -13,6 +13,7 @@ use Rattle.claim_set.proofs.Order.{InOrder-Reads}
 use Rattle.claim_set.proofs.Written.{claims_read-claims_text}
 use Rattle.client_registry.specs.declared.records.User.{User}
 use Rattle.client_registry.specs.Configuration.{Configuration}
+use Rattle.client_registry.specs.Numbers.{user_at}
 use Rattle.client_registry.specs.Registered.{HoldsClaims, AllHoldClaims, IsRegistry}
 use Rattle.userinfo.specs.Held.{members_or_none, text_claims}
 
@@ -52,21 +53,6 @@ in_order b h = InOrder-Reads b (text_claims b) (text_reads b h)
 pub text_fits : (b : List ℕ) → HoldsClaims b → ClaimsFit (text_claims b)
 text_fits b h = subst ClaimsFit (sym (text_is b h)) h.fits
 
-one_value : (c d : Data) → Some c ≡ Some d → c ≡ d
-one_value c d h = cc
-
-pub same_value : (b : List ℕ) (d : Data) → HoldsClaims b → read b ≡ Some d → d ≡ object (text_claims b)
-same_value b d h is = one_value d (object (text_claims b)) (sym is ∙ (text_reads b h).is_object)
-
-no_value : (o : Option Data) (d : Data) → o ≡ Some d → o ≡ None → ⊥
-no_value o d h g = absurd (cc)
-
-value_there : (b : List ℕ) → HoldsClaims b → (IsUtf8 b → read b ≡ None) → ⊥
-value_there b h none = let there = text_reads b h in no_value (read b) (object (text_claims b)) there.is_object (none there.utf8)
-
-pub value_is_read : (b s : List ℕ) → s ≡ b → HoldsClaims b → (IsUtf8 s → read s ≡ None) → ⊥
-value_is_read b s is held none = let h : HoldsClaims s = subst HoldsClaims (sym is) held in value_there s h none
-
 -- ---- the users of a registry
 
 pub at_place : (P : User → Type 0) (users : List User) (n : ℕ) (u : User) → AllByRecursion P users → slice_get users n ≡ Some u → P u
@@ -79,5 +65,5 @@ holds_at : (users : List User) (n : ℕ) (u : User) → AllHoldClaims users → 
 unfolding AllHoldClaims
 holds_at users n u h is = at_place (λ (v : User). HoldsClaims v.claims) users n u h is
 
-pub user_holds : (c : Configuration) (n : ℕ) (u : User) → IsRegistry c → slice_get c.users n ≡ Some u → HoldsClaims u.claims
+pub user_holds : (c : Configuration) (n : ℕ) (u : User) → IsRegistry c → user_at c n ≡ Some u → HoldsClaims u.claims
 user_holds c n u r is = holds_at c.users n u r.user_claims is

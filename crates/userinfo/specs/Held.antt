@@ -1,12 +1,14 @@
 -- The claims that are told of a user (OpenID Connect Core 1.0, 5.1, 5.3.2, 5.4 and 5.5).
-use Rattle.std.specs.Prelude.{ℕ, ◌&&◌, ◌||◌, Bool, List, codes, Option, Some, None, Result, Ok, Err, slice_get, if◌then◌else◌}
+use Rattle.std.specs.Prelude.{ℕ, ◌&&◌, ◌||◌, Bool, List, codes, Option, Some, None, Result, Ok, Err, if◌then◌else◌}
 use Rattle.serde_json.specs.Data.{string, Members, no_members, member, put}
 use Rattle.claim_set.specs.declared.no.ClaimNo.{ClaimNo}
 use Rattle.claim_set.specs.Reading.{claims_read}
 use Rattle.client_registry.specs.declared.records.User.{User}
 use Rattle.client_registry.specs.Configuration.{Configuration, subject_at}
-use Rattle.scope_claims.specs.declared.scopes.Scopes.{Scopes}
-use Rattle.scope_claims.specs.Claims.{is_one_of, is_claim_of, is_standard_claim}
+use Rattle.client_registry.specs.Numbers.{user_at}
+use Rattle.oidc_words.specs.declared.scopes.Scopes.{Scopes}
+use Rattle.oidc_words.specs.Words.{is_one_of}
+use Rattle.oidc_words.specs.Claims.{is_claim_of, is_standard_claim}
 
 -- a claim is wanted: a scope value asks for it, or it is a standard claim and asked for by its name
 abbrev pub is_wanted : Scopes → List (List ℕ) → List ℕ → Bool
@@ -31,7 +33,7 @@ claims_of (Some u) = text_claims u.claims
 
 -- the claims that the user of this number holds
 unfoldable pub user_claims : Configuration → ℕ → Members
-user_claims c user = claims_of (slice_get c.users user)
+user_claims c user = claims_of (user_at c user)
 
 -- the user's claims that are wanted
 unfoldable pub held_members : Configuration → ℕ → Scopes → List (List ℕ) → Members

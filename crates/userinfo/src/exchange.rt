@@ -2,10 +2,10 @@
 
 ghost use Rattle.std.specs.Prelude.{◌≡◌, ◌⊎◌, ℕ, List, Ok, Err, IfOk, IfErr, IsFalse};
 ghost use Rattle.userinfo.specs.Request.{info_message};
-ghost use Rattle.userinfo.specs.Answer.{sub_in, info_read, as_claims, hides_memory, IsUserInfo};
+ghost use Rattle.userinfo.specs.Answer.{sub_in, info_read, hides_memory, IsUserInfo};
 
 use crate::no::InfoNo;
-use claim_set::{ClaimNo, ClaimSet, read_claims};
+use claim_set::{ClaimSet, read_claims};
 use sso_base::{Answered, Message, NoMemory, Text};
 use std::alloc::Global;
 
@@ -24,27 +24,15 @@ pub fn print_info(alloc: Global, endpoint: &Text, access: &Text) -> Result<Messa
     })
 }
 
-// The refusal of claims, as that of an answer.
-fn claims_refused(error: ClaimNo) -> InfoNo
-    ensures refused { result ≡ as_claims error }
-    ensures memory_is_outermost { IsFalse (hides_memory result) }
-{
-    match error {
-        ClaimNo::NoMemory => InfoNo::NoMemory,
-        error => InfoNo::Claims(error),
-    }
-}
-
 // The subject among claims.
 fn subject_in(claims: &ClaimSet) -> Result<Text, InfoNo>
     ensures ok { IfOk result (λ t. sub_in claims.now ≡ Ok t) }
     ensures err { IfErr result (λ e. (e ≡ InfoNo.NoMemory) ⊎ (sub_in claims.now ≡ Err e)) }
     ensures memory_is_outermost { IfErr result (λ e. IsFalse (hides_memory e)) }
 {
-    match claims.text("sub") {
-        Ok(Some(sub)) => Ok(sub),
-        Ok(None) => Err(InfoNo::NoSub),
-        Err(error) => Err(claims_refused(error)),
+    match claims.text("sub")? {
+        Some(sub) => Ok(sub),
+        None => Err(InfoNo::NoSub),
     }
 }
 
@@ -58,10 +46,8 @@ fn subject_of(alloc: Global, answer: &Answered) -> Result<Text, InfoNo>
     if answer.status != 200 {
         return Err(InfoNo::Status(answer.status));
     }
-    match read_claims(alloc, answer.body.as_bytes()) {
-        Ok(claims) => subject_in(&claims),
-        Err(error) => Err(claims_refused(error)),
-    }
+    let claims = read_claims(alloc, answer.body.as_bytes())?;
+    subject_in(&claims)
 }
 
 /// The subject that a UserInfo answer names (OpenID Connect Core 1.0, 5.3.2 and 5.3.4).

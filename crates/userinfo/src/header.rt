@@ -1,9 +1,11 @@
 // The `Authorization` header of a request with a bearer token.
 
-ghost use Rattle.std.specs.Prelude.{◌≡◌, ◌≤◌, length, option_map};
+ghost use Rattle.std.specs.Prelude.{◌≡◌, option_map};
 ghost use Rattle.sso_base.specs.Words.{word_of_text};
-ghost use Rattle.userinfo.specs.Header.{scheme_of, is_bearer as is_bearer_scheme, if_word, header_read, bearer_read};
+ghost use Rattle.request_params.specs.Scheme.{is_bearer as is_bearer_scheme};
+ghost use Rattle.userinfo.specs.Header.{if_word, header_read, bearer_read};
 
+use request_params::{cut, scheme_of};
 use sso_base::Word;
 
 /// The bearer token that a request presents (RFC 6750, 2.1).
@@ -15,21 +17,6 @@ pub enum Bearer {
     Unreadable,
     /// The word that stands in the header.
     Given(Word),
-}
-
-// How many bytes stand before the first space, or in all where there is none.
-fn scheme_len(header: &[u8]) -> usize
-    ensures value { result ≡ length (scheme_of header.now) }
-    ensures within { result ≤ length header.now }
-{
-    let mut len = 0;
-    for byte in header {
-        if *byte == b' ' {
-            return len;
-        }
-        len += 1;
-    }
-    len
 }
 
 // Whether the scheme is `Bearer`, in any case (RFC 9110, 11.1).
@@ -53,12 +40,11 @@ fn read_word(text: &[u8]) -> Bearer
 fn read_header(header: &[u8]) -> Bearer
     ensures { result ≡ header_read header.now }
 {
-    let (scheme, rest) = header.split_at(scheme_len(header));
-    if !is_bearer(scheme) {
+    if !is_bearer(scheme_of(header)) {
         return Bearer::Absent;
     }
-    match rest.split_first() {
-        Some((_space, text)) => read_word(text),
+    match cut(header, b' ') {
+        Some((_scheme, text)) => read_word(text),
         None => Bearer::Unreadable,
     }
 }

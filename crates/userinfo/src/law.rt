@@ -1,6 +1,6 @@
 // What holds of claims, requests and answers, for the crates above.
 
-ghost use Rattle.std.specs.Prelude.{◌≡◌, ◌≢◌, ◌<◌, ◌≤◌, ℕ, List, length, Bool, true, false, codes, Option, Some, None, Ok, Err, slice_get};
+ghost use Rattle.std.specs.Prelude.{◌≡◌, ◌≢◌, ◌<◌, ◌≤◌, ℕ, List, length, Bool, true, false, codes, Option, Some, None, Ok, Err};
 ghost use Rattle.serde_json.specs.Data.{Data, string, Members};
 ghost use Rattle.serde_json.specs.Find.{get_member, as_str};
 ghost use Rattle.sso_base.specs.Words.{Word, IsWord, word_text};
@@ -13,29 +13,35 @@ ghost use Rattle.toml.specs.Data as toml;
 ghost use Rattle.configuration_rows.specs.Claims.{claims_in};
 ghost use Rattle.client_registry.specs.declared.records.User.{User};
 ghost use Rattle.client_registry.specs.Configuration.{Configuration, subject_at};
+ghost use Rattle.client_registry.specs.Numbers.{user_at};
+ghost use Rattle.client_registry.specs.ClaimKinds.{has_kind};
 ghost use Rattle.client_registry.specs.Registered.{IsRegistry};
-ghost use Rattle.scope_claims.specs.declared.scopes.Scopes.{Scopes};
-ghost use Rattle.scope_claims.specs.Claims.{is_standard_claim};
+ghost use Rattle.oidc_words.specs.declared.scopes.Scopes.{Scopes};
+ghost use Rattle.oidc_words.specs.Claims.{is_standard_claim, kind_of};
 ghost use Rattle.userinfo.specs.declared.header.Bearer.TheVariants.{Absent, Unreadable, Given};
 ghost use Rattle.userinfo.specs.declared.no.InfoNo.{InfoNo};
 ghost use Rattle.userinfo.specs.declared.no.InfoNo.TheVariants as no;
 ghost use Rattle.userinfo.specs.Held.{is_wanted, user_claims, held_members, info_members};
-ghost use Rattle.userinfo.specs.Header.{is_bearer, bearer_read, IsScheme, IsBearer};
+ghost use Rattle.request_params.specs.Scheme.{is_bearer, IsScheme};
+ghost use Rattle.userinfo.specs.Header.{bearer_read, IsBearer};
 ghost use Rattle.userinfo.specs.Request.{info_message};
 ghost use Rattle.userinfo.specs.Answer.{info_read, IsUserInfo};
 
 /// A user's claims stand in the user's text. A wanted claim has the value that the user holds, and is absent where the
 /// user holds none; one that is not wanted is absent, and so is every name that is no standard claim.
 pub fn held_claims_are_wanted()
-    ensures read { (c : Configuration) (n : ℕ) (u : User) → IsRegistry c → slice_get c.users n ≡ Some u → Reads u.claims (user_claims c n) }
+    ensures read { (c : Configuration) (n : ℕ) (u : User) → IsRegistry c → user_at c n ≡ Some u → Reads u.claims (user_claims c n) }
     ensures wanted { (c : Configuration) (n : ℕ) (s : Scopes) (asked : List (List ℕ)) (k : List ℕ) → is_wanted s asked k ≡ true → get_member k (held_members c n s asked) ≡ get_member k (user_claims c n) }
     ensures unwanted { (c : Configuration) (n : ℕ) (s : Scopes) (asked : List (List ℕ)) (k : List ℕ) → is_wanted s asked k ≡ false → get_member k (held_members c n s asked) ≡ None }
     ensures standard { (c : Configuration) (n : ℕ) (s : Scopes) (asked : List (List ℕ)) (k : List ℕ) → is_standard_claim k ≡ false → get_member k (held_members c n s asked) ≡ None }
 {}
 
-/// A configuration gives users standard claims alone, so nothing that a user holds is kept back for not being one.
+/// The users of a registry hold standard claims alone, each of its kind, so nothing that a user holds is kept back for not
+/// being one. A configuration gives users no others.
 pub fn configured_claims_are_standard()
-    ensures { (d : toml.Data) (ms : Members) (k : List ℕ) → claims_in d ≡ Some ms → is_standard_claim k ≡ false → get_member k ms ≡ None }
+    ensures held { (c : Configuration) (n : ℕ) (k : List ℕ) → IsRegistry c → is_standard_claim k ≡ false → get_member k (user_claims c n) ≡ None }
+    ensures kind { (c : Configuration) (n : ℕ) (k : List ℕ) (d : Data) → IsRegistry c → get_member k (user_claims c n) ≡ Some d → has_kind (kind_of k) d ≡ true }
+    ensures configured { (d : toml.Data) (ms : Members) (k : List ℕ) → claims_in d ≡ Some ms → is_standard_claim k ≡ false → get_member k ms ≡ None }
 {}
 
 /// UserInfo has the user's subject at the client as `sub`, and of every other name what the user's wanted claims have.

@@ -14,8 +14,6 @@ mod header;
 mod held;
 mod law;
 mod no;
-#[cfg(test)]
-mod tests;
 
 pub use exchange::{print_info, read_info};
 pub use header::{Bearer, read_bearer};

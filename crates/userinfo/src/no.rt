@@ -27,3 +27,17 @@ impl From<NoMemory> for InfoNo {
         InfoNo::NoMemory
     }
 }
+
+impl From<ClaimNo> for InfoNo {
+    ghost use Rattle.std.specs.Prelude.{◌≡◌, IsFalse};
+    ghost use Rattle.userinfo.specs.Answer.{as_claims, hides_memory};
+
+    ghost from_gives = { λ error e. (e ≡ as_claims error) × IsFalse (hides_memory e) };
+
+    fn from(error: ClaimNo) -> InfoNo {
+        match error {
+            ClaimNo::NoMemory => InfoNo::NoMemory,
+            error => InfoNo::Claims(error),
+        }
+    }
+}

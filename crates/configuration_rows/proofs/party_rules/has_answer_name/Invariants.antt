@@ -1,6 +1,6 @@
 use Rattle.std.proofs.Common.{◌≡◌, drop}
 use Rattle.std.specs.List.{list_any}
-use Rattle.configuration_rows.specs.Kinds.{has_text}
+use Rattle.sso_base.specs.Texts.{has_text}
 use Rattle.configuration_rows.specs.Version1.{answer_names}
 use Rattle.configuration_rows.proofs.party_rules.has_answer_name.Given as goal
 

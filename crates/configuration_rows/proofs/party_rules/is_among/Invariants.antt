@@ -1,5 +1,5 @@
 use Rattle.std.proofs.Common.{◌≡◌, drop}
-use Rattle.configuration_rows.specs.Kinds.{has_text}
+use Rattle.sso_base.specs.Texts.{has_text}
 use Rattle.configuration_rows.proofs.party_rules.is_among.Given as goal
 
 abbrev pub invariant-loop-other : goal.invariant-loop-other

@@ -1,6 +1,6 @@
 use Rattle.std.proofs.Common.{◌≡◌, drop, map}
 use Rattle.std.specs.List.{list_all}
-use Rattle.oidc_replay.specs.Line.{is_filled}
+use Rattle.oidc_words.specs.Words.{is_filled}
 use Rattle.oidc_replay.proofs.line.are_filled.Given as goal
 
 abbrev pub invariant-loop-word : goal.invariant-loop-word

@@ -1,5 +1,5 @@
 use Rattle.op_response.proofs.FormLaws.{login_form, login_turn, consent_form, consent_turn, consent_asked}
-use Rattle.op_response.proofs.ScopeTexts.{are_written}
+use Rattle.oidc_words.proofs.ScopeTexts.{text_is_read}
 use Rattle.op_response.proofs.law.forms_are_posted_to_the_provider.Goals as goal
 
 pub returns-clause-login : goal.returns-clause-login
@@ -18,4 +18,4 @@ pub returns-clause-asked : goal.returns-clause-asked
 returns-clause-asked c = consent_asked
 
 pub returns-clause-scopes : goal.returns-clause-scopes
-returns-clause-scopes c = λ s. (are_written s).read
+returns-clause-scopes c = text_is_read

@@ -1,5 +1,5 @@
 use Rattle.rp_login.specs.Rows.{login_name, pending_name, visit_name, seen_name}
-use Rattle.rp_login.proofs.RowOf.{row_of-push_same, row_of-push_other}
+use Rattle.held_rows.proofs.RowOf.{row_of-push_same, row_of-push_other}
 use Rattle.rp_login.proofs.law.added_rows_are_found.Goals as goal
 
 pub returns-clause-login : goal.returns-clause-login

@@ -1,5 +1,6 @@
-use Rattle.rp_login.specs.Rows.{login_name, login_begun, login_life, pending_name, pending_begun, pending_life, visit_name, visit_begun, visit_life, seen_name, seen_begun, seen_life}
-use Rattle.rp_login.proofs.RowOf.{row_of-live_rows}
+use Rattle.rp_login.specs.Rows.{login_name, login_begun, pending_name, pending_begun, visit_name, visit_begun, seen_name, seen_begun}
+use Rattle.oidc_words.specs.Lives.{login_life, pending_life, visit_life, seen_life}
+use Rattle.held_rows.proofs.RowOf.{row_of-live_rows}
 use Rattle.rp_login.proofs.law.purges_leave_what_lives.Goals as goal
 
 pub returns-clause-logins : goal.returns-clause-logins

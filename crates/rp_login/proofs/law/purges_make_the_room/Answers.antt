@@ -1,6 +1,6 @@
 use Rattle.std.proofs.Common.{length}
 use Rattle.std.proofs.lemmas.Bool.{ltb-true}
-use Rattle.rp_login.specs.Held.{most_rows}
+use Rattle.held_rows.specs.Held.{most_rows}
 use Rattle.rp_login.specs.Calls.{purge, after}
 use Rattle.rp_login.proofs.law.purges_make_the_room.Goals as goal
 

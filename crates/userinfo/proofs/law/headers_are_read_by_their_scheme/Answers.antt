@@ -1,4 +1,5 @@
-use Rattle.userinfo.proofs.Schemes.{one_scheme, some_scheme, given_is_bearer, bearer_is_read, unreadable_bearer, other_scheme, no_header}
+use Rattle.request_params.proofs.Schemes.{one_scheme, some_scheme}
+use Rattle.userinfo.proofs.BearerHeaders.{given_is_bearer, bearer_is_read, unreadable_bearer, other_scheme, no_header}
 use Rattle.userinfo.proofs.law.headers_are_read_by_their_scheme.Goals as goal
 
 pub returns-clause-one_scheme : goal.returns-clause-one_scheme

@@ -1,4 +1,4 @@
-use Rattle.userinfo.proofs.Schemes.{printed_is_read}
+use Rattle.userinfo.proofs.BearerHeaders.{printed_is_read}
 use Rattle.userinfo.proofs.law.printed_requests_are_read.Goals as goal
 
 pub returns : goal.returns

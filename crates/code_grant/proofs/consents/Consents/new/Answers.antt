@@ -1,5 +1,5 @@
 use Rattle.std.proofs.Common.{replicate, ap, ◌∙◌}
-use Rattle.scope_claims.specs.declared.scopes.Scopes.{Scopes}
+use Rattle.oidc_words.specs.declared.scopes.Scopes.{Scopes}
 use Rattle.code_grant.specs.Consents.{no_consents}
 use Rattle.code_grant.proofs.consents.Consents.new.Goals as goal
 

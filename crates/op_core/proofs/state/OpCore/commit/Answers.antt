@@ -7,8 +7,8 @@ pub invariant_of-self-2 : goal.invariant_of-self-2
 invariant_of-self-2 c =
     let p : OpPair = record { entry = c.args.entry; reply = c.args.reply } in
     let P : List OpPair → List OpPair = λ x. x ++ p ∷ [] in
-    committed_as c.self.inside.registry c.self.inside.history.items c.push_reserved.new.self.items c.self.inside.weight c.args.weight c.self.inside.grants c.reserve-2.new.self c.take_up.new.grants p
+    committed_as c.self.inside.registry c.self.inside.journal.pairs c.push.new.self.pairs c.self.inside.grants c.reserve-2.new.self c.take_up.new.grants p c.args.weight
     c.args.outcome.made.turn c.args.outcome.made.session c.args.outcome.made.code c.args.outcome.made.token c.args.outcome.used c.args.outcome.client
     c.args.self.now c.self.view_is c.self.invariant c.in_ok-reserve-2.ensures.ok c.requires.entry c.requires.weight
-    (c.push_reserved.ensures.items ∙ ap P c.in_ok-reserve.ensures.items) c.take_up.ensures
+    (c.push.ensures ∙ ap P c.reserve.ensures.pairs) c.take_up.ensures
     (c.requires.moment, c.requires.answer, c.requires.brings, c.requires.own_turn, c.requires.own_session, c.requires.own_code, c.requires.room)

@@ -1,0 +1,4 @@
+pub mod Cookies
+pub mod UserAgent
+pub mod Replies
+pub mod Told

@@ -1,0 +1,22 @@
+// Texts are joined.
+
+ghost use Rattle.std.specs.Prelude.{◌≡◌, ◌++◌, map, IfOk, string_bytes};
+ghost use Rattle.std.specs.List.{concat};
+
+use sso_base::{NoMemory, Text};
+use std::alloc::Global;
+
+/// These pieces, one behind another.
+#[tactic(auto, using(crate::proofs::Pieces::pieces_joined))]
+pub fn joined(alloc: Global, pieces: &[&str]) -> Result<String, NoMemory>
+    ensures { IfOk result (λ t. string_bytes t ≡ concat (map (λ p. p.now) pieces.now)) }
+{
+    Ok(pieces.concat(alloc)?)
+}
+
+/// Two texts, one behind the other.
+pub fn phrase(alloc: Global, first: &str, second: &str) -> Result<Text, NoMemory>
+    ensures { IfOk result (λ t. t ≡ first.now ++ second.now) }
+{
+    Ok(Text::from_string(joined(alloc, &[first, second])?))
+}

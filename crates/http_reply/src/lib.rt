@@ -1,0 +1,20 @@
+//! What the replies of both roles share in HTTP: cookies that hold words, as a server sets them (RFC 6265, 4.1) and as a user
+//! agent reads them (RFC 6265, 5.2), and the kinds of replies (RFC 9110).
+//!
+//! | Module | What it has |
+//! |---|---|
+//! | `cookies` | [`cookie`]: the text of a cookie that holds a word under a name |
+//! | `replies` | [`html`], [`plain`], [`empty`] and [`sent_to`], kinds of replies |
+//! | `joining` | texts that are joined of pieces |
+//! | `law` | [`cookies_are_read_as_they_were_written`]: what a user agent has of a cookie |
+#![tactic(auto)]
+
+mod cookies;
+mod joining;
+mod law;
+mod replies;
+
+pub use cookies::cookie;
+pub use joining::{joined, phrase};
+pub use law::cookies_are_read_as_they_were_written;
+pub use replies::{empty, html, plain, sent_to};

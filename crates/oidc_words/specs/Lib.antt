@@ -1,0 +1,9 @@
+pub mod Words
+pub mod Scopes
+pub mod Claims
+pub mod Prompts
+pub mod Types
+pub mod Modes
+pub mod Lives
+pub mod Paths
+pub mod Errors

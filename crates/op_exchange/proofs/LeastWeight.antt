@@ -1,0 +1,11 @@
+-- No ask weighs less than one that holds no texts.
+use Rattle.std.proofs.Common.{◌≤◌, ℕ, ◌+◌, arith}
+use Rattle.sso_base.specs.Weights.{empty_weight}
+use Rattle.op_exchange.specs.declared.ask.OpAsk.{OpAsk}
+use Rattle.op_exchange.specs.Weight.{ask_weight, ask_bytes}
+
+least : (n : ℕ) → empty_weight ≤ empty_weight + n
+least n = omega arith
+
+pub least_weight : (asked : OpAsk) → empty_weight ≤ ask_weight asked
+least_weight asked = least (ask_bytes asked)

@@ -1,0 +1,54 @@
+// The configurations of the cases, by the names that the call `provider` takes.
+
+use sample_rows::{ALICE, ALICES_CLAIMS, BOB, MAIL_CLIENT, NEWS_CLIENT, PROVIDER, SHOP_CLIENT};
+use sso_base::NoMemory;
+use std::alloc::Global;
+
+const NEWS_LINES: &str = "response_types = [\"code\", \"id_token token\"]
+subject = \"pairwise\"
+consent = \"given\"
+";
+
+// Two users with the password `password`, of whom the first has claims. The first client asks for consent, and the third has
+// pairwise subjects and the response type `id_token token` too.
+fn shop(alloc: Global) -> Result<String, NoMemory> {
+    let users = [
+        PROVIDER,
+        ALICE,
+        ALICES_CLAIMS,
+        "phone_number = \"+1 555\"\n",
+        BOB,
+    ]
+    .concat(alloc)?;
+    let clients = [
+        SHOP_CLIENT,
+        "consent = \"ask\"\n",
+        MAIL_CLIENT,
+        NEWS_CLIENT,
+        NEWS_LINES,
+    ]
+    .concat(alloc)?;
+    Ok([users.as_str(), clients.as_str()].concat(alloc)?)
+}
+
+// The head of a provider with this issuer.
+fn provider_at(alloc: Global, issuer: &str) -> Result<String, NoMemory> {
+    Ok(PROVIDER.replacen(alloc, "http://127.0.0.1:8080", issuer, 1)?)
+}
+
+// One user with the password `password`, and one client. The provider's paths stand below `/op`.
+fn below_a_path(alloc: Global) -> Result<String, NoMemory> {
+    let provider = provider_at(alloc, "http://127.0.0.1:8080/op")?;
+    Ok([provider.as_str(), ALICE, SHOP_CLIENT].concat(alloc)?)
+}
+
+/// The configuration of this name.
+pub fn configuration(alloc: Global, name: &str) -> Result<Option<String>, NoMemory> {
+    match name {
+        "shop" => Ok(Some(shop(alloc)?)),
+        "below a path" => Ok(Some(below_a_path(alloc)?)),
+        // A provider alone: no user and no client.
+        "https" => Ok(Some(provider_at(alloc, "https://op.example/sso/")?)),
+        _ => Ok(None),
+    }
+}

@@ -1,0 +1,116 @@
+// Request objects of the client `mail-client` are written and read.
+
+use crate::parameters::params_of;
+use case_lines::{claim_refusal, or_else, push_named, told, told_refusal};
+use client_registry::{Client, Registry};
+use jws_compact::{Typ, seal as seal_jws};
+use request_object::{ObjNo, seal_request, unseal_request, written_len};
+use request_params::{ALL_NAMES, Params};
+use sso_base::{NoMemory, Text};
+use std::alloc::Global;
+
+// The parameters that are there, by their names.
+fn listed(alloc: Global, params: &Params) -> Result<String, NoMemory> {
+    let mut list = String::new(alloc);
+    for name in &ALL_NAMES {
+        push_named(
+            &mut list,
+            name.as_str(),
+            params.get(*name).as_ref().map(Text::as_str),
+        )?;
+    }
+    or_else(list, "nothing")
+}
+
+// The client of this id.
+fn client<'a>(registry: &'a Registry, id: &str) -> Option<&'a Client> {
+    match registry.find_client(id.as_bytes()) {
+        Some(place) if place < registry.clients() => Some(registry.client(place)),
+        _ => None,
+    }
+}
+
+// The name of a refusal, and the claim that it names.
+fn refusal(why: &ObjNo) -> (&str, &str) {
+    match why {
+        ObjNo::NoMemory => ("NoMemory", ""),
+        ObjNo::Jws(_) => ("Jws", ""),
+        ObjNo::Claims(why) => claim_refusal(why),
+        ObjNo::Issuer => ("Issuer", ""),
+        ObjNo::Audience => ("Audience", ""),
+        ObjNo::Nested => ("Nested", ""),
+    }
+}
+
+fn told_object(alloc: Global, answer: &Result<Params, ObjNo>) -> Result<String, NoMemory> {
+    match answer {
+        Ok(params) => listed(alloc, params),
+        Err(ObjNo::Jws(why)) => Ok(format!(in alloc; "Jws {why:?}")?),
+        Err(why) => told_refusal(alloc, refusal(why)),
+    }
+}
+
+fn read_as(
+    alloc: Global,
+    registry: &Registry,
+    client: &Client,
+    object: &str,
+) -> Result<String, NoMemory> {
+    let issuer = &registry.provider().issuer;
+    let answer = unseal_request(alloc, client, issuer, object.as_bytes());
+    told_object(alloc, &answer)
+}
+
+/// `unseal_request|OBJECT`: the parameters of a request object, or why it is refused.
+pub fn unseal(alloc: Global, registry: &Registry, object: &str) -> Result<String, NoMemory> {
+    match client(registry, "mail-client") {
+        Some(client) => read_as(alloc, registry, client, object),
+        None => told(alloc, "no such client"),
+    }
+}
+
+/// `object|CLIENT|CLAIMS`: the claims are sealed under the secret of a client, and the object is read.
+pub fn object(
+    alloc: Global,
+    registry: &Registry,
+    id: &str,
+    claims: &str,
+) -> Result<String, NoMemory> {
+    match client(registry, id) {
+        Some(client) if claims.len() <= 6000 => {
+            let key = client.secret.as_str().as_bytes();
+            let object = seal_jws(alloc, key, Typ::Jwt, claims.as_bytes())?;
+            unseal(alloc, registry, object.as_str())
+        }
+        _ => told(alloc, "not to be sealed"),
+    }
+}
+
+// The object with these parameters, and how many bytes its claims have.
+fn sealed(
+    alloc: Global,
+    client: &Client,
+    issuer: &Text,
+    params: &Params,
+) -> Result<String, NoMemory> {
+    let len = written_len(alloc, client, issuer, params)?;
+    let nested = params.request.is_some()
+        || params.request_uri.is_some()
+        || params.registration.is_some();
+    if nested || len > 6000 {
+        return told(alloc, "not to be sealed");
+    }
+    let object = seal_request(alloc, client, issuer, params)?;
+    Ok(format!(in alloc; "{len} bytes: {}", object.as_str())?)
+}
+
+/// `seal_request|NAME=VALUE & ..`: the request object with these parameters, behind the number of bytes of its claims.
+pub fn seal(alloc: Global, registry: &Registry, pairs: &str) -> Result<String, NoMemory> {
+    match client(registry, "mail-client") {
+        Some(client) => {
+            let params = params_of(alloc, pairs, " & ")?;
+            sealed(alloc, client, &registry.provider().issuer, &params)
+        }
+        None => told(alloc, "no such client"),
+    }
+}

@@ -1,0 +1,37 @@
+// The configuration that the cases ask, and texts with names.
+
+use sample_rows::{ALICE, ANY_CLIENT, MAIL_CLIENT, NEWS_CLIENT, PROVIDER, SHOP_CLIENT};
+use sso_base::NoMemory;
+use std::alloc::Global;
+
+const NEWS_LINES: &str = "response_types = [\"id_token token\"]
+consent = \"given\"
+";
+
+/// One user and four clients. The second asks for no consent and has one response type, the last has every one.
+pub fn sample(alloc: Global) -> Result<String, NoMemory> {
+    Ok([
+        PROVIDER,
+        ALICE,
+        SHOP_CLIENT,
+        NEWS_CLIENT,
+        NEWS_LINES,
+        MAIL_CLIENT,
+        ANY_CLIENT,
+    ]
+    .concat(alloc)?)
+}
+
+/// The text of this name.
+pub fn text(name: &str) -> Option<&'static str> {
+    match name {
+        "beside" => Some("client_id=a&response_type=code"),
+        "news" => Some(
+            "client_id=news-client&redirect_uri=http://127.0.0.1:8082/cb&response_type=id_token token",
+        ),
+        "any" => Some(
+            "client_id=any-client&redirect_uri=https://a.b/2&nonce=n1&max_age=0300&prompt=consent",
+        ),
+        _ => None,
+    }
+}

@@ -1,0 +1,27 @@
+// The scheme of an `Authorization` header, and what stands after it (RFC 9110, 11.6.2).
+
+ghost use Rattle.std.specs.Prelude.{◌≡◌, option_map};
+ghost use Rattle.request_params.specs.Scheme.{cut as cut_at_first, scheme_of as scheme};
+
+/// What stands before and after the first of these bytes, where there is one. It takes no memory.
+pub fn cut(bytes: &[u8], mark: u8) -> Option<(&[u8], &[u8])>
+    ensures { option_map (λ parts. (parts.0.now, parts.1.now)) result ≡ cut_at_first mark bytes.now }
+{
+    for (place, byte) in bytes.iter().enumerate() {
+        if *byte == mark {
+            return Some((&bytes[..place], &bytes[place + 1..]));
+        }
+    }
+    None
+}
+
+/// The scheme of an `Authorization` header: what stands before its first space, or the whole where there is none
+/// (RFC 9110, 11.6.2). It takes no memory.
+pub fn scheme_of(header: &[u8]) -> &[u8]
+    ensures { result.now ≡ scheme header.now }
+{
+    match cut(header, b' ') {
+        Some((scheme, _rest)) => scheme,
+        None => header,
+    }
+}

@@ -1,5 +1,0 @@
-use Rattle.rp_exchange.proofs.TextsSoFar.{one_more}
-use Rattle.rp_exchange.proofs.values.are_texts.Goals as goal
-
-pub loop-place-preserved : goal.loop-place-preserved
-loop-place-preserved c = one_more c.args.texts.now c.loop-place.place c.at.result.now c.loop-place.invariant c.at.ensures c.as_str-text.ensures.utf8

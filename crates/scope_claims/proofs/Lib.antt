@@ -1,4 +1,0 @@
-pub mod Joining
-pub mod Covering
-pub mod Asking
-mod Samples

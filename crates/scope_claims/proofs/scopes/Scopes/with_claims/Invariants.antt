@@ -1,6 +1,0 @@
-use Rattle.std.proofs.Common.{◌≡◌, drop}
-use Rattle.scope_claims.specs.Claims.{with_scopes, no_scopes}
-use Rattle.scope_claims.proofs.scopes.Scopes.with_claims.Given as goal
-
-abbrev pub invariant-loop-place : goal.invariant-loop-place
-invariant-loop-place l = with_scopes l.scopes (drop l.place l.names) ≡ with_scopes no_scopes l.names

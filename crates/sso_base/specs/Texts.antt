@@ -1,0 +1,13 @@
+-- Lists of texts.
+use Rattle.std.specs.Prelude.{List, Bool, not, ◌&&◌, ◌==◌, length}
+use Rattle.std.specs.List.{list_all, list_any}
+use Rattle.std.specs.Str.{bytes_eq}
+use Rattle.sso_base.specs.Words.{Text}
+
+-- the text is in the list
+abbrev pub has_text : Text → List Text → Bool
+has_text t ts = list_any (bytes_eq t) ts
+
+-- there is a text, and each is this one
+abbrev pub is_only : Text → List Text → Bool
+is_only t ts = not (length ts == 0) && list_all (λ s. bytes_eq s t) ts

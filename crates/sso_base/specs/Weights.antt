@@ -1,0 +1,23 @@
+-- What texts weigh, in bytes.
+use Rattle.std.specs.Prelude.{ℕ, ◌-◌, ◌^◌, nat_lt, List, length, Option, Some, None, if◌then◌else◌}
+use Rattle.std.specs.List.{sum_by}
+use Rattle.sso_base.specs.Words.{Text}
+
+-- a weight as it is told in 64 bits
+abbrev pub told_weight : ℕ → ℕ
+told_weight n = if nat_lt n (2 ^ 64) then n else 2 ^ 64 - 1
+
+-- what an ask weighs that holds no texts, and any ask at least
+abbrev pub empty_weight : ℕ
+empty_weight = 1024
+
+abbrev pub text_bytes : Option Text → ℕ
+text_bytes None = 0
+text_bytes (Some t) = length t
+
+abbrev pub texts_bytes : List Text → ℕ
+texts_bytes texts = sum_by (λ (t : Text). length t) texts
+
+abbrev pub texts_bytes_if : Option (List Text) → ℕ
+texts_bytes_if None = 0
+texts_bytes_if (Some texts) = texts_bytes texts

@@ -1,0 +1,85 @@
+ghost use Rattle.std.specs.Prelude.{◌≡◌, ℕ, ◌+◌, ◌<◌, ◌≤◌, List, ◌++◌, length, Err, IfOk, OnErr};
+ghost use Rattle.sso_base.specs.declared.history.Pair.{Pair};
+ghost use Rattle.sso_base.specs.Journal.{most_weight, history_weight, extended};
+ghost use Rattle.sso_base.specs.Weights.{empty_weight, told_weight};
+
+use crate::memory::NoMemory;
+use crate::moment::Moment;
+use crate::word::Word;
+use std::alloc::Global;
+
+/// Why a core took no step. All that it holds is as it was.
+#[derive(Clone, Copy, Debug, PartialEq, Eq)]
+pub enum CoreNo {
+    /// Memory ran out.
+    NoMemory,
+    /// The history and the entry weigh more than 268,435,456 together. The number is the weight of the history.
+    JournalFull(u64),
+}
+
+impl From<NoMemory> for CoreNo {
+    ghost use Rattle.std.specs.Prelude.{◌≡◌};
+    ghost use Rattle.sso_base.specs.declared.step.CoreNo.TheVariants as no;
+
+    ghost from_gives = { λ _ e. e ≡ no.NoMemory };
+
+    fn from(_error: NoMemory) -> CoreNo {
+        CoreNo::NoMemory
+    }
+}
+
+/// What takes asks, one after another, and stores them with its replies. What it replies is said by which histories are
+/// legal.
+pub trait Core: Send + Drop {
+    type Ask: Drop;
+
+    type Reply: Drop;
+
+    /// The type of what it was set up with.
+    ghost Setup: { Type 0 };
+
+    /// What it was set up with.
+    ghost setup: { Self → Setup };
+
+    /// What it was asked and what it replied, oldest first.
+    ghost history: { Self → List (Pair Self.Ask Self.Reply) };
+
+    /// The weight of an ask.
+    ghost weighs: { Self.Ask → ℕ };
+
+    /// Which histories are legal for a setup.
+    ghost is_legal: { Setup → List (Pair Self.Ask Self.Reply) → Type 0 };
+
+    /// Replies to the ask, and stores both with the later of this moment and the last one, and with the drawn words.
+    fn step(
+        &mut self,
+        alloc: Global,
+        at: Moment,
+        fresh: [Word; 4],
+        ask: Self::Ask,
+    ) -> Result<Self::Reply, CoreNo>
+        ensures ok { IfOk result (λ reply. history self.new ≡ extended (history self.old) at fresh ask reply) }
+        ensures err { OnErr result (self.new ≡ self.old) }
+        ensures setup { setup self.new ≡ setup self.old }
+        ensures legal { is_legal (setup self.new) (history self.new) }
+        ensures room { IfOk result (λ reply. history_weight weighs (history self.old) + weighs ask ≤ most_weight) }
+        ensures full { (w : ℕ) → (result ≡ Err (CoreNo.JournalFull w)) → (w ≡ history_weight weighs (history self.old)) × (most_weight < w + weighs ask) };
+
+    /// The weight of an ask, or the greatest number of 64 bits where that is less.
+    fn weight(ask: &Self::Ask) -> Result<u64, NoMemory>
+        ensures { IfOk result (λ n. n ≡ told_weight (weighs ask.now)) };
+
+    /// How many pairs the history has.
+    fn count(&self) -> u64
+        ensures count { result ≡ length (history self.now) }
+        ensures legal { is_legal (setup self.now) (history self.now) };
+
+    /// A legal history weighs no more than a history may.
+    ghost legal_is_light: { (s : Setup) (h : List (Pair Self.Ask Self.Reply)) → is_legal s h → history_weight weighs h ≤ most_weight };
+
+    /// Each beginning of a legal history is legal.
+    ghost beginnings_are_legal: { (s : Setup) (front rest : List (Pair Self.Ask Self.Reply)) → is_legal s (front ++ rest) → is_legal s front };
+
+    /// No ask weighs less than one that holds no texts.
+    ghost least_weight: { (asked : Self.Ask) → empty_weight ≤ weighs asked };
+}

@@ -1,0 +1,47 @@
+// MACs, and the proofs of passwords.
+
+use case_lines::{bytes, in_32, told, told_hex};
+use sso_base::NoMemory;
+use std::alloc::Global;
+
+/// What a call of this module answers; none where it is another's.
+pub fn answer(alloc: Global, fields: &[&str]) -> Result<Option<String>, NoMemory> {
+    match fields {
+        ["mac", key, text] => Ok(Some(mac(alloc, key, text)?)),
+        ["proof", password, salt, rounds] => Ok(Some(proof(alloc, password, salt, rounds)?)),
+        ["same", left, right] => Ok(Some(same(alloc, left, right)?)),
+        _ => Ok(None),
+    }
+}
+
+// `mac|KEY|TEXT`: the MAC of the text under the key, in hex.
+fn mac(alloc: Global, key: &str, text: &str) -> Result<String, NoMemory> {
+    let (key, text) = (bytes(alloc, key)?, bytes(alloc, text)?);
+    told_hex(alloc, &hmac256::mac(key.as_slice(), text.as_slice()))
+}
+
+// `proof|PASSWORD|SALT|ROUNDS`: the proof of the password, in hex.
+fn proof(alloc: Global, password: &str, salt: &str, rounds: &str) -> Result<String, NoMemory> {
+    let (password, salt) = (bytes(alloc, password)?, bytes(alloc, salt)?);
+    match rounds.parse::<u32>() {
+        Ok(rounds) if rounds >= 1 && salt.len() <= 64 => {
+            told_hex(
+                alloc,
+                &hmac256::proof(password.as_slice(), salt.as_slice(), rounds),
+            )
+        }
+        _ => told(alloc, "not to be proved"),
+    }
+}
+
+// `same|MAC|MAC`: whether two MACs are equal.
+fn same(alloc: Global, left: &str, right: &str) -> Result<String, NoMemory> {
+    let (left, right) = (bytes(alloc, left)?, bytes(alloc, right)?);
+    match (in_32(left.as_slice()), in_32(right.as_slice())) {
+        (Some(left), Some(right)) => {
+            let same = hmac256::same(&left, &right);
+            Ok(format!(in alloc; "{same}")?)
+        }
+        _ => told(alloc, "no MACs"),
+    }
+}

@@ -1,0 +1,81 @@
+//! Cases of MACs, sealed texts, claim sets and tokens, each a line that a person can read.
+//!
+//! The file `stdin` has the cases, and `stdout` the same with their answers. `case_lines` says how a line is read, and the comments
+//! there where the expected answers come from: the standards that are named, and other programs. `$NAME$` is a text of `names`.
+//!
+//! | Module | Its calls |
+//! |---|---|
+//! | `macs` | MACs, and the proofs of passwords |
+//! | `sealed` | texts that are sealed and unsealed |
+//! | `claims` | claim sets that are read and asked |
+//! | `puts` | claims that are put into a set |
+//! | `ids` | ID Tokens |
+//! | `logouts` | logout tokens |
+//! | `kinds` | each kind of sealed text, read as another |
+//! | `names` | none; the texts that have names |
+#![tactic(auto)]
+
+mod claims;
+mod ids;
+mod kinds;
+mod logouts;
+mod macs;
+mod names;
+mod puts;
+mod sealed;
+
+use case_lines::{Cases, print_cases, told};
+use sso_base::NoMemory;
+use std::alloc::Global;
+use std::io;
+
+#[derive(Drop)]
+struct TokenCases {}
+
+// What a call on MACs and sealed texts answers, where there is one of this name.
+fn of_texts(alloc: Global, fields: &[&str]) -> Result<Option<String>, NoMemory> {
+    if let Some(answer) = macs::answer(alloc, fields)? {
+        return Ok(Some(answer));
+    }
+    sealed::answer(alloc, fields)
+}
+
+fn of_claims(alloc: Global, fields: &[&str]) -> Result<Option<String>, NoMemory> {
+    if let Some(answer) = claims::answer(alloc, fields)? {
+        return Ok(Some(answer));
+    }
+    puts::answer(alloc, fields)
+}
+
+fn of_tokens(alloc: Global, fields: &[&str]) -> Result<Option<String>, NoMemory> {
+    if let Some(answer) = ids::answer(alloc, fields)? {
+        return Ok(Some(answer));
+    }
+    if let Some(answer) = logouts::answer(alloc, fields)? {
+        return Ok(Some(answer));
+    }
+    kinds::answer(alloc, fields)
+}
+
+impl Cases for TokenCases {
+    fn answer(&mut self, alloc: Global, fields: &[&str]) -> Result<String, NoMemory> {
+        if let Some(answer) = of_texts(alloc, fields)? {
+            return Ok(answer);
+        }
+        if let Some(answer) = of_claims(alloc, fields)? {
+            return Ok(answer);
+        }
+        if let Some(answer) = of_tokens(alloc, fields)? {
+            return Ok(answer);
+        }
+        told(alloc, "no such call")
+    }
+
+    fn text(&self, name: &str) -> Option<&str> {
+        names::text(name)
+    }
+}
+
+fn main(rt: HostRuntime) -> io::Result<()> {
+    print_cases(&rt, &mut TokenCases {})
+}

@@ -1,0 +1,83 @@
+// Texts that are sealed and unsealed.
+
+use case_lines::{as_text, bytes, told, told_text};
+use jws_compact::{JwsNo, Typ, Unsealed, seal, unseal};
+use sso_base::{NoMemory, Text};
+use std::alloc::Global;
+
+/// What a call of this module answers; none where it is another's.
+pub fn answer(alloc: Global, fields: &[&str]) -> Result<Option<String>, NoMemory> {
+    match fields {
+        ["seal", typ, key, payload] => Ok(Some(sealed(alloc, typ, key, payload)?)),
+        ["unseal", key, text] => Ok(Some(unsealed(alloc, key, text)?)),
+        ["seal and unseal", key, payload] => Ok(Some(sealed_and_unsealed(alloc, key, payload)?)),
+        _ => Ok(None),
+    }
+}
+
+fn typ_named(name: &str) -> Option<Typ> {
+    match name {
+        "JWT" => Some(Typ::Jwt),
+        "logout+jwt" => Some(Typ::LogoutJwt),
+        _ => None,
+    }
+}
+
+// `seal|TYP|KEY|PAYLOAD`: the payload, sealed under the key.
+fn sealed(alloc: Global, typ: &str, key: &str, payload: &str) -> Result<String, NoMemory> {
+    let payload = bytes(alloc, payload)?;
+    match typ_named(typ) {
+        Some(typ) if payload.len() <= 6000 => {
+            let text = seal(alloc, key.as_bytes(), typ, payload.as_slice())?;
+            told(alloc, text.as_str())
+        }
+        _ => told(alloc, "not to be sealed"),
+    }
+}
+
+// What a sealed text holds, or why there is none.
+fn told_unsealed(alloc: Global, answer: &Result<Unsealed, JwsNo>) -> Result<String, NoMemory> {
+    match answer {
+        Ok(unsealed) => {
+            let typ = told_text(alloc, &unsealed.typ)?;
+            let payload = as_text(unsealed.payload.as_bytes());
+            Ok(format!(in alloc; "typ {typ}, payload {payload:?}")?)
+        }
+        Err(why) => told(alloc, why.name()),
+    }
+}
+
+// `unseal|KEY|TEXT`: the kind and the payload of the sealed text.
+fn unsealed(alloc: Global, key: &str, text: &str) -> Result<String, NoMemory> {
+    let (key, text) = (bytes(alloc, key)?, bytes(alloc, text)?);
+    let answer = unseal(alloc, key.as_slice(), text.as_slice());
+    told_unsealed(alloc, &answer)
+}
+
+// Whether the payload is read.
+fn is_read(answer: &Result<Unsealed, JwsNo>, payload: &[u8]) -> bool {
+    match answer {
+        Ok(unsealed) => unsealed.payload.as_bytes() == payload,
+        Err(_) => false,
+    }
+}
+
+fn told_back(alloc: Global, key: &str, text: &Text, payload: &[u8]) -> Result<String, NoMemory> {
+    let answer = unseal(alloc, key.as_bytes(), text.as_str().as_bytes());
+    let back = if is_read(&answer, payload) {
+        "the payload"
+    } else {
+        "something else"
+    };
+    Ok(format!(in alloc; "{} characters, read as {back}", text.as_str().len())?)
+}
+
+// `seal and unseal|KEY|PAYLOAD`: how long the sealed text is, and whether the payload is read from it.
+fn sealed_and_unsealed(alloc: Global, key: &str, payload: &str) -> Result<String, NoMemory> {
+    let payload = bytes(alloc, payload)?;
+    if payload.len() > 6000 {
+        return told(alloc, "not to be sealed");
+    }
+    let text = seal(alloc, key.as_bytes(), Typ::Jwt, payload.as_slice())?;
+    told_back(alloc, key, &text, payload.as_slice())
+}
