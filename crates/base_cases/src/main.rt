@@ -1,5 +1,5 @@
-//! Cases of what all stands on, each a line that a person can read: texts, bytes, moments and words, rows with names, scope values
-//! and response types.
+//! Cases of what all stands on, each a line that a person can read: texts, bytes, moments and words, rows with names, sinks and
+//! shelves, scope values and response types.
 //!
 //! The file `stdin` has the cases, and `stdout` the same with their answers. `case_lines` says how a line is read, and the comments
 //! there where the expected answers come from.
@@ -8,10 +8,12 @@
 //! |---|---|
 //! | `words` | texts, bytes, moments, and words with their texts |
 //! | `rows` | `put row`, `find row` and `remove row`: a table of rows with names |
+//! | `outside` | `write` and `fetch`: sinks and shelves in memory, of which some calls fail |
 //! | `scopes` | `claim`, `claims`, `asks`, `joined` and `covers`: scope values, and the claims that they ask for |
 //! | `types` | `types`: response types |
 #![tactic(auto)]
 
+mod outside;
 mod rows;
 mod scopes;
 mod types;
@@ -35,6 +37,8 @@ impl Cases for BaseCases {
             ["put row" | "find row" | "remove row", ..] => {
                 rows::answer(alloc, &mut self.doors, fields)
             }
+            ["write", most, failing, pieces] => outside::write(alloc, most, failing, pieces),
+            ["fetch", failing, names, most] => outside::fetch(alloc, failing, names, most),
             ["claim", name] => scopes::claim(alloc, name),
             ["claims", names] => scopes::claims(alloc, names),
             ["asks", scope, name] => scopes::asks(alloc, scope, name),

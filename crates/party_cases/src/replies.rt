@@ -121,6 +121,14 @@ pub fn answer(alloc: Global, issuer: &str, reply: &[&str]) -> Result<String, NoM
     }
 }
 
+// The refusal of a token response in which the member is missing.
+fn missing(alloc: Global, member: &str) -> Result<RpReply, NoMemory> {
+    let why = TokensNo::Missing(Text::new(alloc, member)?);
+    Ok(RpReply::Refused {
+        why: RpNo::Tokens(why),
+    })
+}
+
 // The member that the refusal names as missing in a token response.
 fn missing_in(reply: &RpReply) -> &str {
     match reply {
@@ -131,12 +139,14 @@ fn missing_in(reply: &RpReply) -> &str {
     }
 }
 
+fn copy_told(alloc: Global, copied: &RpReply) -> Result<String, NoMemory> {
+    let line = rp_line(alloc, copied)?;
+    Ok(format!(in alloc; "{} {}", line.as_str(), missing_in(copied))?)
+}
+
 /// `copy reply|member of a token response missing|MEMBER`: the line of a copy of that refusal, and the member that it names.
 pub fn copied(alloc: Global, member: &str) -> Result<String, NoMemory> {
-    let reply = RpReply::Refused {
-        why: RpNo::Tokens(TokensNo::Missing(Text::new(alloc, member)?)),
-    };
+    let reply = missing(alloc, member)?;
     let copied = reply.copy(alloc)?;
-    let line = rp_line(alloc, &copied)?;
-    Ok(format!(in alloc; "{} {}", line.as_str(), missing_in(&copied))?)
+    copy_told(alloc, &copied)
 }
