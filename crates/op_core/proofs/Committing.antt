@@ -39,7 +39,7 @@ if_made {R} P m n same h r is =
     let I : Option R → Type 0 = λ o. IfSome o P in
     subst I (same ∙ is) h
 
-module _ (c : Configuration) (history items : List OpPair) (t reserved u : Tables) (p : OpPair) (weight : ℕ) (turn : Option TurnRow) (session : Option SessionRow) (code : Option CodeRow) (token : Option TokenRow) (used : Option Word) (client : Option ℕ) where
+module _ (c : Configuration) (history items : List OpPair) (t u : Tables) (p : OpPair) (weight : ℕ) (turn : Option TurnRow) (session : Option SessionRow) (code : Option CodeRow) (token : Option TokenRow) (used : Option Word) (client : Option ℕ) where
   -- what the step has shown when it takes the pair up, of the provider as a value
   abbrev pub Shown : Providing → Type 0
   Shown s =
@@ -51,7 +51,10 @@ module _ (c : Configuration) (history items : List OpPair) (t reserved u : Table
       × IfSome code (λ row. is_own_code s.registry row ≡ true)
       × (history_weight ask_weight s.history + weight ≤ most_weight)
 
-  takes_up : KeepsPast c (reverse history) reserved → Shown (record { registry = c; history = history; tables = t }) → TakesUp reserved p turn session code token used client c (reverse history) (last_moment (reverse history))
+  abbrev pub Follows : Type 0
+  Follows = (d : Configuration) (past : OpPast) (before : ℕ) → TakesUp (with_room t) p turn session code token used client d past before → FollowsPair (with_room t) u past p
+
+  takes_up : KeepsPast c (reverse history) (with_room t) → Shown (record { registry = c; history = history; tables = t }) → TakesUp (with_room t) p turn session code token used client c (reverse history) (last_moment (reverse history))
   takes_up keeps shown =
       let brings : Brings (reverse history) p turn session code token used client = shown.2 in
       record {
@@ -68,27 +71,23 @@ module _ (c : Configuration) (history items : List OpPair) (t reserved u : Table
         token_is = brings.token_is;
       }
 
-  committed : Keeps c history t → reserved ≡ with_room t → IsEntry IsOpAsk p.entry → weight ≡ ask_weight p.entry.ask → items ≡ history ++ p ∷ []
-      → ((d : Configuration) (past : OpPast) (before : ℕ) → TakesUp reserved p turn session code token used client d past before → FollowsPair reserved u past p)
+  committed : Keeps c history t → IsEntry IsOpAsk p.entry → weight ≡ ask_weight p.entry.ask → items ≡ history ++ p ∷ [] → Follows
       → Shown (record { registry = c; history = history; tables = t }) → Keeps c items u
-  committed keeps room entry weight_is items_are follows shown =
+  committed keeps entry weight_is items_are follows shown =
       let past : OpPast = reverse history in
       let brings : Brings past p turn session code token used client = shown.2 in
-      let R : Tables → Type 0 = λ x. KeepsPast c past x in
-      let kept : KeepsPast c past reserved = subst R (sym room) (with_room_keeps c past t keeps.tables) in
-      let one : FollowsPair reserved u past p = follows c past (last_moment past) (takes_up kept shown) in
-      let own = own_carried c reserved u past p kept.own one
+      let kept : KeepsPast c past (with_room t) = with_room_keeps c past t keeps.tables in
+      let one : FollowsPair (with_room t) u past p = follows c past (last_moment past) (takes_up kept shown) in
+      let own = own_carried c (with_room t) u past p kept.own one
       (if_made (λ row. is_own_turn c row ≡ true) turn (turn_made (turns past) past p) brings.turn_is shown.3)
       (if_made (λ row. is_own_session c row ≡ true) session (session_made (sessions past) past p) brings.session_is shown.4)
       (if_made (λ row. is_own_code c row ≡ true) code (code_made (codes_issued past) past p) brings.code_is shown.5) in
       let I : List OpPair → Type 0 = λ x. Keeps c x u in
       let L : ℕ → Type 0 = λ n. history_weight ask_weight history + n ≤ most_weight in
-      subst I (sym items_are) (keeps_more c history reserved u p (record { tables = kept; legal = keeps.legal }) shown.0 one own entry shown.1 (subst L weight_is shown.6))
+      subst I (sym items_are) (keeps_more c history (with_room t) u p (record { tables = kept; legal = keeps.legal }) shown.0 one own entry shown.1 (subst L weight_is shown.6))
 
-  pub committed_as : (s : Providing) → ◌≡◌ {A = Providing} (record { registry = c; history = history; tables = t }) s → Keeps c history t → reserved ≡ with_room t → IsEntry IsOpAsk p.entry → weight ≡ ask_weight p.entry.ask
-      → items ≡ history ++ p ∷ []
-      → ((d : Configuration) (past : OpPast) (before : ℕ) → TakesUp reserved p turn session code token used client d past before → FollowsPair reserved u past p)
-      → Shown s → Keeps c items u
-  committed_as s view keeps room entry weight_is items_are follows shown =
+  pub committed_as : (s : Providing) → ◌≡◌ {A = Providing} (record { registry = c; history = history; tables = t }) s → Keeps c history t → IsEntry IsOpAsk p.entry → weight ≡ ask_weight p.entry.ask
+      → items ≡ history ++ p ∷ [] → Follows → Shown s → Keeps c items u
+  committed_as s view keeps entry weight_is items_are follows shown =
       let S : Providing → Type 0 = λ x. Shown x in
-      committed keeps room entry weight_is items_are follows (subst S (sym view) shown)
+      committed keeps entry weight_is items_are follows (subst S (sym view) shown)

@@ -20,7 +20,6 @@ use Rattle.op_exchange.specs.declared.ask.OpAsk.TheVariants as ask
 use Rattle.op_exchange.specs.declared.reply.OpReply.{OpReply}
 use Rattle.op_exchange.specs.declared.reply.OpReply.TheVariants as reply
 use Rattle.op_answer.specs.Past.{OpPair, OpPast}
-use Rattle.op_answer.specs.Turns.{turns, turn_made, turn_started}
 use Rattle.op_answer.specs.Sessions.{session_set, signed_user, session_used, wish_by, client_answered, and_client, session_made_by, session_made, session_kept, ends_session, sessions, session_of, live_session}
 use Rattle.op_answer.specs.Codes.{code_made_by, code_made, codes_issued, code_of}
 use Rattle.op_answer.specs.AccessTokens.{access_answered, access_redeemed, access_given, access_made, accesses}

@@ -1,24 +1,106 @@
 // One step of the provider: it decides the reply and makes the rows, takes all memory, and only then changes anything.
 
-ghost use Rattle.std.specs.Prelude.{◌≡◌, ◌<◌, ◌≤◌, ◌+◌, ◌++◌, [], ◌∷◌, true, IfSome, OnOk, OnErr};
+ghost use Rattle.std.specs.Prelude.{◌≡◌, ℕ, ◌<◌, ◌≤◌, ◌+◌, ◌++◌, [], ◌∷◌, length, true, IfSome, IfOk, OnOk, OnErr};
 ghost use Rattle.sso_base.specs.Legal.{last_moment, IsEntry};
 ghost use Rattle.sso_base.specs.Journal.{history_weight, most_weight};
+ghost use Rattle.client_registry.specs.Configuration.{Configuration};
+ghost use Rattle.code_grant.specs.Tables.{with_room};
 ghost use Rattle.op_exchange.specs.Values.{IsOpAsk};
 ghost use Rattle.op_exchange.specs.Weight as weights;
 ghost use Rattle.op_answer.specs.Answering.{op_answer};
+ghost use Rattle.op_answer.specs.Past.{OpPast};
 ghost use Rattle.op_tables.specs.Agreeing.{is_own_turn, is_own_session, is_own_code};
+ghost use Rattle.op_tables.specs.Keeping.{FollowsPair};
+ghost use Rattle.op_tables.specs.Taking.{TakesUp};
 ghost use Rattle.op_core.specs.Outcome.{Brings};
 ghost use Rattle.op_core.specs.Providing.{past_of};
 
 use crate::outcome::Outcome;
 use crate::state::OpCore;
+use code_grant::Grants;
 use op_exchange::{OpAsk, OpReply, know_op_entry};
 use op_tables::take_up;
-use sso_base::{Core, CoreNo, Entry, Moment, NoMemory, Pair, Weighed, Word};
+use sso_base::{Core, CoreNo, Entry, Journal, Moment, NoMemory, Pair, Weighed, Word};
 use std::alloc::Global;
 
+// Makes room in the history for one more pair, and in each table for one more row.
+fn reserve(journal: &mut Journal<OpAsk, OpReply>, grants: &mut Grants) -> Result<(), NoMemory>
+    ensures pairs { journal.new.pairs ≡ journal.old.pairs }
+    ensures room { OnOk result (length journal.new.pairs < journal.new.capacity) }
+    ensures tables { OnOk result (grants.new ≡ with_room grants.old) }
+    ensures same { OnErr result (grants.new ≡ grants.old) }
+{
+    journal.reserve()?;
+    grants.reserve()
+}
+
+// The history and the tables take up an entry with its reply, for which there is room.
+fn put(
+    journal: &mut Journal<OpAsk, OpReply>,
+    grants: &mut Grants,
+    entry: Entry<OpAsk>,
+    reply: OpReply,
+    outcome: Outcome,
+    weight: u64,
+)
+    requires reserved { length journal.old.pairs < journal.old.capacity }
+    requires may { (c : Configuration) × (past : OpPast) × (before : ℕ) × TakesUp grants.old (record { entry = entry; reply = reply }) outcome.made.turn outcome.made.session outcome.made.code outcome.made.token outcome.used outcome.client c past before }
+    requires tables { grants.old.reserved ≡ record { turns = true; sessions = true; codes = true; tokens = true } }
+    requires client { IfSome outcome.client (λ n. n < 128) }
+    requires turn { IfSome outcome.made.turn (λ row. row.wish.client < 128) }
+    requires session { IfSome outcome.made.session (λ row. row.user < 512) }
+    requires code { IfSome outcome.made.code (λ row. (row.user < 512) × (row.wish.client < 128)) }
+    requires token { IfSome outcome.made.token (λ row. (row.user < 512) × (row.client < 128)) }
+    requires weight { weight ≡ weights.ask_weight entry.ask }
+    requires room { history_weight weights.ask_weight journal.old.pairs + weight ≤ most_weight }
+    ensures pairs { journal.new.pairs ≡ journal.old.pairs ++ (record { entry = entry; reply = reply }) ∷ [] }
+    ensures tables { (c : Configuration) (past : OpPast) (before : ℕ) → TakesUp grants.old (record { entry = entry; reply = reply }) outcome.made.turn outcome.made.session outcome.made.code outcome.made.token outcome.used outcome.client c past before → FollowsPair grants.old grants.new past (record { entry = entry; reply = reply }) }
+{
+    let pair = Pair { entry, reply };
+    let Outcome { made, used, client } = outcome;
+    take_up(grants, &pair, made, used, client);
+    journal.push(pair, weight);
+}
+
+// The history and the tables take up an entry with its reply. All memory is taken before the first change.
+fn take_in(
+    journal: &mut Journal<OpAsk, OpReply>,
+    grants: &mut Grants,
+    entry: Entry<OpAsk>,
+    reply: OpReply,
+    outcome: Outcome,
+    weight: u64,
+) -> Result<(), NoMemory>
+    requires may { (c : Configuration) × (past : OpPast) × (before : ℕ) × TakesUp (with_room grants.old) (record { entry = entry; reply = reply }) outcome.made.turn outcome.made.session outcome.made.code outcome.made.token outcome.used outcome.client c past before }
+    requires client { IfSome outcome.client (λ n. n < 128) }
+    requires turn { IfSome outcome.made.turn (λ row. row.wish.client < 128) }
+    requires session { IfSome outcome.made.session (λ row. row.user < 512) }
+    requires code { IfSome outcome.made.code (λ row. (row.user < 512) × (row.wish.client < 128)) }
+    requires token { IfSome outcome.made.token (λ row. (row.user < 512) × (row.client < 128)) }
+    requires weight { weight ≡ weights.ask_weight entry.ask }
+    requires room { history_weight weights.ask_weight journal.old.pairs + weight ≤ most_weight }
+    ensures pairs { OnOk result (journal.new.pairs ≡ journal.old.pairs ++ (record { entry = entry; reply = reply }) ∷ []) }
+    ensures tables { OnOk result ((c : Configuration) (past : OpPast) (before : ℕ) → TakesUp (with_room grants.old) (record { entry = entry; reply = reply }) outcome.made.turn outcome.made.session outcome.made.code outcome.made.token outcome.used outcome.client c past before → FollowsPair (with_room grants.old) grants.new past (record { entry = entry; reply = reply })) }
+    ensures same_pairs { OnErr result (journal.new.pairs ≡ journal.old.pairs) }
+    ensures same_tables { OnErr result (grants.new ≡ grants.old) }
+{
+    match reserve(journal, grants) {
+        Ok(()) => {
+            put(journal, grants, entry, reply, outcome, weight);
+            Ok(())
+        }
+        Err(no) => {
+            // dropped by calls: at an early end of this function the prover would walk through all of their parts
+            drop(entry);
+            drop(reply);
+            drop(outcome);
+            Err(no)
+        }
+    }
+}
+
 impl OpCore {
-    // Takes up an entry with its reply and what it brings. All memory is taken before the first change.
+    // Takes up an entry with its reply and what it brings.
     pub(crate) fn commit(
         &mut self,
         entry: Entry<OpAsk>,
@@ -44,13 +126,39 @@ impl OpCore {
         ensures registry { OnOk result (self.new.registry ≡ self.old.registry) }
         ensures err { OnErr result (self.new ≡ self.old) }
     {
-        self.journal.reserve()?;
-        self.grants.reserve()?;
-        let pair = Pair { entry, reply };
-        let Outcome { made, used, client } = outcome;
-        take_up(&mut self.grants, &pair, made, used, client);
-        self.journal.push(pair, weight);
+        take_in(
+            &mut self.journal,
+            &mut self.grants,
+            entry,
+            reply,
+            outcome,
+            weight,
+        )?;
         Ok(())
+    }
+
+    // Takes up an entry with its reply, and answers an equal reply.
+    fn told(
+        &mut self,
+        alloc: Global,
+        entry: Entry<OpAsk>,
+        reply: OpReply,
+        weight: u64,
+    ) -> Result<OpReply, NoMemory>
+        requires moment { last_moment (past_of self.old) ≤ entry.at }
+        requires answer { reply ≡ op_answer self.old.registry (past_of self.old) entry }
+        requires entry { IsEntry IsOpAsk entry }
+        requires weight { weight ≡ weights.ask_weight entry.ask }
+        requires room { history_weight weights.ask_weight self.old.history + weight ≤ most_weight }
+        ensures told { IfOk result (λ told. told ≡ reply) }
+        ensures history { OnOk result (self.new.history ≡ self.old.history ++ (record { entry = entry; reply = reply }) ∷ []) }
+        ensures registry { OnOk result (self.new.registry ≡ self.old.registry) }
+        ensures err { OnErr result (self.new ≡ self.old) }
+    {
+        let outcome = self.outcome(alloc, &entry, &reply)?;
+        let told = reply.copy(alloc)?;
+        self.commit(entry, reply, outcome, weight)?;
+        Ok(told)
     }
 }
 
@@ -87,10 +195,7 @@ impl Core for OpCore {
         let entry = self.journal.entry(at, fresh, ask);
         know_op_entry(&entry);
         let reply = self.answer(alloc, &entry)?;
-        let outcome = self.outcome(alloc, &entry, &reply)?;
-        let told = reply.copy(alloc)?;
-        self.commit(entry, reply, outcome, weight)?;
-        Ok(told)
+        Ok(self.told(alloc, entry, reply, weight)?)
     }
 
     fn weight(ask: &OpAsk) -> Result<u64, NoMemory> {

@@ -27,7 +27,7 @@ with_room_keeps types past t k =
       begun = record { logins = k.begun.logins; pendings = k.begun.pendings; visits = k.begun.visits };
     }
 
-module _ (s : PartySetup) (history items : List RpPair) (more : ℕ) (t reserved u : Tables) (p : RpPair) (login : Option LoginRow) (pending : Option PendingRow) (visit : Option SessionRow) where
+module _ (s : PartySetup) (history items : List RpPair) (more : ℕ) (t u : Tables) (p : RpPair) (login : Option LoginRow) (pending : Option PendingRow) (visit : Option SessionRow) where
   -- what the step has shown when it takes the pair up, of the party as a value
   abbrev pub Shown : Relying → Type 0
   Shown r =
@@ -36,32 +36,30 @@ module _ (s : PartySetup) (history items : List RpPair) (more : ℕ) (t reserved
       × Brings (party_of r.setup).types (past_of r) p login pending visit
       × (history_weight ask_weight r.history + more ≤ most_weight)
 
-  committed : Keeps s history t → reserved ≡ with_room t → IsEntry IsRpAsk p.entry → more ≡ ask_weight p.entry.ask → items ≡ history ++ p ∷ []
-      → ((d : PartySetup) (past : RpPast) (before : ℕ) → TakesUp d past before reserved p login pending visit → FollowsPair (party_of d).types reserved u past p)
+  abbrev pub Follows : Type 0
+  Follows = (d : PartySetup) (past : RpPast) (before : ℕ) → TakesUp d past before (with_room t) p login pending visit → FollowsPair (party_of d).types (with_room t) u past p
+
+  committed : Keeps s history t → IsEntry IsRpAsk p.entry → more ≡ ask_weight p.entry.ask → items ≡ history ++ p ∷ [] → Follows
       → Shown (record { setup = s; history = history; tables = t }) → Keeps s items u
-  committed keeps room entry more_is items_are follows shown =
+  committed keeps entry more_is items_are follows shown =
       let past : RpPast = reverse history in
-      let R : Tables → Type 0 = λ x. KeepsPast (party_of s).types past x in
-      let kept : KeepsPast (party_of s).types past reserved = subst R (sym room) (with_room_keeps (party_of s).types past t keeps.tables) in
-      let up : TakesUp s past (last_moment past) reserved p login pending visit = record { order = shown.0; agrees = kept.agrees; begun = kept.begun; reply_is = shown.1; brings = shown.2 } in
-      let one : FollowsPair (party_of s).types reserved u past p = follows s past (last_moment past) up in
+      let kept : KeepsPast (party_of s).types past (with_room t) = with_room_keeps (party_of s).types past t keeps.tables in
+      let up : TakesUp s past (last_moment past) (with_room t) p login pending visit = record { order = shown.0; agrees = kept.agrees; begun = kept.begun; reply_is = shown.1; brings = shown.2 } in
+      let one : FollowsPair (party_of s).types (with_room t) u past p = follows s past (last_moment past) up in
       let K : RpPast → Type 0 = λ q. KeepsPast (party_of s).types q u in
       let I : List RpPair → Type 0 = λ x. Keeps s x u in
       let W : ℕ → Type 0 = λ n. history_weight ask_weight history + n ≤ most_weight in
       let all : Keeps s (history ++ p ∷ []) u = record {
         tables = (subst K (sym (past_more history p)) (record {
-          agrees = agrees_carried (party_of s).types reserved u past p (last_moment past) shown.0 kept.agrees one;
-          begun = is_begun_carried (party_of s).types reserved u past p (last_moment past) shown.0 kept.begun one;
+          agrees = agrees_carried (party_of s).types (with_room t) u past p (last_moment past) shown.0 kept.agrees one;
+          begun = is_begun_carried (party_of s).types (with_room t) u past p (last_moment past) shown.0 kept.begun one;
         }));
         legal = longer_is_legal IsRpAsk (rp_answer s) ask_weight history p keeps.legal entry shown.0 shown.1 (subst W more_is shown.3);
-        serves = keeps.serves;
       } in
       subst I (sym items_are) all
 
-  pub committed_as : (r : Relying) → ◌≡◌ {A = Relying} (record { setup = s; history = history; tables = t }) r → Keeps s history t → reserved ≡ with_room t → IsEntry IsRpAsk p.entry → more ≡ ask_weight p.entry.ask
-      → items ≡ history ++ p ∷ []
-      → ((d : PartySetup) (past : RpPast) (before : ℕ) → TakesUp d past before reserved p login pending visit → FollowsPair (party_of d).types reserved u past p)
-      → Shown r → Keeps s items u
-  committed_as r view keeps room entry more_is items_are follows shown =
+  pub committed_as : (r : Relying) → ◌≡◌ {A = Relying} (record { setup = s; history = history; tables = t }) r → Keeps s history t → IsEntry IsRpAsk p.entry → more ≡ ask_weight p.entry.ask
+      → items ≡ history ++ p ∷ [] → Follows → Shown r → Keeps s items u
+  committed_as r view keeps entry more_is items_are follows shown =
       let S : Relying → Type 0 = λ x. Shown x in
-      committed keeps room entry more_is items_are follows (subst S (sym view) shown)
+      committed keeps entry more_is items_are follows (subst S (sym view) shown)

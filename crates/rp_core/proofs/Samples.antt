@@ -1,6 +1,5 @@
 -- The definitions of a relying party's core computed at the steps of a first login: what each accepts, and what it refuses.
-use Rattle.std.proofs.Common.{◌≡◌, ◌≤◌, true, false, [], ◌∷◌, Some, None, codes, refl, sym, ap, arith}
-use Rattle.std.specs.Str.{bytes_eq}
+use Rattle.std.proofs.Common.{◌≡◌, ◌≤◌, true, false, [], ◌∷◌, Some, None, refl, sym, arith}
 use Rattle.sso_base.specs.Words.{Text}
 use Rattle.rp_login.specs.declared.rows.LoginRow.{LoginRow}
 use Rattle.rp_login.specs.Rows.{login_name, login_begun}
@@ -9,12 +8,12 @@ use Rattle.rp_exchange.specs.declared.no.RpNo.TheVariants as no
 use Rattle.rp_exchange.specs.declared.reply.RpReply.TheVariants.{Refused}
 use Rattle.rp_answer.specs.Past.{RpPair}
 use Rattle.held_rows.specs.Held.{MayAddRow}
-use Rattle.rp_core.specs.Relying.{setup_of, past_of, MayServe}
+use Rattle.rp_core.specs.Relying.{past_of}
 use Rattle.rp_core.specs.Agreeing.{Agrees, IsBegun, KeepsPast, Keeps}
 use Rattle.rp_core.specs.Making.{pending_found, nonce_found, visit_found, Brings}
 use Rattle.rp_core.specs.Keeping.{FollowsPair, TakesUp, login_put, pending_put, visit_put}
 use Rattle.rp_core.proofs.Beginning.{begins}
-use Rattle.rp_answer.proofs.Sample.{word, pair_of, op, only_code, sample, shop_setup, hybrid_setup}
+use Rattle.rp_answer.proofs.Sample.{word, pair_of, only_code, shop_setup}
 use Rattle.rp_answer.proofs.FirstVisit.{begin_entry, asked, past_begin, callback_entry, exchange, callback_exchanges_at_once, past_callback, tokens_entry, entered}
 use Rattle.rp_answer.proofs.FrontLogin.{waiting}
 use Rattle.rp_answer.proofs.RowSamples.{login, visit}
@@ -45,20 +44,8 @@ other_login = record login { state = word 6; nonce = word 7 }
 
 -- ---- a relying party as a value
 
-the_setup_is_what_it_was_made_of : setup_of sample 0 op ≡ shop_setup
-the_setup_is_what_it_was_made_of = refl
-
 the_newest_pair_comes_first : past_of (record { setup = shop_setup; history = begin_pair ∷ callback_pair ∷ []; tables = no_tables }) ≡ past_callback
 the_newest_pair_comes_first = refl
-
-a_party_by_code_may_be_served : MayServe shop_setup
-a_party_by_code_may_be_served = record { served = refl; issuer = refl }
-
-a_hybrid_party_may_not : MayServe hybrid_setup → ⊥
-a_hybrid_party_may_not may = (let k : false ≡ true = may.served in cc)
-
-nor_one_that_trusts_another_issuer : MayServe (record shop_setup { provider = record op { issuer = codes "http://127.0.0.1:8081" } }) → ⊥
-nor_one_that_trusts_another_issuer may = (let k : false ≡ true = ap (λ t. bytes_eq t (codes "http://127.0.0.1:8080")) may.issuer in cc)
 
 -- ---- tables that agree with the past
 
@@ -84,11 +71,11 @@ not_without_the_login : KeepsPast only_code past_begin no_tables → ⊥
 not_without_the_login keeps = (let k : [] ≡ login ∷ [] = keeps.agrees.logins in cc)
 
 nothing_is_kept_at_first : Keeps shop_setup [] no_tables
-nothing_is_kept_at_first = begins shop_setup [] no_tables refl refl a_party_by_code_may_be_served
+nothing_is_kept_at_first = begins shop_setup [] no_tables refl refl
 
 a_begun_login_is_kept : Keeps shop_setup (begin_pair ∷ []) with_login_begun
 a_begun_login_is_kept =
-    record { tables = the_tables_are_kept; legal = begin_is_legal_history; serves = a_party_by_code_may_be_served }
+    record { tables = the_tables_are_kept; legal = begin_is_legal_history }
 
 not_without_the_rows_of_its_login : Keeps shop_setup (begin_pair ∷ []) no_tables → ⊥
 not_without_the_rows_of_its_login keeps = not_without_the_login keeps.tables

@@ -13,7 +13,6 @@ use Rattle.rp_answer.specs.Logins.{live_logins}
 use Rattle.rp_answer.specs.Pendings.{live_pendings}
 use Rattle.rp_answer.specs.Visits.{live_visits}
 use Rattle.rp_answer.specs.Legal.{IsLegalHistory}
-use Rattle.rp_core.specs.Relying.{MayServe}
 
 -- no logout token is accepted so far, so none is remembered
 pub record Agrees (types : Types) (t : Tables) (past : RpPast) (at : ℕ) : Type 0 where
@@ -37,4 +36,3 @@ pub record KeepsPast (types : Types) (past : RpPast) (t : Tables) : Type 0 where
 pub record Keeps (s : PartySetup) (history : List RpPair) (t : Tables) : Type 0 where
   pub tables : KeepsPast (party_of s).types (reverse history) t
   pub legal : IsLegalHistory s history
-  pub serves : MayServe s

@@ -5,8 +5,8 @@ ghost use Rattle.sso_base.specs.Legal.{last_moment};
 ghost use Rattle.rp_answer.specs.Answering as spec;
 ghost use Rattle.rp_core.specs.Relying.{past_of};
 
-use crate::prepared::is_prepared;
 use crate::state::RpCore;
+use rp_accept::is_prepared;
 use rp_exchange::{RpAsk, RpNo, RpReply};
 use sso_base::{Entry, NoMemory};
 use std::alloc::Global;

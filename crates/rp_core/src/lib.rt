@@ -8,7 +8,6 @@
 //! | `state` | [`RpCore`], a relying party with its history and its tables |
 //! | `step` | one step |
 //! | `answering`, `responding`, `exchanging` | the reply, by the rows that live |
-//! | `prepared` | which asks a request gives |
 //! | `questions`, `room` | what is asked of the tables, and whether they have room |
 //! | `making` | the rows that a reply makes |
 //! | `keeping` | how the tables take a pair up |
@@ -18,7 +17,6 @@ mod answering;
 mod exchanging;
 mod keeping;
 mod making;
-mod prepared;
 mod questions;
 mod responding;
 mod room;

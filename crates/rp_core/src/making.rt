@@ -197,7 +197,7 @@ impl RpCore {
         let Some(login) = self.live_login(entry.at, state_named(&entry.ask)) else {
             return Ok(None);
         };
-        let types = &self.party().types;
+        let types = &self.setup.party().types;
         let row = pending_started(alloc, types, entry.at, &entry.ask, *pending, login)?;
         Ok(Some(row))
     }
@@ -236,7 +236,7 @@ impl RpCore {
         let Some(nonce) = self.nonce_found(entry.at, &entry.ask) else {
             return Ok(None);
         };
-        let Some(claims) = claims_judged(&self.party().types, &entry.ask) else {
+        let Some(claims) = claims_judged(&self.setup.party().types, &entry.ask) else {
             return Ok(None);
         };
         Ok(Some(visit_of(alloc, entry.at, *session, nonce, claims)?))

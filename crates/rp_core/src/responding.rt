@@ -1,75 +1,16 @@
 // The replies to the begin of a login and to an authorization response, were there always room.
 
 ghost use Rattle.std.specs.Prelude.{◌≡◌, ◌≤◌, IfOk};
-ghost use Rattle.std.specs.Option.{option_copied};
 ghost use Rattle.sso_base.specs.Legal.{last_moment};
-ghost use Rattle.id_token.specs.Judging.{id_judged};
-ghost use Rattle.rp_answer.specs.Asked as asked;
 ghost use Rattle.rp_answer.specs.Replies as spec;
 ghost use Rattle.rp_core.specs.Relying.{past_of};
 
 use crate::state::RpCore;
 use auth_answer::{AnswerNo, Heard};
-use id_token::{Half, IdClaims, IdNo, IdRules, half_hash, judge_id};
-use login_request::login_request;
-use oidc_words::Types;
-use rp_exchange::{Part, RpAsk, RpNo, RpReply, copied_id};
-use rp_login::LoginRow;
-use sso_base::{Entry, Moment, NoMemory, Text, Word};
+use id_token::{IdClaims, IdNo};
+use rp_exchange::{RpAsk, RpNo, RpReply};
+use sso_base::{Entry, NoMemory, Word};
 use std::alloc::Global;
-use token_endpoint::print_grant;
-
-// The text, where it counts.
-fn text_if(wanted: bool, text: &Option<Text>) -> Option<&Text>
-    ensures { option_copied result ≡ asked.if_wanted wanted text.now }
-{
-    if !wanted {
-        return None;
-    }
-    match text {
-        Some(text) => Some(text),
-        None => None,
-    }
-}
-
-// What was read of an ID Token, where it counts.
-fn id_if(wanted: bool, id: &Option<Result<IdClaims, IdNo>>) -> Option<&Result<IdClaims, IdNo>>
-    ensures { option_copied result ≡ asked.if_wanted wanted id.now }
-{
-    if !wanted {
-        return None;
-    }
-    match id {
-        Some(id) => Some(id),
-        None => None,
-    }
-}
-
-// The half digest of the text must be there, where there is the text.
-fn must_hash(text: Option<&Text>) -> Half
-    ensures { result ≡ spec.must_hash (option_copied text.entry) }
-{
-    match text {
-        Some(text) => Half::Must(half_hash(text.as_str().as_bytes())),
-        None => Half::Free,
-    }
-}
-
-// The first part that the response type has and the response has not.
-fn part_missing(types: &Types, heard: &Heard) -> Option<Part>
-    ensures { result ≡ spec.part_missing types.now heard.now }
-{
-    if types.code && heard.code.is_none() {
-        return Some(Part::Code);
-    }
-    if types.token && heard.access.is_none() {
-        return Some(Part::Access);
-    }
-    if types.id_token && heard.id.is_none() {
-        return Some(Part::Id);
-    }
-    None
-}
 
 impl RpCore {
     // The browser word of a login that begins: the presented one, where a live login has it.
@@ -97,169 +38,13 @@ impl RpCore {
         requires { last_moment (past_of self.now) ≤ entry.now.at }
         ensures { IfOk result (λ r. r ≡ spec.begin self.now.setup (past_of self.now) entry.now presented) }
     {
-        // A count says what every registry keeps: that its issuer is short.
-        let _parties = self.registry.parties();
-        let (state, nonce) = (&entry.fresh[1], &entry.fresh[2]);
-        let to = login_request(
-            alloc,
-            &self.registry,
-            self.number,
-            &self.provider,
-            state,
-            nonce,
-        )?;
+        let to = self
+            .setup
+            .login_location(alloc, &entry.fresh[1], &entry.fresh[2])?;
         Ok(RpReply::Ask {
             to,
             browser: self.login_browser(entry, presented),
         })
-    }
-
-    // The rules for an ID Token of a login with this nonce, begun then.
-    pub(crate) fn rules_for(
-        &self,
-        alloc: Global,
-        nonce: &Word,
-        begun: Moment,
-        token: Half,
-        code: Half,
-    ) -> Result<IdRules, NoMemory>
-        ensures { IfOk result (λ r. r ≡ spec.rules_for self.now.setup nonce.now begun token code) }
-    {
-        Ok(IdRules {
-            issuer: self.provider.issuer.copy(alloc)?,
-            client: self.client().id.copy(alloc)?,
-            nonce: nonce.to_text(alloc)?,
-            begun,
-            max_age: self.party().max_age,
-            token,
-            code,
-        })
-    }
-
-    // The code of a response, where its type has one.
-    fn front_code<'a>(&self, heard: &'a Heard) -> Option<&'a Text>
-        ensures { option_copied result ≡ spec.front_code self.now.setup heard.now }
-    {
-        text_if(self.party().types.code, &heard.code)
-    }
-
-    fn front_rules(
-        &self,
-        alloc: Global,
-        login: &LoginRow,
-        heard: &Heard,
-    ) -> Result<IdRules, NoMemory>
-        ensures { IfOk result (λ r. r ≡ spec.front_rules self.now.setup login.now heard.now) }
-    {
-        let token = must_hash(text_if(self.party().types.token, &heard.access));
-        let code = must_hash(self.front_code(heard));
-        self.rules_for(alloc, &login.nonce, login.begun, token, code)
-    }
-
-    // A token request for the code.
-    fn exchange(
-        &self,
-        alloc: Global,
-        entry: &Entry<RpAsk>,
-        code: &Text,
-    ) -> Result<RpReply, NoMemory>
-        ensures { IfOk result (λ r. r ≡ spec.exchange self.now.setup entry.now code.now) }
-    {
-        let client = self.client();
-        let redirect = &self.party().redirect;
-        Ok(RpReply::Exchange {
-            pending: entry.fresh[0],
-            message: print_grant(alloc, client, &self.provider.token, code, redirect)?,
-        })
-    }
-
-    // A code is exchanged, else the claims of the ID Token let in.
-    fn exchange_or_enter(
-        &self,
-        alloc: Global,
-        entry: &Entry<RpAsk>,
-        code: Option<&Text>,
-        claims: Option<&IdClaims>,
-    ) -> Result<RpReply, NoMemory>
-        ensures { IfOk result (λ r. r ≡ spec.exchange_or_enter self.now.setup entry.now (option_copied code.entry) (option_copied claims.entry)) }
-    {
-        if let Some(code) = code {
-            return self.exchange(alloc, entry, code);
-        }
-        match claims {
-            Some(claims) => Ok(RpReply::Entered {
-                session: entry.fresh[1],
-                sub: claims.sub.copy(alloc)?,
-            }),
-            None => Ok(RpReply::Refused {
-                why: RpNo::Missing(Part::Id),
-            }),
-        }
-    }
-
-    // The claims of the response's ID Token are judged.
-    fn judge_front(
-        &self,
-        alloc: Global,
-        entry: &Entry<RpAsk>,
-        login: &LoginRow,
-        heard: &Heard,
-        claims: &IdClaims,
-    ) -> Result<RpReply, NoMemory>
-        ensures { IfOk result (λ r. r ≡ spec.front_judged self.now.setup entry.now heard.now claims.now (id_judged (spec.front_rules self.now.setup login.now heard.now) claims.now entry.now.at)) }
-    {
-        let rules = self.front_rules(alloc, login, heard)?;
-        if let Err(why) = judge_id(&rules, claims, entry.at) {
-            return Ok(RpReply::Refused { why: RpNo::Id(why) });
-        }
-        self.exchange_or_enter(alloc, entry, self.front_code(heard), Some(claims))
-    }
-
-    // The response's ID Token, where its type has one.
-    fn read_front(
-        &self,
-        alloc: Global,
-        entry: &Entry<RpAsk>,
-        login: &LoginRow,
-        heard: &Heard,
-        id: Option<&Result<IdClaims, IdNo>>,
-    ) -> Result<RpReply, NoMemory>
-        ensures { IfOk result (λ r. r ≡ spec.front_read self.now.setup entry.now login.now heard.now (option_copied id.entry)) }
-    {
-        let Some(id) = id else {
-            return self.exchange_or_enter(alloc, entry, self.front_code(heard), None);
-        };
-        match id {
-            Ok(claims) => self.judge_front(alloc, entry, login, heard, claims),
-            Err(why) => Ok(RpReply::Refused {
-                why: RpNo::Id(copied_id(alloc, why)?),
-            }),
-        }
-    }
-
-    // A response of a live login, from its browser.
-    fn own_response(
-        &self,
-        alloc: Global,
-        entry: &Entry<RpAsk>,
-        login: &LoginRow,
-        heard: &Heard,
-        id: &Option<Result<IdClaims, IdNo>>,
-    ) -> Result<RpReply, NoMemory>
-        ensures { IfOk result (λ r. r ≡ spec.response_error self.now.setup entry.now login.now heard.now id.now heard.now.error) }
-    {
-        if let Some(code) = heard.error {
-            return Ok(RpReply::Refused {
-                why: RpNo::Provider(code),
-            });
-        }
-        if let Some(part) = part_missing(&self.party().types, heard) {
-            return Ok(RpReply::Refused {
-                why: RpNo::Missing(part),
-            });
-        }
-        let id = id_if(self.party().types.id_token, id);
-        self.read_front(alloc, entry, login, heard, id)
     }
 
     // A response that can be read.
@@ -283,7 +68,7 @@ impl RpCore {
             });
         };
         if login.browser.is_presented(browser) {
-            self.own_response(alloc, entry, login, heard, id)
+            self.setup.reply_to_response(alloc, entry, login, heard, id)
         } else {
             Ok(RpReply::Refused {
                 why: RpNo::WrongBrowser,

@@ -4,11 +4,13 @@ ghost use Rattle.std.specs.Prelude.{◌≡◌, true, [], IfOk};
 ghost use Rattle.sso_base.specs.Legal.{last_moment};
 ghost use Rattle.rp_login.specs.Tables.{no_tables};
 ghost use Rattle.rp_exchange.specs.Parties.{is_served_at};
-ghost use Rattle.rp_answer.specs.Setup.{party_of, client_of};
+ghost use Rattle.rp_answer.specs.Setup.{party_of};
+ghost use Rattle.rp_accept.specs.Serving.{setup_of};
 ghost use Rattle.rp_core.specs.Agreeing.{Agrees};
-ghost use Rattle.rp_core.specs.Relying.{setup_of, past_of};
+ghost use Rattle.rp_core.specs.Relying.{past_of};
 
-use client_registry::{Client, Party, Provider, Registry};
+use client_registry::{Provider, Registry};
+use rp_accept::Setup;
 use rp_exchange::{RpAsk, RpReply};
 use rp_login::Logins;
 use sso_base::{Journal, NoMemory};
@@ -19,15 +21,13 @@ use std::marker::Model;
 /// provider that the party trusts, its history, oldest first, and its tables.
 #[derive(Drop)]
 pub struct RpCore {
-    pub(crate) registry: Registry,
-    pub(crate) number: u32,
-    pub(crate) provider: Provider,
+    pub(crate) setup: Setup,
     pub(crate) journal: Journal<RpAsk, RpReply>,
     pub(crate) logins: Logins,
 }
 
 impl Model for RpCore {
-    ghost use Rattle.rp_core.specs.Relying.{Relying, setup_of};
+    ghost use Rattle.rp_core.specs.Relying.{Relying};
 
     ghost Value = { Relying };
 
@@ -36,11 +36,11 @@ impl Model for RpCore {
 
     ghost coded = { Prim.hlevel (codes, members_code) };
 
-    ghost view = { λ c. record { setup = setup_of c.registry c.number c.provider; history = c.journal.pairs; tables = c.logins } };
+    ghost view = { λ c. record { setup = c.setup; history = c.journal.pairs; tables = c.logins } };
 
     ghost use Rattle.rp_core.specs.Agreeing.{Keeps};
 
-    ghost invariant = { λ c. Keeps (setup_of c.registry c.number c.provider) c.journal.pairs c.logins };
+    ghost invariant = { λ c. Keeps c.setup c.journal.pairs c.logins };
 }
 
 impl RpCore {
@@ -59,9 +59,7 @@ impl RpCore {
         ensures { IfOk result (λ c. c ≡ record { setup = setup_of registry number provider; history = []; tables = no_tables }) }
     {
         Ok(RpCore {
-            registry,
-            number,
-            provider,
+            setup: Setup::new(registry, number, provider),
             journal: Journal::new(alloc),
             logins: Logins::new(alloc)?,
         })
@@ -73,21 +71,5 @@ impl RpCore {
         ensures agrees { Agrees (party_of self.now.setup).types result.now (past_of self.now) (last_moment (past_of self.now)) }
     {
         &self.logins
-    }
-
-    /// The party.
-    pub(crate) fn party(&self) -> &Party
-        ensures { result.now ≡ party_of self.now.setup }
-    {
-        self.registry.party(self.number)
-    }
-
-    /// The client that the party is.
-    pub(crate) fn client(&self) -> &Client
-        ensures { result.now ≡ client_of self.now.setup }
-    {
-        // A count says what every registry keeps: that the client of each of its parties is there.
-        let _parties = self.registry.parties();
-        self.registry.client(self.party().client)
     }
 }

@@ -1,12 +1,15 @@
 // One step of a relying party: it decides the reply and makes the rows, takes all memory, and only then changes anything.
 
-ghost use Rattle.std.specs.Prelude.{◌≡◌, ◌≤◌, ◌+◌, ◌++◌, [], ◌∷◌, OnOk, OnErr};
+ghost use Rattle.std.specs.Prelude.{◌≡◌, ℕ, ◌<◌, ◌≤◌, ◌+◌, ◌++◌, true, [], ◌∷◌, length, OnOk, OnErr};
+ghost use Rattle.rp_login.specs.Tables.{with_room};
 ghost use Rattle.sso_base.specs.Legal.{last_moment, IsEntry};
 ghost use Rattle.sso_base.specs.Journal.{history_weight, most_weight};
 ghost use Rattle.rp_exchange.specs.Values.{IsRpAsk};
 ghost use Rattle.rp_exchange.specs.Weight as weights;
 ghost use Rattle.rp_answer.specs.Answering.{rp_answer};
-ghost use Rattle.rp_answer.specs.Setup.{party_of};
+ghost use Rattle.rp_answer.specs.Past.{RpPast};
+ghost use Rattle.rp_answer.specs.Setup.{PartySetup, party_of};
+ghost use Rattle.rp_core.specs.Keeping.{TakesUp, FollowsPair};
 ghost use Rattle.rp_core.specs.Making.{Brings};
 ghost use Rattle.rp_core.specs.Relying.{past_of};
 
@@ -14,11 +17,77 @@ use crate::keeping::take_up;
 use crate::making::Made;
 use crate::state::RpCore;
 use rp_exchange::{RpAsk, RpReply, know_rp_entry};
-use sso_base::{Core, CoreNo, Entry, Moment, NoMemory, Pair, Weighed, Word};
+use rp_login::Logins;
+use sso_base::{Core, CoreNo, Entry, Journal, Moment, NoMemory, Pair, Weighed, Word};
 use std::alloc::Global;
 
+// Makes room in the history for one more pair, and in each table for one more row.
+fn reserve(journal: &mut Journal<RpAsk, RpReply>, logins: &mut Logins) -> Result<(), NoMemory>
+    ensures pairs { journal.new.pairs ≡ journal.old.pairs }
+    ensures room { OnOk result (length journal.new.pairs < journal.new.capacity) }
+    ensures tables { OnOk result (logins.new ≡ with_room logins.old) }
+    ensures same { OnErr result (logins.new ≡ logins.old) }
+{
+    journal.reserve()?;
+    logins.reserve()
+}
+
+// The history and the tables take up an entry with its reply, for which there is room.
+fn put(
+    journal: &mut Journal<RpAsk, RpReply>,
+    logins: &mut Logins,
+    entry: Entry<RpAsk>,
+    reply: RpReply,
+    made: Made,
+    weight: u64,
+)
+    requires reserved { length journal.old.pairs < journal.old.capacity }
+    requires may { (s : PartySetup) × (past : RpPast) × (before : ℕ) × TakesUp s past before logins.old (record { entry = entry; reply = reply }) made.login made.pending made.visit }
+    requires tables { logins.old.reserved ≡ record { logins = true; pendings = true; visits = true; seens = true } }
+    requires weight { weight ≡ weights.ask_weight entry.ask }
+    requires room { history_weight weights.ask_weight journal.old.pairs + weight ≤ most_weight }
+    ensures pairs { journal.new.pairs ≡ journal.old.pairs ++ (record { entry = entry; reply = reply }) ∷ [] }
+    ensures tables { (s : PartySetup) (past : RpPast) (before : ℕ) → TakesUp s past before logins.old (record { entry = entry; reply = reply }) made.login made.pending made.visit → FollowsPair (party_of s).types logins.old logins.new past (record { entry = entry; reply = reply }) }
+{
+    let pair = Pair { entry, reply };
+    take_up(logins, &pair, made);
+    journal.push(pair, weight);
+}
+
+// The history and the tables take up an entry with its reply. All memory is taken before the first change.
+fn take_in(
+    journal: &mut Journal<RpAsk, RpReply>,
+    logins: &mut Logins,
+    entry: Entry<RpAsk>,
+    reply: RpReply,
+    made: Made,
+    weight: u64,
+) -> Result<(), NoMemory>
+    requires may { (s : PartySetup) × (past : RpPast) × (before : ℕ) × TakesUp s past before (with_room logins.old) (record { entry = entry; reply = reply }) made.login made.pending made.visit }
+    requires weight { weight ≡ weights.ask_weight entry.ask }
+    requires room { history_weight weights.ask_weight journal.old.pairs + weight ≤ most_weight }
+    ensures pairs { OnOk result (journal.new.pairs ≡ journal.old.pairs ++ (record { entry = entry; reply = reply }) ∷ []) }
+    ensures tables { OnOk result ((s : PartySetup) (past : RpPast) (before : ℕ) → TakesUp s past before (with_room logins.old) (record { entry = entry; reply = reply }) made.login made.pending made.visit → FollowsPair (party_of s).types (with_room logins.old) logins.new past (record { entry = entry; reply = reply })) }
+    ensures same_pairs { OnErr result (journal.new.pairs ≡ journal.old.pairs) }
+    ensures same_tables { OnErr result (logins.new ≡ logins.old) }
+{
+    match reserve(journal, logins) {
+        Ok(()) => {
+            put(journal, logins, entry, reply, made, weight);
+            Ok(())
+        }
+        Err(no) => {
+            // dropped by calls: at an early end of this function the prover would walk through all of their parts
+            drop(entry);
+            drop(reply);
+            drop(made);
+            Err(no)
+        }
+    }
+}
+
 impl RpCore {
-    // Takes up an entry with its reply and its rows. All memory is taken before the first change.
+    // Takes up an entry with its reply and its rows.
     fn commit(
         &mut self,
         entry: Entry<RpAsk>,
@@ -36,11 +105,14 @@ impl RpCore {
         ensures history { OnOk result (self.new.history ≡ self.old.history ++ (record { entry = entry; reply = reply }) ∷ []) }
         ensures err { OnErr result (self.new ≡ self.old) }
     {
-        self.journal.reserve()?;
-        self.logins.reserve()?;
-        let pair = Pair { entry, reply };
-        take_up(&mut self.logins, &pair, made);
-        self.journal.push(pair, weight);
+        take_in(
+            &mut self.journal,
+            &mut self.logins,
+            entry,
+            reply,
+            made,
+            weight,
+        )?;
         Ok(())
     }
 }

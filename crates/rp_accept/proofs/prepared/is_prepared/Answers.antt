@@ -1,7 +1,7 @@
 use Rattle.std.proofs.Common.{Bool, sym, ◌∙◌, ap}
 use Rattle.rp_exchange.specs.declared.ask.RpAsk.{RpAsk}
 use Rattle.rp_exchange.specs.Asks as spec
-use Rattle.rp_core.proofs.prepared.is_prepared.Goals as goal
+use Rattle.rp_accept.proofs.prepared.is_prepared.Goals as goal
 
 pub returns-in-Tokens : goal.returns-in-Tokens
 returns-in-Tokens c =

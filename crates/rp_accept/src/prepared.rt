@@ -110,7 +110,7 @@ fn is_logout_read(claims: &Result<LogoutClaims, LogoutNo>) -> bool
 }
 
 /// Whether a request, or an answer to one, can give the ask.
-pub(crate) fn is_prepared(ask: &RpAsk) -> bool
+pub fn is_prepared(ask: &RpAsk) -> bool
     ensures { result ≡ spec.is_prepared ask.now }
 {
     match ask {

@@ -1,0 +1,96 @@
+// The reply to the tokens of a live exchange.
+
+ghost use Rattle.std.specs.Prelude.{◌≡◌, IfOk};
+ghost use Rattle.id_token.specs.Judging.{id_judged};
+ghost use Rattle.rp_answer.specs.Replies as spec;
+
+use crate::setup::Setup;
+use id_token::{Half, IdClaims, IdNo, IdRules, half_hash, judge_id};
+use rp_exchange::{Part, RpAsk, RpNo, RpReply, copied_id};
+use rp_login::PendingRow;
+use sso_base::{Entry, NoMemory, Text};
+use std::alloc::Global;
+use token_endpoint::Tokens;
+
+// The half digest of the text, where it is there, is the text's.
+fn may_hash(text: &Option<Text>) -> Half
+    ensures { result ≡ spec.may_hash text.now }
+{
+    match text {
+        Some(text) => Half::IfThere(half_hash(text.as_str().as_bytes())),
+        None => Half::Free,
+    }
+}
+
+// Whether a subject came before, and is another.
+fn is_other(before: &Option<Text>, sub: &Text) -> bool
+    ensures { result ≡ spec.is_other before.now sub.now }
+{
+    match before {
+        Some(before) => before.as_str() != sub.as_str(),
+        None => false,
+    }
+}
+
+impl Setup {
+    fn back_rules(
+        &self,
+        alloc: Global,
+        pending: &PendingRow,
+        tokens: &Tokens,
+    ) -> Result<IdRules, NoMemory>
+        ensures { IfOk result (λ r. r ≡ spec.back_rules self.now pending.now tokens.now) }
+    {
+        let token = Half::IfThere(half_hash(tokens.access.as_str().as_bytes()));
+        let code = may_hash(&pending.code);
+        self.rules_for(alloc, &pending.nonce, pending.begun, token, code)
+    }
+
+    // The claims of the ID Token are judged.
+    fn judge_back(
+        &self,
+        alloc: Global,
+        entry: &Entry<RpAsk>,
+        pending: &PendingRow,
+        tokens: &Tokens,
+        claims: &IdClaims,
+    ) -> Result<RpReply, NoMemory>
+        ensures { IfOk result (λ r. r ≡ spec.back_judged entry.now pending.now claims.now (id_judged (spec.back_rules self.now pending.now tokens.now) claims.now entry.now.at)) }
+    {
+        let rules = self.back_rules(alloc, pending, tokens)?;
+        if let Err(why) = judge_id(&rules, claims, entry.at) {
+            return Ok(RpReply::Refused { why: RpNo::Id(why) });
+        }
+        if is_other(&pending.sub, &claims.sub) {
+            return Ok(RpReply::Refused {
+                why: RpNo::SubjectDiffers,
+            });
+        }
+        Ok(RpReply::Entered {
+            session: entry.fresh[1],
+            sub: claims.sub.copy(alloc)?,
+        })
+    }
+
+    /// The reply to the tokens of this exchange, which lives: the claims of their ID Token are judged.
+    pub fn reply_to_tokens(
+        &self,
+        alloc: Global,
+        entry: &Entry<RpAsk>,
+        pending: &PendingRow,
+        tokens: &Tokens,
+        id: &Option<Result<IdClaims, IdNo>>,
+    ) -> Result<RpReply, NoMemory>
+        ensures { IfOk result (λ r. r ≡ spec.back_read self.now entry.now pending.now tokens.now id.now) }
+    {
+        match id {
+            None => Ok(RpReply::Refused {
+                why: RpNo::Missing(Part::Id),
+            }),
+            Some(Ok(claims)) => self.judge_back(alloc, entry, pending, tokens, claims),
+            Some(Err(why)) => Ok(RpReply::Refused {
+                why: RpNo::Id(copied_id(alloc, why)?),
+            }),
+        }
+    }
+}

@@ -1,0 +1,95 @@
+// What a relying party was set up with.
+
+ghost use Rattle.std.specs.Prelude.{◌≡◌, true, IfOk};
+ghost use Rattle.login_request.specs.Request.{login_location};
+ghost use Rattle.rp_exchange.specs.Parties.{is_served_at};
+ghost use Rattle.rp_answer.specs.Setup.{party_of, client_of};
+ghost use Rattle.rp_accept.specs.Serving.{setup_of};
+
+use client_registry::{Client, Party, Provider, Registry};
+use login_request::login_request;
+use sso_base::{NoMemory, Text, Word};
+use std::alloc::Global;
+use std::marker::Model;
+
+/// What a relying party was set up with: a registry, the number of a party of it, and the provider that the party trusts.
+#[derive(Drop)]
+pub struct Setup {
+    registry: Registry,
+    number: u32,
+    provider: Provider,
+}
+
+impl Model for Setup {
+    ghost use Rattle.rp_answer.specs.Setup.{PartySetup};
+
+    ghost Value = { PartySetup };
+
+    ghost use Rattle.rp_accept.specs.Serving.{MayServe, setup_of};
+
+    ghost view = { λ s. setup_of s.registry s.number s.provider };
+
+    ghost invariant = { λ s. MayServe (setup_of s.registry s.number s.provider) };
+}
+
+impl Setup {
+    /// The party of this number in the registry, which trusts this provider.
+    ///
+    /// So far the response type of the party is `code` or `id_token token`, and it asks for no UserInfo. The provider's issuer
+    /// is the registry's.
+    pub fn new(registry: Registry, number: u32, provider: Provider) -> Setup
+        requires served { is_served_at registry number ≡ true }
+        requires issuer { provider.issuer ≡ registry.provider.issuer }
+        ensures { result ≡ setup_of registry number provider }
+    {
+        Setup {
+            registry,
+            number,
+            provider,
+        }
+    }
+
+    /// The party.
+    pub fn party(&self) -> &Party
+        ensures { result.now ≡ party_of self.now }
+    {
+        self.registry.party(self.number)
+    }
+
+    /// The client that the party is.
+    pub(crate) fn client(&self) -> &Client
+        ensures { result.now ≡ client_of self.now }
+    {
+        // A count says what every registry keeps: that the client of each of its parties is there.
+        let _parties = self.registry.parties();
+        self.registry.client(self.party().client)
+    }
+
+    /// The provider that the party trusts.
+    pub(crate) fn provider(&self) -> &Provider
+        ensures { result.now ≡ self.now.provider }
+    {
+        &self.provider
+    }
+
+    /// Where a login of this state and nonce begins: an authorization request at the provider (OpenID Connect Core 1.0, 3.1.2.1).
+    pub fn login_location(
+        &self,
+        alloc: Global,
+        state: &Word,
+        nonce: &Word,
+    ) -> Result<Text, NoMemory>
+        ensures { IfOk result (λ t. t ≡ login_location (client_of self.now) (party_of self.now) self.now.provider state.now nonce.now) }
+    {
+        // A count says what every registry keeps: that its issuer is short.
+        let _parties = self.registry.parties();
+        login_request(
+            alloc,
+            &self.registry,
+            self.number,
+            &self.provider,
+            state,
+            nonce,
+        )
+    }
+}
