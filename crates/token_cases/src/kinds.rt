@@ -8,7 +8,7 @@ use id_token::{Half, IdRules, check_id, read_id};
 use logout_token::read_logout;
 use registered_url::WebUrls;
 use request_object::{ObjNo, seal_request, unseal_request, written_len};
-use request_params::Params;
+use request_params::{AskNo, Params, read_request};
 use sso_base::{Moment, NoMemory, Text, Texts};
 use std::alloc::Global;
 
@@ -36,24 +36,12 @@ fn client(alloc: Global) -> Result<Client, NoMemory> {
     })
 }
 
-// A request of the client.
-fn params(alloc: Global) -> Result<Params, NoMemory> {
-    let mut params = Params::new();
-    params.response_type = Some(Text::new(alloc, "id_token")?);
-    params.client_id = Some(Text::new(alloc, "c")?);
-    params.redirect_uri = Some(Text::new(alloc, "http://127.0.0.1:8081/cb")?);
-    params.scope = Some(Text::new(alloc, "openid")?);
-    params.state = Some(Text::new(alloc, "s")?);
-    params.nonce = Some(Text::new(alloc, "n")?);
-    Ok(params)
-}
+// A request of the client, as a form.
+const REQUEST: &str =
+    "response_type=id_token&client_id=c&redirect_uri=http://127.0.0.1:8081/cb&scope=openid&state=s&nonce=n";
 
 // The parameters to the issuer `i`, sealed.
-fn sealed_params(
-    alloc: Global,
-    client: &Client,
-    params: &Params,
-) -> Result<Option<Text>, NoMemory> {
+fn sealed_by(alloc: Global, client: &Client, params: &Params) -> Result<Option<Text>, NoMemory> {
     let issuer = Text::new(alloc, "i")?;
     let nested = params.request.is_some()
         || params.request_uri.is_some()
@@ -64,9 +52,25 @@ fn sealed_params(
     Ok(Some(seal_request(alloc, client, &issuer, params)?))
 }
 
+fn sealed_params(alloc: Global, params: &Params) -> Result<Option<Text>, NoMemory> {
+    let client = client(alloc)?;
+    sealed_by(alloc, &client, params)
+}
+
+fn sealed_request(
+    alloc: Global,
+    request: &Result<Params, AskNo>,
+) -> Result<Option<Text>, NoMemory> {
+    match request {
+        Ok(params) => sealed_params(alloc, params),
+        Err(AskNo::NoMemory) => Err(NoMemory),
+        Err(_) => Ok(None),
+    }
+}
+
 fn request_object(alloc: Global) -> Result<Option<Text>, NoMemory> {
-    let params = params(alloc)?;
-    sealed_params(alloc, &client(alloc)?, &params)
+    let request = read_request(alloc, REQUEST.as_bytes());
+    sealed_request(alloc, &request)
 }
 
 fn text_alone(sealed: Option<(usize, Text)>) -> Option<Text> {
@@ -141,10 +145,24 @@ fn told_request(alloc: Global, answer: &Result<Params, ObjNo>) -> Result<String,
     }
 }
 
+fn unsealed(
+    alloc: Global,
+    client: &Client,
+    issuer: &Text,
+    text: &[u8],
+) -> Result<String, NoMemory> {
+    let answer = unseal_request(alloc, client, issuer, text);
+    told_request(alloc, &answer)
+}
+
+fn unsealed_by(alloc: Global, client: &Client, text: &[u8]) -> Result<String, NoMemory> {
+    let issuer = Text::new(alloc, "i")?;
+    unsealed(alloc, client, &issuer, text)
+}
+
 fn as_request_object(alloc: Global, text: &[u8]) -> Result<String, NoMemory> {
     let client = client(alloc)?;
-    let answer = unseal_request(alloc, &client, &Text::new(alloc, "i")?, text);
-    told_request(alloc, &answer)
+    unsealed_by(alloc, &client, text)
 }
 
 fn read_text(alloc: Global, reader: &str, text: &[u8]) -> Result<String, NoMemory> {
