@@ -110,6 +110,34 @@ fn push_outer(
     push_inner(alloc, told, outer, &inner)
 }
 
+fn push_client(
+    alloc: Global,
+    told: &mut String,
+    registry: &Registry,
+    client: &str,
+    outer: &Result<Params, AskNo>,
+) -> Result<(), NoMemory> {
+    match registry.find_client(client.as_bytes()) {
+        Some(place) if place < registry.clients() => {
+            let issuer = &registry.provider().issuer;
+            push_outer(alloc, told, registry.client(place), issuer, outer)
+        }
+        _ => Ok(told.push_str(" no such client")?),
+    }
+}
+
+fn push_heard(
+    alloc: Global,
+    told: &mut String,
+    registry: &Registry,
+    location: &str,
+    client: &str,
+) -> Result<(), NoMemory> {
+    let (_, query) = location.split_once('?').unwrap_or(("", ""));
+    let outer = read_request(alloc, query.as_bytes());
+    push_client(alloc, told, registry, client, &outer)
+}
+
 // `heard|PARTY|CLIENT`: the parameters that stand in the location at which the party begins a login, and all of them, as the
 // provider reads them of that client.
 fn heard(
@@ -121,15 +149,7 @@ fn heard(
     let mut told = String::from_str(alloc, "beside:")?;
     let location = begun(alloc, registry, party, registry.provider())?;
     let location = location.as_ref().map_or("", Text::as_str);
-    let (_, query) = location.split_once('?').unwrap_or(("", ""));
-    let outer = read_request(alloc, query.as_bytes());
-    match registry.find_client(client.as_bytes()) {
-        Some(place) if place < registry.clients() => {
-            let issuer = &registry.provider().issuer;
-            push_outer(alloc, &mut told, registry.client(place), issuer, &outer)?;
-        }
-        _ => told.push_str(" no such client")?,
-    }
+    push_heard(alloc, &mut told, registry, location, client)?;
     Ok(told)
 }
 

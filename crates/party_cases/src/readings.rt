@@ -1,5 +1,8 @@
 // What requests to a relying party, and answers of its provider's token endpoint, ask of it.
 
+ghost use Rattle.std.specs.Prelude.{◌<◌, length, IsTrue};
+ghost use Rattle.rp_exchange.specs.Parties.{is_served_at};
+
 use crate::requests::{answered, request};
 use crate::words::number;
 use auth_answer::{AnswerNo, Heard};
@@ -88,6 +91,40 @@ fn told(alloc: Global, asked: &RpAsk) -> Result<String, NoMemory> {
     }
 }
 
+// What is told of an ask that was read.
+fn read_told(alloc: Global, asked: &Result<RpAsk, NoMemory>) -> Result<String, NoMemory> {
+    match asked {
+        Ok(asked) => told(alloc, asked),
+        Err(_) => Err(NoMemory),
+    }
+}
+
+fn request_read(
+    alloc: Global,
+    registry: &Registry,
+    party: u32,
+    ask: &Ask,
+) -> Result<String, NoMemory>
+    requires party { party < length registry.now.parties }
+    requires served { IsTrue (is_served_at registry.now party) }
+{
+    let asked = prepare_rp(alloc, registry, party, ask);
+    read_told(alloc, &asked)
+}
+
+fn answer_read(
+    alloc: Global,
+    registry: &Registry,
+    party: u32,
+    answer: &Answered,
+) -> Result<String, NoMemory>
+    requires party { party < length registry.now.parties }
+    requires served { IsTrue (is_served_at registry.now party) }
+{
+    let asked = prepare_tokens(alloc, registry, party, word(7), answer);
+    read_told(alloc, &asked)
+}
+
 fn request_told(
     alloc: Global,
     registry: &Registry,
@@ -95,10 +132,7 @@ fn request_told(
     ask: &Ask,
 ) -> Result<String, NoMemory> {
     match registry.find_party(party.as_bytes()) {
-        Some(party) if is_served(registry, party) => {
-            let asked = prepare_rp(alloc, registry, party, ask)?;
-            told(alloc, &asked)
-        }
+        Some(party) if is_served(registry, party) => request_read(alloc, registry, party, ask),
         _ => Ok(String::from_str(alloc, "not served")?),
     }
 }
@@ -110,10 +144,7 @@ fn answer_told(
     answer: &Answered,
 ) -> Result<String, NoMemory> {
     match registry.find_party(party.as_bytes()) {
-        Some(party) if is_served(registry, party) => {
-            let asked = prepare_tokens(alloc, registry, party, word(7), answer)?;
-            told(alloc, &asked)
-        }
+        Some(party) if is_served(registry, party) => answer_read(alloc, registry, party, answer),
         _ => Ok(String::from_str(alloc, "not served")?),
     }
 }

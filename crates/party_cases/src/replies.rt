@@ -101,24 +101,52 @@ fn reply_told(alloc: Global, reply: &[&str]) -> Result<Option<RpReply>, NoMemory
 
 // ---- the call
 
+fn push_known(
+    alloc: Global,
+    told: &mut String,
+    registry: &Result<Option<Registry>, NoMemory>,
+    reply: &RpReply,
+) -> Result<(), NoMemory> {
+    match registry {
+        Ok(Some(registry)) => push_at(alloc, told, registry, reply),
+        Ok(None) => Ok(push_field(told, "no registry", "")?),
+        Err(_) => Err(NoMemory),
+    }
+}
+
+fn push_issued(
+    alloc: Global,
+    told: &mut String,
+    issuer: &str,
+    reply: &RpReply,
+) -> Result<(), NoMemory> {
+    let registry = registry(alloc, issuer);
+    push_known(alloc, told, &registry, reply)
+}
+
 fn told_at(alloc: Global, issuer: &str, reply: &RpReply) -> Result<String, NoMemory> {
     let line = rp_line(alloc, reply)?;
     let mut told = String::from_str(alloc, line.as_str())?;
-    let registry = registry(alloc, issuer)?;
-    match &registry {
-        Some(registry) => push_at(alloc, &mut told, registry, reply)?,
-        None => push_field(&mut told, "no registry", "")?,
-    }
+    push_issued(alloc, &mut told, issuer, reply)?;
     Ok(told)
+}
+
+fn known_at(
+    alloc: Global,
+    issuer: &str,
+    reply: &Result<Option<RpReply>, NoMemory>,
+) -> Result<String, NoMemory> {
+    match reply {
+        Ok(Some(reply)) => told_at(alloc, issuer, reply),
+        Ok(None) => Ok(String::from_str(alloc, "no such reply")?),
+        Err(_) => Err(NoMemory),
+    }
 }
 
 /// `reply|ISSUER|REPLY..`: the line of a reply, and the reply in HTTP at the first party, `shop`, whose provider is this issuer.
 pub fn answer(alloc: Global, issuer: &str, reply: &[&str]) -> Result<String, NoMemory> {
-    let reply = reply_told(alloc, reply)?;
-    match &reply {
-        Some(reply) => told_at(alloc, issuer, reply),
-        None => Ok(String::from_str(alloc, "no such reply")?),
-    }
+    let reply = reply_told(alloc, reply);
+    known_at(alloc, issuer, &reply)
 }
 
 // The refusal of a token response in which the member is missing.
@@ -139,14 +167,26 @@ fn missing_in(reply: &RpReply) -> &str {
     }
 }
 
-fn copy_told(alloc: Global, copied: &RpReply) -> Result<String, NoMemory> {
-    let line = rp_line(alloc, copied)?;
-    Ok(format!(in alloc; "{} {}", line.as_str(), missing_in(copied))?)
+fn copy_of(alloc: Global, reply: &Result<RpReply, NoMemory>) -> Result<RpReply, NoMemory> {
+    match reply {
+        Ok(reply) => reply.copy(alloc),
+        Err(_) => Err(NoMemory),
+    }
+}
+
+fn copy_told(alloc: Global, copied: &Result<RpReply, NoMemory>) -> Result<String, NoMemory> {
+    match copied {
+        Ok(copied) => {
+            let line = rp_line(alloc, copied)?;
+            Ok(format!(in alloc; "{} {}", line.as_str(), missing_in(copied))?)
+        }
+        Err(_) => Err(NoMemory),
+    }
 }
 
 /// `copy reply|member of a token response missing|MEMBER`: the line of a copy of that refusal, and the member that it names.
 pub fn copied(alloc: Global, member: &str) -> Result<String, NoMemory> {
-    let reply = missing(alloc, member)?;
-    let copied = reply.copy(alloc)?;
+    let reply = missing(alloc, member);
+    let copied = copy_of(alloc, &reply);
     copy_told(alloc, &copied)
 }

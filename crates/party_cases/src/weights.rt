@@ -31,15 +31,16 @@ fn ask_told(alloc: Global, ask: &[&str]) -> Result<Option<RpAsk>, NoMemory> {
     }
 }
 
-fn weight_told(alloc: Global, ask: &Option<RpAsk>) -> Result<String, NoMemory> {
+fn weight_told(alloc: Global, ask: &Result<Option<RpAsk>, NoMemory>) -> Result<String, NoMemory> {
     match ask {
-        Some(ask) => Ok(ask.weight()?.to_string(alloc)?),
-        None => Ok(String::from_str(alloc, "no such ask")?),
+        Ok(Some(ask)) => Ok(ask.weight()?.to_string(alloc)?),
+        Ok(None) => Ok(String::from_str(alloc, "no such ask")?),
+        Err(_) => Err(NoMemory),
     }
 }
 
 /// `weight|not here`, `weight|begin|BROWSER` and `weight|tokens|EXCHANGE|ACCESS|ID`: what the ask weighs.
 pub fn answer(alloc: Global, ask: &[&str]) -> Result<String, NoMemory> {
-    let ask = ask_told(alloc, ask)?;
+    let ask = ask_told(alloc, ask);
     weight_told(alloc, &ask)
 }
