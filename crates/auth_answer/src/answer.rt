@@ -7,7 +7,7 @@ use std::alloc::Global;
 
 /// A successful authorization response (OpenID Connect Core 1.0, 3.1.2.5, 3.2.2.5 and 3.3.2.5). Each part is there as the
 /// response type has it.
-#[derive(Debug, Drop)]
+#[derive(Drop)]
 pub struct Answer {
     /// The redirection URI that it is sent to: one that the client has.
     pub redirect: Text,

@@ -5,7 +5,7 @@ use sso_base::{Text, Word};
 
 /// An authorization response, as far as its parts are there (OpenID Connect Core 1.0, 3.1.2.5, 3.1.2.6, 3.2.2.5 and
 /// 3.3.2.5).
-#[derive(Debug, Drop)]
+#[derive(Drop)]
 pub struct Heard {
     /// The word whose text `state` is. A state that is not the text of a word is no answer to a login, and counts as absent.
     pub state: Option<Word>,

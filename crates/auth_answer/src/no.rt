@@ -4,7 +4,7 @@ use sso_base::{NoMemory, Text};
 use std::alloc::AllocError;
 
 /// Why an authorization response is refused, or memory ran out.
-#[derive(Debug, Drop)]
+#[derive(Drop)]
 pub enum AnswerNo {
     /// The part of this name stands twice in the form (RFC 6749, 3.1: parameters must not be included more than once). It is
     /// the first name that stands again.

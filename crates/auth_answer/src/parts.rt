@@ -7,7 +7,7 @@ ghost use Rattle.auth_answer.specs.Parts as spec;
 use sso_base::Text;
 
 // The name of a part.
-#[derive(Clone, Copy, Debug, PartialEq, Eq)]
+#[derive(Clone, Copy, PartialEq, Eq)]
 pub(crate) enum PartName {
     State,
     Error,
@@ -58,7 +58,7 @@ fn find_name(names: &[PartName], text: &str) -> Option<PartName>
 }
 
 // The parts that are there, as texts.
-#[derive(Debug, Drop)]
+#[derive(Drop)]
 pub(crate) struct Parts {
     pub(crate) state: Option<Text>,
     pub(crate) error: Option<Text>,

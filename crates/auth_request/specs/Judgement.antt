@@ -1,6 +1,6 @@
 -- The judgement of an authorization request: the first row that fits (OpenID Connect Core 1.0, 3.1.2.2, 3.1.2.6, 3.2.2.1
 -- and 6; RFC 6749, 3.1.2.4 and 4.1.2.1).
-use Rattle.std.specs.Prelude.{ℕ, ◌==◌, Bool, false, not, ◌&&◌, List, [], ◌∷◌, Option, Some, None, is_some, is_none, option_and_then, unwrap_or, slice_get, Result, Ok, Err, if◌then◌else◌}
+use Rattle.std.specs.Prelude.{ℕ, Bool, false, not, ◌&&◌, List, [], ◌∷◌, Option, Some, None, is_some, is_none, option_and_then, unwrap_or, slice_get, Result, Ok, Err, if◌then◌else◌}
 use Rattle.std.specs.Str.{bytes_eq}
 use Rattle.sso_base.specs.Refusals.{first_refusal}
 use Rattle.sso_base.specs.Texts.{has_text}

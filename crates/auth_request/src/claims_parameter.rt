@@ -12,7 +12,7 @@ use sso_base::{NoMemory, Text, Texts};
 use std::alloc::Global;
 
 // What is asked, and whether the parameter has its form. In another form it asks nothing.
-#[derive(Debug, Drop)]
+#[derive(Drop)]
 pub(crate) struct Asked {
     pub(crate) fits: bool,
     // The subjects, of which the user must be one.

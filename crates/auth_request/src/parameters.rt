@@ -13,7 +13,7 @@ use std::alloc::Global;
 const MOST_DIGITS: usize = 9;
 
 // What the parameters say, each read once.
-#[derive(Debug, Drop)]
+#[derive(Drop)]
 pub(crate) struct Asking {
     // The number of the response type among the six, from 0.
     pub(crate) number: Option<usize>,

@@ -7,7 +7,7 @@ use sso_base::{NoMemory, Text, Texts, copied_text};
 use std::alloc::Global;
 
 /// What an authorization request wishes, where it may be answered (OpenID Connect Core 1.0, 3.1.2.1 and 5.5).
-#[derive(Debug, Drop)]
+#[derive(Drop)]
 pub struct Wish {
     /// The number of its client, from 0.
     pub client: u32,
@@ -38,7 +38,7 @@ pub struct Wish {
 }
 
 /// Why the provider shows an error page instead of sending the browser back.
-#[derive(Clone, Copy, Debug, PartialEq, Eq)]
+#[derive(Clone, Copy, PartialEq, Eq)]
 pub enum PageNo {
     /// The client is absent or unknown.
     Client,
@@ -53,7 +53,7 @@ pub enum PageNo {
 }
 
 /// The judgement of an authorization request.
-#[derive(Debug, Drop)]
+#[derive(Drop)]
 pub enum Verdict {
     /// The user is shown an error page (RFC 6749, 4.1.2.1).
     Page(PageNo),

@@ -5,7 +5,7 @@ use sso_base::{Named, NoMemory, Word, find_row, put_row, remove_row};
 use std::alloc::{AllocError, Global};
 
 /// A door. The word that names it is a byte, 32 times.
-#[derive(Debug, Drop)]
+#[derive(Drop)]
 pub struct Door {
     name: Word,
     number: u8,

@@ -1,5 +1,6 @@
 // What the fields of a case stand for.
 
+use crate::numbered::word;
 use hex::FromHex;
 use oidc_words::Scopes;
 use sso_base::{Moment, NoMemory, Text, Texts, Word};
@@ -113,4 +114,27 @@ pub fn scopes(alloc: Global, field: &str) -> Result<Scopes, NoMemory> {
     }
     let words: Vec<&str> = field.split(' ').collect(alloc)?;
     Ok(Scopes::among(words.as_slice()))
+}
+
+/// The field at this place, from 0; `-` where it is left out.
+pub fn field<'a>(fields: &[&'a str], place: usize) -> &'a str {
+    match fields.get(place) {
+        Some(field) => *field,
+        None => "-",
+    }
+}
+
+/// The number in a field; 0 where there is none.
+pub fn number(field: &str) -> u32 {
+    field.parse::<u32>().unwrap_or(0)
+}
+
+/// The word whose text the field is.
+pub fn word_in(field: &str) -> Option<Word> {
+    Word::read(field.as_bytes())
+}
+
+/// The same; the word of number 0 where the field is no text of a word.
+pub fn word_of(field: &str) -> Word {
+    word_in(field).unwrap_or(word(0))
 }

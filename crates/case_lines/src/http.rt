@@ -1,7 +1,7 @@
 // A reply in HTTP as a text: its status, its fields and its body, with ` / ` between.
 
 use crate::fields::as_text;
-use sso_base::{HttpReply, Kind, NoMemory, Text, Texts};
+use sso_base::{Blob, HttpReply, Kind, Message, NoMemory, Text, Texts};
 use std::alloc::{AllocError, Global};
 
 /// Adds a part behind ` / `.
@@ -61,4 +61,23 @@ pub fn push_http(
         push_field(out, text, "")?;
     }
     Ok(())
+}
+
+fn push_form(alloc: Global, out: &mut String, body: &Option<Blob>) -> Result<(), AllocError> {
+    match body {
+        Some(body) => push_body(alloc, out, body.as_bytes()),
+        None => Ok(()),
+    }
+}
+
+/// Adds the method, the URL, the fields and the form of a message.
+pub fn push_message(alloc: Global, out: &mut String, message: &Message) -> Result<(), AllocError> {
+    let method = if message.body.is_some() {
+        "POST "
+    } else {
+        "GET "
+    };
+    push_field(out, method, message.to.as_str())?;
+    push_if(out, "Authorization: ", &message.auth)?;
+    push_form(alloc, out, &message.body)
 }

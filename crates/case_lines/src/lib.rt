@@ -1,22 +1,30 @@
 //! Tables of cases: lines of text that a program reads, each a call and what it is given, and that it prints again with the
 //! answer. So what it prints is a table that a person reads, and what it reads is the same table without answers.
 //!
-//! An empty line, and one that begins with `#`, is printed as it is. In every other line `|` stands between the fields. `$NAME$`
-//! stands for a text that the program gives a name to, and `no text of this name` for one that has none. No call here has a
-//! contract: what the programs print is compared, and nothing else stands on it.
+//! An empty line, and one that begins with `#`, is printed as it is. In every other line `|` stands between the fields. `$n$`
+//! stands for the text of the word of number n, which ends with n in four bytes and else has zeros. `$NAME$` stands for a text that the program
+//! gives a name to, and `no text of this name` for one that has none. No call here has a contract: what the programs print is
+//! compared, and nothing else stands on it.
+//!
+//! Where memory runs out at a line, it is printed with `no memory`, and is asked once more: a step that finds no memory changes
+//! nothing, and so where one allocation fails, the table has at most that one line more.
 //!
 //! | Module | What it has |
 //! |---|---|
 //! | `fields` | what most fields are, read |
 //! | `numbered` | words by their numbers |
+//! | `requests` | requests, and answers of a provider, read |
 //! | `answers` | how most answers are told |
 //! | `http` | a reply in HTTP as a text |
+//! | `run` | asks one after another: their words, and what the last reply sends on |
 #![tactic(auto)]
 
 mod answers;
 mod fields;
 mod http;
 mod numbered;
+mod requests;
+mod run;
 
 pub use crate::answers::{
     claim_refusal, flagged, or_else, push_named, push_part, told, told_bytes, told_hex,
@@ -24,12 +32,15 @@ pub use crate::answers::{
     told_words,
 };
 pub use crate::fields::{
-    as_text, bytes, given, given_text, given_texts, hex_word, in_32, moment, scopes, written,
+    as_text, bytes, field, given, given_text, given_texts, hex_word, in_32, moment, number, scopes,
+    word_in, word_of, written,
 };
-pub use crate::http::{push_field, push_http};
-pub use crate::numbered::{number_of, word, words_of_place};
-use sso_base::NoMemory;
-use std::alloc::{AllocError, Global};
+pub use crate::http::{push_field, push_http, push_message};
+pub use crate::numbered::{word, words_of_place};
+pub use crate::requests::{answered, request};
+pub use crate::run::Run;
+use sso_base::{NoMemory, Text};
+use std::alloc::Global;
 use std::io;
 
 /// What answers the cases of a table.
@@ -39,28 +50,53 @@ pub trait Cases {
 
     /// The text of this name, where there is one.
     fn text(&self, name: &str) -> Option<&str>;
+
+    /// The text that is made for this name, where there is one.
+    fn made(&self, _alloc: Global, _name: &str) -> Result<Option<Text>, NoMemory> {
+        Ok(None)
+    }
 }
 
-// Adds what a piece of a line stands for: the piece itself, or the text of that name.
-fn push_piece<C: Cases>(
+// Adds the text that is made for this name.
+fn push_made<C: Cases>(
+    alloc: Global,
     line: &mut String,
     cases: &C,
-    piece: &str,
-    is_name: bool,
-) -> Result<(), AllocError> {
-    if is_name {
-        line.push_str(cases.text(piece).unwrap_or("no text of this name"))
-    } else {
-        line.push_str(piece)
+    name: &str,
+) -> Result<(), NoMemory> {
+    match cases.made(alloc, name)? {
+        Some(text) => Ok(line.push_str(text.as_str())?),
+        None => Ok(line.push_str("no text of this name")?),
+    }
+}
+
+// Adds the text of this name.
+fn push_text<C: Cases>(
+    alloc: Global,
+    line: &mut String,
+    cases: &C,
+    name: &str,
+) -> Result<(), NoMemory> {
+    if let Ok(number) = name.parse::<u32>() {
+        let text = word(number).to_text(alloc)?;
+        return Ok(line.push_str(text.as_str())?);
+    }
+    match cases.text(name) {
+        Some(text) => Ok(line.push_str(text)?),
+        None => push_made(alloc, line, cases, name),
     }
 }
 
 // The line with the texts that its names stand for.
-fn written_out<C: Cases>(alloc: Global, cases: &C, line: &str) -> Result<String, AllocError> {
+fn written_out<C: Cases>(alloc: Global, cases: &C, line: &str) -> Result<String, NoMemory> {
     let mut whole = String::new(alloc);
     let mut is_name = false;
     for piece in line.split('$') {
-        push_piece(&mut whole, cases, piece, is_name)?;
+        if is_name {
+            push_text(alloc, &mut whole, cases, piece)?;
+        } else {
+            whole.push_str(piece)?;
+        }
         is_name = !is_name;
     }
     Ok(whole)
@@ -72,7 +108,25 @@ fn answer_line<C: Cases>(alloc: Global, cases: &mut C, line: &str) -> Result<Str
     cases.answer(alloc, fields.as_slice())
 }
 
-fn print_line<R: Print + AllocGlobal, C: Cases>(
+// Prints the line with its answer. Whether there was memory for it.
+fn print_answer<R: Input + Print + AllocGlobal, C: Cases>(
+    rt: &R,
+    cases: &mut C,
+    line: &str,
+) -> io::Result<bool> {
+    match answer_line(rt.alloc(), cases, line) {
+        Ok(text) => {
+            println!(rt; "{line} => {text}")?;
+            Ok(true)
+        }
+        Err(NoMemory) => {
+            println!(rt; "{line} => no memory")?;
+            Ok(false)
+        }
+    }
+}
+
+fn print_line<R: Input + Print + AllocGlobal, C: Cases>(
     rt: &R,
     cases: &mut C,
     line: &str,
@@ -80,10 +134,10 @@ fn print_line<R: Print + AllocGlobal, C: Cases>(
     if line.is_empty() || line.starts_with('#') {
         return println!(rt; "{line}");
     }
-    match answer_line(rt.alloc(), cases, line) {
-        Ok(text) => println!(rt; "{line} => {text}"),
-        Err(NoMemory) => println!(rt; "{line} => no memory"),
+    if !print_answer(rt, cases, line)? {
+        print_answer(rt, cases, line)?;
     }
+    Ok(())
 }
 
 /// Reads the cases of the table line by line and prints each with its answer.

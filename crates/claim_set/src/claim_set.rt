@@ -17,7 +17,7 @@ use std::marker::Model;
 /// A claim set: a finite map from names to JSON values (RFC 7519, 4).
 ///
 /// Its numbers are whole, from -2^63 to 2^64 - 1, and its depth is at most 127.
-#[derive(Debug, Drop)]
+#[derive(Drop)]
 pub struct ClaimSet {
     pub(crate) alloc: Global,
     // An object, so that it can be lent to be written.

@@ -4,7 +4,7 @@ use sso_base::{NoMemory, Text};
 
 /// Why a text is no claim set, why a claim is not what was asked for, or memory ran out. Where several fit, the first
 /// in this order is answered.
-#[derive(Debug, Drop)]
+#[derive(Drop)]
 pub enum ClaimNo {
     /// Memory ran out.
     NoMemory,

@@ -8,7 +8,7 @@ use sso_base::{Blob, NoMemory, Text, Texts, copied_text};
 use std::alloc::Global;
 
 /// The endpoints of an OpenID provider (OpenID Connect Discovery 1.0, 3).
-#[derive(Debug, Drop)]
+#[derive(Drop)]
 pub struct Provider {
     /// The issuer: a URL of at most 200 bytes without a query.
     pub issuer: Text,
@@ -21,7 +21,7 @@ pub struct Provider {
 }
 
 /// A user. A password is proved by PBKDF2 over the salt (RFC 8018).
-#[derive(Debug, Drop)]
+#[derive(Drop)]
 pub struct User {
     /// From 1 to 64 of `a-z 0-9 . _ @ -`.
     pub id: Text,
@@ -36,7 +36,7 @@ pub struct User {
 }
 
 /// A client (OpenID Connect Core 1.0, 3.1.2.1; RFC 6749, 2).
-#[derive(Debug, Drop)]
+#[derive(Drop)]
 pub struct Client {
     /// From 1 to 64 of `A-Z a-z 0-9 . _ ~ -`.
     pub id: Text,
@@ -62,7 +62,7 @@ pub struct Client {
 }
 
 /// A relying party.
-#[derive(Debug, Drop)]
+#[derive(Drop)]
 pub struct Party {
     /// From 1 to 16 of `a-z 0-9`.
     pub name: Text,

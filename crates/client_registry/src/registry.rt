@@ -16,7 +16,7 @@ use std::marker::Model;
 
 /// An accepted configuration: the provider, its users, its clients and their relying parties, seen as the record of
 /// them. Rows have numbers, from 0, in the order of the file.
-#[derive(Debug, Drop)]
+#[derive(Drop)]
 pub struct Registry {
     pub(crate) provider: Provider,
     pub(crate) prefix: Text,

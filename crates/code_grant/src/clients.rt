@@ -9,7 +9,7 @@ use std::marker::Model;
 pub(crate) const CLIENTS: u32 = 128;
 
 /// A set of client numbers below 128. It takes no memory.
-#[derive(Clone, Copy, Debug, PartialEq, Eq)]
+#[derive(Clone, Copy, PartialEq, Eq)]
 pub struct Clients {
     flags: [bool; 128],
 }

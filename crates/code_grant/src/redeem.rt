@@ -10,7 +10,7 @@ use sso_base::{Moment, is_live};
 
 /// What a client gets for a code with a redirection URI: the first that fits, in this order but for `Redeemed`, which is
 /// last (RFC 6749, 4.1.3; OpenID Connect Core 1.0, 3.1.3.2).
-#[derive(Clone, Copy, Debug, PartialEq, Eq)]
+#[derive(Clone, Copy, PartialEq, Eq)]
 pub enum Redeem {
     /// The code is good.
     Redeemed,

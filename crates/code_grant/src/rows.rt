@@ -10,7 +10,7 @@ use oidc_words::{ACCESS_LIFE, CODE_LIFE, SESSION_LIFE, Scopes, TURN_LIFE};
 use sso_base::{Moment, Texts, Word};
 
 /// A turn: an authorization request that got a page, until it is answered or refused. It lives for 600 seconds.
-#[derive(Debug, Drop)]
+#[derive(Drop)]
 pub struct TurnRow {
     pub word: Word,
     /// The cookie of the browser that the page was given to.
@@ -24,7 +24,7 @@ pub struct TurnRow {
 }
 
 /// A session: a user who logged in with one browser. It lives for 43,200 seconds from `auth_time`.
-#[derive(Clone, Copy, Debug, PartialEq, Eq)]
+#[derive(Clone, Copy, PartialEq, Eq)]
 pub struct SessionRow {
     /// The cookie of the browser.
     pub word: Word,
@@ -39,7 +39,7 @@ pub struct SessionRow {
 }
 
 /// A code (RFC 6749, 4.1.2). It may be used for 120 seconds and is held for 3,720.
-#[derive(Debug, Drop)]
+#[derive(Drop)]
 pub struct CodeRow {
     pub word: Word,
     pub wish: Wish,
@@ -55,7 +55,7 @@ pub struct CodeRow {
 }
 
 /// An access token (RFC 6749, 1.4). It lives for 3,600 seconds.
-#[derive(Debug, Drop)]
+#[derive(Drop)]
 pub struct TokenRow {
     pub word: Word,
     /// The number of the client, from 0.

@@ -1,7 +1,7 @@
 // The names of the tables.
 
 /// A table of the provider.
-#[derive(Clone, Copy, Debug, PartialEq, Eq)]
+#[derive(Clone, Copy, PartialEq, Eq)]
 pub enum Table {
     Turns,
     Sessions,
@@ -10,7 +10,7 @@ pub enum Table {
 }
 
 /// For which tables room for one more row is reserved.
-#[derive(Clone, Copy, Debug)]
+#[derive(Clone, Copy)]
 pub struct Reserved {
     pub turns: bool,
     pub sessions: bool,

@@ -16,7 +16,7 @@ use std::alloc::Global;
 use toml::Value;
 
 /// The characters of a kind of name.
-#[derive(Clone, Copy, Debug)]
+#[derive(Clone, Copy)]
 pub enum Alphabet {
     /// `a-z 0-9 . _ @ -`.
     UserId,
@@ -29,7 +29,7 @@ pub enum Alphabet {
 }
 
 /// What a text has to be. Bounds are of characters, and for hexadecimal digits of the bytes that they spell.
-#[derive(Clone, Copy, Debug)]
+#[derive(Clone, Copy)]
 pub enum TextRule {
     /// Any text.
     Any,
@@ -62,7 +62,7 @@ pub enum TextRule {
 }
 
 /// What may stand at a key.
-#[derive(Clone, Copy, Debug)]
+#[derive(Clone, Copy)]
 pub enum Kind {
     /// A text.
     Text(TextRule),
@@ -88,7 +88,7 @@ pub enum Kind {
 }
 
 /// How a value breaks the rule of its key.
-#[derive(Clone, Copy, Debug)]
+#[derive(Clone, Copy)]
 pub enum Breach {
     /// It is of another kind, or outside its rule.
     WrongKind,

@@ -9,7 +9,7 @@ use sso_base::{NoMemory, Text};
 /// one kind the first in the order of the file's table.
 ///
 /// A path is written as `client[0].secret`: a row's place counts from 0, and a value inside an array has no place.
-#[derive(Debug, Drop)]
+#[derive(Drop)]
 pub enum RegNo {
     /// Memory ran out.
     NoMemory,

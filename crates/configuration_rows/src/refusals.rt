@@ -9,7 +9,7 @@ use std::alloc::Global;
 use std::marker::Model;
 
 /// What a configuration is guilty of, in order, seen as the list of it.
-#[derive(Debug, Drop)]
+#[derive(Drop)]
 pub struct Refusals {
     alloc: Global,
     items: Vec<RegNo>,

@@ -7,7 +7,7 @@ use sso_base::{NoMemory, Text};
 use std::alloc::Global;
 
 /// A row: the provider, or a user, client or party with its place, from 0.
-#[derive(Clone, Copy, Debug)]
+#[derive(Clone, Copy)]
 pub enum Row {
     /// The provider.
     Provider,

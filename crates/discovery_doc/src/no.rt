@@ -4,7 +4,7 @@ use sso_base::{NoMemory, Text};
 
 /// Why a discovery document is refused, or memory ran out. Where several of the former fit, the first in this order is
 /// answered.
-#[derive(Debug, Drop)]
+#[derive(Drop)]
 pub enum DiscNo {
     /// Memory ran out.
     NoMemory,

@@ -75,7 +75,7 @@ fn url_if_there(alloc: Global, claims: &ClaimSet, name: &str) -> Result<Option<T
 }
 
 // The members that must be there.
-#[derive(Debug, Drop)]
+#[derive(Drop)]
 struct Required {
     issuer: Text,
     authorize: Text,

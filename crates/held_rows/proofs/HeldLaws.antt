@@ -2,11 +2,11 @@
 use Rattle.std.proofs.Common.{◌≡◌, ◌<◌, ◌≤◌, ℕ, suc, Bool, true, not, nat_le, cond, List, [], ◌∷◌, ◌++◌, filter, length, Option, Some, None, IsSome, IfSome, inl, inr, refl, sym, ◌∙◌, ap, subst, arith}
 use Rattle.std.specs.Str.{bytes_eq}
 use Rattle.std.specs.List.{AllByRecursion}
-use Rattle.std.proofs.lemmas.Bool.{and_parts, and_from, leb-true}
+use Rattle.std.proofs.lemmas.Bool.{and_parts, leb-true}
 use Rattle.sso_base.specs.Words.{Word}
 use Rattle.sso_base.specs.Rows.{without, row_of}
 use Rattle.sso_base.specs.Stands.{IsDistinct}
-use Rattle.sso_base.proofs.RowLaws.{bool_cases, bytes_same, bytes_true, bytes_turn, row_of-without_same, row_of-without_other, distinct_push}
+use Rattle.sso_base.proofs.RowLaws.{bool_cases, bytes_same, bytes_true, row_of-without_same, row_of-without_other, distinct_push}
 use Rattle.sso_base.proofs.Removing.{filter-without}
 use Rattle.held_rows.proofs.Kept.{all_filtered}
 use Rattle.held_rows.specs.Held.{IsHeld, IsInOrder, none_after, most_rows}

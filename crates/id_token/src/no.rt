@@ -5,7 +5,7 @@ use jws_compact::JwsNo;
 use sso_base::{NoMemory, Text};
 
 /// Why an ID Token is refused, or memory ran out. Where several of the former fit, the first in this order is answered.
-#[derive(Debug, Drop)]
+#[derive(Drop)]
 pub enum IdNo {
     /// Memory ran out.
     NoMemory,

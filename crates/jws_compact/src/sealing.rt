@@ -9,7 +9,7 @@ use sso_base::{NoMemory, Text};
 use std::alloc::Global;
 
 /// The kind of a sealed text, which its header's `typ` names (RFC 7515, 4.1.9).
-#[derive(Clone, Copy, Debug, PartialEq, Eq)]
+#[derive(Clone, Copy, PartialEq, Eq)]
 pub enum Typ {
     /// A JSON Web Token, `JWT` (RFC 7519, 5.1).
     Jwt,

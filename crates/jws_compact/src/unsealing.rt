@@ -13,7 +13,7 @@ use std::alloc::Global;
 const MOST: usize = 8192;
 
 /// What a sealed text holds.
-#[derive(Debug, Drop)]
+#[derive(Drop)]
 pub struct Unsealed {
     /// The header's `typ`, where that is a string (RFC 7515, 4.1.9).
     pub typ: Option<Text>,

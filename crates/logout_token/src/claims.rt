@@ -4,7 +4,7 @@ use sso_base::{Text, Texts};
 
 /// The claims of a logout token (OpenID Connect Back-Channel Logout 1.0, 2.4). `events` has no field: the logout event
 /// is always in it, and what else stands there is not kept.
-#[derive(Debug, Drop)]
+#[derive(Drop)]
 pub struct LogoutClaims {
     /// The issuer.
     pub iss: Text,
@@ -23,7 +23,7 @@ pub struct LogoutClaims {
 }
 
 // The claims as far as they are there, each of its kind.
-#[derive(Debug, Drop)]
+#[derive(Drop)]
 pub(crate) struct RawLogout {
     pub(crate) aud: Option<Texts>,
     pub(crate) exp: Option<u64>,

@@ -6,7 +6,7 @@ use sso_base::{NoMemory, Text};
 
 /// Why a text is no logout token, why a logout token is not for this client at this moment, or memory ran out. Where
 /// several of the former fit, the first in this order is answered (OpenID Connect Back-Channel Logout 1.0, 2.6).
-#[derive(Debug, Drop)]
+#[derive(Drop)]
 pub enum LogoutNo {
     /// Memory ran out.
     NoMemory,

@@ -12,7 +12,7 @@ use sso_world::FirstAsk;
 use std::alloc::Global;
 
 /// What a line says: nothing, a moment, or what a browser does.
-#[derive(Debug, Drop)]
+#[derive(Drop)]
 pub enum Line {
     /// Nothing: it is empty or a comment.
     Skip,

@@ -13,7 +13,7 @@ use std::alloc::{AllocError, Global};
 use std::marker::Model;
 
 /// What was read so far: the moment that was set last, and the lines that make a place, seen with the newest first.
-#[derive(Debug, Drop)]
+#[derive(Drop)]
 struct Reading {
     at: Moment,
     lines: Vec<TraceLine>,

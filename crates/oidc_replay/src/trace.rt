@@ -6,7 +6,7 @@ use std::alloc::AllocError;
 use std::marker::Model;
 
 /// A line that makes a place: what the browser of this number does, and the moment that was set last before it.
-#[derive(Debug, Drop)]
+#[derive(Drop)]
 pub struct TraceLine {
     /// The number of the browser, from 1 to 65,535.
     pub browser: u32,
@@ -50,7 +50,7 @@ impl From<AllocError> for TraceNo {
 }
 
 /// A first trace that was read: its seed, and the lines that make a place. It is seen with the newest line first.
-#[derive(Debug, Drop)]
+#[derive(Drop)]
 pub struct Trace {
     pub(crate) seed: [u8; 24],
     pub(crate) lines: Vec<TraceLine>,

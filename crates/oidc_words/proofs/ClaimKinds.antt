@@ -1,6 +1,5 @@
 -- The standard claims are those that have a kind.
-use Rattle.std.proofs.Common.{◌≡◌, ℕ, Bool, true, false, cond, List, codes, Option, Some, None, is_some, refl, sym}
-use Rattle.oidc_words.specs.declared.claims.ClaimKind.{ClaimKind}
+use Rattle.std.proofs.Common.{◌≡◌, ℕ, Bool, true, false, cond, List, codes, Some, None, is_some, refl, sym}
 use Rattle.oidc_words.specs.declared.claims.ClaimKind.TheVariants.{Text, Flag, Seconds, Address}
 use Rattle.oidc_words.specs.Words.{is_one_of}
 use Rattle.oidc_words.specs.Claims.{profile_claims, email_claims, address_claims, phone_claims, flag_claims, seconds_claims, is_claim_of, is_standard_claim, kind_of}

@@ -1,5 +1,5 @@
 -- The six response types: their numbers, their texts, and where their answers stand.
-use Rattle.std.proofs.Common.{◌≡◌, ◌≤◌, ◌<◌, ◌+◌, ◌↔◌, ℕ, zero, suc, List, [], ◌∷◌, ◌++◌, length, Bool, true, false, ◌||◌, cond, codes, Option, Some, None, is_some, slice_get, refl, sym, ◌∙◌, arith, true≢false, drop}
+use Rattle.std.proofs.Common.{◌≡◌, ◌≤◌, ◌<◌, ◌+◌, ◌↔◌, ℕ, zero, suc, List, [], ◌∷◌, ◌++◌, Bool, true, false, ◌||◌, cond, codes, Option, Some, None, is_some, slice_get, refl, sym, ◌∙◌, arith, true≢false, drop}
 use Rattle.std.specs.List.{list_any, position_from, join_with_byte, AllByRecursion}
 use Rattle.std.specs.Str.{bytes_eq}
 use Rattle.std.proofs.lemmas.Slice.Eq.{bytes_eq-Decides}

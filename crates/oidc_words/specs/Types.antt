@@ -1,5 +1,5 @@
 -- Response types (OpenID Connect Core 1.0, 3; OAuth 2.0 Multiple Response Type Encoding Practices, 3 and 5).
-use Rattle.std.specs.Prelude.{ℕ, Bool, true, false, ◌||◌, ◌==◌, List, [], ◌∷◌, map, codes, Option, Some, None, is_some}
+use Rattle.std.specs.Prelude.{ℕ, Bool, false, ◌||◌, ◌==◌, List, [], ◌∷◌, map, codes, Option, Some, None, is_some}
 use Rattle.std.specs.List.{position_from}
 use Rattle.sso_base.specs.Words.{Text}
 use Rattle.oidc_words.specs.declared.response_types.Types.{Types}

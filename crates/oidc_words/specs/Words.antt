@@ -1,5 +1,5 @@
 -- Texts among others, and words with spaces between (RFC 6749, 3.3).
-use Rattle.std.specs.Prelude.{ℕ, ◌==◌, Bool, true, false, not, ◌&&◌, List, [], ◌∷◌, ◌++◌, length, filter, map, Option, Some, None}
+use Rattle.std.specs.Prelude.{◌==◌, Bool, true, not, ◌&&◌, List, [], ◌∷◌, ◌++◌, length, filter, map, Option, Some, None}
 use Rattle.std.specs.Borrow.{Bor}
 use Rattle.std.specs.List.{list_all, list_any, slice_split, join_with_byte}
 use Rattle.std.specs.Str.{bytes_eq}

@@ -9,7 +9,7 @@ use crate::words::is_one_of;
 use sso_base::Texts;
 
 /// The kind of a claim's value (OpenID Connect Core 1.0, 5.1).
-#[derive(Clone, Copy, Debug, PartialEq, Eq)]
+#[derive(Clone, Copy, PartialEq, Eq)]
 pub enum ClaimKind {
     Text,
     /// True or false.

@@ -8,7 +8,7 @@ use sso_base::{NoMemory, Text, copied_text};
 use std::alloc::Global;
 
 /// The error codes of authorization responses (RFC 6749, 4.1.2.1; OpenID Connect Core 1.0, 3.1.2.6).
-#[derive(Clone, Copy, Debug, PartialEq, Eq)]
+#[derive(Clone, Copy, PartialEq, Eq)]
 pub enum AuthError {
     InvalidRequest,
     UnauthorizedClient,
@@ -98,7 +98,7 @@ pub fn read_error(text: &str) -> AuthError
 }
 
 /// An authorization error response (OpenID Connect Core 1.0, 3.1.2.6 and 3.2.2.6).
-#[derive(Debug, Drop)]
+#[derive(Drop)]
 pub struct Refusal {
     /// The redirection URI that it is sent to: one that the client has.
     pub redirect: Text,

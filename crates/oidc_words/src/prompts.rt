@@ -16,7 +16,7 @@ const CONSENT: &str = "consent";
 const ACCOUNT: &str = "select_account";
 
 /// Which values `prompt` has (OpenID Connect Core 1.0, 3.1.2.1).
-#[derive(Clone, Copy, Debug)]
+#[derive(Clone, Copy)]
 pub struct Prompt {
     /// `none`.
     pub none: bool,

@@ -8,7 +8,7 @@ use sso_base::{NoMemory, Text, Texts};
 use std::alloc::Global;
 
 /// The words of a response type (OAuth 2.0 Multiple Response Type Encoding Practices, 3 and 5).
-#[derive(Clone, Copy, Debug, PartialEq, Eq)]
+#[derive(Clone, Copy, PartialEq, Eq)]
 pub struct Types {
     pub code: bool,
     pub id_token: bool,

@@ -22,7 +22,7 @@ const PHONE: &str = "phone";
 pub const SCOPE_WORDS: [&str; 5] = [OPENID, PROFILE, EMAIL, ADDRESS, PHONE];
 
 /// Which scope values there are (OpenID Connect Core 1.0, 3.1.2.1 and 5.4).
-#[derive(Clone, Copy, Debug, PartialEq, Eq)]
+#[derive(Clone, Copy, PartialEq, Eq)]
 pub struct Scopes {
     pub openid: bool,
     pub profile: bool,

@@ -137,8 +137,35 @@ impl OpCore {
         Ok(())
     }
 
+    // Takes up an entry with its reply.
+    fn take(
+        &mut self,
+        alloc: Global,
+        entry: Entry<OpAsk>,
+        reply: OpReply,
+        weight: u64,
+    ) -> Result<(), NoMemory>
+        requires moment { last_moment (past_of self.old) ≤ entry.at }
+        requires answer { reply ≡ op_answer self.old.registry (past_of self.old) entry }
+        requires entry { IsEntry IsOpAsk entry }
+        requires weight { weight ≡ weights.ask_weight entry.ask }
+        requires room { history_weight weights.ask_weight self.old.history + weight ≤ most_weight }
+        ensures history { OnOk result (self.new.history ≡ self.old.history ++ (record { entry = entry; reply = reply }) ∷ []) }
+        ensures registry { OnOk result (self.new.registry ≡ self.old.registry) }
+        ensures err { OnErr result (self.new ≡ self.old) }
+    {
+        match self.outcome(alloc, &entry, &reply) {
+            Ok(outcome) => self.commit(entry, reply, outcome, weight),
+            Err(no) => {
+                drop(entry);
+                drop(reply);
+                Err(no)
+            }
+        }
+    }
+
     // Takes up an entry with its reply, and answers an equal reply.
-    fn told(
+    fn take_and_answer(
         &mut self,
         alloc: Global,
         entry: Entry<OpAsk>,
@@ -155,10 +182,21 @@ impl OpCore {
         ensures registry { OnOk result (self.new.registry ≡ self.old.registry) }
         ensures err { OnErr result (self.new ≡ self.old) }
     {
-        let outcome = self.outcome(alloc, &entry, &reply)?;
-        let told = reply.copy(alloc)?;
-        self.commit(entry, reply, outcome, weight)?;
-        Ok(told)
+        let told = match reply.copy(alloc) {
+            Ok(told) => told,
+            Err(no) => {
+                drop(entry);
+                drop(reply);
+                return Err(no);
+            }
+        };
+        match self.take(alloc, entry, reply, weight) {
+            Ok(()) => Ok(told),
+            Err(no) => {
+                drop(told);
+                Err(no)
+            }
+        }
     }
 }
 
@@ -195,7 +233,7 @@ impl Core for OpCore {
         let entry = self.journal.entry(at, fresh, ask);
         know_op_entry(&entry);
         let reply = self.answer(alloc, &entry)?;
-        Ok(self.told(alloc, entry, reply, weight)?)
+        Ok(self.take_and_answer(alloc, entry, reply, weight)?)
     }
 
     fn weight(ask: &OpAsk) -> Result<u64, NoMemory> {

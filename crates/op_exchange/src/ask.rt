@@ -6,7 +6,7 @@ use token_endpoint::{Grant, GrantNo};
 use userinfo::Bearer;
 
 /// A request to the provider, as far as its answer depends on it. `browser` and `session` are the presented cookies.
-#[derive(Debug, Drop)]
+#[derive(Drop)]
 pub enum OpAsk {
     /// An authorization request, and its judgement (OpenID Connect Core 1.0, 3.1.2.1 and 3.1.2.2).
     Authorize {

@@ -7,7 +7,7 @@ use std::alloc::Global;
 use std::marker::Model;
 
 /// Messages to other servers, seen as the list of them.
-#[derive(Debug, Drop)]
+#[derive(Drop)]
 pub struct Messages {
     items: Vec<Message>,
 }

@@ -12,7 +12,7 @@ use std::alloc::Global;
 use token_endpoint::TokenError;
 
 /// The provider's reply to a request.
-#[derive(Debug, Drop)]
+#[derive(Drop)]
 pub enum OpReply {
     /// The login form of a turn, for the browser whose cookie is set; again after a wrong password.
     LoginPage {

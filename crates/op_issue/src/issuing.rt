@@ -14,7 +14,7 @@ use sso_base::{Moment, NoMemory, Text, Word, copied_text};
 use std::alloc::Global;
 
 /// A user's login, as tokens tell it.
-#[derive(Clone, Copy, Debug, PartialEq, Eq)]
+#[derive(Clone, Copy, PartialEq, Eq)]
 pub struct Authentication {
     /// The number of the user, from 0.
     pub user: u32,

@@ -10,7 +10,7 @@ use oidc_words::{
 use sso_base::{Ask, Method, Text};
 
 // The endpoints of the provider.
-#[derive(Clone, Copy, Debug, PartialEq, Eq)]
+#[derive(Clone, Copy, PartialEq, Eq)]
 pub(crate) enum Endpoint {
     Metadata,
     Keys,

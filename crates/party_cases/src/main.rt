@@ -1,114 +1,118 @@
-//! Cases of relying parties, each a line that a person can read.
+//! Cases of relying parties: runs, request by request, and logins that are carried through both roles, each a line that a person can
+//! read.
 //!
-//! A line of the file `stdin` is a call and what it is given, with `|` between: `-` stands for what is not there, and `$NAME$` for
-//! one of the texts of `setup`. In a target and in a body `<n>` stands for the text of word n, and `<..,..>` for an ID Token, as
-//! `sealed` says. The program prints each line again with the answer, so the file `stdout` is a table of cases and their answers.
+//! The file `stdin` has the cases, and `stdout` the same with their answers. `case_lines` says how a line is read, and `RelyingParty`
+//! and `Provider` of `case_roles` which calls there are. A line `party|NAME` or `party|NAME|elsewhere` begins a relying party, at the
+//! provider of the cases or at another, and a line `provider` begins that provider; either begins the count of places anew. The lines
+//! below ask the relying party, and those with `provider` in front the provider. The ask at place p, from 1, of whichever of them,
+//! draws the words 4p - 3 to 4p. Beside the texts of words, names stand for those of the last reply, and for ID Tokens as `sealed`
+//! says.
 //!
-//! | Module | Its calls |
+//! | Module | What it has |
 //! |---|---|
-//! | `begins` | `login` and `heard`: where logins begin |
-//! | `readings` | `asks` and `answered`: what requests, and answers of the token endpoint, ask |
-//! | `weights` | `weight`: what asks weigh |
-//! | `replies`, `refusals` | `reply`: replies as lines and in HTTP; `copy reply` |
-//! | `rows` | the calls on a relying party's tables |
-//! | `runs` | `party`, `get`, `post`, `answer` and `held`: relying parties that are asked in turn |
-//! | `setup`, `words`, `sealed`, `requests` | none; the parties, texts, words, ID Tokens and requests of the cases |
+//! | `setup` | the configuration of the relying parties and their provider |
+//! | `sealed` | ID Tokens |
 #![tactic(auto)]
 
-mod begins;
-mod readings;
-mod refusals;
-mod replies;
-mod requests;
-mod rows;
-mod runs;
 mod sealed;
 mod setup;
-mod weights;
-mod words;
 
-use crate::runs::Run;
-use case_lines::{Cases, print_cases};
-use client_registry::Registry;
-use rp_login::Logins;
-use sso_base::NoMemory;
+use crate::setup::{ELSEWHERE, ELSEWHERE_AUTHORIZE, LOCAL, configuration};
+use case_lines::{Cases, Run, print_cases, told};
+use case_roles::{Provider, RelyingParty};
+use sso_base::{NoMemory, Text};
 use std::alloc::Global;
 use std::io;
 
-// What the cases are asked of: the relying parties' setup, the one that is asked in turn, and tables.
+// The relying party and the provider that are asked, and their run.
 #[derive(Drop)]
-struct PartyCases {
-    registry: Registry,
-    run: Option<Run>,
-    tables: Logins,
+struct Table {
+    party: Option<RelyingParty>,
+    provider: Option<Provider>,
+    run: Run,
 }
 
-impl PartyCases {
-    // A new relying party is asked from now on.
-    fn begin(&mut self, alloc: Global, party: &str) -> Result<String, NoMemory> {
-        self.run = runs::begin(alloc, party)?;
-        let told = if self.run.is_some() {
-            "nobody came"
-        } else {
-            "no such party"
-        };
-        Ok(String::from_str(alloc, told)?)
+fn new_provider(alloc: Global) -> Result<Option<Provider>, NoMemory> {
+    let file = configuration(alloc, LOCAL)?;
+    Provider::begin(alloc, file.as_str())
+}
+
+fn party_at(
+    alloc: Global,
+    name: &str,
+    issuer: &str,
+    authorize: Option<&str>,
+) -> Result<Option<RelyingParty>, NoMemory> {
+    let file = configuration(alloc, issuer)?;
+    RelyingParty::begin(alloc, file.as_str(), name, authorize)
+}
+
+fn new_party(alloc: Global, place: &[&str]) -> Result<Option<RelyingParty>, NoMemory> {
+    match place {
+        [name] => party_at(alloc, name, LOCAL, None),
+        [name, "elsewhere"] => party_at(alloc, name, ELSEWHERE, Some(ELSEWHERE_AUTHORIZE)),
+        _ => Ok(None),
+    }
+}
+
+impl Table {
+    fn begin_provider(&mut self, alloc: Global) -> Result<String, NoMemory> {
+        self.provider = new_provider(alloc)?;
+        self.run = Run::new();
+        match self.provider {
+            Some(_) => told(alloc, "begun"),
+            None => told(alloc, "no such provider"),
+        }
     }
 
-    // Other tables are asked from now on.
-    fn set_up(&mut self, alloc: Global, tables: &str) -> Result<String, NoMemory> {
-        self.tables = rows::tables(alloc, tables)?;
-        rows::held(alloc, &self.tables)
+    fn begin_party(&mut self, alloc: Global, place: &[&str]) -> Result<String, NoMemory> {
+        self.party = new_party(alloc, place)?;
+        self.run = Run::new();
+        match self.party {
+            Some(_) => told(alloc, "nobody came"),
+            None => told(alloc, "no such party"),
+        }
     }
 
-    // The calls that are asked of the party, and of the tables.
-    fn answer_in_turn(&mut self, alloc: Global, fields: &[&str]) -> Result<String, NoMemory> {
-        match &mut self.run {
-            Some(run) => runs::answer(alloc, &self.registry, run, fields),
-            None => Ok(String::from_str(alloc, "no party")?),
+    fn at_provider(&mut self, alloc: Global, fields: &[&str]) -> Result<String, NoMemory> {
+        match &mut self.provider {
+            Some(provider) => provider.answer(alloc, &mut self.run, fields),
+            None => told(alloc, "no provider"),
+        }
+    }
+
+    fn at_party(&mut self, alloc: Global, fields: &[&str]) -> Result<String, NoMemory> {
+        match &mut self.party {
+            Some(party) => party.answer(alloc, &mut self.run, fields),
+            None => told(alloc, "no party"),
         }
     }
 }
 
-impl Cases for PartyCases {
+impl Cases for Table {
     fn answer(&mut self, alloc: Global, fields: &[&str]) -> Result<String, NoMemory> {
         match fields {
-            ["party", party] => self.begin(alloc, party),
-            ["get", ..] | ["post", ..] | ["answer", ..] | ["held"] => {
-                self.answer_in_turn(alloc, fields)
-            }
-            ["tables", tables] => self.set_up(alloc, tables),
-            ["tables", call @ ..] => rows::answer(alloc, &mut self.tables, call),
-            ["login" | "heard", ..] => begins::answer(alloc, &self.registry, fields),
-            ["asks", ..] | ["answered", ..] => readings::answer(alloc, &self.registry, fields),
-            ["weight", ask @ ..] => weights::answer(alloc, ask),
-            ["reply", issuer, reply @ ..] => replies::answer(alloc, issuer, reply),
-            ["copy reply", "member of a token response missing", member] => {
-                replies::copied(alloc, member)
-            }
-            _ => Ok(String::from_str(alloc, "no such call")?),
+            ["party", place @ ..] => self.begin_party(alloc, place),
+            ["provider"] => self.begin_provider(alloc),
+            ["provider", call @ ..] => self.at_provider(alloc, call),
+            _ => self.at_party(alloc, fields),
         }
     }
 
     fn text(&self, name: &str) -> Option<&str> {
-        setup::text(name)
+        self.run.text(name)
     }
-}
 
-fn cases(alloc: Global) -> Result<Option<PartyCases>, NoMemory> {
-    match setup::registry(alloc, setup::LOCAL)? {
-        Some(registry) => Ok(Some(PartyCases {
-            registry,
-            run: None,
-            tables: Logins::new(alloc)?,
-        })),
-        None => Ok(None),
+    fn made(&self, alloc: Global, name: &str) -> Result<Option<Text>, NoMemory> {
+        sealed::id_token(alloc, name)
     }
 }
 
 fn main(rt: HostRuntime) -> io::Result<()> {
-    match cases(rt.alloc()) {
-        Ok(Some(mut cases)) => print_cases(&rt, &mut cases),
-        _ => println!(rt; "no relying parties"),
-    }
+    let mut table = Table {
+        party: None,
+        provider: None,
+        run: Run::new(),
+    };
+    print_cases(&rt, &mut table)
 }

@@ -9,6 +9,15 @@ subject = \"pairwise\"
 consent = \"given\"
 ";
 
+// A client whose redirection URI has a query.
+const WIKI_CLIENT: &str = "[[client]]
+id = \"wiki-client\"
+secret = \"wiki-secret-wiki-secret-wiki-secret\"
+redirect_uris = [\"http://127.0.0.1:8085/cb?x\"]
+response_types = [\"code\", \"id_token token\"]
+consent = \"given\"
+";
+
 // Two users with the password `password`, of whom the first has claims. The first client asks for consent, and the third has
 // pairwise subjects and the response type `id_token token` too.
 fn shop(alloc: Global) -> Result<String, NoMemory> {
@@ -39,16 +48,28 @@ fn provider_at(alloc: Global, issuer: &str) -> Result<String, NoMemory> {
 // One user with the password `password`, and one client. The provider's paths stand below `/op`.
 fn below_a_path(alloc: Global) -> Result<String, NoMemory> {
     let provider = provider_at(alloc, "http://127.0.0.1:8080/op")?;
-    Ok([provider.as_str(), ALICE, SHOP_CLIENT].concat(alloc)?)
+    Ok([
+        provider.as_str(),
+        ALICE,
+        SHOP_CLIENT,
+        "consent = \"given\"\n",
+    ]
+    .concat(alloc)?)
 }
 
-/// The configuration of this name.
-pub fn configuration(alloc: Global, name: &str) -> Result<Option<String>, NoMemory> {
+// One user with the password `password`, and two clients, of which the first asks for consent. The provider's paths stand below `/sso`.
+fn https(alloc: Global) -> Result<String, NoMemory> {
+    let provider = provider_at(alloc, "https://op.example/sso/")?;
+    let rows = [ALICE, SHOP_CLIENT, "consent = \"ask\"\n", WIKI_CLIENT].concat(alloc)?;
+    Ok([provider.as_str(), rows.as_str()].concat(alloc)?)
+}
+
+/// The configuration of this name; an empty one where there is none.
+pub fn configuration(alloc: Global, name: &str) -> Result<String, NoMemory> {
     match name {
-        "shop" => Ok(Some(shop(alloc)?)),
-        "below a path" => Ok(Some(below_a_path(alloc)?)),
-        // A provider alone: no user and no client.
-        "https" => Ok(Some(provider_at(alloc, "https://op.example/sso/")?)),
-        _ => Ok(None),
+        "shop" => shop(alloc),
+        "below a path" => below_a_path(alloc),
+        "https" => https(alloc),
+        _ => Ok(String::new(alloc)),
     }
 }

@@ -1,75 +1,52 @@
-//! Cases of the provider: requests, replies, what is issued, the tables, and whole runs, each a line that a person can read.
+//! Cases of the provider: runs, request by request, each a line that a person can read.
 //!
-//! The file `stdin` has the cases, and `stdout` the same with their answers. `case_lines` says how a line is read. `$n$` stands for
-//! the text of the word of number n, which has 31 zero bytes and then n, and other names stand for the texts of `texts`. An answer
-//! tells a word by its number. A line `provider` begins a provider, and those below ask it; a line `begin rows` or `begin no rows`
-//! begins tables, and the lines `rows` below call them. So each run reads as a small story.
+//! The file `stdin` has the cases, and `stdout` the same with their answers. `case_lines` says how a line is read, and `Provider` of
+//! `case_roles` which calls there are. A line `provider|NAME` begins a provider, and those below ask it, so each run reads as a small
+//! story. The request at place p, from 1, draws the words 4p - 3 to 4p. Beside the texts of words, names stand for the texts of
+//! `texts` and for those of the last reply.
 //!
 //! | Module | What it has |
 //! |---|---|
 //! | `configurations` | the configurations that `provider` takes |
 //! | `texts` | the texts that names in a line stand for |
-//! | `words` | words, read and told, and fields |
-//! | `requests` | `prepare`: what a request asks |
-//! | `replies`, `telling` | `reply`: a reply as the line of a replay, and in HTTP; `messages`, `cookie` |
-//! | `issuing` | `issue`, `redeemed`: responses and ID Tokens |
-//! | `runs` | `provider`, `ask`, `fill`, `login of user`, `holds`, `count`: a provider, request by request |
-//! | `beginning`, `tables` | `begin rows`, `begin no rows`, `rows`: the provider's tables; `clients`, `laws` |
 #![tactic(auto)]
 
-mod beginning;
 mod configurations;
-mod issuing;
-mod replies;
-mod requests;
-mod runs;
-mod tables;
-mod telling;
 mod texts;
-mod words;
 
-use crate::runs::Run;
-use case_lines::{Cases, print_cases};
-use code_grant::Grants;
-use sso_base::{NoMemory, Texts};
+use crate::configurations::configuration;
+use case_lines::{Cases, Run, print_cases, told};
+use case_roles::Provider;
+use sso_base::NoMemory;
 use std::alloc::Global;
 use std::io;
 
-// The texts of words, and what lines have begun.
+// The provider that is asked, and its run.
 #[derive(Drop)]
 struct Table {
-    words: Texts,
-    run: Option<Run>,
-    grants: Option<Grants>,
+    provider: Option<Provider>,
+    run: Run,
+}
+
+fn new_provider(alloc: Global, name: &str) -> Result<Option<Provider>, NoMemory> {
+    let file = configuration(alloc, name)?;
+    Provider::begin(alloc, file.as_str())
 }
 
 impl Table {
-    fn begin_run(&mut self, alloc: Global, name: &str) -> Result<String, NoMemory> {
-        self.run = runs::begin(alloc, name)?;
-        let told = if self.run.is_some() {
-            "begun"
-        } else {
-            "no such provider"
-        };
-        Ok(String::from_str(alloc, told)?)
-    }
-
-    fn begin_rows(&mut self, alloc: Global, fields: &[&str]) -> Result<String, NoMemory> {
-        self.grants = beginning::begin(alloc, fields)?;
-        self.on_rows(alloc, &["held"])
-    }
-
-    fn on_rows(&mut self, alloc: Global, fields: &[&str]) -> Result<String, NoMemory> {
-        match &mut self.grants {
-            Some(grants) => tables::answer(alloc, grants, fields),
-            None => Ok(String::from_str(alloc, "no rows")?),
+    fn begin(&mut self, alloc: Global, name: &str) -> Result<String, NoMemory> {
+        self.provider = new_provider(alloc, name)?;
+        self.run = Run::new();
+        match self.provider {
+            Some(_) => told(alloc, "begun"),
+            None => told(alloc, "no such provider"),
         }
     }
 
-    fn on_run(&mut self, alloc: Global, fields: &[&str]) -> Result<String, NoMemory> {
-        match &mut self.run {
-            Some(run) => runs::answer(alloc, run, fields),
-            None => Ok(String::from_str(alloc, "no provider")?),
+    fn ask(&mut self, alloc: Global, fields: &[&str]) -> Result<String, NoMemory> {
+        match &mut self.provider {
+            Some(provider) => provider.answer(alloc, &mut self.run, fields),
+            None => told(alloc, "no provider"),
         }
     }
 }
@@ -77,37 +54,23 @@ impl Table {
 impl Cases for Table {
     fn answer(&mut self, alloc: Global, fields: &[&str]) -> Result<String, NoMemory> {
         match fields {
-            ["cookie", issuer, name, word] => replies::cookie_of(alloc, issuer, name, word),
-            ["messages", to] => replies::messages(alloc, to),
-            ["clients", numbers] => tables::clients(alloc, numbers),
-            ["laws"] => tables::laws(alloc),
-            ["provider", name] => self.begin_run(alloc, name),
-            ["begin rows" | "begin no rows", ..] => self.begin_rows(alloc, fields),
-            ["rows", call @ ..] => self.on_rows(alloc, call),
-            _ => self.on_run(alloc, fields),
+            ["provider", name] => self.begin(alloc, name),
+            _ => self.ask(alloc, fields),
         }
     }
 
     fn text(&self, name: &str) -> Option<&str> {
-        match name.parse::<usize>() {
-            Ok(number) if number < self.words.count() => Some(self.words.at(number).as_str()),
-            _ => texts::named(name),
+        match self.run.text(name) {
+            Some(text) => Some(text),
+            None => texts::named(name),
         }
     }
 }
 
-fn print_table<R: Input + Print + AllocGlobal>(rt: &R, words: Texts) -> io::Result<()> {
-    let mut table = Table {
-        words,
-        run: None,
-        grants: None,
-    };
-    print_cases(rt, &mut table)
-}
-
 fn main(rt: HostRuntime) -> io::Result<()> {
-    match words::texts(rt.alloc()) {
-        Ok(words) => print_table(&rt, words),
-        Err(NoMemory) => println!(rt; "no memory"),
-    }
+    let mut table = Table {
+        provider: None,
+        run: Run::new(),
+    };
+    print_cases(&rt, &mut table)
 }

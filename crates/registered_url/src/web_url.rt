@@ -8,7 +8,7 @@ use std::alloc::Global;
 use std::marker::Model;
 
 /// What is kept of a URL whose scheme is http or https.
-#[derive(Debug, Drop)]
+#[derive(Drop)]
 pub struct WebUrl {
     /// Whether the scheme is https.
     pub secure: bool,
@@ -57,7 +57,7 @@ fn copied(alloc: Global, text: &Option<Text>) -> Result<Option<Text>, NoMemory>
 }
 
 /// URLs in order, seen as the list of them.
-#[derive(Debug, Drop)]
+#[derive(Drop)]
 pub struct WebUrls {
     items: Vec<WebUrl>,
 }

@@ -1,7 +1,6 @@
 -- What a need says of the request and of its user, and the other way round.
-use Rattle.std.proofs.Common.{◌≡◌, ◌≢◌, ◌≤◌, ◌+◌, ◌-◌, ◌⊎◌, inl, inr, ℕ, Bool, true, false, not, ◌&&◌, ◌||◌, nat_lt, List, Option, Some, None, slice_get, refl, sym, ◌∙◌, ap, if◌then◌else◌, arith}
+use Rattle.std.proofs.Common.{◌≡◌, ◌≢◌, ◌≤◌, ◌-◌, ◌⊎◌, inl, inr, ℕ, Bool, true, false, not, ◌&&◌, ◌||◌, List, Option, Some, None, slice_get, refl, if◌then◌else◌, arith}
 use Rattle.sso_base.proofs.Decided.{above_false, not_above, not_not}
-use Rattle.client_registry.specs.declared.records.Client.{Client}
 use Rattle.client_registry.specs.Configuration.{Configuration, subject_at}
 use Rattle.oidc_words.specs.Words.{is_one_of}
 use Rattle.oidc_words.specs.Scopes.{covers}
@@ -12,7 +11,7 @@ use Rattle.request_need.specs.declared.need.Need.{Need}
 use Rattle.request_need.specs.declared.need.Need.TheVariants as need
 use Rattle.request_need.specs.declared.standing.Standing.{Standing}
 use Rattle.request_need.specs.Need.{needed, needed_scopes, asks_consent, is_older, is_late, is_none_of, is_foreign, is_unagreed}
-use Rattle.request_need.specs.Answerable.{IsRecent, HasSignedIn, IsAskedFor, HasGranted, HasAgreed, IsAnswerable, IsOther, IsDenied, HasCause}
+use Rattle.request_need.specs.Answerable.{IsRecent, HasSignedIn, IsAskedFor, HasAgreed, IsAnswerable, IsOther, HasCause}
 
 -- ---- the cases of the need, over truth values: no page, late, another user, unagreed, in turn, login wished
 

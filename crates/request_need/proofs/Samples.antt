@@ -1,12 +1,10 @@
 -- Needs, by computation.
-use Rattle.std.proofs.Common.{◌≡◌, ℕ, true, false, [], ◌∷◌, arith, Some, None, codes, inl, inr, refl}
-use Rattle.client_registry.specs.declared.records.User.{User}
+use Rattle.std.proofs.Common.{◌≡◌, true, false, [], ◌∷◌, arith, Some, None, codes, inl, inr, refl}
 use Rattle.client_registry.specs.declared.records.Client.{Client}
 use Rattle.client_registry.specs.Configuration.{Configuration}
 use Rattle.oidc_words.specs.declared.scopes.Scopes.{Scopes}
 use Rattle.oidc_words.specs.Scopes.{no_scopes, joined}
 use Rattle.oidc_words.specs.Claims.{scopes_with_any, scopes_with, profile_claims, email_claims, address_claims, phone_claims}
-use Rattle.oidc_words.specs.Words.{is_one_of}
 use Rattle.auth_request.specs.declared.wish.Wish.{Wish}
 use Rattle.oidc_words.specs.declared.errors.AuthError.TheVariants.{LoginRequired, ConsentRequired, AccessDenied}
 use Rattle.request_need.specs.declared.need.Need.TheVariants.{Login, Consent, Answer, Error}

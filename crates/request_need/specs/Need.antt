@@ -1,5 +1,5 @@
 -- What an authorization request still needs before it is answered (OpenID Connect Core 1.0, 3.1.2.1, 3.1.2.3 and 3.1.2.4).
-use Rattle.std.specs.Prelude.{ℕ, ◌-◌, ◌<◌, ◌++◌, length, Bool, true, false, not, ◌&&◌, ◌||◌, nat_lt, List, Option, Some, None, is_none, if◌then◌else◌}
+use Rattle.std.specs.Prelude.{ℕ, ◌-◌, ◌<◌, length, Bool, false, not, ◌&&◌, ◌||◌, nat_lt, List, Option, Some, None, is_none, if◌then◌else◌}
 use Rattle.client_registry.specs.declared.records.Client.{Client}
 use Rattle.client_registry.specs.Configuration.{Configuration, subject_at}
 use Rattle.client_registry.specs.Numbers.{client_at}

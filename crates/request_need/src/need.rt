@@ -3,7 +3,7 @@
 use oidc_words::AuthError;
 
 /// What an authorization request still needs before it is answered.
-#[derive(Clone, Copy, Debug, PartialEq, Eq)]
+#[derive(Clone, Copy, PartialEq, Eq)]
 pub enum Need {
     /// The user logs in (OpenID Connect Core 1.0, 3.1.2.3).
     Login,

@@ -3,7 +3,7 @@
 use oidc_words::Scopes;
 
 /// The session with which a request is asked, and what its user has granted.
-#[derive(Clone, Copy, Debug, PartialEq, Eq)]
+#[derive(Clone, Copy, PartialEq, Eq)]
 pub struct Standing {
     /// The number of the user, from 0.
     pub user: u32,

@@ -6,7 +6,7 @@ use sso_base::NoMemory;
 
 /// Why a text is no request object of a client for a provider, or memory ran out. Where several of the former fit, the
 /// first in this order is answered (OpenID Connect Core 1.0, 6.1 and 6.3).
-#[derive(Debug, Drop)]
+#[derive(Drop)]
 pub enum ObjNo {
     /// Memory ran out.
     NoMemory,

@@ -12,7 +12,7 @@ use sso_base::{NoMemory, Text, Texts};
 use std::alloc::Global;
 
 // The claims up to `prompt`, in the order of their names.
-#[derive(Debug, Drop)]
+#[derive(Drop)]
 pub(crate) struct FirstClaims {
     pub(crate) aud: Option<Texts>,
     pub(crate) claims: Option<Text>,
@@ -24,7 +24,7 @@ pub(crate) struct FirstClaims {
 }
 
 // The claims from `redirect_uri` on, in the order of their names.
-#[derive(Debug, Drop)]
+#[derive(Drop)]
 pub(crate) struct LastClaims {
     pub(crate) redirect_uri: Option<Text>,
     pub(crate) registration: Option<Text>,
@@ -37,7 +37,7 @@ pub(crate) struct LastClaims {
 }
 
 // All of them.
-#[derive(Debug, Drop)]
+#[derive(Drop)]
 pub(crate) struct RawRequest {
     pub(crate) first: FirstClaims,
     pub(crate) last: LastClaims,

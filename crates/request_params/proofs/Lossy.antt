@@ -1,5 +1,5 @@
 -- What is read of a form is UTF-8.
-use Rattle.std.proofs.Common.{◌≡◌, ◌⊎◌, inl, inr, ⊎_elim, ◌≤◌, ◌<◌, ℕ, zero, suc, List, [], ◌∷◌, ◌++◌, Bool, true, false, cond, Option, Some, None, Result, Ok, Err, IfOk, length, take, drop, length-drop, unwrap_or, ◌+◌, refl, sym, ◌∙◌, ap, subst, map, filter, arith, ◌==◌}
+use Rattle.std.proofs.Common.{◌≡◌, ◌⊎◌, inl, inr, ⊎_elim, ◌≤◌, ◌<◌, ℕ, zero, suc, List, [], ◌∷◌, ◌++◌, Bool, true, false, cond, Option, Some, None, Ok, length, take, drop, length-drop, unwrap_or, ◌+◌, refl, sym, ◌∙◌, ap, subst, map, filter, arith, ◌==◌}
 use Rattle.std.specs.Prelude.{IfSome}
 use Rattle.std.specs.Prelude.{nat_lt, slice_index}
 use Rattle.std.specs.Int.{is_in_range}
@@ -13,7 +13,6 @@ use Rattle.form_urlencoded.specs.Form.{raw_pairs, decode}
 use Rattle.sso_base.specs.Words.{Text}
 use Rattle.request_params.specs.declared.params.Params.{Params}
 use Rattle.request_params.specs.declared.name.ParamName.{ParamName}
-use Rattle.request_params.specs.declared.no.AskNo.{AskNo}
 use Rattle.request_params.specs.Names.{name_text, param_of, AreTexts}
 use Rattle.request_params.specs.Form.{Pair, pair_of, form_pairs}
 use Rattle.request_params.specs.Reading.{is_kept, kept_pairs, request_read, Has}

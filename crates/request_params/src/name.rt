@@ -7,7 +7,7 @@ ghost use Rattle.request_params.specs.Names.{name_text, name_of};
 
 /// The name of a parameter of an authorization request (OpenID Connect Core 1.0, 3.1.2.1, 5.5, 6 and 7.2.1; OAuth 2.0
 /// Multiple Response Type Encoding Practices, 2.1).
-#[derive(Clone, Copy, Debug, PartialEq, Eq)]
+#[derive(Clone, Copy, PartialEq, Eq)]
 pub enum ParamName {
     /// `response_type` (OpenID Connect Core 1.0, 3).
     ResponseType,

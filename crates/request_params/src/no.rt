@@ -5,7 +5,7 @@ use std::alloc::AllocError;
 
 /// Why the parameters of an authorization request are refused, or memory ran out. Where several of the former fit, the
 /// first in this order is answered.
-#[derive(Debug, Drop)]
+#[derive(Drop)]
 pub enum AskNo {
     /// The parameter of this name stands twice in the form (RFC 6749, 3.1: parameters must not be included more than
     /// once). It is the first name that stands again.

@@ -8,7 +8,7 @@ use sso_base::Text;
 
 /// The parameters of an authorization request, as far as they are there (OpenID Connect Core 1.0, 3.1.2.1, 5.5, 6 and
 /// 7.2.1; OAuth 2.0 Multiple Response Type Encoding Practices, 2.1).
-#[derive(Debug, Drop)]
+#[derive(Drop)]
 pub struct Params {
     /// What is asked for: a code, an ID Token, or both (OpenID Connect Core 1.0, 3).
     pub response_type: Option<Text>,

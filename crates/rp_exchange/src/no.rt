@@ -9,7 +9,7 @@ use token_endpoint::TokensNo;
 use userinfo::InfoNo;
 
 /// A part of an authorization response (OpenID Connect Core 1.0, 3.3.2.5).
-#[derive(Clone, Copy, Debug, PartialEq, Eq)]
+#[derive(Clone, Copy, PartialEq, Eq)]
 pub enum Part {
     /// `code`
     Code,
@@ -23,7 +23,7 @@ pub enum Part {
 /// `WrongBrowser`, `Provider`, `Missing`, `Id` and `Full` is answered; of a token response that of `StalePending`, `Tokens`,
 /// `Id`, `SubjectDiffers` and `Full`; of a UserInfo response that of `StalePending`, `Info`, `SubjectDiffers` and `Full`; of a
 /// logout request that of `Logout`, `Seen` and `Full`.
-#[derive(Debug, Drop)]
+#[derive(Drop)]
 pub enum RpNo {
     /// The part of this name stands twice in the authorization response (RFC 6749, 3.1).
     Twice(Text),

@@ -7,7 +7,7 @@ use sso_base::{Message, NoMemory, Text, Word};
 use std::alloc::Global;
 
 /// A relying party's reply to a request, or to the answer to one of its own.
-#[derive(Debug, Drop)]
+#[derive(Drop)]
 pub enum RpReply {
     /// An authorization request to the provider, at this location, for the browser whose cookie is set (OpenID Connect
     /// Core 1.0, 3.1.2.1).

@@ -7,7 +7,7 @@ use oidc_words::{LOGIN_LIFE, PENDING_LIFE, SEEN_LIFE, VISIT_LIFE};
 use sso_base::{Moment, Text, Word};
 
 /// A login that a browser began, until its callback (OpenID Connect Core 1.0, 3.1.2.1). It lives for 600 seconds.
-#[derive(Clone, Copy, Debug, PartialEq, Eq)]
+#[derive(Clone, Copy, PartialEq, Eq)]
 pub struct LoginRow {
     /// The `state` of the authorization request, which names the login.
     pub state: Word,
@@ -23,7 +23,7 @@ pub struct LoginRow {
 
 /// What a pending exchange waits for: the answer of the token endpoint (OpenID Connect Core 1.0, 3.1.3) or of the UserInfo
 /// endpoint (5.3).
-#[derive(Clone, Copy, Debug, PartialEq, Eq)]
+#[derive(Clone, Copy, PartialEq, Eq)]
 pub enum Stage {
     /// For a token response.
     Tokens,
@@ -32,7 +32,7 @@ pub enum Stage {
 }
 
 /// A pending exchange: a question to the provider that waits for its answer. It lives for 120 seconds from `since`.
-#[derive(Debug, Drop)]
+#[derive(Drop)]
 pub struct PendingRow {
     /// The word that names the exchange.
     pub word: Word,
@@ -55,7 +55,7 @@ pub struct PendingRow {
 }
 
 /// A session: a login that a relying party let in. It lives for 28,800 seconds.
-#[derive(Debug, Drop)]
+#[derive(Drop)]
 pub struct SessionRow {
     /// The cookie of the browser.
     pub word: Word,
@@ -70,7 +70,7 @@ pub struct SessionRow {
 }
 
 /// A logout token that was accepted (OpenID Connect Back-Channel Logout 1.0, 2.6). It is remembered for 661 seconds.
-#[derive(Debug, Drop)]
+#[derive(Drop)]
 pub struct SeenRow {
     /// The token's `jti`, which names it (RFC 7519, 4.1.7).
     pub jti: Text,

@@ -1,7 +1,7 @@
 // The names of the tables.
 
 /// A table of a relying party.
-#[derive(Clone, Copy, Debug, PartialEq, Eq)]
+#[derive(Clone, Copy, PartialEq, Eq)]
 pub enum RpTable {
     /// The logins that were begun.
     Logins,
@@ -14,7 +14,7 @@ pub enum RpTable {
 }
 
 /// For which tables room for one more row is reserved.
-#[derive(Clone, Copy, Debug)]
+#[derive(Clone, Copy)]
 pub struct Reserved {
     /// For a login.
     pub logins: bool,

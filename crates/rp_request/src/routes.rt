@@ -7,7 +7,7 @@ use oidc_words::{BEGIN_PATH, HOME_PATH};
 use sso_base::{Ask, Method, Text};
 
 // The endpoints of a relying party.
-#[derive(Clone, Copy, Debug, PartialEq, Eq)]
+#[derive(Clone, Copy, PartialEq, Eq)]
 pub(crate) enum Endpoint {
     // Where a login begins.
     Login,

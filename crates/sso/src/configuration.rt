@@ -1,11 +1,11 @@
 //! What is answered to a configuration that is not taken.
 
-ghost use Rattle.std.specs.Prelude.{◌≡◌, ◌∷◌, ◌++◌, IfOk, option_map, codes, string_bytes};
-ghost use Rattle.sso.specs.Answer.{registry_name, configuration_refusal, configuration_no};
+ghost use Rattle.std.specs.Prelude.{◌≡◌, ◌∷◌, ◌++◌, Err, IfOk, IsErr, option_map, codes, string_bytes};
+ghost use Rattle.sso.specs.Answer.{registry_name, configuration_refusal, configuration_no, not_taken};
 
 use crate::mini::MINI;
 use crate::outcome::Outcome;
-use client_registry::{RegNo, read_registry};
+use client_registry::{RegNo, Registry, read_registry};
 use sso_base::{Blob, NoMemory, Text};
 use std::alloc::Global;
 
@@ -57,23 +57,31 @@ fn name_of(alloc: Global, why: &RegNo) -> Result<String, NoMemory>
     }
 }
 
+// Why what was read of a configuration is not taken, if it is not.
+fn why_of(
+    alloc: Global,
+    read: &Result<Registry, RegNo>,
+    is_small: bool,
+) -> Result<Option<String>, NoMemory>
+    ensures why { IfOk result (λ why. option_map string_bytes why ≡ not_taken read.now is_small) }
+    ensures memory { read.now ≡ Err RegNo.NoMemory → IsErr result }
+{
+    match read {
+        Ok(_) if is_small => Ok(None),
+        Ok(_) => Ok(Some(String::from_str(alloc, "NotYet")?)),
+        Err(RegNo::NoMemory) => Err(NoMemory),
+        Err(why) => Ok(Some(name_of(alloc, why)?)),
+    }
+}
+
 /// Why a configuration is not taken, if it is not: the refusal's name and its values, or `NotYet` for any but the small
 /// one.
 #[tactic(auto, unfolding(crate::specs::Answer::configuration_no))]
 fn why_not(alloc: Global, config: &[u8]) -> Result<Option<String>, NoMemory>
     ensures { IfOk result (λ why. option_map string_bytes why ≡ configuration_no MINI.now config.now) }
 {
-    match read_registry(alloc, config) {
-        Ok(_) => {
-            if config == MINI.as_bytes() {
-                Ok(None)
-            } else {
-                Ok(Some(String::from_str(alloc, "NotYet")?))
-            }
-        }
-        Err(RegNo::NoMemory) => Err(NoMemory),
-        Err(why) => Ok(Some(name_of(alloc, &why)?)),
-    }
+    let read = read_registry(alloc, config);
+    why_of(alloc, &read, config == MINI.as_bytes())
 }
 
 /// The answer to a configuration that is not taken.

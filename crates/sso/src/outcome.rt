@@ -13,7 +13,7 @@ use std::alloc::Global;
 use std::marker::Model;
 
 /// A status, and the text that is written before the program ends with it.
-#[derive(Debug, Drop)]
+#[derive(Drop)]
 pub struct Outcome {
     /// The exit status, as long as the whole text can be written.
     pub status: u8,

@@ -4,7 +4,7 @@ use crate::text::{Blob, Text, Texts};
 use crate::word::Word;
 
 /// The method of a request (RFC 9110, 9.3).
-#[derive(Clone, Copy, Debug, PartialEq, Eq)]
+#[derive(Clone, Copy, PartialEq, Eq)]
 pub enum Method {
     Get,
     Post,
@@ -13,7 +13,7 @@ pub enum Method {
 }
 
 /// One request to a server.
-#[derive(Debug, Drop)]
+#[derive(Drop)]
 pub struct Ask {
     pub method: Method,
     /// The target up to its first `?`.
@@ -31,7 +31,7 @@ pub struct Ask {
 }
 
 /// What the body of a reply is.
-#[derive(Clone, Copy, Debug, PartialEq, Eq)]
+#[derive(Clone, Copy, PartialEq, Eq)]
 pub enum Kind {
     /// There is none.
     Empty,
@@ -44,7 +44,7 @@ pub enum Kind {
 }
 
 /// The reply to a request.
-#[derive(Debug, Drop)]
+#[derive(Drop)]
 pub struct HttpReply {
     /// The status (RFC 9110, 15).
     pub status: u16,

@@ -7,7 +7,7 @@ use crate::text::{Blob, Text};
 use std::alloc::Global;
 
 /// A request from one server to another: a POST of a form where it has a body, else a GET.
-#[derive(Debug, Drop)]
+#[derive(Drop)]
 pub struct Message {
     /// The URL that it is sent to.
     pub to: Text,
@@ -35,7 +35,7 @@ impl Message {
 }
 
 /// A server's answer to such a request.
-#[derive(Debug, Drop)]
+#[derive(Drop)]
 pub struct Answered {
     /// The HTTP status.
     pub status: u16,

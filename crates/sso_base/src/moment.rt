@@ -8,7 +8,7 @@ use std::marker::Model;
 pub const LATEST_MOMENT: u64 = 1_099_511_000_000;
 
 /// A number of seconds since the epoch, at most 1,099,511,000,000.
-#[derive(Clone, Copy, Debug, PartialEq, Eq)]
+#[derive(Clone, Copy, PartialEq, Eq)]
 pub struct Moment {
     seconds: u64,
 }

@@ -9,7 +9,7 @@ use std::alloc::Global;
 use std::marker::Model;
 
 /// A name with its content.
-#[derive(Debug, Drop)]
+#[derive(Drop)]
 pub struct File {
     /// By which it is asked for.
     pub name: Text,
@@ -18,7 +18,7 @@ pub struct File {
 }
 
 /// A shelf in memory. It fails at a name that is not there, and nowhere else.
-#[derive(Debug, Drop)]
+#[derive(Drop)]
 pub struct MemoryShelf {
     files: Vec<File>,
     faults: u64,
@@ -90,7 +90,7 @@ impl Shelf for MemoryShelf {
 }
 
 /// A shelf in memory whose calls of these numbers fail, from 1.
-#[derive(Debug, Drop)]
+#[derive(Drop)]
 pub struct FaultyShelf {
     shelf: MemoryShelf,
     failing: Vec<u64>,

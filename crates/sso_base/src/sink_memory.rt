@@ -8,7 +8,7 @@ use std::alloc::Global;
 use std::marker::Model;
 
 /// A sink in memory. It takes each piece whole. It fails where room for the bytes is refused, and nowhere else.
-#[derive(Debug, Drop)]
+#[derive(Drop)]
 pub struct MemorySink {
     bytes: Vec<u8>,
     faults: u64,
@@ -72,7 +72,7 @@ impl Sink for MemorySink {
 }
 
 /// A sink in memory whose calls of these numbers fail, from 1.
-#[derive(Debug, Drop)]
+#[derive(Drop)]
 pub struct FaultySink {
     sink: MemorySink,
     failing: Vec<u64>,

@@ -7,7 +7,7 @@ use std::alloc::Global;
 use std::marker::Model;
 
 /// A text, seen as its bytes in UTF-8.
-#[derive(Debug, Drop)]
+#[derive(Drop)]
 pub struct Text {
     text: String,
 }
@@ -61,7 +61,7 @@ impl Text {
 }
 
 /// Bytes, seen as the list of them.
-#[derive(Debug, Drop)]
+#[derive(Drop)]
 pub struct Blob {
     bytes: Vec<u8>,
 }
@@ -107,7 +107,7 @@ impl Blob {
 }
 
 /// Texts in order, seen as the list of them.
-#[derive(Debug, Drop)]
+#[derive(Drop)]
 pub struct Texts {
     items: Vec<Text>,
 }

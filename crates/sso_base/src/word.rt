@@ -15,7 +15,7 @@ const TEXT_LEN: usize = 43;
 const DECODED_LEN: usize = 33;
 
 /// A random word of 32 bytes, seen as the list of them.
-#[derive(Clone, Copy, Debug, PartialEq, Eq)]
+#[derive(Clone, Copy, PartialEq, Eq)]
 pub struct Word {
     bytes: [u8; 32],
 }

@@ -8,7 +8,7 @@ use sso_base::{NoMemory, Pair, Text, Word};
 use std::alloc::Global;
 
 /// What the relying party is asked. `browser` is the cookie presented.
-#[derive(Debug, Drop)]
+#[derive(Drop)]
 pub enum RpAsk {
     /// To begin a login.
     Begin {
@@ -35,7 +35,7 @@ pub enum RpNo {
 }
 
 /// What the relying party replies.
-#[derive(Debug, Drop)]
+#[derive(Drop)]
 pub enum RpReply {
     /// The browser is sent to the provider with this wish, and gets the browser cookie.
     Ask { to: Wish, browser: Word },

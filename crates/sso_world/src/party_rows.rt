@@ -12,7 +12,7 @@ use oidc_words::LOGIN_LIFE;
 use sso_base::{Moment, Named, Word, find_row, is_live};
 
 /// A login that a browser began. It lives for [`LOGIN_LIFE`] seconds.
-#[derive(Clone, Copy, Debug)]
+#[derive(Clone, Copy)]
 pub struct Login {
     /// `state` of its authorization request, which the answer must bring back.
     pub state: Word,

@@ -5,7 +5,7 @@ use crate::provider::{OpAsk, OpReply};
 use sso_base::{Pair, Text};
 
 /// What happened at a place: a browser of this number asked one of the roles, or no request was made.
-#[derive(Debug, Drop)]
+#[derive(Drop)]
 pub enum Place {
     Provider {
         browser: u32,
@@ -19,7 +19,7 @@ pub enum Place {
 }
 
 /// What a line of a first trace asks a browser to do. Places are numbered from 1.
-#[derive(Debug, Drop)]
+#[derive(Drop)]
 pub enum FirstAsk {
     /// To begin a login at the relying party.
     Begin,

@@ -8,7 +8,7 @@ use std::alloc::Global;
 
 /// What the relying party wants of an authorization request: its `state` and `nonce` come back with the answer
 /// (OpenID Connect Core 1.0, 3.1.2.1).
-#[derive(Clone, Copy, Debug, PartialEq, Eq)]
+#[derive(Clone, Copy, PartialEq, Eq)]
 pub struct Wish {
     /// What ties the answer to the login.
     pub state: Word,
@@ -17,7 +17,7 @@ pub struct Wish {
 }
 
 /// A successful authentication response (OpenID Connect Core 1.0, 3.2.2.5): the state, an access token and an ID Token.
-#[derive(Debug, Drop)]
+#[derive(Drop)]
 pub struct Answer {
     /// `state` of the authorization request.
     pub state: Word,
@@ -41,7 +41,7 @@ impl Answer {
 }
 
 /// What the provider is asked. `browser` and `session` are the cookies presented.
-#[derive(Debug, Drop)]
+#[derive(Drop)]
 pub enum OpAsk {
     /// An authorization request.
     Authorize {
@@ -59,7 +59,7 @@ pub enum OpAsk {
 }
 
 /// Why an error page is shown, and nobody is sent anywhere.
-#[derive(Clone, Copy, Debug, PartialEq, Eq)]
+#[derive(Clone, Copy, PartialEq, Eq)]
 pub enum PageNo {
     /// No live turn has that word.
     Turn,
@@ -68,7 +68,7 @@ pub enum PageNo {
 }
 
 /// What the provider replies.
-#[derive(Debug, Drop)]
+#[derive(Drop)]
 pub enum OpReply {
     /// The login page of a turn, with the browser cookie; `again` after a wrong password.
     LoginPage {

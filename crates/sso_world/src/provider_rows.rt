@@ -12,7 +12,7 @@ use oidc_words::{SESSION_LIFE, TURN_LIFE};
 use sso_base::{Moment, Named, Word, find_row, is_live};
 
 /// A turn: an authorization request whose login page waits for a password. It lives for [`TURN_LIFE`] seconds.
-#[derive(Clone, Copy, Debug)]
+#[derive(Clone, Copy)]
 pub struct Turn {
     /// The random word that the login form carries.
     pub word: Word,
@@ -33,7 +33,7 @@ impl Named for Turn {
 }
 
 /// A session: a user who signed in. It lives for [`SESSION_LIFE`] seconds from the last password.
-#[derive(Clone, Copy, Debug)]
+#[derive(Clone, Copy)]
 pub struct Session {
     /// The session cookie.
     pub word: Word,

@@ -9,7 +9,7 @@ use sso_base::{Moment, NoMemory, Text, Texts, Word};
 use std::alloc::Global;
 
 /// The claims of an ID Token (OpenID Connect Core 1.0, 2). The nonce and the session identifier are the words themselves.
-#[derive(Debug, Drop)]
+#[derive(Drop)]
 pub struct Claims {
     /// The issuer.
     pub iss: Text,

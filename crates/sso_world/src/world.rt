@@ -26,7 +26,7 @@ use std::alloc::Global;
 use std::marker::Model;
 
 /// The places so far, seen with the newest first, and the tables of both roles.
-#[derive(Debug, Drop)]
+#[derive(Drop)]
 pub struct World {
     seed: [u8; 24],
     places: Vec<Place>,

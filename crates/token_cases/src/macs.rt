@@ -8,6 +8,7 @@ use std::alloc::Global;
 pub fn answer(alloc: Global, fields: &[&str]) -> Result<Option<String>, NoMemory> {
     match fields {
         ["mac", key, text] => Ok(Some(mac(alloc, key, text)?)),
+        ["chain", count] => Ok(Some(chain(alloc, count)?)),
         ["proof", password, salt, rounds] => Ok(Some(proof(alloc, password, salt, rounds)?)),
         ["same", left, right] => Ok(Some(same(alloc, left, right)?)),
         _ => Ok(None),
@@ -18,6 +19,15 @@ pub fn answer(alloc: Global, fields: &[&str]) -> Result<Option<String>, NoMemory
 fn mac(alloc: Global, key: &str, text: &str) -> Result<String, NoMemory> {
     let (key, text) = (bytes(alloc, key)?, bytes(alloc, text)?);
     told_hex(alloc, &hmac256::mac(key.as_slice(), text.as_slice()))
+}
+
+// `chain|COUNT`: the last of so many MACs of 200 times `t`, in hex. The first is under 32 times `k`, and each is the next one's key.
+fn chain(alloc: Global, count: &str) -> Result<String, NoMemory> {
+    let mut last = [b'k'; 32];
+    for _ in 0..count.parse::<u32>().unwrap_or(0) {
+        last = hmac256::mac(&last, &[b't'; 200]);
+    }
+    told_hex(alloc, &last)
 }
 
 // `proof|PASSWORD|SALT|ROUNDS`: the proof of the password, in hex.

@@ -15,7 +15,7 @@ use sso_base::{NoMemory, Text};
 use std::alloc::Global;
 
 /// What is shown of a client: its id and its secret.
-#[derive(Debug, Drop)]
+#[derive(Drop)]
 pub(crate) struct Credentials {
     pub(crate) id: Text,
     pub(crate) secret: Text,

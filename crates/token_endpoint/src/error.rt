@@ -6,7 +6,7 @@ ghost use Rattle.token_endpoint.specs.Errors as spec;
 use crate::no::GrantNo;
 
 /// An error code of the token endpoint (RFC 6749, 5.2).
-#[derive(Clone, Copy, Debug, PartialEq, Eq)]
+#[derive(Clone, Copy, PartialEq, Eq)]
 pub enum TokenError {
     /// `invalid_request`: the request is malformed.
     InvalidRequest,

@@ -13,7 +13,7 @@ use sso_base::Text;
 use std::alloc::Global;
 
 /// What a client asks tokens for (RFC 6749, 4.1.3).
-#[derive(Debug, Drop)]
+#[derive(Drop)]
 pub struct Grant {
     /// The number of the client in the registry, from 0. It showed its secret.
     pub client: u32,

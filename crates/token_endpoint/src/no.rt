@@ -4,7 +4,7 @@ use claim_set::ClaimNo;
 use sso_base::{NoMemory, Text};
 
 /// Why a token request is refused, or memory ran out. Where several of the former fit, the first in this order is answered.
-#[derive(Debug, Drop)]
+#[derive(Drop)]
 pub enum GrantNo {
     /// There is no body.
     BadForm,
@@ -38,7 +38,7 @@ impl From<NoMemory> for GrantNo {
 
 /// Why an answer to a token request is refused, or memory ran out. Where several of the former fit, the first in this order is
 /// answered.
-#[derive(Debug, Drop)]
+#[derive(Drop)]
 pub enum TokensNo {
     /// Its status, which is not 200 (RFC 6749, 5.1).
     Status(u16),

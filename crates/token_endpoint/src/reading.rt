@@ -10,7 +10,7 @@ use sso_base::{Answered, Text};
 use std::alloc::Global;
 
 /// The tokens of a successful answer to a token request (OpenID Connect Core 1.0, 3.1.3.3).
-#[derive(Debug, Drop)]
+#[derive(Drop)]
 pub struct Tokens {
     /// The access token, of the type `Bearer`.
     pub access: Text,
@@ -19,7 +19,7 @@ pub struct Tokens {
 }
 
 // The members, as far as they are there.
-#[derive(Debug, Drop)]
+#[derive(Drop)]
 struct RawTokens {
     access: Option<Text>,
     id: Option<Text>,

@@ -9,7 +9,7 @@ use request_params::{cut, scheme_of};
 use sso_base::Word;
 
 /// The bearer token that a request presents (RFC 6750, 2.1).
-#[derive(Clone, Copy, Debug, PartialEq, Eq)]
+#[derive(Clone, Copy, PartialEq, Eq)]
 pub enum Bearer {
     /// There is no header, or it is of another scheme.
     Absent,

@@ -5,7 +5,7 @@ use sso_base::NoMemory;
 
 /// Why a UserInfo answer is refused, or memory ran out. Where several of the former fit, the first in this order is
 /// answered.
-#[derive(Debug, Drop)]
+#[derive(Drop)]
 pub enum InfoNo {
     /// Memory ran out.
     NoMemory,

@@ -1,6 +1,6 @@
-use Rattle.std.proofs.Common.{◌≡◌, ◌<◌, ◌≤◌, ◌+◌, ℕ, List, length, Option, Some, rules, sym, ◌∙◌, ap, subst, arith}
+use Rattle.std.proofs.Common.{◌≡◌, ◌<◌, ◌≤◌, ◌+◌, ℕ, List, length, rules, sym, ◌∙◌, ap, arith}
 use Rattle.std.proofs.lemmas.Fn.{filter_same}
-use Rattle.sso_base.specs.Rows.{without, row_of}
+use Rattle.sso_base.specs.Rows.{without}
 use Rattle.sso_base.proofs.Removing.{filter-without}
 use Rattle.held_rows.proofs.HeldLaws.{held_put, shorter_there}
 use Rattle.held_rows.proofs.held.Held.put.Goals as goal

@@ -1,0 +1,136 @@
+// A run: asks that are answered one after another, the words that they draw, and what the last reply sends on.
+
+use crate::answers::told;
+use crate::fields::as_text;
+use crate::http::{push_http, push_message};
+use crate::numbered::words_of_place;
+use sso_base::{Blob, HttpReply, Message, NoMemory, Text, Word};
+use std::alloc::Global;
+
+/// How many asks were answered, and the last reply in HTTP, with the message in it where it has one.
+#[derive(Drop)]
+pub struct Run {
+    answered: u32,
+    http: Option<HttpReply>,
+    message: Option<Message>,
+}
+
+impl Run {
+    /// Nothing was asked.
+    pub fn new() -> Run {
+        Run {
+            answered: 0,
+            http: None,
+            message: None,
+        }
+    }
+
+    /// The words that the next ask draws: at place p, from 1, those of the numbers from 4p - 3 to 4p.
+    pub fn words(&self) -> [Word; 4] {
+        words_of_place(self.answered.wrapping_add(1))
+    }
+
+    /// One more ask was answered.
+    pub fn count(&mut self) {
+        self.answered = self.answered.wrapping_add(1);
+    }
+
+    /// This is the last reply.
+    pub fn keep(&mut self, http: HttpReply, message: Option<Message>) {
+        self.http = Some(http);
+        self.message = message;
+    }
+
+    /// What a call tells of the last reply: `ask` its line alone, and `send` also what is sent of it.
+    pub fn told(&self, alloc: Global, call: &str, line: &str) -> Result<String, NoMemory> {
+        let mut out = told(alloc, line)?;
+        if call != "send" {
+            return Ok(out);
+        }
+        if let Some(http) = &self.http {
+            push_http(alloc, &mut out, http, None)?;
+        }
+        if let Some(message) = &self.message {
+            push_message(alloc, &mut out, message)?;
+        }
+        Ok(out)
+    }
+
+    /// The text of the last reply that has this name, where there is one:
+    ///
+    /// | Name | Text |
+    /// |---|---|
+    /// | `target` | the path and the query of its location: what a browser asks for there |
+    /// | `fragment` | the fragment of its location |
+    /// | `body` | its body |
+    /// | `ID Token` | the ID Token in its location or in its body |
+    /// | `message target` | the path and the query of the URL to which its message is sent |
+    /// | `message authorization`, `message body` | the value of the message's `Authorization` header, and its form |
+    pub fn text(&self, name: &str) -> Option<&str> {
+        match name.strip_prefix("message ") {
+            Some(part) => message_text(self.message.as_ref()?, part),
+            None => reply_text(self.http.as_ref()?, name),
+        }
+    }
+}
+
+fn reply_text<'a>(http: &'a HttpReply, name: &str) -> Option<&'a str> {
+    match name {
+        "target" => Some(target(location(http)?)),
+        "fragment" => Some(location(http)?.split_once('#')?.1),
+        "body" => Some(body(http)),
+        "ID Token" => id_token(http),
+        _ => None,
+    }
+}
+
+fn message_text<'a>(message: &'a Message, name: &str) -> Option<&'a str> {
+    match name {
+        "target" => Some(target(message.to.as_str())),
+        "authorization" => Some(message.auth.as_ref()?.as_str()),
+        "body" => Some(form(message.body.as_ref()?)),
+        _ => None,
+    }
+}
+
+fn location(http: &HttpReply) -> Option<&str> {
+    Some(http.location.as_ref()?.as_str())
+}
+
+fn body(http: &HttpReply) -> &str {
+    as_text(http.body.as_bytes())
+}
+
+fn form(body: &Blob) -> &str {
+    as_text(body.as_bytes())
+}
+
+// The path and the query of a URL, or of a path with a query.
+fn target(url: &str) -> &str {
+    let (url, _) = url.split_once('#').unwrap_or((url, ""));
+    match url.split_once("://") {
+        Some((_, rest)) => after_authority(rest),
+        None => url,
+    }
+}
+
+fn after_authority(rest: &str) -> &str {
+    let (authority, _) = rest.split_once('/').unwrap_or((rest, ""));
+    rest.strip_prefix(authority).unwrap_or("/")
+}
+
+// What stands between two marks.
+fn between<'a>(text: &'a str, before: &str, after: char) -> Option<&'a str> {
+    let (_, rest) = text.split_once(before)?;
+    match rest.split_once(after) {
+        Some((found, _)) => Some(found),
+        None => Some(rest),
+    }
+}
+
+fn id_token(http: &HttpReply) -> Option<&str> {
+    match location(http) {
+        Some(location) => between(location, "id_token=", '&'),
+        None => between(body(http), "\"id_token\":\"", '"'),
+    }
+}

@@ -1,0 +1,249 @@
+// A provider that is asked.
+
+use case_lines::{Run, field, moment, number, request, told, told_bytes, word_of, words_of_place};
+use client_registry::{RegNo, Registry, read_registry};
+use jws_compact::{JwsNo, Unsealed, unseal};
+use op_core::OpCore;
+use op_exchange::{OpAsk, OpReply};
+use op_request::prepare_op;
+use op_response::{op_http, op_line};
+use sso_base::{Core, CoreNo, Moment, NoMemory, Word};
+use std::alloc::Global;
+
+/// A provider, and the registry that it was set up with.
+#[derive(Drop)]
+pub struct Provider {
+    registry: Registry,
+    core: OpCore,
+}
+
+fn core_of(alloc: Global, registry: &Registry) -> Result<OpCore, NoMemory> {
+    OpCore::new(alloc, registry.copy(alloc)?)
+}
+
+fn provider_of(alloc: Global, registry: &Registry) -> Result<Option<Provider>, NoMemory> {
+    let core = core_of(alloc, registry)?;
+    Ok(Some(Provider {
+        registry: registry.copy(alloc)?,
+        core,
+    }))
+}
+
+fn provider_read(
+    alloc: Global,
+    registry: &Result<Registry, RegNo>,
+) -> Result<Option<Provider>, NoMemory> {
+    match registry {
+        Ok(registry) => provider_of(alloc, registry),
+        Err(RegNo::NoMemory) => Err(NoMemory),
+        Err(_) => Ok(None),
+    }
+}
+
+impl Provider {
+    /// A provider of this configuration that was asked nothing; none where the configuration is refused.
+    pub fn begin(alloc: Global, file: &str) -> Result<Option<Provider>, NoMemory> {
+        let registry = read_registry(alloc, file.as_bytes());
+        provider_read(alloc, &registry)
+    }
+
+    /// The answer of the provider to a call:
+    ///
+    /// | Call | Answer |
+    /// |---|---|
+    /// | `ask|MOMENT|METHOD|TARGET|BODY|BROWSER|SESSION|AUTHORIZATION` | the line of the reply |
+    /// | `send|..`, with the same fields | the line, and the reply in HTTP |
+    /// | `login of user|MOMENT|NUMBER` | the line of the reply to an ask that no request needs to give |
+    /// | `fill|MOMENT|COUNT` | how often nothing is found by asks for what is not here |
+    /// | `holds|WORD` | what the tables hold under the word |
+    /// | `count` | how many asks were answered |
+    /// | `payload|CLIENT|TOKEN` | the payload of a token that is sealed under the secret of the client of this id |
+    pub fn answer(
+        &mut self,
+        alloc: Global,
+        run: &mut Run,
+        fields: &[&str],
+    ) -> Result<String, NoMemory> {
+        match fields {
+            ["holds", word] => told(alloc, self.name_held(word_of(word))),
+            ["count"] => Ok(self.core.count().to_string(alloc)?),
+            ["payload", client, token] => self.payload(alloc, client, token),
+            _ => match moment(field(fields, 1)) {
+                Some(at) => self.answer_at(alloc, run, at, fields),
+                None => told(alloc, "no such call"),
+            },
+        }
+    }
+
+    fn answer_at(
+        &mut self,
+        alloc: Global,
+        run: &mut Run,
+        at: Moment,
+        fields: &[&str],
+    ) -> Result<String, NoMemory> {
+        match fields {
+            [call @ ("ask" | "send"), _, request @ ..] => self.ask(alloc, run, at, call, request),
+            ["login of user", _, user] => self.login(alloc, run, at, number(user)),
+            ["fill", _, count] => self.fill(alloc, at, number(count)),
+            _ => told(alloc, "no such call"),
+        }
+    }
+
+    // ---- asks
+
+    // What a request asks.
+    fn asked(&self, alloc: Global, fields: &[&str]) -> Result<OpAsk, NoMemory> {
+        let request = request(alloc, fields)?;
+        prepare_op(alloc, &self.registry, &request)
+    }
+
+    fn ask(
+        &mut self,
+        alloc: Global,
+        run: &mut Run,
+        at: Moment,
+        call: &str,
+        fields: &[&str],
+    ) -> Result<String, NoMemory> {
+        let asked = self.asked(alloc, fields)?;
+        self.step(alloc, run, at, call, asked)
+    }
+
+    // A login of the user of this number, whether or not there is one.
+    fn login(
+        &mut self,
+        alloc: Global,
+        run: &mut Run,
+        at: Moment,
+        user: u32,
+    ) -> Result<String, NoMemory> {
+        let asked = OpAsk::Login {
+            turn: None,
+            signed: Some(user),
+            browser: None,
+            session: None,
+        };
+        self.step(alloc, run, at, "ask", asked)
+    }
+
+    fn step(
+        &mut self,
+        alloc: Global,
+        run: &mut Run,
+        at: Moment,
+        call: &str,
+        asked: OpAsk,
+    ) -> Result<String, NoMemory> {
+        let answer = self.core.step(alloc, at, run.words(), asked);
+        self.told(alloc, run, call, &answer)
+    }
+
+    // What is told of a step. Where it took place, what is told must not ask for it again: so it is told once more where memory
+    // ran out.
+    fn told(
+        &self,
+        alloc: Global,
+        run: &mut Run,
+        call: &str,
+        answer: &Result<OpReply, CoreNo>,
+    ) -> Result<String, NoMemory> {
+        match answer {
+            Ok(reply) => {
+                run.count();
+                match self.reply_told(alloc, run, call, reply) {
+                    Ok(told) => Ok(told),
+                    Err(NoMemory) => self.reply_told(alloc, run, call, reply),
+                }
+            }
+            Err(CoreNo::JournalFull(weight)) => Ok(format!(in alloc; "JournalFull {weight}")?),
+            Err(CoreNo::NoMemory) => Err(NoMemory),
+        }
+    }
+
+    fn reply_told(
+        &self,
+        alloc: Global,
+        run: &mut Run,
+        call: &str,
+        reply: &OpReply,
+    ) -> Result<String, NoMemory> {
+        run.keep(op_http(alloc, &self.registry, reply)?, None);
+        let line = op_line(alloc, reply)?;
+        run.told(alloc, call, line.as_str())
+    }
+
+    // ---- many asks
+
+    // Whether an ask for what is not here finds nothing; none where memory ran out.
+    fn try_nothing(&mut self, alloc: Global, at: Moment) -> Option<bool> {
+        match self.core.step(alloc, at, words_of_place(1), OpAsk::NotHere) {
+            Ok(OpReply::NotHere) => Some(true),
+            Err(CoreNo::NoMemory) => None,
+            _ => Some(false),
+        }
+    }
+
+    // The same, tried once more where memory ran out.
+    fn finds_nothing(&mut self, alloc: Global, at: Moment) -> bool {
+        match self.try_nothing(alloc, at) {
+            Some(found) => found,
+            None => self.try_nothing(alloc, at) == Some(true),
+        }
+    }
+
+    // Asks so many times for what is not here. How often nothing is found.
+    fn fill(&mut self, alloc: Global, at: Moment, count: u32) -> Result<String, NoMemory> {
+        let mut found: u32 = 0;
+        for _ in 0..count {
+            if self.finds_nothing(alloc, at) {
+                found = found.wrapping_add(1);
+            }
+        }
+        Ok(format!(in alloc; "nothing, {found} times")?)
+    }
+
+    // ---- what is held
+
+    fn code_held(&self, word: Word) -> Option<&'static str> {
+        let code = self.core.tables().code(word)?;
+        Some(if code.spent { "a spent code" } else { "a code" })
+    }
+
+    fn name_held(&self, word: Word) -> &'static str {
+        if let Some(name) = self.code_held(word) {
+            return name;
+        }
+        if self.core.tables().live(word).is_some() {
+            return "an access token";
+        }
+        if self.core.tables().session(word).is_some() {
+            return "a session";
+        }
+        if self.core.tables().turn(word).is_some() {
+            return "a turn";
+        }
+        "nothing"
+    }
+
+    // ---- what tokens have in them
+
+    fn payload(&self, alloc: Global, client: &str, token: &str) -> Result<String, NoMemory> {
+        match self.registry.find_client(client.as_bytes()) {
+            Some(place) if place < self.registry.clients() => {
+                let secret = self.registry.client(place).secret.as_str();
+                let opened = unseal(alloc, secret.as_bytes(), token.as_bytes());
+                payload_told(alloc, &opened)
+            }
+            _ => told(alloc, "no such client"),
+        }
+    }
+}
+
+fn payload_told(alloc: Global, opened: &Result<Unsealed, JwsNo>) -> Result<String, NoMemory> {
+    match opened {
+        Ok(opened) => told_bytes(alloc, opened.payload.as_bytes()),
+        Err(JwsNo::NoMemory) => Err(NoMemory),
+        Err(_) => told(alloc, "not sealed under this secret"),
+    }
+}

@@ -1,0 +1,22 @@
+//! The top call: what the words of the program ask for, over any shelf of files and any sink for the text. The sign-on theorem is
+//! a clause of it.
+//!
+//! | Module | What it has | Its definitions, in `specs/` |
+//! |---|---|---|
+//! | `top` | [`sso`], over any shelf and sink | `Ends`, `SignOn` |
+//! | `command` | what the words ask for, with contents fetched for it | `Outcomes` |
+//! | `outcome` | the answers of `replay`, and those of no command | `Answer`, `Outcomes` |
+//! | `configuration` | the answers to a configuration that is not taken | `Answer` |
+//! | `token` | the answers of `token` | `Answer` |
+//! | `mini` | [`MINI`], the small configuration | |
+#![tactic(auto)]
+
+mod command;
+mod configuration;
+mod mini;
+mod outcome;
+mod token;
+mod top;
+
+pub use crate::mini::MINI;
+pub use crate::top::sso;
