@@ -7,6 +7,7 @@ use Rattle.sso_base.specs.Words.{Word, Text, word_text}
 use Rattle.request_params.specs.Form.{Pair}
 use Rattle.request_params.specs.Reading.{value_of}
 use Rattle.oidc_words.specs.Lives.{access_life_text}
+use Rattle.oidc_words.specs.TokenTypes.{bearer_word}
 use Rattle.auth_answer.specs.declared.answer.Answer.{Answer}
 use Rattle.auth_answer.specs.Printing.{Param, pair_if, pairs_of, answer_params}
 
@@ -34,8 +35,8 @@ beside_token : (text : Text) (access : Option Word) → option_or (option_map (�
 beside_token text None = refl
 beside_token text (Some w) = refl
 
-pub token_type_beside : (a : Answer) → value_of (codes "token_type") (pairs_of (answer_params a)) ≡ option_map (λ _. codes "Bearer") a.access
-token_type_beside a = value_of-pairs_of (codes "token_type") (answer_params a) ∙ beside_token (codes "Bearer") a.access
+pub token_type_beside : (a : Answer) → value_of (codes "token_type") (pairs_of (answer_params a)) ≡ option_map (λ _. bearer_word) a.access
+token_type_beside a = value_of-pairs_of (codes "token_type") (answer_params a) ∙ beside_token bearer_word a.access
 
 pub expires_in_beside : (a : Answer) → value_of (codes "expires_in") (pairs_of (answer_params a)) ≡ option_map (λ _. access_life_text) a.access
 expires_in_beside a = value_of-pairs_of (codes "expires_in") (answer_params a) ∙ beside_token access_life_text a.access

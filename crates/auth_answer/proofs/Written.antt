@@ -12,6 +12,7 @@ use Rattle.sso_base.proofs.Utf8Bytes.{IsUtf8-are_ascii}
 use Rattle.oidc_words.specs.declared.errors.AuthError.{AuthError}
 use Rattle.oidc_words.specs.declared.errors.Refusal.{Refusal}
 use Rattle.oidc_words.specs.Lives.{access_life_text}
+use Rattle.oidc_words.specs.TokenTypes.{bearer_word}
 use Rattle.auth_answer.specs.declared.answer.Answer.{Answer}
 use Rattle.auth_answer.specs.declared.heard.Heard.{Heard}
 use Rattle.auth_answer.specs.declared.no.AnswerNo.{AnswerNo}
@@ -50,7 +51,7 @@ answer_texts a state id = (
   (
     (IsUtf8-are_ascii (codes "access_token") refl, IsUtf8-word_text_if a.access),
     (
-      (IsUtf8-are_ascii (codes "token_type") refl, text_if (codes "Bearer") (option_map word_text a.access) (IsUtf8-are_ascii (codes "Bearer") refl)),
+      (IsUtf8-are_ascii (codes "token_type") refl, text_if bearer_word (option_map word_text a.access) (IsUtf8-are_ascii bearer_word refl)),
       (
         (IsUtf8-are_ascii (codes "expires_in") refl, text_if access_life_text (option_map word_text a.access) (IsUtf8-are_ascii access_life_text refl)),
         (

@@ -4,6 +4,7 @@
 use Rattle.std.specs.Prelude.{Bool, List, [], ◌∷◌, codes, filter_map, Option, Some, option_map, if◌then◌else◌}
 use Rattle.sso_base.specs.Words.{Text, word_text}
 use Rattle.oidc_words.specs.Lives.{access_life_text}
+use Rattle.oidc_words.specs.TokenTypes.{bearer_word}
 use Rattle.request_params.specs.Form.{Pair, form_text}
 use Rattle.request_params.specs.Location.{query_mark, with_query, with_fragment}
 use Rattle.oidc_words.specs.declared.errors.Refusal.{Refusal}
@@ -27,7 +28,7 @@ abbrev pub params_of : Option Text → Option Text → Option Text → Option Te
 params_of code access id state =
     (codes "code", code)
     ∷ (codes "access_token", access)
-    ∷ (codes "token_type", option_map (λ _. codes "Bearer") access)
+    ∷ (codes "token_type", option_map (λ _. bearer_word) access)
     ∷ (codes "expires_in", option_map (λ _. access_life_text) access)
     ∷ (codes "id_token", id)
     ∷ (codes "state", state) ∷ []

@@ -8,6 +8,7 @@ ghost use Rattle.registered_url.specs.Query.{form_names};
 ghost use Rattle.sso_base.specs.Texts.{has_text};
 ghost use Rattle.configuration_rows.specs.Version1.{answer_names};
 ghost use Rattle.oidc_words.specs.Lives.{access_life_text};
+ghost use Rattle.oidc_words.specs.TokenTypes.{bearer_word};
 ghost use Rattle.request_params.specs.Reading.{value_of};
 ghost use Rattle.oidc_words.specs.declared.errors.AuthError.{AuthError};
 ghost use Rattle.oidc_words.specs.declared.errors.Refusal.{Refusal};
@@ -27,7 +28,7 @@ pub fn responses_stand_behind_redirection_uris()
 
 /// Exactly beside an access token an answer says that it is a bearer token, and how many seconds it lives.
 pub fn access_tokens_have_their_type_and_life()
-    ensures token_type { (a : Answer) → value_of (codes "token_type") (pairs_of (answer_params a)) ≡ option_map (λ _. codes "Bearer") a.access }
+    ensures token_type { (a : Answer) → value_of (codes "token_type") (pairs_of (answer_params a)) ≡ option_map (λ _. bearer_word) a.access }
     ensures expires_in { (a : Answer) → value_of (codes "expires_in") (pairs_of (answer_params a)) ≡ option_map (λ _. access_life_text) a.access }
 {}
 

@@ -7,7 +7,7 @@ ghost use Rattle.auth_answer.specs.Params.{param_text};
 ghost use Rattle.auth_answer.specs.Printing as spec;
 
 use crate::answer::Answer;
-use oidc_words::{EXPIRES_IN, Refusal, error_text};
+use oidc_words::{BEARER, EXPIRES_IN, Refusal, error_text};
 use request_params::{with_fragment, with_query};
 use sso_base::{NoMemory, Text, Word};
 use std::alloc::Global;
@@ -88,7 +88,7 @@ fn answer_pairs<'a>(
     let params = [
         ("code", as_str(code)),
         ("access_token", as_str(access)),
-        ("token_type", beside(access, "Bearer")),
+        ("token_type", beside(access, BEARER)),
         ("expires_in", beside(access, EXPIRES_IN)),
         ("id_token", as_str(id)),
         ("state", as_str(state)),

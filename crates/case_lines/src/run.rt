@@ -5,23 +5,25 @@ use crate::fields::as_text;
 use crate::http::{push_http, push_message};
 use crate::numbered::words_of_place;
 use sso_base::{Blob, HttpReply, Message, NoMemory, Text, Word};
-use std::alloc::Global;
+use std::alloc::{AllocError, Global};
 
-/// How many asks were answered, and the last reply in HTTP, with the message in it where it has one.
+/// How many asks were answered, and the last reply in HTTP, with the messages in it and the reply before it.
 #[derive(Drop)]
 pub struct Run {
     answered: u32,
+    before: Option<HttpReply>,
     http: Option<HttpReply>,
-    message: Option<Message>,
+    messages: Vec<Message>,
 }
 
 impl Run {
     /// Nothing was asked.
-    pub fn new() -> Run {
+    pub fn new(alloc: Global) -> Run {
         Run {
             answered: 0,
+            before: None,
             http: None,
-            message: None,
+            messages: Vec::new(alloc),
         }
     }
 
@@ -30,15 +32,16 @@ impl Run {
         words_of_place(self.answered.wrapping_add(1))
     }
 
-    /// One more ask was answered.
+    /// One more ask was answered, and its reply is not kept yet.
     pub fn count(&mut self) {
         self.answered = self.answered.wrapping_add(1);
+        self.before = self.http.take();
     }
 
     /// This is the last reply.
-    pub fn keep(&mut self, http: HttpReply, message: Option<Message>) {
+    pub fn keep(&mut self, http: HttpReply, messages: Vec<Message>) {
         self.http = Some(http);
-        self.message = message;
+        self.messages = messages;
     }
 
     /// What a call tells of the last reply: `ask` its line alone, and `send` also what is sent of it.
@@ -50,9 +53,7 @@ impl Run {
         if let Some(http) = &self.http {
             push_http(alloc, &mut out, http, None)?;
         }
-        if let Some(message) = &self.message {
-            push_message(alloc, &mut out, message)?;
-        }
+        push_messages(alloc, &mut out, self.messages.as_slice())?;
         Ok(out)
     }
 
@@ -61,23 +62,49 @@ impl Run {
     /// | Name | Text |
     /// |---|---|
     /// | `target` | the path and the query of its location: what a browser asks for there |
-    /// | `fragment` | the fragment of its location |
+    /// | `fragment` | the fragment of its location, or where it has none, of that of the reply before, which a browser keeps |
     /// | `body` | its body |
     /// | `ID Token` | the ID Token in its location or in its body |
-    /// | `message target` | the path and the query of the URL to which its message is sent |
-    /// | `message authorization`, `message body` | the value of the message's `Authorization` header, and its form |
+    /// | `message target` | the path and the query of the URL to which its first message is sent |
+    /// | `message authorization`, `message body` | the value of that message's `Authorization` header, and its form |
+    /// | `message token` | the logout token in that form |
+    /// | `second message target` and so on | those of its second message |
     pub fn text(&self, name: &str) -> Option<&str> {
-        match name.strip_prefix("message ") {
-            Some(part) => message_text(self.message.as_ref()?, part),
-            None => reply_text(self.http.as_ref()?, name),
+        if let Some(part) = name.strip_prefix("message ") {
+            return message_text(self.message(0)?, part);
+        }
+        if let Some(part) = name.strip_prefix("second message ") {
+            return message_text(self.message(1)?, part);
+        }
+        match name {
+            "fragment" => self.fragment(),
+            _ => reply_text(self.http.as_ref()?, name),
         }
     }
+
+    // The message at this place of the last reply, from 0.
+    fn message(&self, place: usize) -> Option<&Message> {
+        self.messages.as_slice().get(place)
+    }
+
+    fn fragment(&self) -> Option<&str> {
+        match fragment(self.http.as_ref()?) {
+            Some(text) => Some(text),
+            None => fragment(self.before.as_ref()?),
+        }
+    }
+}
+
+fn push_messages(alloc: Global, out: &mut String, messages: &[Message]) -> Result<(), AllocError> {
+    for message in messages {
+        push_message(alloc, out, message)?;
+    }
+    Ok(())
 }
 
 fn reply_text<'a>(http: &'a HttpReply, name: &str) -> Option<&'a str> {
     match name {
         "target" => Some(target(location(http)?)),
-        "fragment" => Some(location(http)?.split_once('#')?.1),
         "body" => Some(body(http)),
         "ID Token" => id_token(http),
         _ => None,
@@ -89,12 +116,17 @@ fn message_text<'a>(message: &'a Message, name: &str) -> Option<&'a str> {
         "target" => Some(target(message.to.as_str())),
         "authorization" => Some(message.auth.as_ref()?.as_str()),
         "body" => Some(form(message.body.as_ref()?)),
+        "token" => form(message.body.as_ref()?).strip_prefix("logout_token="),
         _ => None,
     }
 }
 
 fn location(http: &HttpReply) -> Option<&str> {
     Some(http.location.as_ref()?.as_str())
+}
+
+fn fragment(http: &HttpReply) -> Option<&str> {
+    Some(location(http)?.split_once('#')?.1)
 }
 
 fn body(http: &HttpReply) -> &str {

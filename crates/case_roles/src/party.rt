@@ -5,9 +5,9 @@ ghost use Rattle.std.specs.Prelude.{◌≡◌, IfOk};
 use case_lines::{Run, answered, field, moment, or_else, push_part, request, told, word_of};
 use client_registry::{Provider, RegNo, Registry, read_registry};
 use rp_core::RpCore;
-use rp_exchange::{RpAsk, RpReply, is_served};
-use rp_login::{Logins, SessionRow};
-use rp_request::{prepare_rp, prepare_tokens};
+use rp_exchange::{RpAsk, RpReply};
+use rp_login::{Logins, PendingRow, SessionRow, Stage};
+use rp_request::{prepare_info, prepare_rp, prepare_tokens};
 use rp_response::{rp_http, rp_line};
 use sso_base::{Core, CoreNo, Message, Moment, NoMemory, Text, copied_text};
 use std::alloc::Global;
@@ -22,7 +22,19 @@ pub struct RelyingParty {
 
 // ---- setting up
 
-// The registry's provider, with this authorization endpoint where one is given.
+// UserInfo of the registry's provider; where the authorization endpoint is another's, there is none.
+fn userinfo_of(
+    alloc: Global,
+    provider: &Provider,
+    authorize: Option<&str>,
+) -> Result<Option<Text>, NoMemory> {
+    match authorize {
+        Some(_) => Ok(None),
+        None => copied_text(alloc, &provider.userinfo),
+    }
+}
+
+// The registry's provider; with this authorization endpoint and no UserInfo where one is given.
 fn provider_of(
     alloc: Global,
     registry: &Registry,
@@ -31,23 +43,24 @@ fn provider_of(
     ensures { IfOk result (λ p. p.issuer ≡ registry.now.provider.issuer) }
 {
     let provider = registry.provider();
+    let userinfo = userinfo_of(alloc, provider, authorize)?;
     let authorize = authorize.unwrap_or(provider.authorize.as_str());
     Ok(Provider {
         issuer: provider.issuer.copy(alloc)?,
         authorize: Text::new(alloc, authorize)?,
         token: provider.token.copy(alloc)?,
-        userinfo: copied_text(alloc, &provider.userinfo)?,
+        userinfo,
     })
 }
 
-// The relying party of this number, where it is served.
+// The relying party of this number, where there is one.
 fn party_of(
     alloc: Global,
     registry: &Registry,
     party: u32,
     authorize: Option<&str>,
 ) -> Result<Option<RelyingParty>, NoMemory> {
-    if !is_served(registry, party) {
+    if party >= registry.parties() {
         return Ok(None);
     }
     let provider = provider_of(alloc, registry, authorize)?;
@@ -76,8 +89,9 @@ fn party_read(
 }
 
 impl RelyingParty {
-    /// The relying party of this name, which was asked nothing; none where the configuration is refused or has no such party that
-    /// is served. Its logins begin at the authorization endpoint of the configuration's provider, or at this one.
+    /// The relying party of this name, which was asked nothing; none where the configuration is refused or has no such party. Its
+    /// logins begin at the authorization endpoint of the configuration's provider; or at this one, and then its provider has no
+    /// UserInfo.
     pub fn begin(
         alloc: Global,
         file: &str,
@@ -94,8 +108,9 @@ impl RelyingParty {
     /// |---|---|
     /// | `ask|MOMENT|METHOD|TARGET|BODY|BROWSER|SESSION` | the line of the reply |
     /// | `ask|MOMENT|tokens|EXCHANGE|STATUS|BODY` | the line of the reply to the token endpoint's answer in this exchange |
+    /// | `ask|MOMENT|info|EXCHANGE|STATUS|BODY` | the line of the reply to UserInfo's answer in this exchange |
     /// | `send|..`, with the same fields | the line, the reply in HTTP, and the message in it |
-    /// | `held` | what the tables hold of the words 1 to 31 |
+    /// | `held` | what the tables hold of the words 1 to 63 |
     pub fn answer(
         &mut self,
         alloc: Global,
@@ -113,26 +128,31 @@ impl RelyingParty {
 
     // ---- asks
 
-    // What a request, or an answer of the token endpoint, asks.
-    fn asked(&self, alloc: Global, fields: &[&str]) -> Result<RpAsk, NoMemory> {
-        if !is_served(&self.registry, self.party) {
+    // What an answer of the token endpoint asks.
+    fn tokens(&self, alloc: Global, exchange: &str, answer: &[&str]) -> Result<RpAsk, NoMemory> {
+        if self.party >= self.registry.parties() {
             return Ok(RpAsk::NotHere);
         }
+        let answer = answered(alloc, answer)?;
+        let exchange = word_of(exchange);
+        prepare_tokens(alloc, &self.registry, self.party, exchange, &answer)
+    }
+
+    // What a request asks.
+    fn requested(&self, alloc: Global, fields: &[&str]) -> Result<RpAsk, NoMemory> {
+        if self.party >= self.registry.parties() {
+            return Ok(RpAsk::NotHere);
+        }
+        let request = request(alloc, fields)?;
+        prepare_rp(alloc, &self.registry, self.party, &request)
+    }
+
+    // What a request, or an answer of the provider, asks.
+    fn asked(&self, alloc: Global, fields: &[&str]) -> Result<RpAsk, NoMemory> {
         match fields {
-            ["tokens", exchange, answer @ ..] => {
-                let answer = answered(alloc, answer)?;
-                prepare_tokens(
-                    alloc,
-                    &self.registry,
-                    self.party,
-                    word_of(exchange),
-                    &answer,
-                )
-            }
-            _ => {
-                let request = request(alloc, fields)?;
-                prepare_rp(alloc, &self.registry, self.party, &request)
-            }
+            ["tokens", exchange, answer @ ..] => self.tokens(alloc, exchange, answer),
+            ["info", exchange, answer @ ..] => info(alloc, exchange, answer),
+            _ => self.requested(alloc, fields),
         }
     }
 
@@ -181,21 +201,29 @@ impl RelyingParty {
         if self.party >= self.registry.parties() {
             return told(alloc, "no party");
         }
-        let message = message_in(alloc, reply)?;
-        run.keep(rp_http(alloc, &self.registry, self.party, reply)?, message);
+        let messages = messages_in(alloc, reply)?;
+        run.keep(rp_http(alloc, &self.registry, self.party, reply)?, messages);
         let line = rp_line(alloc, reply)?;
         run.told(alloc, call, line.as_str())
     }
 }
 
-// The message to the provider that a reply has.
-fn message_in(alloc: Global, reply: &RpReply) -> Result<Option<Message>, NoMemory> {
+// What an answer of UserInfo asks.
+fn info(alloc: Global, exchange: &str, answer: &[&str]) -> Result<RpAsk, NoMemory> {
+    let answer = answered(alloc, answer)?;
+    prepare_info(alloc, word_of(exchange), &answer)
+}
+
+// The message to the provider that a reply has, where it has one.
+fn messages_in(alloc: Global, reply: &RpReply) -> Result<Vec<Message>, NoMemory> {
+    let mut messages = Vec::new(alloc);
     match reply {
         RpReply::Exchange { message, .. } | RpReply::Fetch { message, .. } => {
-            Ok(Some(message.copy(alloc)?))
+            messages.push(message.copy(alloc)?)?;
         }
-        _ => Ok(None),
+        _ => {}
     }
+    Ok(messages)
 }
 
 // ---- what is held
@@ -218,6 +246,14 @@ fn push_session(
     Ok(())
 }
 
+// What an exchange waits for.
+fn stage_name(row: &PendingRow) -> &'static str {
+    match row.stage {
+        Stage::Tokens => "exchange ",
+        Stage::Info => "fetch ",
+    }
+}
+
 // Adds what the tables hold of the word of that number.
 fn push_held(
     alloc: Global,
@@ -229,8 +265,8 @@ fn push_held(
     if tables.login(word).is_some() {
         push_row(alloc, out, "login ", number)?;
     }
-    if tables.pending(word).is_some() {
-        push_row(alloc, out, "exchange ", number)?;
+    if let Some(row) = tables.pending(word) {
+        push_row(alloc, out, stage_name(row), number)?;
     }
     if let Some(row) = tables.session(word) {
         push_session(alloc, out, number, row)?;
@@ -240,7 +276,7 @@ fn push_held(
 
 fn held(alloc: Global, tables: &Logins) -> Result<String, NoMemory> {
     let mut out = String::new(alloc);
-    for number in 1..32u32 {
+    for number in 1..64u32 {
         push_held(alloc, &mut out, tables, number)?;
     }
     or_else(out, "nothing")

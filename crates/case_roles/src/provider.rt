@@ -7,7 +7,7 @@ use op_core::OpCore;
 use op_exchange::{OpAsk, OpReply};
 use op_request::prepare_op;
 use op_response::{op_http, op_line};
-use sso_base::{Core, CoreNo, Moment, NoMemory, Word};
+use sso_base::{Core, CoreNo, Message, Messages, Moment, NoMemory, Word};
 use std::alloc::Global;
 
 /// A provider, and the registry that it was set up with.
@@ -52,7 +52,7 @@ impl Provider {
     /// | Call | Answer |
     /// |---|---|
     /// | `ask|MOMENT|METHOD|TARGET|BODY|BROWSER|SESSION|AUTHORIZATION` | the line of the reply |
-    /// | `send|..`, with the same fields | the line, and the reply in HTTP |
+    /// | `send|..`, with the same fields | the line, the reply in HTTP, and the messages in it |
     /// | `login of user|MOMENT|NUMBER` | the line of the reply to an ask that no request needs to give |
     /// | `fill|MOMENT|COUNT` | how often nothing is found by asks for what is not here |
     /// | `holds|WORD` | what the tables hold under the word |
@@ -168,7 +168,8 @@ impl Provider {
         call: &str,
         reply: &OpReply,
     ) -> Result<String, NoMemory> {
-        run.keep(op_http(alloc, &self.registry, reply)?, None);
+        let messages = messages_in(alloc, reply)?;
+        run.keep(op_http(alloc, &self.registry, reply)?, messages);
         let line = op_line(alloc, reply)?;
         run.told(alloc, call, line.as_str())
     }
@@ -237,6 +238,22 @@ impl Provider {
             }
             _ => told(alloc, "no such client"),
         }
+    }
+}
+
+fn copied(alloc: Global, messages: &Messages) -> Result<Vec<Message>, NoMemory> {
+    let mut copied = Vec::new(alloc);
+    for place in 0..messages.count() {
+        copied.push(messages.at(place).copy(alloc)?)?;
+    }
+    Ok(copied)
+}
+
+// The messages to clients that a reply has.
+fn messages_in(alloc: Global, reply: &OpReply) -> Result<Vec<Message>, NoMemory> {
+    match reply {
+        OpReply::SignedOut { messages } => copied(alloc, messages),
+        _ => Ok(Vec::new(alloc)),
     }
 }
 

@@ -8,12 +8,12 @@ use Rattle.toml.specs.Data as toml
 use Rattle.serde_json.specs.Data.{Data, boolean, number, unsigned, string, object, Members, no_members, member, put}
 use Rattle.serde_json.specs.Find.{get_member, as_str, as_bool, as_object}
 use Rattle.serde_json.proofs.Views.{get_member-put, get_member-put_other}
-use Rattle.claim_set.specs.Kinds.{small_number}
+use Rattle.claim_set.specs.Kinds.{if_small, small_number}
 use Rattle.oidc_words.specs.declared.claims.ClaimKind.{ClaimKind}
 use Rattle.oidc_words.specs.declared.claims.ClaimKind.TheVariants.{Text, Flag, Seconds, Address}
 use Rattle.oidc_words.specs.Claims.{kind_of}
 use Rattle.configuration_rows.specs.Values.{as_natural}
-use Rattle.configuration_rows.specs.Claims.{if_small, text_value, texts_onto, kind_value, claim_value, claims_onto, claims_in}
+use Rattle.configuration_rows.specs.Claims.{text_value, texts_onto, kind_value, claim_value, claims_onto, claims_in}
 use Rattle.client_registry.specs.ClaimKinds.{are_texts, is_address, has_kind, AreKnown}
 use Rattle.client_registry.specs.Records.{user_claims}
 

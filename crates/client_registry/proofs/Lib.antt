@@ -11,6 +11,7 @@ pub mod SubjectFacts
 pub mod PartyFacts
 pub mod Registering
 pub mod Numbers
+pub mod ClientSets
 pub mod Causes
 mod Samples
 pub mod Endpoints

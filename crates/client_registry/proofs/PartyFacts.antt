@@ -17,6 +17,7 @@ use Rattle.configuration_rows.specs.Paths.{path_text}
 use Rattle.configuration_rows.specs.Values.{text_at, text_or, texts_at, url_at}
 use Rattle.configuration_rows.specs.Kinds.{passes}
 use Rattle.sso_base.specs.Texts.{has_text}
+use Rattle.oidc_words.proofs.TypeTexts.{number_below}
 use Rattle.oidc_words.specs.Types.{spellings, type_number, is_response_type, types_of_number}
 use Rattle.configuration_rows.specs.Version1 as version
 use Rattle.configuration_rows.specs.Version1.{lacks_type}
@@ -138,18 +139,6 @@ logout_at parties d id p (Some u) w url uses h =
     record { server = meant (is_same_server u p.redirect_url) (ap (version.is_elsewhere u) (sym url) ∙ both.1); path = both.0 }
 
 -- ---- its response type
-
-below_at : (n i m : ℕ) (t : Bool) (o : Option ℕ) → cond t (Some n) o ≡ Some i → (o ≡ Some i → i < (n + 1) + m) → i < n + suc m
-below_at n i m true o h later = let same : n ≡ i = cc in omega (arith, same)
-below_at n i m false o h later = omega (arith, later h)
-
-place_below : {A : Type 0} (f : A → Bool) (n i : ℕ) (xs : List A) → position_from f n xs ≡ Some i → i < n + length xs
-place_below f n i [] h = none_some i h
-place_below f n i (x ∷ xs) h = below_at n i (length xs) (f x) (position_from f (n + 1) xs) h (place_below f (n + 1) i xs)
-
-number_below : (t : List ℕ) (n : ℕ) → type_number t ≡ Some n → n < 6
-unfolding spellings
-number_below t n h = place_below (λ ts. has_text t ts) 0 n spellings h
 
 type_at : (ts : List (List ℕ)) (n : ℕ) → n < 6 → version.has_type n ts ≡ true → slice_get (types_of ts) n ≡ Some true
 type_at ts zero less h = ap (λ b. Some b) h

@@ -39,6 +39,7 @@ use Rattle.client_registry.specs.Rules.{is_again, user_twice, client_twice, part
 use Rattle.client_registry.specs.Registered.{AreApart, NumbersAreApart, HasNoneOf, AreDisjoint, IsUser, HoldsClaims, AllHoldClaims, IsClient, IsParty, IsLogoutOf, FitsClient, IsSubject, IsIssuerUrl, AreSubjectsBy, IsRegistry}
 use Rattle.client_registry.specs.ClaimKinds.{has_kind}
 use Rattle.client_registry.specs.Configuration.{Configuration, subject_at, configuration_of, provider_table, issuer_of, salt_of}
+use Rattle.client_registry.specs.ClientSets.{no_clients, has_client, with_client}
 use Rattle.client_registry.specs.Numbers.{user_at, client_at, party_at, is_client, client_id, client_secret}
 use Rattle.client_registry.specs.Reading.{document_in, unless_refused, subjects_read, records_read, version1_read, registry_read, refusals_of, IsAccepted, IsOtherVersion}
 use Rattle.client_registry.proofs.Guiltless.{front_nil, back_nil}
@@ -170,6 +171,10 @@ shop = client false (codes "shop") long (at_host (codes "a.b") ∷ [])
 abbrev party : List ℕ → ℕ → List ℕ → Party
 party name number path = record { name = name; client = number; redirect = codes "https://a.b/cb"; listen = codes "a.b:80"; types = types_of_number (Some 0); scope = codes "openid"; prompt = None; max_age = None; userinfo = false; signed = false; redirect_url = record { secure = true; host = codes "a.b"; port = 443; path = path; query = None } }
 
+-- a URL at the shop's host
+abbrev at_shop : ℕ → List ℕ → WebUrl
+at_shop port path = record { secure = true; host = codes "a.b"; port = port; path = path; query = None }
+
 place-of_a_client : client_place (codes "shop") (shop ∷ []) ≡ Some 0
 place-of_a_client = refl
 
@@ -241,10 +246,16 @@ is_subject-of_a_name = user_id_is_subject (codes "alice") refl
 is_subject-not_of_nothing : IsSubject [] → ⊥
 is_subject-not_of_nothing h = true≢false (sym h.within)
 
+is_subject-not_of_other_bytes : IsSubject (200 ∷ []) → ⊥
+is_subject-not_of_other_bytes h = let less : 200 < 128 = h.ascii 0 in absurd (omega (arith, less))
+
 -- ---- rows that break their rules
 
 not_a_user-of_no_rounds : IsUser (record { id = codes "alice"; salt = codes "salt"; rounds = 0; proof = replicate 32 0; claims = [] }) → ⊥
 not_a_user-of_no_rounds h = true≢false (sym h.rounds)
+
+not_a_user-of_a_proof_of_31_bytes : IsUser (record alice { proof = replicate 31 0 }) → ⊥
+not_a_user-of_a_proof_of_31_bytes h = let long : ◌≡◌ {A = ℕ} 31 32 = h.proof in absurd (omega (arith, long))
 
 not_a_client-of_a_short_secret : IsClient (client false (codes "shop") (codes "short") []) → ⊥
 not_a_client-of_a_short_secret h = absurd (omega (arith, h.long_secret))
@@ -252,8 +263,31 @@ not_a_client-of_a_short_secret h = absurd (omega (arith, h.long_secret))
 not_a_client-of_one_response_type : IsClient (record shop { types = true ∷ [] }) → ⊥
 not_a_client-of_one_response_type h = absurd (omega (arith, h.types))
 
+not_a_client-of_no_id : IsClient (record shop { id = [] }) → ⊥
+not_a_client-of_no_id h = true≢false (sym h.id)
+
+not_a_client-of_a_secret_of_129 : IsClient (record shop { secret = replicate 129 65 }) → ⊥
+not_a_client-of_a_secret_of_129 h = true≢false (sym h.secret)
+
+not_a_client-of_no_kept_urls : IsClient (record shop { redirect_urls = [] }) → ⊥
+unfolding url_on_literals parts_of
+not_a_client-of_no_kept_urls h = cc h.kept
+
+not_a_client-of_a_bad_logout_uri : IsClient (record shop { logout = Some (codes "http://a.b/") }) → ⊥
+unfolding url_on_literals parts_of
+not_a_client-of_a_bad_logout_uri h = true≢false (sym h.logout)
+
+not_a_client-of_another_kept_logout : IsClient (record shop { logout_url = Some (at_shop 443 (codes "/logout")) }) → ⊥
+not_a_client-of_another_kept_logout h = cc h.logout_kept
+
 not_a_party-at_its_own_path : IsParty (party (codes "shop") 0 (codes "/leave")) → ⊥
 not_a_party-at_its_own_path h = true≢false h.path
+
+not_a_party-in_capitals : IsParty (record (party (codes "shop") 0 (codes "/cb")) { name = codes "Shop" }) → ⊥
+not_a_party-in_capitals h = true≢false (sym h.name)
+
+not_a_party-that_listens_nowhere : IsParty (record (party (codes "shop") 0 (codes "/cb")) { listen = [] }) → ⊥
+not_a_party-that_listens_nowhere h = true≢false (sym h.listen)
 
 not_a_party-of_an_unknown_prompt : IsParty (record (party (codes "shop") 0 (codes "/cb")) { prompt = Some (codes "register") }) → ⊥
 not_a_party-of_an_unknown_prompt h = true≢false (sym h.prompt)
@@ -267,15 +301,17 @@ fits-shop = record { redirect = refl; logout = refl; logout_of = tt; number = 0;
 not_fitting-another_redirection_uri : FitsClient (party (codes "shop") 0 (codes "/cb")) (record { id = codes "shop"; secret = long; redirects = []; types = []; pairwise = false; asks_consent = true; logout = None; logout_session = false; redirect_urls = []; logout_url = None }) → ⊥
 not_fitting-another_redirection_uri h = true≢false (sym h.redirect)
 
--- a URL at the shop's host
-abbrev at_shop : ℕ → List ℕ → WebUrl
-at_shop port path = record { secure = true; host = codes "a.b"; port = port; path = path; query = None }
-
 logout-of_the_party : IsLogoutOf (party (codes "shop") 0 (codes "/cb")) (at_shop 443 (codes "/logout"))
 logout-of_the_party = record { server = refl; path = refl }
 
 not_a_logout-at_another_port : IsLogoutOf (party (codes "shop") 0 (codes "/cb")) (at_shop 444 (codes "/logout")) → ⊥
 not_a_logout-at_another_port h = true≢false (sym h.server)
+
+not_a_logout-at_another_host : IsLogoutOf (party (codes "shop") 0 (codes "/cb")) (record (at_shop 443 (codes "/logout")) { host = codes "a.c" }) → ⊥
+not_a_logout-at_another_host h = true≢false (sym h.server)
+
+not_a_logout-of_another_scheme : IsLogoutOf (party (codes "shop") 0 (codes "/cb")) (record (at_shop 443 (codes "/logout")) { secure = false }) → ⊥
+not_a_logout-of_another_scheme h = true≢false (sym h.server)
 
 not_a_logout-at_the_own_path : IsLogoutOf (party (codes "shop") 0 (codes "/cb")) (at_shop 443 (codes "/leave")) → ⊥
 not_a_logout-at_the_own_path h = true≢false h.path
@@ -448,6 +484,9 @@ twins = record { provider = provider_of []; prefix = []; listen = []; secure = t
 not_a_registry-of_one_id_twice : IsRegistry twins → ⊥
 not_a_registry-of_one_id_twice h = true≢false h.user_ids.0
 
+not_a_registry-without_subjects : IsRegistry (record twins { subjects = [] }) → ⊥
+not_a_registry-without_subjects h = let rows : ◌≡◌ {A = ℕ} 0 1 = h.rows in absurd (omega (arith, rows))
+
 -- ---- rows by their numbers
 
 abbrev no_user : Option User
@@ -499,6 +538,22 @@ secret-of_a_client = refl
 secret-of_no_client : client_secret at_work 1 ≡ []
 secret-of_no_client = refl
 
+-- ---- sets of clients
+
+has_client-added : has_client 127 (with_client 127 no_clients) ≡ true
+unfolding no_clients
+has_client-added = refl
+
+has_client-not_another : has_client 126 (with_client 127 no_clients) ≡ false
+unfolding no_clients
+has_client-not_another = refl
+
+has_client-not_beyond_the_last : has_client 128 (with_client 127 no_clients) ≡ false
+unfolding no_clients
+has_client-not_beyond_the_last = refl
+
+-- ---- subjects and the issuer of a registry
+
 subject-of_the_second_user : subject_at twins 0 1 ≡ codes "t"
 subject-of_the_second_user = refl
 
@@ -526,6 +581,10 @@ not_a_byte xs h = let less : 256 < 256 = h 0 in absurd (omega (arith, less))
 not_subjects_by-a_salt_of_no_bytes : AreSubjectsBy (configuration_of good) (256 ∷ replicate 15 7) → ⊥
 not_subjects_by-a_salt_of_no_bytes h = not_a_byte (replicate 15 7) h.bytes
 
+not_subjects_by-none : AreSubjectsBy (record (configuration_of good) { subjects = [] }) (salt_of good) → ⊥
+unfolding configuration_of
+not_subjects_by-none h = cc h.made
+
 not_a_user-of_a_salt_of_no_bytes : IsUser (record alice { salt = 256 ∷ [] }) → ⊥
 not_a_user-of_a_salt_of_no_bytes h = not_a_byte [] h.salt_bytes
 
@@ -545,8 +604,16 @@ not_an_issuer_url-of_http h = true≢false h.secure
 not_a_registry-with_an_issuer_of_201_bytes : IsRegistry (record (configuration_of good) { provider = provider_of (replicate 201 65) }) → ⊥
 not_a_registry-with_an_issuer_of_201_bytes h = let short : 201 ≤ 200 = h.short_issuer in absurd (omega (arith, short))
 
+not_a_registry-whose_issuer_is_no_utf8 : IsRegistry (record (configuration_of good) { provider = provider_of (255 ∷ []) }) → ⊥
+unfolding parts_of
+not_a_registry-whose_issuer_is_no_utf8 h = true≢false (sym h.issuer)
+
 not_a_registry-with_no_userinfo_endpoint : IsRegistry (record (configuration_of good) { provider = record (provider_of (codes "https://a.b")) { userinfo = None } }) → ⊥
 not_a_registry-with_no_userinfo_endpoint h = cc (ap (λ (p : Provider). p.userinfo) h.provider)
+
+not_a_registry-with_a_token_endpoint_that_breaks_the_rule : IsRegistry (record (configuration_of good) { provider = record (provider_of (codes "https://a.b")) { token = codes "http://a.b/token" } }) → ⊥
+unfolding url_on_literals parts_of
+not_a_registry-with_a_token_endpoint_that_breaks_the_rule h = true≢false (sym (ap (λ (p : Provider). is_some (url_of p.token)) h.provider))
 
 endpoint-keeps_the_rule : is_some (url_of (configuration_of good).provider.token) ≡ true
 endpoint-keeps_the_rule = token_url (configuration_of good) good_registry

@@ -1,6 +1,7 @@
-// Which configurations are refused, and why, and what holds of those that are not: the words of their table.
+// Which configurations are refused, and why, and what holds of those that are not, in the words of their table; and what holds
+// of sets of clients.
 
-ghost use Rattle.std.specs.Prelude.{◌≡◌, ◌<◌, ◌≤◌, ℕ, true, List, [], ◌++◌, length, Some, None, is_some, IfSome, Ok, Err};
+ghost use Rattle.std.specs.Prelude.{◌≡◌, ◌≢◌, ◌<◌, ◌≤◌, ℕ, Bool, true, false, List, [], ◌++◌, length, Some, None, is_some, IfSome, Ok, Err};
 ghost use Rattle.toml.specs.Data.{Data};
 ghost use Rattle.configuration_rows.specs.declared.no.RegNo.{RegNo};
 ghost use Rattle.configuration_rows.specs.declared.no.RegNo.TheVariants as no;
@@ -8,6 +9,7 @@ ghost use Rattle.configuration_rows.specs.Refusals.{IsLeast};
 ghost use Rattle.registered_url.specs.Rule.{url_of};
 ghost use Rattle.oidc_words.specs.Paths.{authorize_path, token_path, userinfo_path, keys_path};
 ghost use Rattle.client_registry.specs.Records.{endpoint};
+ghost use Rattle.client_registry.specs.ClientSets.{no_clients, has_client, with_client};
 ghost use Rattle.client_registry.specs.Configuration.{Configuration};
 ghost use Rattle.client_registry.specs.Registered.{IsRegistry};
 ghost use Rattle.client_registry.specs.Reading.{document_in, registry_read, refusals_of, IsDocument, HasVersion1, IsAccepted, IsOtherVersion};
@@ -46,4 +48,13 @@ pub fn advertised_paths_are_served()
     ensures token { (c : Configuration) → IsRegistry c → IfSome (url_of c.provider.token) (λ u. u.path ≡ c.prefix ++ token_path) }
     ensures userinfo { (c : Configuration) → IsRegistry c → IfSome c.provider.userinfo (λ t. IfSome (url_of t) (λ u. u.path ≡ c.prefix ++ userinfo_path)) }
     ensures keys { (c : Configuration) → IsRegistry c → IfSome (url_of (endpoint c.provider.issuer keys_path)) (λ u. u.path ≡ c.prefix ++ keys_path) }
+{}
+
+/// A set of clients has those that were added, and no others.
+pub fn sets_have_what_was_added()
+    ensures none { (client : ℕ) → has_client client no_clients ≡ false }
+    ensures room { length no_clients ≡ 128 }
+    ensures added { (client : ℕ) (clients : List Bool) → client < length clients → has_client client (with_client client clients) ≡ true }
+    ensures others { (client other : ℕ) (clients : List Bool) → client ≢ other → has_client client (with_client other clients) ≡ has_client client clients }
+    ensures stays { (client : ℕ) (clients : List Bool) → length (with_client client clients) ≡ length clients }
 {}

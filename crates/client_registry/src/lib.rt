@@ -12,9 +12,11 @@
 //! | `places` | the first places at which names and values stand |
 //! | `rules` | rules over the records |
 //! | `subjects` | the subjects of users at clients |
+//! | `client_set` | [`ClientSet`], a set of clients |
 //! | `law` | which configurations are refused, and why, in the words of their table |
 #![tactic(auto)]
 
+mod client_set;
 mod law;
 mod places;
 mod reading;
@@ -24,10 +26,11 @@ mod rows;
 mod rules;
 mod subjects;
 
+pub use client_set::ClientSet;
 pub use configuration_rows::RegNo;
 pub use law::{
     advertised_paths_are_served, endpoints_keep_the_rule_for_urls, refusals_have_their_causes,
-    refused_configurations_have_the_least,
+    refused_configurations_have_the_least, sets_have_what_was_added,
 };
 pub use reading::read_registry;
 pub use records::{Client, Party, Provider, User};

@@ -1,4 +1,4 @@
 pub mod Redemptions
 mod Samples
 pub mod SecondUses
-pub mod Sets
+pub mod Granting

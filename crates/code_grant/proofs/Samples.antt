@@ -13,7 +13,7 @@ use Rattle.code_grant.specs.declared.rows.TokenRow.{TokenRow}
 use Rattle.code_grant.specs.declared.redeem.Redeem.TheVariants.{Redeemed, Unknown, OtherClient, Spent, Expired, OtherUri}
 use Rattle.code_grant.specs.declared.table.Table.TheVariants.{Turns, Sessions, Codes, Tokens}
 use Rattle.code_grant.specs.Calls.{purge, issue_code, redeem, after, after_all, NoneIssues, IsSpent, NoneIsOf}
-use Rattle.code_grant.specs.Clients.{has_client, with_client}
+use Rattle.client_registry.specs.ClientSets.{has_client, with_client}
 use Rattle.code_grant.specs.Consents.{granted_to, with_grant}
 use Rattle.held_rows.specs.Held.{IsInOrder, IsHeld, none_after, IsFull}
 use Rattle.code_grant.specs.Rows.{turn_name, turn_begun}

@@ -1,5 +1,4 @@
 pub mod Calls
-pub mod Clients
 pub mod Consents
 pub mod Redeeming
 pub mod Room

@@ -15,7 +15,7 @@ use Rattle.code_grant.specs.declared.table.Reserved.{Reserved}
 use Rattle.code_grant.specs.Rows.{turn_name, turn_begun, session_name, session_begun, code_name, code_begun, access_name, access_begun}
 use Rattle.oidc_words.specs.Lives.{turn_life, session_life, code_life, access_life}
 use Rattle.held_rows.specs.Held.{IsHeld, changed, moved, has_room_for_one, IsFull}
-use Rattle.code_grant.specs.Clients.{with_client}
+use Rattle.client_registry.specs.ClientSets.{with_client}
 use Rattle.code_grant.specs.Consents.{no_consents, with_grant}
 use Rattle.code_grant.specs.Redeeming.{redeem_of}
 

@@ -10,7 +10,6 @@ ghost use Rattle.oidc_words.specs.Scopes.{no_scopes, joined};
 ghost use Rattle.code_grant.specs.declared.rows.CodeRow.{CodeRow};
 ghost use Rattle.code_grant.specs.declared.rows.TokenRow.{TokenRow};
 ghost use Rattle.code_grant.specs.declared.redeem.Redeem.TheVariants as answer;
-ghost use Rattle.code_grant.specs.Clients.{no_clients, has_client, with_client};
 ghost use Rattle.code_grant.specs.Consents.{no_consents, granted_to, with_grant};
 ghost use Rattle.code_grant.specs.Rows.{code_name, code_begun, access_name};
 ghost use Rattle.oidc_words.specs.Lives.{code_life};
@@ -50,15 +49,6 @@ pub fn other_codes_do_not_count()
     ensures issued { (w : Word) (client : ℕ) (redirect : List ℕ) (at : ℕ) (row : CodeRow) (t : Tables) → bytes_eq row.word w ≡ false → redemption w client redirect at (with_code row t) ≡ redemption w client redirect at t }
     ensures redeemed { (w v : Word) (client other : ℕ) (redirect elsewhere : List ℕ) (at before : ℕ) (t : Tables) → bytes_eq v w ≡ false → redemption w client redirect at (calls.after (calls.redeem v other elsewhere before) t) ≡ redemption w client redirect at t }
     ensures purged { (w : Word) (client : ℕ) (redirect : List ℕ) (at : ℕ) (t : Tables) → IsDistinct code_name t.codes → redemption w client redirect at (purged at t) ≡ redeem_of client redirect at (option_and_then (if_lives code_life code_begun at) (row_of code_name w t.codes)) }
-{}
-
-/// A set of clients has those that were added, and no others.
-pub fn sets_have_what_was_added()
-    ensures none { (client : ℕ) → has_client client no_clients ≡ false }
-    ensures room { length no_clients ≡ 128 }
-    ensures added { (client : ℕ) (clients : List Bool) → client < length clients → has_client client (with_client client clients) ≡ true }
-    ensures others { (client other : ℕ) (clients : List Bool) → client ≢ other → has_client client (with_client other clients) ≡ has_client client clients }
-    ensures stays { (client : ℕ) (clients : List Bool) → length (with_client client clients) ≡ length clients }
 {}
 
 /// What a user grants to a client is joined to what was granted before, and nothing else changes.

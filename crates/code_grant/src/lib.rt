@@ -9,14 +9,12 @@
 //! | `grants` | [`Grants`], all tables: made, reserved, purged; what users have granted |
 //! | `turns`, `sessions`, `codes`, `tokens` | the calls of `Grants` on one table each |
 //! | `rows` | [`TurnRow`], [`SessionRow`], [`CodeRow`], [`TokenRow`] |
-//! | `clients` | [`Clients`], a set of clients |
 //! | `redeem` | [`judge_code`], what a client gets for a code |
 //! | `table` | [`Table`] names a table |
 //! | `consents` | scopes for each user and client |
 //! | `law` | what holds of the tables, for the crates above |
 #![tactic(auto)]
 
-mod clients;
 mod codes;
 mod consents;
 mod grants;
@@ -28,11 +26,10 @@ mod table;
 mod tokens;
 mod turns;
 
-pub use clients::Clients;
 pub use grants::Grants;
 pub use law::{
     codes_are_redeemed_once, grants_are_joined, other_codes_do_not_count,
-    redeemed_codes_are_redeemable, second_uses_end_the_tokens, sets_have_what_was_added,
+    redeemed_codes_are_redeemable, second_uses_end_the_tokens,
 };
 pub use redeem::{Redeem, judge_code};
 pub use rows::{CodeRow, SessionRow, TokenRow, TurnRow};

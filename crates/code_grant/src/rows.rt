@@ -3,8 +3,8 @@
 ghost use Rattle.std.specs.Prelude.{◌≡◌, ◌<◌};
 ghost use Rattle.std.specs.Str.{bytes_eq};
 
-use crate::clients::Clients;
 use auth_request::Wish;
+use client_registry::ClientSet;
 use held_rows::Row;
 use oidc_words::{ACCESS_LIFE, CODE_LIFE, SESSION_LIFE, Scopes, TURN_LIFE};
 use sso_base::{Moment, Texts, Word};
@@ -35,7 +35,7 @@ pub struct SessionRow {
     /// When the user last logged in.
     pub auth_time: Moment,
     /// The clients that the session has answered.
-    pub clients: Clients,
+    pub clients: ClientSet,
 }
 
 /// A code (RFC 6749, 4.1.2). It may be used for 120 seconds and is held for 3,720.

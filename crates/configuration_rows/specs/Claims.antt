@@ -1,14 +1,12 @@
 -- A user's claims: what a table of the configuration says of them (OpenID Connect Core 1.0, 5.1 and 5.4).
-use Rattle.std.specs.Prelude.{ℕ, ◌^◌, Bool, true, false, ◌≡◌, List, nat_lt, Option, Some, None, option_map, option_and_then, if◌then◌else◌}
+use Rattle.std.specs.Prelude.{ℕ, Bool, true, false, ◌≡◌, List, Option, Some, None, option_map, option_and_then}
 use Rattle.toml.specs.Data.{Data, Members, no_members, member, as_str, as_bool, as_table}
 use Rattle.serde_json.specs.Data as json
+use Rattle.claim_set.specs.Kinds.{if_small}
 use Rattle.oidc_words.specs.declared.claims.ClaimKind.{ClaimKind}
 use Rattle.oidc_words.specs.declared.claims.ClaimKind.TheVariants.{Text, Flag, Seconds, Address}
 use Rattle.oidc_words.specs.Claims.{kind_of}
 use Rattle.configuration_rows.specs.Values.{as_natural}
-
-abbrev pub if_small : ℕ → Option ℕ
-if_small n = if nat_lt n (2 ^ 40) then Some n else None
 
 abbrev pub text_value : Data → Option json.Data
 text_value d = option_map json.string (as_str d)

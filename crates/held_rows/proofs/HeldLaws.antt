@@ -6,7 +6,7 @@ use Rattle.std.proofs.lemmas.Bool.{and_parts, leb-true}
 use Rattle.sso_base.specs.Words.{Word}
 use Rattle.sso_base.specs.Rows.{without, row_of}
 use Rattle.sso_base.specs.Stands.{IsDistinct}
-use Rattle.sso_base.proofs.RowLaws.{bool_cases, bytes_same, bytes_true, row_of-without_same, row_of-without_other, distinct_push}
+use Rattle.sso_base.proofs.RowLaws.{bool_cases, bytes_same, bytes_true, row_has_name, row_of-without_same, row_of-without_other, distinct_push}
 use Rattle.sso_base.proofs.Removing.{filter-without}
 use Rattle.held_rows.proofs.Kept.{all_filtered}
 use Rattle.held_rows.specs.Held.{IsHeld, IsInOrder, none_after, most_rows}
@@ -120,14 +120,7 @@ held_push name begun IsSound row rows h fewer unnamed latest here =
 
 -- it has that name
 pub row_of_named : {R : Type 0} (name : R → Word) (w : Word) (rows : List R) (row : R) → row_of name w rows ≡ Some row → bytes_eq (name row) w ≡ true
-row_of_named name w [] row h = cc
-row_of_named {R} name w (r ∷ rs) row h =
-    let G : Bool → Option R = λ b. cond b (Some r) (row_of name w rs) in
-    let T : R → Bool = λ x. bytes_eq (name x) w in
-    elim (bool_cases (bytes_eq (name r) w)) [
-      | inl e ↦ (let same : r ≡ row = (let k : Some r ≡ Some row = sym (ap G e) ∙ h in cc) in ap T (sym same) ∙ e)
-      | inr e ↦ row_of_named name w rs row (sym (ap G e) ∙ h)
-    ]
+row_of_named name w rows row h = bytes_true (name row) w (row_has_name name w rows row h)
 
 pub row_has : {R : Type 0} (name : R → Word) (P : R → Type 0) (w : Word) (rows : List R) → AllByRecursion P rows → IfSome (row_of name w rows) P
 row_has name P w [] all = tt
@@ -181,18 +174,15 @@ row_there : {R : Type 0} (o : Option R) → IsSome o → (row : R) × (o ≡ Som
 row_there None there = cc
 row_there (Some row) there = (row, refl)
 
-named_so : {R : Type 0} (name : R → Word) (w : Word) (rows : List R) (row : R) → row_of name w rows ≡ Some row → name row ≡ w
-named_so name w rows row h = bytes_same (name row) w (row_of_named name w rows row h)
-
 pub shorter_there : {R : Type 0} (name : R → Word) (w : Word) (rows : List R) → IsSome (row_of name w rows) → length (without name w rows) < length rows
 shorter_there {R} name w rows there =
     let found = row_there (row_of name w rows) there in
     let L : Word → Type 0 = λ v. length (without name v rows) < length rows in
-    subst L (named_so name w rows found.0 found.1) (shorter name w rows found.0 found.1)
+    subst L (row_has_name name w rows found.0 found.1) (shorter name w rows found.0 found.1)
 
 pub held_put : {R : Type 0} (name : R → Word) (begun : R → ℕ) (IsSound : R → Type 0) (w : Word) (row : R) (rows : List R)
     → IsHeld name begun IsSound rows → IsSome (row_of name w rows) → name row ≡ w → none_after begun (begun row) rows ≡ true → IsSound row
     → IsHeld name begun IsSound (without name (name row) rows ++ row ∷ [])
 held_put name begun IsSound w row rows h there named latest sound =
     let found = row_there (row_of name w rows) there in
-    held_moved name begun IsSound w found.0 row rows h found.1 latest (named ∙ sym (named_so name w rows found.0 found.1)) sound
+    held_moved name begun IsSound w found.0 row rows h found.1 latest (named ∙ sym (row_has_name name w rows found.0 found.1)) sound

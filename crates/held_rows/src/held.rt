@@ -63,6 +63,20 @@ fn any_live<R: Row, T: Test<R>>(rows: &[R], test: &T, at: Moment) -> bool
     false
 }
 
+// How many rows live at the moment and pass the test.
+fn count_live<R: Row, T: Test<R>>(rows: &[R], test: &T, at: Moment) -> u32
+    requires { length rows.now ≤ spec.most_rows }
+    ensures { result ≡ length (filter (T.passes test.now) (live_rows R.LIFE R.begun at rows.now)) }
+{
+    let mut count = 0;
+    for row in rows {
+        if test.passes(row) && is_live(R::LIFE, row.begun(), at) {
+            count += 1;
+        }
+    }
+    count
+}
+
 // Whether fewer of a table's rows live at the moment than it may hold.
 fn has_room<R: Row>(rows: &[R], at: Moment) -> bool
     requires { length rows.now ≤ spec.most_rows }
@@ -187,6 +201,13 @@ impl<R: Row + Drop> Held<R> {
         ensures { result ≡ list_any (T.passes test.now) (live_rows R.LIFE R.begun at self.now.rows) }
     {
         any_live(&self.rows, test, at)
+    }
+
+    /// How many rows live at the moment and pass the test.
+    pub fn count_live<T: Test<R>>(&self, test: &T, at: Moment) -> u32
+        ensures { result ≡ length (filter (T.passes test.now) (live_rows R.LIFE R.begun at self.now.rows)) }
+    {
+        count_live(&self.rows, test, at)
     }
 
     /// Whether fewer rows live at the moment than a table may hold: false exactly where 65,536 rows are held and all of them

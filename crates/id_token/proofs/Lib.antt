@@ -5,4 +5,5 @@ pub mod Refused
 pub mod RoundTrip
 pub mod Written
 pub mod Tokens
+pub mod Unsealed
 mod Samples

@@ -33,7 +33,7 @@ after_subject : (o : Option Data) (f : Option (List ℕ) → Result RawClaims Cl
 after_subject None f g cs refused goes = goes None refl
 after_subject (Some d) f g cs refused goes = after_given (as_str d) f g cs refused goes
 
-refusals_of : (ms : Members) → refused_of (id_of ms) ≡ first_refusal (id_refusals ms)
+pub refusals_of : (ms : Members) → refused_of (id_of ms) ≡ first_refusal (id_refusals ms)
 unfolding id_of raw_in whole
 refusals_of ms =
     let g : Result RawClaims ClaimNo → Result (Unit {0}) IdNo = λ r. refused_of (if_raw ms r) in

@@ -9,9 +9,11 @@ use Rattle.claim_set.specs.Reading.{claims_read, claims_text}
 use Rattle.claim_set.specs.Fitting.{ClaimsFit}
 use Rattle.claim_set.proofs.OnLiterals.{claims_on_literals}
 use Rattle.claim_set.specs.declared.no.ClaimNo.TheVariants.{NotObject, WrongKind}
-use Rattle.jws_compact.specs.Jws.{Sealed, header_bytes, seal_text}
+use Rattle.jws_compact.specs.declared.unsealing.Unsealed.{Unsealed}
+use Rattle.jws_compact.specs.Jws.{Sealed, Opens, header_bytes, seal_text, verdict}
 use Rattle.jws_compact.specs.declared.sealing.Typ.TheVariants.{Jwt}
-use Rattle.jws_compact.specs.declared.no.JwsNo.TheVariants.{BadMac}
+use Rattle.jws_compact.specs.declared.no.JwsNo.{JwsNo}
+use Rattle.jws_compact.specs.declared.no.JwsNo.TheVariants.{NotThreeParts, BadMac}
 use Rattle.jws_compact.specs.declared.no.JwsNo.TheVariants as jws
 use Rattle.std.specs.Str.{is_utf8}
 use Rattle.std.proofs.lemmas.Str.{is_utf8-from_IsUtf8}
@@ -33,6 +35,7 @@ use Rattle.id_token.proofs.Written.{id_read-id_text}
 use Rattle.id_token.proofs.Fitting.{fits-id_members}
 use Rattle.id_token.proofs.Standing.{has-id_of}
 use Rattle.id_token.proofs.Tokens.{id_read-token, token-id_read, unread, refused as refused_first}
+use Rattle.id_token.proofs.Unsealed.{unsealed_refused, unsealed_reason, read_is_sealed}
 use Rattle.std.specs.List.{list_all}
 use Rattle.std.proofs.lemmas.Slice.Eq.{bytes_eq-Decides}
 use Rattle.jws_compact.proofs.Written.{written_sealed}
@@ -123,6 +126,33 @@ read-under_another_key = refl
 
 no_token-under_another_key : IsIdToken (codes "yek") (seal_text (codes "key") Jwt (codes "{}")) bare → ⊥
 no_token-under_another_key token = let read = sym (token-id_read (codes "yek") _ bare token) ∙ read-under_another_key in cc read
+
+-- texts that are not sealed under the key: one under another key, the empty text
+not_sealed-under_another_key : (u : Unsealed) → ¬ Opens (codes "yek") (seal_text (codes "key") Jwt (codes "{}")) u
+not_sealed-under_another_key = (unsealed_refused (codes "yek") _).0 (BadMac, read-under_another_key)
+
+reason-under_another_key : verdict (codes "yek") (seal_text (codes "key") Jwt (codes "{}")) ≡ Err BadMac
+reason-under_another_key = (unsealed_reason (codes "yek") _ BadMac).0 read-under_another_key
+
+no_text-is_three_parts : (k : List ℕ) → verdict k [] ≡ Err NotThreeParts
+unfolding jws_on_literals
+no_text-is_three_parts k = refl
+
+no_text-is_refused : (k : List ℕ) → id_read k [] ≡ refused (Jws NotThreeParts)
+no_text-is_refused k = (unsealed_reason k [] NotThreeParts).1 (no_text-is_three_parts k)
+
+no_text-is_not_sealed : (k : List ℕ) (u : Unsealed) → ¬ Opens k [] u
+no_text-is_not_sealed k = (unsealed_refused k []).0 (NotThreeParts, no_text-is_refused k)
+
+no_text-is_refused_as_unsealed : (k : List ℕ) → (e : JwsNo) × (id_read k [] ≡ refused (Jws e))
+no_text-is_refused_as_unsealed k = (unsealed_refused k []).1 (no_text-is_not_sealed k)
+
+-- one that is read is sealed, and is not refused so
+sealed-a_literal : (u : Unsealed) × Opens (codes "key") (seal_text (codes "key") Jwt (codes "{\"iat\":1000, \"exp\":1300,\"iss\":\"i\",\"sub\":\"s\",\"aud\":[\"c\"]}")) u
+sealed-a_literal = read_is_sealed (codes "key") _ bare read-a_literal
+
+sealed-is_not_refused_as_unsealed : (e : JwsNo) → id_read (codes "key") (seal_text (codes "key") Jwt (codes "{\"iat\":1000, \"exp\":1300,\"iss\":\"i\",\"sub\":\"s\",\"aud\":[\"c\"]}")) ≡ refused (Jws e) → ⊥
+sealed-is_not_refused_as_unsealed e h = (unsealed_refused (codes "key") _).0 (e, h) sealed-a_literal.0 sealed-a_literal.1
 
 -- the premises of the laws on refusals are met: a payload that is no object, a claim that is absent, and no refusal
 sealed_as : (p : List ℕ) → list_all (λ b. nat_lt b 256) p ≡ true → length p ≤ 6000 → Sealed (codes "key") (header_bytes Jwt) p (seal_text (codes "key") Jwt p)

@@ -28,7 +28,7 @@ pub use hashing::half_hash;
 pub use judging::judge_id;
 pub use law::{
     claims_of_their_types_fit, good_tokens_pass, read_tokens_are_sealed_claims,
-    refused_tokens_have_the_first_reason, sealed_claims_are_read,
+    refused_tokens_have_the_first_reason, sealed_claims_are_read, unsealed_texts_are_refused,
 };
 pub use no::IdNo;
 pub use reading::{check_id, is_subject, read_id};

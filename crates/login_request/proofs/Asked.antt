@@ -38,7 +38,7 @@ plain_one : (b : Bool) (p q : Params) → b ≡ false → cond b p q ≡ q
 plain_one b p q h = rw h refl
 
 module _ (client : Client) (party : Party) (provider : Provider) (state nonce : Word) where
-  sent_signed : party.signed ≡ true → sent_params client party provider state nonce ≡ outer_params client party (request_text client provider.issuer (login_params client party state nonce))
+  pub sent_signed : party.signed ≡ true → sent_params client party provider state nonce ≡ outer_params client party (request_text client provider.issuer (login_params client party state nonce))
   sent_signed h = signed_one party.signed _ _ h
 
   sent_plain : party.signed ≡ false → sent_params client party provider state nonce ≡ login_params client party state nonce

@@ -3,5 +3,6 @@ pub mod PartyRows
 pub mod Sealable
 pub mod Printed
 pub mod Asked
+pub mod SignedEnds
 pub mod Apart
-mod Samples
+pub mod Samples

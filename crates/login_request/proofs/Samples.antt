@@ -22,21 +22,22 @@ use Rattle.request_params.proofs.OnLiterals.{request_params_on_literals}
 use Rattle.request_object.specs.Reading as object
 use Rattle.request_object.specs.Request.{request_text}
 use Rattle.login_request.specs.Parties.{MayAsk}
-use Rattle.login_request.specs.Request.{login_params, outer_params, sent_params, login_location}
+use Rattle.login_request.specs.Request.{login_params, outer_params, login_object, sent_params, login_location}
 use Rattle.login_request.proofs.Asked.{plain_read, beside_read, object_read}
+use Rattle.login_request.proofs.SignedEnds.{signed_ends}
 
 -- ---- a registry with two clients and their parties, of which the second signs its requests
 
-abbrev url_at : Text → WebUrl
+abbrev pub url_at : Text → WebUrl
 url_at host = record { secure = true; host = host; port = 443; path = codes "/cb"; query = None }
 
-abbrev code_alone : Types
+abbrev pub code_alone : Types
 code_alone = record { code = true; id_token = false; token = false }
 
-abbrev code_and_id : Types
+abbrev pub code_and_id : Types
 code_and_id = record { code = true; id_token = true; token = false }
 
-abbrev shop : Client
+abbrev pub shop : Client
 shop =
     record {
       id = codes "shop";
@@ -51,7 +52,7 @@ shop =
       logout_url = None;
     }
 
-abbrev mail : Client
+abbrev pub mail : Client
 mail =
     record {
       id = codes "mail";
@@ -66,7 +67,7 @@ mail =
       logout_url = None;
     }
 
-abbrev shop_party : Party
+abbrev pub shop_party : Party
 shop_party =
     record {
       name = codes "shop";
@@ -82,7 +83,7 @@ shop_party =
       redirect_url = url_at (codes "a.b");
     }
 
-abbrev mail_party : Party
+abbrev pub mail_party : Party
 mail_party =
     record {
       name = codes "mail";
@@ -98,7 +99,7 @@ mail_party =
       redirect_url = url_at (codes "c.d");
     }
 
-abbrev small : Configuration
+abbrev pub small : Configuration
 small =
     record {
       provider = provider_of (codes "https://op");
@@ -186,10 +187,10 @@ client-of_an_unknown_one = refl
 
 -- ---- for whom requests are made
 
-abbrev word : ℕ → Word
+abbrev pub word : ℕ → Word
 word n = replicate 31 0 ++ n ∷ []
 
-abbrev issuer : Text
+abbrev pub issuer : Text
 issuer = codes "https://op"
 
 word_2 : IsWord (word 2)
@@ -201,7 +202,7 @@ word_3 = record { long = refl; bytes = IsBytes-from_all_bytes (word 3) refl }
 shop_may : MayAsk small 0 issuer (word 2) (word 3)
 shop_may = record { registry = small_registry; party = omega arith; issuer_text = IsUtf8-are_ascii issuer refl; short_issuer = omega arith; state_word = word_2; nonce_word = word_3 }
 
-mail_may : MayAsk small 1 issuer (word 2) (word 3)
+pub mail_may : MayAsk small 1 issuer (word 2) (word 3)
 mail_may = record { registry = small_registry; party = omega arith; issuer_text = IsUtf8-are_ascii issuer refl; short_issuer = omega arith; state_word = word_2; nonce_word = word_3 }
 
 not_for_a_third_party : (state nonce : Word) → MayAsk small 2 issuer state nonce → ⊥
@@ -261,7 +262,7 @@ op = provider_of issuer
 sent-as_they_are : sent_params shop shop_party op (word 2) (word 3) ≡ login_params shop shop_party (word 2) (word 3)
 sent-as_they_are = refl
 
-sent-signed : sent_params mail mail_party op (word 2) (word 3) ≡ outer_params mail mail_party (request_text mail issuer (login_params mail mail_party (word 2) (word 3)))
+sent-signed : sent_params mail mail_party op (word 2) (word 3) ≡ outer_params mail mail_party (login_object mail mail_party issuer (word 2) (word 3))
 sent-signed = refl
 
 -- ---- locations
@@ -281,3 +282,10 @@ read-beside = beside_read small 1 op (word 2) (word 3) mail_may refl
 
 read-inside : object.request_read mail issuer (request_text mail issuer (login_params mail mail_party (word 2) (word 3))) ≡ Ok (login_params mail mail_party (word 2) (word 3))
 read-inside = object_read small 1 op (word 2) (word 3) mail_may
+
+location-of_mail : (front : Text) × (login_location mail mail_party op (word 2) (word 3) ≡ front ++ codes "&request=" ++ login_object mail mail_party issuer (word 2) (word 3))
+location-of_mail = signed_ends small 1 op (word 2) (word 3) mail_may refl
+
+-- an object is for its own nonce
+object-has_the_nonce : login_object mail mail_party issuer (word 2) (word 3) ≡ request_text mail issuer (record (login_params mail mail_party (word 2) (word 7)) { nonce = Some (word_text (word 3)) })
+object-has_the_nonce = refl

@@ -51,11 +51,15 @@ outer_params client party request =
       registration = None;
     }
 
+-- the request object of a login: its parameters, sealed under the client's secret for this issuer (Core 6.1)
+abbrev pub login_object : Client → Party → Text → Word → Word → Text
+login_object client party issuer state nonce = request_text client issuer (login_params client party state nonce)
+
 -- a party whose requests are signed sends them in a request object
 abbrev pub sent_params : Client → Party → Provider → Word → Word → Params
 sent_params client party provider state nonce =
     if party.signed
-    then outer_params client party (request_text client provider.issuer (login_params client party state nonce))
+    then outer_params client party (login_object client party provider.issuer state nonce)
     else login_params client party state nonce
 
 -- where the browser is sent

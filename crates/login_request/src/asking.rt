@@ -32,20 +32,20 @@ fn client_row(registry: &Registry, party: u32) -> &Client
     registry.client(number)
 }
 
-// What the size of the claims rests on, said for the proof of `sent_params`: each registry keeps its rules, and words have
+// What the size of the claims rests on, said for the proof of `login_object`: each registry keeps its rules, and words have
 // bounds.
-fn bounds_of(registry: &Registry, party: u32, provider: &Provider, state: &Word, nonce: &Word)
+fn bounds_of(registry: &Registry, party: u32, issuer: &Text, state: &Word, nonce: &Word)
     requires party { party < length registry.now.parties }
-    requires issuer { length provider.now.issuer ≤ 200 }
-    ensures { MayAsk registry.now party provider.now.issuer state.now nonce.now }
+    requires issuer { length issuer.now ≤ 200 }
+    ensures { MayAsk registry.now party issuer.now state.now nonce.now }
 {
     let _parties = registry.parties();
-    let _issuer = provider.issuer.as_str();
+    let _issuer = issuer.as_str();
     know_word(state);
     know_word(nonce);
 }
 
-// The request object of a login.
+// The parameters of a login, sealed.
 fn request_for(
     alloc: Global,
     client: &Client,
@@ -59,6 +59,28 @@ fn request_for(
 {
     let params = login_params(alloc, client, party, state, nonce)?;
     seal_request(alloc, client, issuer, &params)
+}
+
+/// The request object of a login of a party of the registry: its parameters, sealed under its client's secret for this issuer
+/// (OpenID Connect Core 1.0, 6.1).
+///
+/// The issuer has at most 200 bytes: then the claims are never too long.
+pub fn login_object(
+    alloc: Global,
+    registry: &Registry,
+    party: u32,
+    issuer: &Text,
+    state: &Word,
+    nonce: &Word,
+) -> Result<Text, NoMemory>
+    requires party { party < length registry.now.parties }
+    requires issuer { length issuer.now ≤ 200 }
+    ensures { IfOk result (λ t. t ≡ spec.login_object (client_of registry.now party) (row_of registry.now party) issuer.now state.now nonce.now) }
+{
+    bounds_of(registry, party, issuer, state, nonce);
+    let row = party_row(registry, party);
+    let client = client_row(registry, party);
+    request_for(alloc, client, row, issuer, state, nonce)
 }
 
 // The parameters that stand in the location.
@@ -79,8 +101,7 @@ fn sent_params(
     if !row.signed {
         return login_params(alloc, client, row, state, nonce);
     }
-    bounds_of(registry, party, provider, state, nonce);
-    let object = request_for(alloc, client, row, &provider.issuer, state, nonce)?;
+    let object = login_object(alloc, registry, party, &provider.issuer, state, nonce)?;
     outer_params(alloc, client, row, object)
 }
 

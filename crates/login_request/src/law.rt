@@ -1,6 +1,6 @@
 // What holds of the requests by which logins begin, for the crates above.
 
-ghost use Rattle.std.specs.Prelude.{◌≡◌, ◌++◌, ℕ, true, false, Some, Ok};
+ghost use Rattle.std.specs.Prelude.{◌≡◌, ◌++◌, ℕ, true, false, codes, Some, Ok};
 ghost use Rattle.sso_base.specs.Words.{Word, Text, word_text};
 ghost use Rattle.client_registry.specs.Configuration.{Configuration};
 ghost use Rattle.client_registry.specs.Numbers.{party_row, party_client};
@@ -14,7 +14,7 @@ ghost use Rattle.request_params.specs.Reading as form;
 ghost use Rattle.request_object.specs.Reading as object;
 ghost use Rattle.request_object.specs.Request.{request_text};
 ghost use Rattle.login_request.specs.Parties.{MayAsk};
-ghost use Rattle.login_request.specs.Request.{login_params, outer_params, sent_params, login_location};
+ghost use Rattle.login_request.specs.Request.{login_params, outer_params, login_object, sent_params, login_location};
 
 /// A login begins at the authorization endpoint of the provider, with the form of the request as its query. Where the party
 /// does not sign its requests, this form is read as the parameters of the login.
@@ -30,6 +30,11 @@ pub fn signed_login_requests_are_read()
     ensures beside { (c : Configuration) (n : ℕ) (provider : Provider) (state nonce : Word) → MayAsk c n provider.issuer state nonce → (party_row c n).signed ≡ true → form.request_read (request_form (sent_params (party_client c n) (party_row c n) provider state nonce)) ≡ Ok (outer_params (party_client c n) (party_row c n) (request_text (party_client c n) provider.issuer (login_params (party_client c n) (party_row c n) state nonce))) }
     ensures object { (c : Configuration) (n : ℕ) (issuer : Text) (state nonce : Word) → MayAsk c n issuer state nonce → object.request_read (party_client c n) issuer (request_text (party_client c n) issuer (login_params (party_client c n) (party_row c n) state nonce)) ≡ Ok (login_params (party_client c n) (party_row c n) state nonce) }
     ensures whole { (client : Client) (party : Party) (state nonce : Word) (request : Text) → request_merged (outer_params client party request) (login_params client party state nonce) ≡ Ok (record (login_params client party state nonce) { request = Some request }) }
+{}
+
+/// The location of a signed login ends with `&request=` and the text of its request object.
+pub fn signed_locations_end_with_the_object()
+    ensures { (c : Configuration) (n : ℕ) (provider : Provider) (state nonce : Word) → MayAsk c n provider.issuer state nonce → (party_row c n).signed ≡ true → (front : Text) × (login_location (party_client c n) (party_row c n) provider state nonce ≡ front ++ codes "&request=" ++ login_object (party_client c n) (party_row c n) provider.issuer state nonce) }
 {}
 
 /// The `state` and the `nonce` of a request are the texts of its two words, and no other words give a party's request the

@@ -2,7 +2,7 @@
 //!
 //! | Module | What it has |
 //! |---|---|
-//! | `asking` | [`login_request`] is the location at which a browser begins a login |
+//! | `asking` | [`login_request`] is the location at which a browser begins a login, [`login_object`] its request object |
 //! | `params` | the parameters of the request |
 //! | `law` | what holds of these requests, for the crates above |
 #![tactic(auto)]
@@ -11,7 +11,8 @@ mod asking;
 mod law;
 mod params;
 
-pub use asking::login_request;
+pub use asking::{login_object, login_request};
 pub use law::{
-    login_requests_are_read, login_requests_have_their_words, signed_login_requests_are_read,
+    login_requests_are_read, login_requests_have_their_words, signed_locations_end_with_the_object,
+    signed_login_requests_are_read,
 };

@@ -23,7 +23,7 @@ after_test e false false r cs same goes = goes
 nobody : {A B : Type 0} (a b : Option A) (o q : Option B) → is_some a ≡ is_some o → is_some b ≡ is_some q → (not (is_some a) && not (is_some b)) ≡ (is_none o && is_none q)
 nobody a b o q h g = rw (h, g) refl
 
-refusals_of : (typ : Option (List ℕ)) (ms : Members) → refused_of (logout_of typ ms) ≡ first_refusal (logout_refusals typ ms)
+pub refusals_of : (typ : Option (List ℕ)) (ms : Members) → refused_of (logout_of typ ms) ≡ first_refusal (logout_refusals typ ms)
 unfolding logout_of raw_in whole
 refusals_of typ ms =
     let g : Result RawLogout ClaimNo → Result (Unit {0}) LogoutNo = λ r. refused_of (if_raw typ ms r) in

@@ -14,10 +14,12 @@ use Rattle.claim_set.specs.declared.no.ClaimNo.TheVariants as claims_no
 use Rattle.claim_set.proofs.OnLiterals.{claims_on_literals}
 use Rattle.claim_set.proofs.Parsing.{read_reads}
 use Rattle.claim_set.proofs.Written.{claims_read-claims_text}
-use Rattle.jws_compact.specs.declared.no.JwsNo.TheVariants.{NotThreeParts}
+use Rattle.jws_compact.specs.declared.no.JwsNo.{JwsNo}
+use Rattle.jws_compact.specs.declared.no.JwsNo.TheVariants.{NotThreeParts, BadMac}
 use Rattle.jws_compact.specs.declared.no.JwsNo.TheVariants as jws_no
 use Rattle.jws_compact.specs.declared.sealing.Typ.TheVariants.{LogoutJwt}
-use Rattle.jws_compact.specs.Jws.{Sealed, header_bytes, seal_text, typ_of}
+use Rattle.jws_compact.specs.declared.unsealing.Unsealed.{Unsealed}
+use Rattle.jws_compact.specs.Jws.{Sealed, Opens, header_bytes, seal_text, typ_of, verdict}
 use Rattle.jws_compact.proofs.OnLiterals.{jws_on_literals}
 use Rattle.jws_compact.proofs.Written.{written_sealed}
 use Rattle.logout_token.specs.declared.claims.LogoutClaims.{LogoutClaims}
@@ -31,7 +33,8 @@ use Rattle.logout_token.specs.Fitting.{HasTexts, IsSealable}
 use Rattle.logout_token.proofs.Good.{passes_good, good_before}
 use Rattle.logout_token.proofs.Fitting.{fits-logout_members}
 use Rattle.logout_token.proofs.RoundTrip.{has-logout_members}
-use Rattle.logout_token.proofs.Tokens.{IsLogoutToken-read, logout_read-IsLogoutToken, logout_read-unopened, logout_read-unread, logout_read-refused, logout_read-accepted}
+use Rattle.logout_token.proofs.Tokens.{IsLogoutToken-read, logout_read-IsLogoutToken, logout_read-unread, logout_read-refused, logout_read-accepted}
+use Rattle.logout_token.proofs.Unsealed.{unsealed_refused, unsealed_reason, read_is_sealed}
 use Rattle.logout_token.proofs.Written.{logout_text-Sealed, logout_read-logout_text}
 
 abbrev key : List ℕ
@@ -233,9 +236,36 @@ token-is_read = sym (ap (logout_read key) text-of_claims) ∙ claims_come_back
 is_logout_token : IsLogoutToken key token claims
 is_logout_token = IsLogoutToken-read key token claims token-is_read
 
-no_text-is_read : (k : List ℕ) → logout_read k [] ≡ refused (Jws NotThreeParts)
+no_text-is_three_parts : (k : List ℕ) → verdict k [] ≡ Err NotThreeParts
 unfolding jws_on_literals
-no_text-is_read k = logout_read-unopened k [] NotThreeParts refl
+no_text-is_three_parts k = refl
+
+no_text-is_read : (k : List ℕ) → logout_read k [] ≡ refused (Jws NotThreeParts)
+no_text-is_read k = (unsealed_reason k [] NotThreeParts).1 (no_text-is_three_parts k)
+
+no_text-is_not_sealed : (k : List ℕ) (u : Unsealed) → ¬ Opens k [] u
+no_text-is_not_sealed k = (unsealed_refused k []).0 (NotThreeParts, no_text-is_read k)
+
+no_text-is_refused_as_unsealed : (k : List ℕ) → (e : JwsNo) × (logout_read k [] ≡ refused (Jws e))
+no_text-is_refused_as_unsealed k = (unsealed_refused k []).1 (no_text-is_not_sealed k)
+
+-- a text that is sealed under another key
+read-under_another_key : logout_read (codes "yek") (seal_text key LogoutJwt (codes "{}")) ≡ refused (Jws BadMac)
+unfolding jws_on_literals claims_on_literals logout_read logout_of raw_in whole
+read-under_another_key = refl
+
+reason-under_another_key : verdict (codes "yek") (seal_text key LogoutJwt (codes "{}")) ≡ Err BadMac
+reason-under_another_key = (unsealed_reason (codes "yek") _ BadMac).0 read-under_another_key
+
+not_sealed-under_another_key : (u : Unsealed) → ¬ Opens (codes "yek") (seal_text key LogoutJwt (codes "{}")) u
+not_sealed-under_another_key = (unsealed_refused (codes "yek") _).0 (BadMac, read-under_another_key)
+
+-- one that is read is sealed, and is not refused so
+token-is_sealed : (u : Unsealed) × Opens key token u
+token-is_sealed = read_is_sealed key token claims token-is_read
+
+token-is_not_refused_as_unsealed : (e : JwsNo) → logout_read key token ≡ refused (Jws e) → ⊥
+token-is_not_refused_as_unsealed e h = (unsealed_refused key token).0 (e, h) token-is_sealed.0 token-is_sealed.1
 
 not_a_logout_token : (k : List ℕ) → IsLogoutToken k [] claims → ⊥
 not_a_logout_token k is = (let read : refused (Jws NotThreeParts) ≡ Ok claims = sym (no_text-is_read k) ∙ logout_read-IsLogoutToken k [] claims is in cc)

@@ -1,6 +1,6 @@
 // What holds of logout tokens, for the crates above.
 
-ghost use Rattle.std.specs.Prelude.{◌≡◌, ◌<◌, ◌+◌, ◌^◌, ℕ, List, Ok, Err, IsOk};
+ghost use Rattle.std.specs.Prelude.{◌≡◌, ◌↔◌, ◌<◌, ◌+◌, ◌^◌, ℕ, List, Ok, Err, IsOk};
 ghost use Rattle.serde_json.specs.Data.{Members};
 ghost use Rattle.sso_base.specs.Refusals.{first_refusal};
 ghost use Rattle.oidc_words.specs.Lives.{seen_life};
@@ -8,7 +8,8 @@ ghost use Rattle.claim_set.specs.Fitting.{ClaimsFit};
 ghost use Rattle.claim_set.specs.Reading.{Reads, claims_read};
 ghost use Rattle.claim_set.specs.declared.no.ClaimNo.{ClaimNo};
 ghost use Rattle.jws_compact.specs.declared.no.JwsNo.{JwsNo};
-ghost use Rattle.jws_compact.specs.Jws.{Sealed, typ_of, verdict};
+ghost use Rattle.jws_compact.specs.declared.unsealing.Unsealed.{Unsealed};
+ghost use Rattle.jws_compact.specs.Jws.{Sealed, Opens, typ_of, verdict};
 ghost use Rattle.logout_token.specs.declared.claims.LogoutClaims.{LogoutClaims};
 ghost use Rattle.logout_token.specs.declared.no.LogoutNo.{LogoutNo};
 ghost use Rattle.logout_token.specs.declared.no.LogoutNo.TheVariants as no;
@@ -31,6 +32,14 @@ pub fn refused_tokens_have_the_first_reason()
     ensures unread { (k h p t : List ℕ) (e : ClaimNo) → Sealed k h p t → claims_read p ≡ Err e → logout_read k t ≡ Err (no.Claims e) }
     ensures refused { (k h p t : List ℕ) (ms : Members) (e : LogoutNo) → Sealed k h p t → Reads p ms → first_refusal (logout_refusals (typ_of h) ms) ≡ Err e → logout_read k t ≡ Err e }
     ensures accepted { (k h p t : List ℕ) (ms : Members) → Sealed k h p t → Reads p ms → first_refusal (logout_refusals (typ_of h) ms) ≡ Ok tt → IsOk (logout_read k t) }
+{}
+
+/// A text is refused as unsealed exactly where it is not sealed under the key, for the reason that it is not (RFC 7515,
+/// 5.2). So a text that is read is sealed under the key.
+pub fn unsealed_texts_are_refused()
+    ensures unsealed { (k t : List ℕ) → ((e : JwsNo) × (logout_read k t ≡ Err (no.Jws e))) ↔ ((u : Unsealed) → ¬ Opens k t u) }
+    ensures reason { (k t : List ℕ) (e : JwsNo) → (logout_read k t ≡ Err (no.Jws e)) ↔ (verdict k t ≡ Err e) }
+    ensures sealed { (k t : List ℕ) (x : LogoutClaims) → logout_read k t ≡ Ok x → (u : Unsealed) × Opens k t u }
 {}
 
 /// The claim set of a logout token fits where the claims are values of their types.

@@ -26,6 +26,7 @@ pub use judging::judge_logout;
 pub use law::{
     claims_of_their_types_fit, good_tokens_are_remembered, good_tokens_pass,
     read_tokens_are_sealed_claims, refused_tokens_have_the_first_reason, sealed_claims_are_read,
+    unsealed_texts_are_refused,
 };
 pub use no::LogoutNo;
 pub use reading::read_logout;

@@ -1,4 +1,5 @@
--- The error codes of authorization responses, and their texts (RFC 6749, 4.1.2.1; OpenID Connect Core 1.0, 3.1.2.6).
+-- The error codes of authorization responses, and their texts (RFC 6749, 4.1.2.1; OpenID Connect Core 1.0, 3.1.2.6), and that of
+-- a bearer token (RFC 6750, 3.1).
 use Rattle.std.specs.Prelude.{◌≡◌, ◌⊎◌, List, [], ◌∷◌, codes, find, unwrap_or}
 use Rattle.std.specs.Str.{bytes_eq}
 use Rattle.sso_base.specs.Words.{Text}
@@ -35,6 +36,10 @@ error_text Other = codes "other"
 -- the code of the sixteen that is written so; any other text is that of another code
 unfoldable pub error_of : Text → AuthError
 error_of t = unwrap_or (find (λ code. bytes_eq (error_text code) t) error_codes) Other
+
+-- the error code of a request with an access token that is not good (RFC 6750, 3.1)
+abbrev pub invalid_token : Text
+invalid_token = codes "invalid_token"
 
 -- ---- the same in literal words
 

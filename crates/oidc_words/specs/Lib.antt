@@ -3,6 +3,7 @@ pub mod Scopes
 pub mod Claims
 pub mod Prompts
 pub mod Types
+pub mod TokenTypes
 pub mod Modes
 pub mod Lives
 pub mod Paths

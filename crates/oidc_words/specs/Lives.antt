@@ -32,6 +32,10 @@ access_life_text = codes "3600"
 abbrev pub id_token_life : ℕ
 id_token_life = 300
 
+-- a logout token, from `iat` to `exp` (OpenID Connect Back-Channel Logout 1.0, 2.4)
+abbrev pub logout_token_life : ℕ
+logout_token_life = 120
+
 -- ---- at a relying party
 
 -- a login, until its callback

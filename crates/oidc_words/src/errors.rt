@@ -1,4 +1,4 @@
-// Error codes of authorization responses, their texts, and the refusals that have them.
+// Error codes of authorization responses, their texts, and the refusals that have them; the error code of a bearer token.
 
 ghost use Rattle.std.specs.Prelude.{◌≡◌, find, IfOk};
 ghost use Rattle.std.specs.Str.{bytes_eq};
@@ -49,6 +49,9 @@ pub const ERROR_CODES: [AuthError; 16] = [
     AuthError::RequestUriNotSupported,
     AuthError::RegistrationNotSupported,
 ];
+
+/// The error code of a request with an access token that is not good (RFC 6750, 3.1).
+pub const INVALID_TOKEN: &str = "invalid_token";
 
 /// How a code is written in the parameter `error` (RFC 6749, 4.1.2.1; OpenID Connect Core 1.0, 3.1.2.6).
 /// [`AuthError::Other`] is written `other`.

@@ -21,6 +21,9 @@ pub const EXPIRES_IN: &str = "3600";
 /// How many seconds an ID Token is good from its `iat` on (OpenID Connect Core 1.0, 2).
 pub const ID_TOKEN_LIFE: u64 = 300;
 
+/// How many seconds a logout token is good from its `iat` on (OpenID Connect Back-Channel Logout 1.0, 2.4).
+pub const LOGOUT_TOKEN_LIFE: u64 = 120;
+
 /// How many seconds a login lives at a relying party, until its callback.
 pub const LOGIN_LIFE: u32 = 600;
 

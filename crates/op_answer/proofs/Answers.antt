@@ -1,5 +1,5 @@
 -- What successful authorization responses say.
-use Rattle.std.proofs.Common.{◌≡◌, ℕ, Bool, true, false, Option, Some, None, refl, ◌⊎◌, inl, inr}
+use Rattle.std.proofs.Common.{◌≡◌, ℕ, Bool, true, false, Option, Some, None, refl, inl, inr}
 use Rattle.sso_base.specs.Words.{Word}
 use Rattle.sso_base.specs.declared.history.Entry.{Entry}
 use Rattle.client_registry.specs.Configuration.{Configuration}
@@ -16,32 +16,26 @@ use Rattle.op_exchange.specs.declared.reply.OpReply.{OpReply}
 use Rattle.op_exchange.specs.declared.reply.OpReply.TheVariants.{Answered}
 use Rattle.op_answer.specs.Past.{OpPast}
 use Rattle.op_answer.specs.Sessions.{live_session}
-use Rattle.op_answer.specs.Replies.{authorize_by, page_browser, is_served, login_by, consent_by, session_after}
+use Rattle.op_answer.specs.Replies.{authorize_by, page_browser, login_by, consent_by, session_after}
 use Rattle.op_answer.specs.Answering.{op_reply, op_answer}
 use Rattle.op_answer.specs.Causes.{OwnTurn, OwnConsent, AnsweredAtOnce, AnsweredAfterLogin, AnsweredAfterYes, AnsweredCause, need_at_once, need_after_login, need_after_yes}
 use Rattle.op_answer.proofs.Standing.{own_replies_stand}
-use Rattle.op_answer.proofs.Forms.{Unserved, Served, request_led, LoginLed, LoginSeen, login_led, ConsentLed, ConsentSeen, consent_led, token_told}
+use Rattle.op_answer.proofs.Forms.{LoginLed, LoginSeen, login_led, ConsentLed, ConsentSeen, consent_led, token_told, info_told, sign_out_told}
 
 module _ (c : Configuration) (past : OpPast) (e : Entry OpAsk) (answer : Answer) (given : Option Word) where
   abbrev this : OpReply
   this = Answered answer given
 
-  answered_by : (wish : Wish) (browser presented : Option Word) (wanted : Need) (session : Option SessionRow) → is_served wish.types ≡ true
+  answered_by : (wish : Wish) (browser presented : Option Word) (wanted : Need) (session : Option SessionRow)
       → live_session past e.at presented ≡ session → need_at_once c past e wish session ≡ wanted
       → authorize_by c e wish (page_browser past e browser) wanted session ≡ this → AnsweredAtOnce c past e wish presented answer given
-  answered_by wish browser presented (need.Error code) session served live wants h = cc
-  answered_by wish browser presented need.Consent (Some session) served live wants h = cc
-  answered_by wish browser presented need.Consent None served live wants h = cc
-  answered_by wish browser presented need.Answer (Some session) served live wants h =
-      record { served = served; session = session; live = live; enough = wants; answer_is = cc; none_given = cc }
-  answered_by wish browser presented need.Answer None served live wants h = cc
-  answered_by wish browser presented need.Login session served live wants h = cc
-
-  answered_at_once : (wish : Wish) (browser presented : Option Word) (session : Option SessionRow) → live_session past e.at presented ≡ session
-      → Unserved c past e this wish ⊎ Served c past e this wish browser session → AnsweredAtOnce c past e wish presented answer given
-  answered_at_once wish browser presented session live (inl led) = let h = led.1 in cc
-  answered_at_once wish browser presented session live (inr led) =
-      answered_by wish browser presented (need_at_once c past e wish session) session led.0 live refl led.1
+  answered_by wish browser presented (need.Error code) session live wants h = cc
+  answered_by wish browser presented need.Consent (Some session) live wants h = cc
+  answered_by wish browser presented need.Consent None live wants h = cc
+  answered_by wish browser presented need.Answer (Some session) live wants h =
+      record { session = session; live = live; enough = wants; answer_is = cc; none_given = cc }
+  answered_by wish browser presented need.Answer None live wants h = cc
+  answered_by wish browser presented need.Login session live wants h = cc
 
   answered_signed : (turn : Option Word) (user : ℕ) (browser presented : Option Word) (row : TurnRow) → OwnTurn past e turn browser row → (wanted : Need)
       → need_after_login c past e row (session_after past e user presented) ≡ wanted
@@ -88,14 +82,14 @@ module _ (c : Configuration) (past : OpPast) (e : Entry OpAsk) (answer : Answer)
   answered_asked (ask.Authorize (verdict.Refuse refusal) browser presented) h = cc
   answered_asked (ask.Authorize (verdict.Grant wish) browser presented) h =
       let session = live_session past e.at presented in
-      answered_at_once wish browser presented session refl (request_led c past e this wish browser session h)
+      answered_by wish browser presented (need_at_once c past e wish session) session refl refl h
   answered_asked (ask.Login turn signed browser presented) h =
       answered_after turn signed browser presented (login_led c past e this turn signed browser presented h)
   answered_asked (ask.Consent turn agree browser presented) h =
       answered_consent turn agree browser presented (consent_led c past e this turn agree browser presented h)
   answered_asked (ask.Token grant) h = let told = token_told c past e this grant h in cc
-  answered_asked (ask.Info bearer) h = cc
-  answered_asked (ask.SignOut session) h = cc
+  answered_asked (ask.Info bearer) h = let told = info_told c past e this bearer h in cc
+  answered_asked (ask.SignOut session) h = let told = sign_out_told c past e this session h in cc
   answered_asked ask.Metadata h = cc
   answered_asked ask.Keys h = cc
   answered_asked ask.Twice h = cc

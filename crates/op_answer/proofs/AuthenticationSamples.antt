@@ -2,7 +2,7 @@
 use Rattle.std.proofs.Common.{◌≡◌, false, refl}
 use Rattle.code_grant.specs.declared.rows.SessionRow.{SessionRow}
 use Rattle.code_grant.specs.declared.rows.CodeRow.{CodeRow}
-use Rattle.code_grant.specs.Clients.{no_clients}
+use Rattle.client_registry.specs.ClientSets.{no_clients}
 use Rattle.op_issue.specs.declared.issuing.Authentication.{Authentication}
 use Rattle.op_exchange.proofs.Sample.{word, wish}
 use Rattle.op_answer.specs.Authentications.{session_authentication, code_authentication}

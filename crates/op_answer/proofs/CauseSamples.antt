@@ -1,5 +1,5 @@
 -- Each cause, met by a reply of the first login, and not met by another reply to the same kind of ask.
-use Rattle.std.proofs.Common.{◌≡◌, inl, inr, Bool, true, false, [], Option, Some, None, codes, refl, sym, ◌∙◌, ap, subst}
+use Rattle.std.proofs.Common.{◌≡◌, inl, inr, Bool, true, false, List, [], ◌∷◌, Option, Some, None, is_some, codes, refl, sym, ◌∙◌, ap, subst}
 use Rattle.sso_base.specs.Words.{Word, Text, is_word, word_of_text}
 use Rattle.sso_base.specs.Rows.{lives}
 use Rattle.oidc_words.specs.Lives.{code_usable}
@@ -15,22 +15,30 @@ use Rattle.oidc_words.specs.Claims.{scopes_with_any}
 use Rattle.code_grant.specs.declared.rows.TurnRow.{TurnRow}
 use Rattle.code_grant.specs.declared.rows.SessionRow.{SessionRow}
 use Rattle.code_grant.specs.declared.rows.CodeRow.{CodeRow}
-use Rattle.code_grant.specs.Clients.{no_clients}
+use Rattle.code_grant.specs.declared.rows.TokenRow.{TokenRow}
+use Rattle.client_registry.specs.ClientSets.{no_clients}
+use Rattle.sso_base.specs.declared.message.Message.{Message}
+use Rattle.userinfo.specs.declared.header.Bearer.TheVariants.{Absent, Given}
+use Rattle.op_issue.specs.LogoutMessages.{logout_messages}
 use Rattle.op_exchange.specs.declared.ask.OpAsk.TheVariants as ask
 use Rattle.op_answer.specs.Sessions.{live_session}
-use Rattle.op_exchange.specs.declared.reply.OpReply.TheVariants.{ErrorPage}
+use Rattle.op_exchange.specs.declared.reply.OpReply.TheVariants.{ErrorPage, Info, InfoRefused, SignedOut}
 use Rattle.op_answer.specs.Codes.{held_code}
-use Rattle.op_answer.specs.Replies.{refusal_of, is_turns}
+use Rattle.op_answer.specs.Replies.{refusal_of, is_turns, sign_out_of}
 use Rattle.op_issue.specs.IdTokens.{issued_id}
-use Rattle.op_answer.specs.Causes.{Stood, need_after_yes, NewTurn, LoginPageCause, OtherAtConsent, ErrorAtConsent, ConsentPageCause, AnsweredCause, RefusedCause, ErrorPageCause, TokensCause, TokenRefusedCause}
+use Rattle.op_answer.specs.Causes.{Stood, need_after_yes, NewTurn, LoginPageCause, OtherAtConsent, ErrorAtConsent, ConsentPageCause, AnsweredCause, RefusedCause, ErrorPageCause, TokensCause, TokenRefusedCause, InfoCause, InfoRefusedCause, SignedOutCause}
 use Rattle.op_answer.proofs.Standing.{own_replies_stand}
 use Rattle.op_answer.proofs.Pages.{login_pages_have_a_cause, consent_pages_have_a_cause, error_pages_have_a_cause}
 use Rattle.op_answer.proofs.Answers.{answers_have_a_cause}
 use Rattle.op_answer.proofs.Refusals.{refusals_have_a_cause}
 use Rattle.op_answer.proofs.TokenResponses.{tokens_have_a_cause, token_errors_have_a_cause}
 use Rattle.op_exchange.proofs.Sample.{word, sample, wish, profile_scopes, callback_uri}
-use Rattle.op_answer.proofs.FirstLogin.{entry_at, authorize_entry, login_page, authorize_gets_login, past_login, login_entry, login_gets_consent, past_consent, consent_entry, consent_gets_code, past_code, token_entry, signed_alice, code_gets_tokens, code_after_two_minutes, other_browser, consent_of_other_browser}
-use Rattle.op_answer.proofs.Sessions.{consent_denied, hasty}
+use Rattle.op_answer.proofs.FirstLogin.{entry_at, authorize_entry, login_page, authorize_gets_login, past_login, login_entry, login_gets_consent, past_consent, consent_entry, consent_gets_code, past_code, token_entry, signed_alice, code_gets_tokens, code_after_two_minutes, other_browser, consent_of_other_browser, past_tokens, access_token_lives, access_token_after_an_hour}
+use Rattle.op_answer.proofs.Sessions.{consent_denied, hasty, alice_session, sign_out_entry, message_to_shop, alice_signs_out, past_signed_out}
+use Rattle.op_answer.proofs.InfoSamples.{info_entry, alice_info, alice_is_told, nobody_is_told_after_an_hour}
+use Rattle.op_answer.proofs.InfoResponses.{infos_have_a_cause, info_refusals_have_a_cause, caused_infos, caused_info_refusals}
+use Rattle.op_answer.proofs.SignOuts.{sign_outs_have_a_cause, caused_sign_outs}
+use Rattle.op_answer.specs.Answering.{op_answer}
 
 abbrev code_given : Answer
 code_given = record { redirect = callback_uri; fragment = false; code = Some (word 15); access = None; id = None; state = Some (codes "state") }
@@ -69,7 +77,7 @@ consent_turn = record { word = word 6; browser = word 5; wish = wish; session = 
 abbrev consent_session : SessionRow
 consent_session = record { word = word 9; sid = word 10; user = 0; auth_time = 1000; clients = no_clients }
 
-abbrev first_code : CodeRow
+abbrev pub first_code : CodeRow
 first_code = record { word = word 15; wish = wish; user = 0; sid = word 10; auth_time = 1000; issued = 1000; spent = false; by = 2 }
 
 -- ---- and no cause for another reply to the same kind of ask
@@ -130,7 +138,7 @@ no_login_where_consent_is_needed w b h = (let k : need.Consent ≡ need.Login = 
 
 -- ---- a turn without a session has no page for another browser at a consent form
 
-abbrev login_turn : TurnRow
+abbrev pub login_turn : TurnRow
 login_turn = record { word = word 6; browser = word 5; wish = wish; session = None; in_turn = false; begun = 1000 }
 
 no_other_without_a_session : (browser presented : Option Word) → OtherAtConsent past_login consent_entry (Some (word 6)) browser presented → ⊥
@@ -138,3 +146,53 @@ no_other_without_a_session browser presented h =
     let same : login_turn ≡ h.row = (let k : Some login_turn ≡ Some h.row = h.live in cc) in
     let L : TurnRow → Option SessionRow = λ row. live_session past_login 1000 row.session in
     let k : None ≡ Some h.session = ap L same ∙ h.standing in cc
+
+-- ---- UserInfo
+
+a_userinfo_response : (t : Text) → word_of_text t ≡ Some (word 15) → InfoCause sample (past_tokens t) (info_entry 4599 (Given (word 21))) (ask.Info (Given (word 21))) alice_info
+a_userinfo_response t spells = infos_have_a_cause sample (past_tokens t) (info_entry 4599 (Given (word 21))) alice_info (alice_is_told t spells)
+
+no_userinfo_of_a_dead_token : (t : Text) (claims : Text) → word_of_text t ≡ Some (word 15) → InfoCause sample (past_tokens t) (info_entry 4600 (Given (word 21))) (ask.Info (Given (word 21))) claims → ⊥
+no_userinfo_of_a_dead_token t claims spells h = (let k : None ≡ Some h.token = sym (access_token_after_an_hour t spells) ∙ h.live in cc)
+
+a_userinfo_error : (t : Text) → word_of_text t ≡ Some (word 15) → InfoRefusedCause (past_tokens t) (info_entry 4600 (Given (word 21))) (ask.Info (Given (word 21))) true
+a_userinfo_error t spells = info_refusals_have_a_cause sample (past_tokens t) (info_entry 4600 (Given (word 21))) true (nobody_is_told_after_an_hour t spells)
+
+no_userinfo_error_of_a_live_token : (t : Text) → word_of_text t ≡ Some (word 15) → InfoRefusedCause (past_tokens t) (info_entry 4599 (Given (word 21))) (ask.Info (Given (word 21))) true → ⊥
+no_userinfo_error_of_a_live_token t spells h =
+    let S : Option TokenRow → Bool = λ o. is_some o in
+    let k : true ≡ false = sym (access_token_lives t spells) ∙ ap S h.0 in cc
+
+-- ---- a sign-out
+
+a_sign_out : SignedOutCause sample past_code sign_out_entry sign_out_entry.ask (message_to_shop ∷ [])
+a_sign_out = sign_outs_have_a_cause sample past_code sign_out_entry (message_to_shop ∷ []) alice_signs_out
+
+-- of a session that a sign-out has ended there is nobody to tell
+a_sign_out_of_no_session : SignedOutCause sample past_signed_out sign_out_entry sign_out_entry.ask []
+a_sign_out_of_no_session = inl (refl, refl)
+
+-- each of these causes leads to its reply
+nobody_is_left_to_tell : op_answer sample past_signed_out sign_out_entry ≡ SignedOut []
+nobody_is_left_to_tell = caused_sign_outs sample past_signed_out sign_out_entry [] a_sign_out_of_no_session
+
+the_shop_is_told : op_answer sample past_code sign_out_entry ≡ SignedOut (message_to_shop ∷ [])
+the_shop_is_told = caused_sign_outs sample past_code sign_out_entry (message_to_shop ∷ []) a_sign_out
+
+alice_is_told_again : (t : Text) → word_of_text t ≡ Some (word 15) → op_answer sample (past_tokens t) (info_entry 4599 (Given (word 21))) ≡ Info alice_info
+alice_is_told_again t spells = caused_infos sample (past_tokens t) (info_entry 4599 (Given (word 21))) alice_info (a_userinfo_response t spells)
+
+nobody_is_told : op_answer sample past_code (info_entry 1000 Absent) ≡ InfoRefused false
+nobody_is_told = caused_info_refusals sample past_code (info_entry 1000 Absent) false refl
+
+-- of a live session the client that it has answered is told
+no_silent_sign_out : SignedOutCause sample past_code sign_out_entry sign_out_entry.ask [] → ⊥
+unfolding logout_messages no_clients
+no_silent_sign_out h =
+    elim h [
+      | inl gone ↦ (let k : Some alice_session ≡ None = gone.0 in cc)
+      | inr ended ↦
+          (let same : alice_session ≡ ended.session = (let k : Some alice_session ≡ Some ended.session = ended.live in cc) in
+          let M : SessionRow → List Message = λ session. logout_messages sample (sign_out_of sign_out_entry session) session.clients in
+          let k : message_to_shop ∷ [] ≡ [] = ap M same ∙ ended.messages_are in cc)
+    ]

@@ -1,12 +1,12 @@
 -- A code is answered by tokens at most once.
-use Rattle.std.proofs.Common.{◌≡◌, ℕ, ◌<◌, ◌==◌, Bool, true, false, ◌&&◌, cond, List, [], ◌∷◌, ◌++◌, length, Option, Some, None, Ok, option_and_then, refl, sym, ◌∙◌, ap, ◌⊎◌, inl, inr, arith}
+use Rattle.std.proofs.Common.{◌≡◌, ℕ, ◌<◌, ◌==◌, Bool, true, false, ◌&&◌, cond, [], ◌∷◌, ◌++◌, length, Option, Some, None, Ok, option_and_then, refl, sym, ◌∙◌, ap, ◌⊎◌, inl, inr, arith}
 use Rattle.std.specs.Str.{bytes_eq}
 use Rattle.std.proofs.lemmas.Bool.Decides.{eqb_tells}
 use Rattle.sso_base.specs.Words.{Word, Text, is_word}
 use Rattle.sso_base.specs.Rows.{row_of, lives, if_lives}
 use Rattle.sso_base.specs.declared.history.Entry.{Entry}
 use Rattle.sso_base.specs.Stands.{is_named}
-use Rattle.sso_base.proofs.RowLaws.{bytes_same, bytes_true, row_of-more}
+use Rattle.sso_base.proofs.RowLaws.{bytes_same, bytes_true, row_has_name, row_of-more}
 use Rattle.client_registry.specs.Configuration.{Configuration}
 use Rattle.code_grant.specs.declared.rows.SessionRow.{SessionRow}
 use Rattle.code_grant.specs.declared.rows.CodeRow.{CodeRow}
@@ -27,16 +27,6 @@ use Rattle.op_answer.specs.Legal.{IsLegalOp, place_redeemed, code_redeemed}
 use Rattle.op_answer.proofs.KeptNames.{some_same, code_names}
 use Rattle.op_answer.proofs.TokenResponses.{tokens_have_a_cause}
 use Rattle.sso_base.proofs.Histories.{legal_reply}
-
--- the row that is found has the name
-found_named : {R : Type 0} (name : R → Word) (w : Word) (x row : R) (rows : List R) (same : Bool) → bytes_eq (name x) w ≡ same
-    → (row_of name w rows ≡ Some row → name row ≡ w) → cond same (Some x) (row_of name w rows) ≡ Some row → name row ≡ w
-found_named name w x row rows true e further h = sym (ap name (some_same x row h)) ∙ bytes_same (name x) w e
-found_named name w x row rows false e further h = further h
-
-row_of-named : {R : Type 0} (name : R → Word) (w : Word) (rows : List R) (row : R) → row_of name w rows ≡ Some row → name row ≡ w
-row_of-named name w [] row h = cc
-row_of-named name w (x ∷ rows) row h = found_named name w x row rows (bytes_eq (name x) w) refl (row_of-named name w rows row) h
 
 some_word : (v w : Word) → ◌≡◌ {A = Option Word} (Some v) (Some w) → v ≡ w
 some_word v w h = some_same v w h
@@ -227,7 +217,7 @@ spends past p n r w row h at =
           let C : ℕ → Option Word = λ m. code_at past m in
           let one : before.by ≡ r.code.by = sym k.by_is ∙ at ∙ sym r.by_is in
           let same : f.w ≡ w = some_word f.w w (sym e.word_is ∙ sym (ap C one) ∙ d.word_is) in
-          let named : before.word ≡ w = row_of-named code_name w (codes_issued past) before stood.1 in
+          let named : before.word ≡ w = row_has_name code_name w (codes_issued past) before stood.1 in
           let W : Option Word → Bool = λ o. is_word o before.word in
           let is : is_word (code_named p.entry.ask) before.word ≡ true = ap W f.word_is ∙ bytes_true f.w before.word (same ∙ sym named) in
           let A : Bool → Bool = λ b. b && is_tokens p.reply in

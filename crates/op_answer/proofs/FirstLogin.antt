@@ -15,7 +15,7 @@ use Rattle.op_answer.specs.AccessTokens.{live_access_token}
 use Rattle.request_need.specs.Need.{needed, needed_scopes}
 use Rattle.oidc_words.specs.Scopes.{joined}
 use Rattle.oidc_words.specs.Claims.{scopes_with_any}
-use Rattle.code_grant.specs.Clients.{no_clients}
+use Rattle.client_registry.specs.ClientSets.{no_clients}
 use Rattle.op_answer.specs.Answering.{op_answer}
 use Rattle.op_issue.specs.IdTokens.{issued_id}
 use Rattle.op_exchange.proofs.Sample.{word, words, sample, wish, profile_scopes, callback_uri}
@@ -94,6 +94,10 @@ tokens_reply at = Tokens (word 21) (issued_id sample wish signed_alice at (Some 
 pub code_gets_tokens : (t : Text) → word_of_text t ≡ Some (word 15) → op_answer sample past_code (token_entry 1119 t) ≡ tokens_reply 1119
 unfolding op_answer needed needed_scopes joined scopes_with_any no_clients
 code_gets_tokens t spells = rw spells refl
+
+pub code_gets_tokens_at_once : (t : Text) → word_of_text t ≡ Some (word 15) → op_answer sample past_code (token_entry 1000 t) ≡ tokens_reply 1000
+unfolding op_answer needed needed_scopes joined scopes_with_any no_clients
+code_gets_tokens_at_once t spells = rw spells refl
 
 -- a code is usable for 120 seconds
 pub code_after_two_minutes : (t : Text) → word_of_text t ≡ Some (word 15) → op_answer sample past_code (token_entry 1120 t) ≡ TokenRefused InvalidGrant

@@ -1,4 +1,4 @@
--- How an authorization request, a login form and a consent form lead to a reply: what was tested before the need.
+-- How a login form and a consent form lead to a reply: what was tested before the need. And which replies an ask gets.
 use Rattle.std.proofs.Common.{◌≡◌, ℕ, Bool, true, false, not, ◌||◌, cond, Option, Some, None, Result, Ok, Err, refl, sym, ◌∙◌, ap, ◌⊎◌, inl, inr}
 use Rattle.sso_base.specs.Words.{Word, is_word, word_of_text}
 use Rattle.sso_base.specs.declared.history.Entry.{Entry}
@@ -6,25 +6,29 @@ use Rattle.client_registry.specs.Configuration.{Configuration}
 use Rattle.auth_request.specs.declared.wish.Wish.{Wish}
 use Rattle.auth_request.specs.declared.wish.Verdict.{Verdict}
 use Rattle.auth_request.specs.declared.wish.Verdict.TheVariants as verdict
-use Rattle.oidc_words.specs.declared.errors.AuthError.TheVariants.{AccessDenied, UnsupportedResponseType}
+use Rattle.oidc_words.specs.declared.errors.AuthError.TheVariants.{AccessDenied}
 use Rattle.auth_request.specs.declared.wish.PageNo.TheVariants as page
 use Rattle.request_need.specs.declared.need.Need.{Need}
 use Rattle.request_need.specs.declared.need.Need.TheVariants as need
 use Rattle.token_endpoint.specs.declared.granting.Grant.{Grant}
 use Rattle.token_endpoint.specs.declared.no.GrantNo.{GrantNo}
+use Rattle.userinfo.specs.declared.header.Bearer.{Bearer}
+use Rattle.userinfo.specs.declared.header.Bearer.TheVariants as bearer
 use Rattle.code_grant.specs.declared.rows.TurnRow.{TurnRow}
 use Rattle.code_grant.specs.declared.rows.SessionRow.{SessionRow}
 use Rattle.code_grant.specs.declared.rows.CodeRow.{CodeRow}
+use Rattle.code_grant.specs.declared.rows.TokenRow.{TokenRow}
 use Rattle.code_grant.specs.declared.redeem.Redeem.{Redeem}
 use Rattle.code_grant.specs.declared.redeem.Redeem.TheVariants.{Redeemed}
 use Rattle.op_exchange.specs.declared.ask.OpAsk.{OpAsk}
 use Rattle.op_exchange.specs.declared.reply.OpReply.{OpReply}
-use Rattle.op_exchange.specs.declared.reply.OpReply.TheVariants.{LoginPage, ConsentPage, Answered, Refused, ErrorPage, Tokens, TokenRefused}
+use Rattle.op_exchange.specs.declared.reply.OpReply.TheVariants.{LoginPage, ConsentPage, Answered, Refused, ErrorPage, Tokens, TokenRefused, Info, InfoRefused, SignedOut}
 use Rattle.op_answer.specs.Past.{OpPast}
 use Rattle.op_answer.specs.Turns.{live_turn}
 use Rattle.op_answer.specs.Sessions.{live_session}
 use Rattle.op_answer.specs.Codes.{redeem, held_code}
-use Rattle.op_answer.specs.Replies.{refusal_of, is_served, is_turns, page_browser, session_after, authorize, authorize_by, authorize_wish, login, login_by, login_signed, consent, consent_in, consent_by, token, tokens_by}
+use Rattle.op_answer.specs.AccessTokens.{live_access_token}
+use Rattle.op_answer.specs.Replies.{refusal_of, is_turns, page_browser, session_after, authorize, authorize_by, login, login_by, login_signed, consent, consent_in, consent_by, token, tokens_by, info, info_by, sign_out, sign_out_by}
 use Rattle.op_answer.specs.Causes.{OwnTurn, OwnConsent, OtherBrowser, NoSession, OtherAtConsent, need_at_once, need_after_login, need_after_yes}
 
 -- what a consent form of a live turn and session gets
@@ -33,24 +37,6 @@ decided c past e row session agree =
     cond (not agree) (Refused (refusal_of row.wish AccessDenied) None) (consent_by c e row session (need_after_yes c past e row session))
 
 module _ (c : Configuration) (past : OpPast) (e : Entry OpAsk) (told : OpReply) where
-  -- ---- an authorization request: its response type is served
-
-  abbrev pub Unserved : Wish → Type 0
-  Unserved wish = (is_served wish.types ≡ false) × (Refused (refusal_of wish UnsupportedResponseType) None ≡ told)
-
-  abbrev pub Served : Wish → Option Word → Option SessionRow → Type 0
-  Served wish browser session = (is_served wish.types ≡ true) × (authorize_by c e wish (page_browser past e browser) (need_at_once c past e wish session) session ≡ told)
-
-  by_served : (wish : Wish) (browser : Option Word) (session : Option SessionRow) (served : Bool) → is_served wish.types ≡ served
-      → cond served (authorize_by c e wish (page_browser past e browser) (need_at_once c past e wish session) session) (Refused (refusal_of wish UnsupportedResponseType) None) ≡ told
-      → Unserved wish ⊎ Served wish browser session
-  by_served wish browser session false e h = inl (e, h)
-  by_served wish browser session true e h = inr (e, h)
-
-  pub request_led : (wish : Wish) (browser : Option Word) (session : Option SessionRow)
-      → authorize_wish c past e wish (page_browser past e browser) session ≡ told → Unserved wish ⊎ Served wish browser session
-  request_led wish browser session h = by_served wish browser session (is_served wish.types) refl h
-
   -- ---- a login form: its turn is live and of this browser
 
   pub record LoginSeen (turn : Option Word) (signed : Option ℕ) (browser presented : Option Word) : Type 0 where
@@ -172,19 +158,13 @@ by_wanted c e wish browser need.Answer (Some session) = refl
 by_wanted c e wish browser need.Answer None = refl
 by_wanted c e wish browser need.Login session = refl
 
-by_wish : (c : Configuration) (past : OpPast) (e : Entry OpAsk) (told : OpReply) (wish : Wish) (browser : Option Word) (session : Option SessionRow)
-    → Unserved c past e told wish ⊎ Served c past e told wish browser session → at_page told ≡ true
-by_wish c past e told wish browser session (inl led) = sym (ap at_page led.1)
-by_wish c past e told wish browser session (inr led) =
-    sym (ap at_page led.1) ∙ by_wanted c e wish (page_browser past e browser) (need_at_once c past e wish session) session
-
 pub request_told : (c : Configuration) (past : OpPast) (e : Entry OpAsk) (told : OpReply) (judged : Verdict) (browser presented : Option Word)
     → authorize c past e judged browser presented ≡ told → at_page told ≡ true
 request_told c past e told (verdict.Page why) browser presented h = sym (ap at_page h)
 request_told c past e told (verdict.Refuse refusal) browser presented h = sym (ap at_page h)
 request_told c past e told (verdict.Grant wish) browser presented h =
     let session = live_session past e.at presented in
-    by_wish c past e told wish browser session (request_led c past e told wish browser session h)
+    sym (ap at_page h) ∙ by_wanted c e wish (page_browser past e browser) (need_at_once c past e wish session) session
 
 by_left : (c : Configuration) (e : Entry OpAsk) (row : TurnRow) (session : SessionRow) (wanted : Need) → at_page (login_by c e row session wanted) ≡ true
 by_left c e row session (need.Error code) = refl
@@ -225,3 +205,33 @@ by_grant c past e (Ok grant) = by_redeem c e (redeem past e.at grant) (held_code
 
 pub token_told : (c : Configuration) (past : OpPast) (e : Entry OpAsk) (told : OpReply) (grant : Result Grant GrantNo) → token c past e grant ≡ told → at_token told ≡ true
 token_told c past e told grant h = sym (ap at_token h) ∙ by_grant c past e grant
+
+-- which a UserInfo request gets
+abbrev pub at_info : OpReply → Bool
+at_info (Info claims) = true
+at_info (InfoRefused given) = true
+at_info other = false
+
+by_access : (c : Configuration) (found : Option TokenRow) → at_info (info_by c found) ≡ true
+by_access c None = refl
+by_access c (Some token) = refl
+
+by_bearer : (c : Configuration) (past : OpPast) (e : Entry OpAsk) (given : Bearer) → at_info (info c past e given) ≡ true
+by_bearer c past e bearer.Absent = refl
+by_bearer c past e bearer.Unreadable = refl
+by_bearer c past e (bearer.Given w) = by_access c (live_access_token past e.at w)
+
+pub info_told : (c : Configuration) (past : OpPast) (e : Entry OpAsk) (told : OpReply) (given : Bearer) → info c past e given ≡ told → at_info told ≡ true
+info_told c past e told given h = sym (ap at_info h) ∙ by_bearer c past e given
+
+-- which a sign-out gets
+abbrev pub at_sign_out : OpReply → Bool
+at_sign_out (SignedOut messages) = true
+at_sign_out other = false
+
+by_ended : (c : Configuration) (e : Entry OpAsk) (found : Option SessionRow) → at_sign_out (sign_out_by c e found) ≡ true
+by_ended c e None = refl
+by_ended c e (Some session) = refl
+
+pub sign_out_told : (c : Configuration) (past : OpPast) (e : Entry OpAsk) (told : OpReply) (presented : Option Word) → sign_out c past e presented ≡ told → at_sign_out told ≡ true
+sign_out_told c past e told presented h = sym (ap at_sign_out h) ∙ by_ended c e (live_session past e.at presented)

@@ -1,28 +1,31 @@
 -- A table of each kind that has no place for a row, by computation: a word that was drawn before. And one that has.
-use Rattle.std.proofs.Common.{◌≡◌, ◌≤◌, inl, inr, true, false, [], ◌∷◌, length, replicate, Some, None, refl, sym, ◌∙◌, arith}
+use Rattle.std.proofs.Common.{◌≡◌, inl, inr, ℕ, zero, suc, Bool, true, false, [], ◌∷◌, length, replicate, codes, Option, Some, None, refl, sym, ap, ◌∙◌, arith}
 use Rattle.std.proofs.lemmas.List.{length-replicate}
-use Rattle.sso_base.specs.Words.{Text, word_of_text}
+use Rattle.sso_base.specs.Words.{Word, Text, is_word, word_of_text}
+use Rattle.sso_base.specs.Rows.{row_of}
 use Rattle.sso_base.specs.declared.history.Entry.{Entry}
 use Rattle.auth_request.specs.declared.wish.Wish.{Wish}
 use Rattle.auth_request.specs.declared.wish.Verdict.TheVariants.{Grant}
 use Rattle.code_grant.specs.declared.rows.TurnRow.{TurnRow}
 use Rattle.code_grant.specs.declared.rows.CodeRow.{CodeRow}
 use Rattle.code_grant.specs.declared.rows.TokenRow.{TokenRow}
-use Rattle.code_grant.specs.Rows.{turn_name}
-use Rattle.code_grant.specs.Clients.{no_clients}
+use Rattle.code_grant.specs.Rows.{turn_name, code_name, access_name}
+use Rattle.client_registry.specs.ClientSets.{no_clients}
 use Rattle.request_need.specs.Need.{needed, needed_scopes}
 use Rattle.oidc_words.specs.Scopes.{joined}
 use Rattle.oidc_words.specs.Claims.{scopes_with_any}
 use Rattle.op_exchange.specs.declared.ask.OpAsk.{OpAsk}
 use Rattle.op_exchange.specs.declared.ask.OpAsk.TheVariants as ask
-use Rattle.op_exchange.specs.declared.reply.OpReply.TheVariants.{Full}
+use Rattle.op_exchange.specs.declared.reply.OpReply.{OpReply}
+use Rattle.op_exchange.specs.declared.reply.OpReply.TheVariants.{Full, Answered}
+use Rattle.op_answer.specs.Past.{OpPast}
 use Rattle.op_answer.specs.AccessTokens.{access_issued}
 use Rattle.op_answer.specs.Answering.{op_reply, op_answer}
 use Rattle.op_answer.specs.FullTables.{NoPlace, NoTurnPlace, NoSessionPlace, NoCodePlace, NoAccessPlace, FullCause}
 use Rattle.op_answer.proofs.FullTables.{cause_makes_full}
-use Rattle.op_answer.proofs.FirstLogin.{entry_at, login_page, authorize_entry, authorize_gets_login, past_login, past_code, past_tokens}
-use Rattle.op_answer.proofs.Sessions.{fresh_turn, bob_entry, alice_session}
-use Rattle.op_exchange.proofs.Sample.{word, words, sample, wish}
+use Rattle.op_answer.proofs.FirstLogin.{entry_at, pair_of, login_page, authorize_entry, authorize_gets_login, past_login, past_consent, consent_entry, past_code, token_entry, past_tokens}
+use Rattle.op_answer.proofs.Sessions.{fresh_turn, bob_entry, alice_session, alice_entry, alice_answer}
+use Rattle.op_exchange.proofs.Sample.{word, words, sample, callback_uri, wish}
 
 -- ---- a turn: its word is that of a live one
 
@@ -98,6 +101,14 @@ accesses_have_no_place t spells = record { prepared = refl; no_place = inr (inr 
 no_place_beside_65536_rows : NoPlace turn_name (word 7) (replicate 65536 login_turn)
 no_place_beside_65536_rows = let long : length (replicate 65536 login_turn) ≡ 65536 = length-replicate 65536 login_turn in inl (omega (arith, long))
 
+no_row_of_that_word : (n : ℕ) → row_of turn_name (word 7) (replicate n login_turn) ≡ None
+no_row_of_that_word zero = refl
+no_row_of_that_word (suc n) = no_row_of_that_word n
+
+place_beside_65535_rows : NoPlace turn_name (word 7) (replicate 65535 login_turn) → ⊥
+place_beside_65535_rows (inl full) = let long : length (replicate 65535 login_turn) ≡ 65535 = length-replicate 65535 login_turn in absurd (omega (arith, long, full))
+place_beside_65535_rows (inr same) = (let k : None ≡ Some same.0 = sym (no_row_of_that_word 65535) ∙ same.1 in cc)
+
 place_beside_one_row : NoPlace turn_name (word 7) (login_turn ∷ []) → ⊥
 place_beside_one_row (inl full) = absurd (omega (arith, full))
 place_beside_one_row (inr same) = (let k : None ≡ Some same.0 = same.1 in cc)
@@ -105,3 +116,35 @@ place_beside_one_row (inr same) = (let k : None ≡ Some same.0 = same.1 in cc)
 -- before any request there is room
 the_first_turn_has_a_place : FullCause sample [] authorize_entry → ⊥
 the_first_turn_has_a_place cause = (let k : Full ≡ login_page = sym (cause_makes_full sample [] authorize_entry cause) ∙ authorize_gets_login in cc)
+
+-- ---- and no cause where there is a place: beside no row, beside the row that is renewed, and where no request gives the ask
+
+place_beside_none : {R : Type 0} (name : R → Word) (w : Word) → NoPlace name w [] → ⊥
+place_beside_none name w (inl full) = absurd (omega (arith, full))
+place_beside_none name w (inr same) = (let k : None ≡ Some same.0 = same.1 in cc)
+
+a_turn_has_a_place : (told : OpReply) → NoTurnPlace [] authorize_entry told → ⊥
+a_turn_has_a_place told h = place_beside_none turn_name (word 6) h.full
+
+a_renewed_session_has_its_place : NoSessionPlace fresh_turn alice_entry alice_answer → ⊥
+a_renewed_session_has_its_place h =
+    let G : Option Word → Bool = λ given. is_word given (word 9) in
+    let k : true ≡ false = ap G h.left in
+    cc
+
+a_code_has_a_place : (told : OpReply) → NoCodePlace past_consent consent_entry told → ⊥
+a_code_has_a_place told h = place_beside_none code_name (word 15) h.full
+
+an_access_token_has_a_place : (told : OpReply) → NoAccessPlace past_code access_again told → ⊥
+an_access_token_has_a_place told h = place_beside_none access_name h.word h.full
+
+not_full_where_no_request_asks : FullCause sample past_login (entry_at 1000 5 (ask.Login None (Some 2) None None)) → ⊥
+not_full_where_no_request_asks cause = (let k : false ≡ true = cause.prepared in cc)
+
+-- an access token that a code would give: the first word of this entry is that of a token of a response
+
+abbrev past_access : OpPast
+past_access = pair_of access_again (Answered (record { redirect = callback_uri; fragment = true; code = None; access = Some (word 21); id = None; state = Some (codes "state") }) None) ∷ past_code
+
+code_token_has_no_place : (t : Text) → word_of_text t ≡ Some (word 15) → NoAccessPlace past_access (token_entry 1002 t) (op_reply sample past_access (token_entry 1002 t) (token_entry 1002 t).ask)
+code_token_has_no_place t spells = record { word = word 21; drawn = inr refl; given = rw spells refl; full = inr (access_issued 3 1001 (word 21) None token_wish 0, refl) }

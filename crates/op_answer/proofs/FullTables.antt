@@ -18,16 +18,16 @@ use Rattle.op_exchange.specs.Asks.{is_prepared}
 use Rattle.op_exchange.specs.Replied.{session_given}
 use Rattle.op_issue.specs.Issued.{if_wished}
 use Rattle.op_answer.specs.Past.{OpPast}
-use Rattle.op_answer.specs.Turns.{live_turns}
+use Rattle.op_answer.specs.Turns.{BeginsTurn, live_turns}
 use Rattle.op_answer.specs.Sessions.{live_sessions}
 use Rattle.op_answer.specs.Codes.{code_in, held_codes}
 use Rattle.op_answer.specs.AccessTokens.{live_accesses}
 use Rattle.op_answer.specs.Replies.{session_renewed, session_left, session_after}
 use Rattle.op_answer.specs.Room.{sessions_beside, lacks_turn, lacks_new_session, lacks_session, lacks_code, lacks_access, access_in, lacks_room}
 use Rattle.op_answer.specs.Answering.{op_reply, op_answer}
-use Rattle.op_answer.specs.Causes.{ConsentPageCause, AnsweredCause, RefusedCause, TokensCause}
-use Rattle.op_answer.specs.FullTables.{NoPlace, BeginsTurn, NoTurnPlace, NoSessionPlace, NoCodePlace, NoAccessPlace, LacksPlace, FullCause}
-use Rattle.op_answer.proofs.Forms.{request_told, login_told, consent_told, token_told}
+use Rattle.op_answer.specs.Causes.{AnsweredCause, TokensCause}
+use Rattle.op_answer.specs.FullTables.{NoPlace, NoSessionPlace, NoCodePlace, NoAccessPlace, LacksPlace, FullCause}
+use Rattle.op_answer.proofs.Forms.{request_told, login_told, consent_told, token_told, info_told, sign_out_told}
 use Rattle.op_answer.proofs.Pages.{login_page_asked, consent_page_asked}
 use Rattle.op_answer.proofs.Answers.{answered_asked}
 use Rattle.op_answer.proofs.Refusals.{refused_asked}
@@ -70,8 +70,8 @@ module _ (c : Configuration) (past : OpPast) (e : Entry OpAsk) where
   never_full (ask.Login turn signed browser presented) h = let told = login_told c past e reply.Full turn signed browser presented h in cc
   never_full (ask.Consent turn agree browser presented) h = let told = consent_told c past e reply.Full turn agree browser presented h in cc
   never_full (ask.Token grant) h = let told = token_told c past e reply.Full grant h in cc
-  never_full (ask.Info bearer) h = cc
-  never_full (ask.SignOut session) h = cc
+  never_full (ask.Info bearer) h = let told = info_told c past e reply.Full bearer h in cc
+  never_full (ask.SignOut session) h = let told = sign_out_told c past e reply.Full session h in cc
   never_full ask.Metadata h = cc
   never_full ask.Keys h = cc
   never_full ask.Twice h = cc
@@ -176,7 +176,7 @@ module _ (c : Configuration) (past : OpPast) (e : Entry OpAsk) where
   wished true v w h = cc
   wished false v w h = cc
 
-  code_drawn : (asked : OpAsk) (answer : Answer) (given : Option Word) (w : Word) → AnsweredCause c past e asked answer given → answer.code ≡ Some w → fresh_word e.fresh 2 ≡ w
+  pub code_drawn : (asked : OpAsk) (answer : Answer) (given : Option Word) (w : Word) → AnsweredCause c past e asked answer given → answer.code ≡ Some w → fresh_word e.fresh 2 ≡ w
   code_drawn (ask.Authorize (verdict.Grant wish) browser presented) answer given w cause is =
       let C : Answer → Option Word = λ a. a.code in wished wish.types.code (fresh_word e.fresh 2) w (ap C cause.answer_is ∙ is)
   code_drawn (ask.Login turn (Some user) browser presented) answer given w cause is =
@@ -185,7 +185,7 @@ module _ (c : Configuration) (past : OpPast) (e : Entry OpAsk) where
       let C : Answer → Option Word = λ a. a.code in wished cause.row.wish.types.code (fresh_word e.fresh 2) w (ap C cause.answer_is ∙ is)
   code_drawn other answer given w cause is = absurd cause
 
-  access_drawn : (asked : OpAsk) (answer : Answer) (given : Option Word) (w : Word) → AnsweredCause c past e asked answer given → answer.access ≡ Some w → fresh_word e.fresh 3 ≡ w
+  pub access_drawn : (asked : OpAsk) (answer : Answer) (given : Option Word) (w : Word) → AnsweredCause c past e asked answer given → answer.access ≡ Some w → fresh_word e.fresh 3 ≡ w
   access_drawn (ask.Authorize (verdict.Grant wish) browser presented) answer given w cause is =
       let C : Answer → Option Word = λ a. a.access in wished wish.types.token (fresh_word e.fresh 3) w (ap C cause.answer_is ∙ is)
   access_drawn (ask.Login turn (Some user) browser presented) answer given w cause is =
@@ -194,7 +194,7 @@ module _ (c : Configuration) (past : OpPast) (e : Entry OpAsk) where
       let C : Answer → Option Word = λ a. a.access in wished cause.row.wish.types.token (fresh_word e.fresh 3) w (ap C cause.answer_is ∙ is)
   access_drawn other answer given w cause is = absurd cause
 
-  redeemed_drawn : (asked : OpAsk) (w : Word) (id : List ℕ) → TokensCause c past e asked w id → fresh_word e.fresh 0 ≡ w
+  pub redeemed_drawn : (asked : OpAsk) (w : Word) (id : List ℕ) → TokensCause c past e asked w id → fresh_word e.fresh 0 ≡ w
   redeemed_drawn (ask.Token (Ok grant)) w id cause = cause.drawn
   redeemed_drawn other w id cause = absurd cause
 

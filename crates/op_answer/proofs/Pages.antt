@@ -21,11 +21,11 @@ use Rattle.op_exchange.specs.declared.reply.OpReply.{OpReply}
 use Rattle.op_exchange.specs.declared.reply.OpReply.TheVariants.{LoginPage, ConsentPage, ErrorPage}
 use Rattle.op_answer.specs.Past.{OpPast}
 use Rattle.op_answer.specs.Sessions.{live_session}
-use Rattle.op_answer.specs.Replies.{authorize_by, page_browser, is_served, login_by, consent_by, session_after}
+use Rattle.op_answer.specs.Replies.{authorize_by, page_browser, login_by, consent_by, session_after}
 use Rattle.op_answer.specs.Answering.{op_reply, op_answer}
 use Rattle.op_answer.specs.Causes.{OwnTurn, NewTurn, LoginPageCause, ConsentAtOnce, ConsentAfterLogin, ConsentPageCause, ErrorPageCause, need_at_once, need_after_login, need_after_yes}
 use Rattle.op_answer.proofs.Standing.{own_replies_stand}
-use Rattle.op_answer.proofs.Forms.{Unserved, Served, request_led, LoginLed, LoginSeen, login_led, ConsentLed, decided, consent_led, consent_told, token_told}
+use Rattle.op_answer.proofs.Forms.{LoginLed, LoginSeen, login_led, ConsentLed, decided, consent_led, consent_told, token_told, info_told, sign_out_told}
 
 -- ---- without a session a login is needed, or none may be shown
 
@@ -45,23 +45,17 @@ module _ (c : Configuration) (past : OpPast) (e : Entry OpAsk) (w b : Word) (aga
   abbrev this : OpReply
   this = LoginPage w b again
 
-  login_page_by : (wish : Wish) (browser presented : Option Word) (wanted : Need) (session : Option SessionRow) → is_served wish.types ≡ true
+  login_page_by : (wish : Wish) (browser presented : Option Word) (wanted : Need) (session : Option SessionRow)
       → live_session past e.at presented ≡ session → need_at_once c past e wish session ≡ wanted
       → authorize_by c e wish (page_browser past e browser) wanted session ≡ this → NewTurn c past e wish browser presented w b again
-  login_page_by wish browser presented (need.Error code) session served live wants h = cc
-  login_page_by wish browser presented need.Consent (Some session) served live wants h = cc
-  login_page_by wish browser presented need.Consent None served live wants h = absurd (no_consent_without c wish e.at wants)
-  login_page_by wish browser presented need.Answer (Some session) served live wants h = cc
-  login_page_by wish browser presented need.Answer None served live wants h = absurd (no_answer_without c wish e.at wants)
-  login_page_by wish browser presented need.Login session served live wants h =
+  login_page_by wish browser presented (need.Error code) session live wants h = cc
+  login_page_by wish browser presented need.Consent (Some session) live wants h = cc
+  login_page_by wish browser presented need.Consent None live wants h = absurd (no_consent_without c wish e.at wants)
+  login_page_by wish browser presented need.Answer (Some session) live wants h = cc
+  login_page_by wish browser presented need.Answer None live wants h = absurd (no_answer_without c wish e.at wants)
+  login_page_by wish browser presented need.Login session live wants h =
       let N : Option SessionRow → Need = λ o. need_at_once c past e wish o in
-      record { served = served; wanted = ap N live ∙ wants; drawn = cc; browser_is = cc; first = cc }
-
-  login_page_at_once : (wish : Wish) (browser presented : Option Word) (session : Option SessionRow) → live_session past e.at presented ≡ session
-      → Unserved c past e this wish ⊎ Served c past e this wish browser session → NewTurn c past e wish browser presented w b again
-  login_page_at_once wish browser presented session live (inl led) = let h = led.1 in cc
-  login_page_at_once wish browser presented session live (inr led) =
-      login_page_by wish browser presented (need_at_once c past e wish session) session led.0 live refl led.1
+      record { wanted = ap N live ∙ wants; drawn = cc; browser_is = cc; first = cc }
 
   no_login_page : (row : TurnRow) (session : SessionRow) (wanted : Need) → login_by c e row session wanted ≡ this → ⊥
   no_login_page row session (need.Error code) h = cc
@@ -88,14 +82,14 @@ module _ (c : Configuration) (past : OpPast) (e : Entry OpAsk) (w b : Word) (aga
   login_page_asked (ask.Authorize (verdict.Refuse refusal) browser presented) h = cc
   login_page_asked (ask.Authorize (verdict.Grant wish) browser presented) h =
       let session = live_session past e.at presented in
-      login_page_at_once wish browser presented session refl (request_led c past e this wish browser session h)
+      login_page_by wish browser presented (need_at_once c past e wish session) session refl refl h
   login_page_asked (ask.Login turn signed browser presented) h =
       login_page_after turn signed browser presented (login_led c past e this turn signed browser presented h)
   login_page_asked (ask.Consent turn agree browser presented) h =
       let told = consent_told c past e this turn agree browser presented h in cc
   login_page_asked (ask.Token grant) h = let told = token_told c past e this grant h in cc
-  login_page_asked (ask.Info bearer) h = cc
-  login_page_asked (ask.SignOut session) h = cc
+  login_page_asked (ask.Info bearer) h = let told = info_told c past e this bearer h in cc
+  login_page_asked (ask.SignOut session) h = let told = sign_out_told c past e this session h in cc
   login_page_asked ask.Metadata h = cc
   login_page_asked ask.Keys h = cc
   login_page_asked ask.Twice h = cc
@@ -110,22 +104,16 @@ module _ (c : Configuration) (past : OpPast) (e : Entry OpAsk) (w b : Word) (giv
   abbrev asks : OpReply
   asks = ConsentPage w b given client scopes
 
-  consent_page_by : (wish : Wish) (browser presented : Option Word) (wanted : Need) (session : Option SessionRow) → is_served wish.types ≡ true
+  consent_page_by : (wish : Wish) (browser presented : Option Word) (wanted : Need) (session : Option SessionRow)
       → live_session past e.at presented ≡ session → need_at_once c past e wish session ≡ wanted
       → authorize_by c e wish (page_browser past e browser) wanted session ≡ asks → ConsentAtOnce c past e wish browser presented w b given client scopes
-  consent_page_by wish browser presented (need.Error code) session served live wants h = cc
-  consent_page_by wish browser presented need.Consent (Some session) served live wants h =
-      record { served = served; session = session; live = live; wanted = wants; drawn = cc; browser_is = cc; none_given = cc; client_is = cc; scopes_are = cc }
-  consent_page_by wish browser presented need.Consent None served live wants h = cc
-  consent_page_by wish browser presented need.Answer (Some session) served live wants h = cc
-  consent_page_by wish browser presented need.Answer None served live wants h = cc
-  consent_page_by wish browser presented need.Login session served live wants h = cc
-
-  consent_page_at_once : (wish : Wish) (browser presented : Option Word) (session : Option SessionRow) → live_session past e.at presented ≡ session
-      → Unserved c past e asks wish ⊎ Served c past e asks wish browser session → ConsentAtOnce c past e wish browser presented w b given client scopes
-  consent_page_at_once wish browser presented session live (inl led) = let h = led.1 in cc
-  consent_page_at_once wish browser presented session live (inr led) =
-      consent_page_by wish browser presented (need_at_once c past e wish session) session led.0 live refl led.1
+  consent_page_by wish browser presented (need.Error code) session live wants h = cc
+  consent_page_by wish browser presented need.Consent (Some session) live wants h =
+      record { session = session; live = live; wanted = wants; drawn = cc; browser_is = cc; none_given = cc; client_is = cc; scopes_are = cc }
+  consent_page_by wish browser presented need.Consent None live wants h = cc
+  consent_page_by wish browser presented need.Answer (Some session) live wants h = cc
+  consent_page_by wish browser presented need.Answer None live wants h = cc
+  consent_page_by wish browser presented need.Login session live wants h = cc
 
   consent_page_signed : (turn : Option Word) (user : ℕ) (browser presented : Option Word) (row : TurnRow) → OwnTurn past e turn browser row → (wanted : Need)
       → need_after_login c past e row (session_after past e user presented) ≡ wanted
@@ -153,14 +141,14 @@ module _ (c : Configuration) (past : OpPast) (e : Entry OpAsk) (w b : Word) (giv
   consent_page_asked (ask.Authorize (verdict.Refuse refusal) browser presented) h = cc
   consent_page_asked (ask.Authorize (verdict.Grant wish) browser presented) h =
       let session = live_session past e.at presented in
-      consent_page_at_once wish browser presented session refl (request_led c past e asks wish browser session h)
+      consent_page_by wish browser presented (need_at_once c past e wish session) session refl refl h
   consent_page_asked (ask.Login turn signed browser presented) h =
       consent_page_after turn signed browser presented (login_led c past e asks turn signed browser presented h)
   consent_page_asked (ask.Consent turn agree browser presented) h =
       let told = consent_told c past e asks turn agree browser presented h in cc
   consent_page_asked (ask.Token grant) h = let told = token_told c past e asks grant h in cc
-  consent_page_asked (ask.Info bearer) h = cc
-  consent_page_asked (ask.SignOut session) h = cc
+  consent_page_asked (ask.Info bearer) h = let told = info_told c past e asks bearer h in cc
+  consent_page_asked (ask.SignOut session) h = let told = sign_out_told c past e asks session h in cc
   consent_page_asked ask.Metadata h = cc
   consent_page_asked ask.Keys h = cc
   consent_page_asked ask.Twice h = cc
@@ -179,13 +167,6 @@ module _ (c : Configuration) (past : OpPast) (e : Entry OpAsk) where
   no_error_at_once wish browser need.Answer (Some session) why h = cc
   no_error_at_once wish browser need.Answer None why h = cc
   no_error_at_once wish browser need.Login session why h = cc
-
-  error_at_once : (wish : Wish) (browser presented : Option Word) (session : Option SessionRow) (why : PageNo)
-      → Unserved c past e (ErrorPage why) wish ⊎ Served c past e (ErrorPage why) wish browser session
-      → ErrorPageCause past e (ask.Authorize (verdict.Grant wish) browser presented) why
-  error_at_once wish browser presented session why (inl led) = let h = led.1 in cc
-  error_at_once wish browser presented session why (inr led) =
-      absurd (no_error_at_once wish (page_browser past e browser) (need_at_once c past e wish session) session why led.1)
 
   no_error_signed : (row : TurnRow) (session : SessionRow) (wanted : Need) (why : PageNo) → login_by c e row session wanted ≡ ErrorPage why → ⊥
   no_error_signed row session (need.Error code) why h = cc
@@ -233,14 +214,14 @@ module _ (c : Configuration) (past : OpPast) (e : Entry OpAsk) where
   error_asked (ask.Authorize (verdict.Refuse refusal) browser presented) why h = cc
   error_asked (ask.Authorize (verdict.Grant wish) browser presented) why h =
       let session = live_session past e.at presented in
-      error_at_once wish browser presented session why (request_led c past e (ErrorPage why) wish browser session h)
+      absurd (no_error_at_once wish (page_browser past e browser) (need_at_once c past e wish session) session why h)
   error_asked (ask.Login turn signed browser presented) why h =
       error_after turn signed browser presented why (login_led c past e (ErrorPage why) turn signed browser presented h)
   error_asked (ask.Consent turn agree browser presented) why h =
       error_consent turn agree browser presented why (consent_led c past e (ErrorPage why) turn agree browser presented h)
   error_asked (ask.Token grant) why h = let told = token_told c past e (ErrorPage why) grant h in cc
-  error_asked (ask.Info bearer) why h = cc
-  error_asked (ask.SignOut session) why h = cc
+  error_asked (ask.Info bearer) why h = let told = info_told c past e (ErrorPage why) bearer h in cc
+  error_asked (ask.SignOut session) why h = let told = sign_out_told c past e (ErrorPage why) session h in cc
   error_asked ask.Metadata why h = cc
   error_asked ask.Keys why h = cc
   error_asked ask.Twice why h = error_twice why h

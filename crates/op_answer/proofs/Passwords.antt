@@ -1,5 +1,5 @@
 -- A session word is answered only to a login form with a right password.
-use Rattle.std.proofs.Common.{◌≡◌, true, [], ◌∷◌, ◌++◌, Option, Some, refl, sym, ◌∙◌, ap}
+use Rattle.std.proofs.Common.{◌≡◌, true, ◌∷◌, ◌++◌, Option, Some, refl, sym, ◌∙◌, ap}
 use Rattle.sso_base.specs.Words.{Word, Text}
 use Rattle.sso_base.specs.declared.history.Entry.{Entry}
 use Rattle.client_registry.specs.Configuration.{Configuration}

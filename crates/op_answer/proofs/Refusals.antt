@@ -1,11 +1,11 @@
 -- What authorization error responses say.
-use Rattle.std.proofs.Common.{◌≡◌, ℕ, Bool, true, false, Option, Some, None, refl, ◌⊎◌, inl, inr}
+use Rattle.std.proofs.Common.{◌≡◌, ℕ, Bool, true, false, Option, Some, None, refl, inl, inr}
 use Rattle.sso_base.specs.Words.{Word}
 use Rattle.sso_base.specs.declared.history.Entry.{Entry}
 use Rattle.client_registry.specs.Configuration.{Configuration}
 use Rattle.auth_request.specs.declared.wish.Wish.{Wish}
 use Rattle.oidc_words.specs.declared.errors.Refusal.{Refusal}
-use Rattle.oidc_words.specs.declared.errors.AuthError.TheVariants.{LoginRequired, ConsentRequired, AccessDenied, UnsupportedResponseType}
+use Rattle.oidc_words.specs.declared.errors.AuthError.TheVariants.{LoginRequired, ConsentRequired, AccessDenied}
 use Rattle.auth_request.specs.declared.wish.Verdict.TheVariants as verdict
 use Rattle.request_need.specs.declared.need.Need.{Need}
 use Rattle.request_need.specs.declared.need.Need.TheVariants as need
@@ -21,7 +21,7 @@ use Rattle.op_answer.specs.Replies.{authorize_by, page_browser, login_by, consen
 use Rattle.op_answer.specs.Answering.{op_reply, op_answer}
 use Rattle.op_answer.specs.Causes.{OwnTurn, OwnConsent, RefusedAtOnce, RefusedAfterLogin, RefusedAtConsent, RefusedCause, need_at_once, need_after_login, need_after_yes}
 use Rattle.op_answer.proofs.Standing.{own_replies_stand}
-use Rattle.op_answer.proofs.Forms.{Unserved, Served, request_led, LoginLed, LoginSeen, login_led, ConsentLed, ConsentSeen, consent_led, token_told}
+use Rattle.op_answer.proofs.Forms.{LoginLed, LoginSeen, login_led, ConsentLed, ConsentSeen, consent_led, token_told, info_told, sign_out_told}
 
 module _ (c : Configuration) (past : OpPast) (e : Entry OpAsk) (refusal : Refusal) (given : Option Word) where
   abbrev this : OpReply
@@ -30,20 +30,12 @@ module _ (c : Configuration) (past : OpPast) (e : Entry OpAsk) (refusal : Refusa
   refused_by : (wish : Wish) (browser presented : Option Word) (wanted : Need) (session : Option SessionRow)
       → live_session past e.at presented ≡ session → need_at_once c past e wish (live_session past e.at presented) ≡ wanted
       → authorize_by c e wish (page_browser past e browser) wanted session ≡ this → RefusedAtOnce c past e wish presented refusal given
-  refused_by wish browser presented (need.Error code) session live wants h = record { code = code; refusal_is = cc; none_given = cc; why = inr wants }
+  refused_by wish browser presented (need.Error code) session live wants h = record { code = code; refusal_is = cc; none_given = cc; why = wants }
   refused_by wish browser presented need.Consent (Some session) live wants h = cc
   refused_by wish browser presented need.Consent None live wants h = cc
   refused_by wish browser presented need.Answer (Some session) live wants h = cc
   refused_by wish browser presented need.Answer None live wants h = cc
   refused_by wish browser presented need.Login session live wants h = cc
-
-  refused_at_once : (wish : Wish) (browser presented : Option Word) → Unserved c past e this wish ⊎ Served c past e this wish browser (live_session past e.at presented)
-      → RefusedAtOnce c past e wish presented refusal given
-  refused_at_once wish browser presented (inl led) =
-      let h = led.1 in record { code = UnsupportedResponseType; refusal_is = cc; none_given = cc; why = inl (led.0, refl) }
-  refused_at_once wish browser presented (inr led) =
-      let session = live_session past e.at presented in
-      refused_by wish browser presented (need_at_once c past e wish session) session refl refl led.1
 
   refused_signed : (turn : Option Word) (user : ℕ) (browser presented : Option Word) (row : TurnRow) → OwnTurn past e turn browser row → (wanted : Need)
       → need_after_login c past e row (session_after past e user presented) ≡ wanted
@@ -94,14 +86,15 @@ module _ (c : Configuration) (past : OpPast) (e : Entry OpAsk) (refusal : Refusa
   refused_asked (ask.Authorize (verdict.Page why) browser presented) h = cc
   refused_asked (ask.Authorize (verdict.Refuse judged) browser presented) h = (cc, cc)
   refused_asked (ask.Authorize (verdict.Grant wish) browser presented) h =
-      refused_at_once wish browser presented (request_led c past e this wish browser (live_session past e.at presented) h)
+      let session = live_session past e.at presented in
+      refused_by wish browser presented (need_at_once c past e wish session) session refl refl h
   refused_asked (ask.Login turn signed browser presented) h =
       refused_after turn signed browser presented (login_led c past e this turn signed browser presented h)
   refused_asked (ask.Consent turn agree browser presented) h =
       refused_consent turn agree browser presented (consent_led c past e this turn agree browser presented h)
   refused_asked (ask.Token grant) h = let told = token_told c past e this grant h in cc
-  refused_asked (ask.Info bearer) h = cc
-  refused_asked (ask.SignOut session) h = cc
+  refused_asked (ask.Info bearer) h = let told = info_told c past e this bearer h in cc
+  refused_asked (ask.SignOut session) h = let told = sign_out_told c past e this session h in cc
   refused_asked ask.Metadata h = cc
   refused_asked ask.Keys h = cc
   refused_asked ask.Twice h = cc

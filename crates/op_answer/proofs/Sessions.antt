@@ -1,17 +1,22 @@
 -- Sessions at the provider: single sign-on, another user, and room, by computation.
-use Rattle.std.proofs.Common.{◌≡◌, ℕ, true, false, List, [], ◌∷◌, Some, None, codes, refl}
+use Rattle.std.proofs.Common.{◌≡◌, ℕ, true, false, List, [], ◌∷◌, Option, Some, None, codes, refl}
 use Rattle.sso_base.specs.declared.history.Entry.{Entry}
 use Rattle.auth_request.specs.declared.wish.Verdict.TheVariants.{Grant}
-use Rattle.oidc_words.specs.declared.errors.AuthError.TheVariants.{LoginRequired, AccessDenied, UnsupportedResponseType}
+use Rattle.oidc_words.specs.declared.errors.AuthError.TheVariants.{LoginRequired, AccessDenied}
 use Rattle.auth_request.specs.declared.wish.PageNo.TheVariants as page
 use Rattle.op_exchange.specs.declared.ask.OpAsk.{OpAsk}
 use Rattle.op_exchange.specs.declared.ask.OpAsk.TheVariants as ask
 use Rattle.op_exchange.specs.declared.reply.OpReply.{OpReply}
-use Rattle.op_exchange.specs.declared.reply.OpReply.TheVariants.{LoginPage, ConsentPage, Answered, Refused, ErrorPage, Full, NotHere}
-use Rattle.sso_base.specs.Words.{Word}
+use Rattle.op_exchange.specs.declared.reply.OpReply.TheVariants.{LoginPage, ConsentPage, Answered, Refused, ErrorPage, SignedOut, Full, NotHere}
+use Rattle.sso_base.specs.Words.{Word, Text}
+use Rattle.sso_base.specs.declared.message.Message.{Message}
+use Rattle.oidc_words.specs.declared.response_types.Types.{Types}
+use Rattle.op_issue.specs.IdTokens.{issued_id}
+use Rattle.op_issue.specs.declared.sign_out.SignOut.{SignOut}
+use Rattle.op_issue.specs.LogoutMessages.{logout_message, logout_messages}
 use Rattle.op_answer.specs.Past.{OpPast}
 use Rattle.code_grant.specs.declared.rows.SessionRow.{SessionRow}
-use Rattle.code_grant.specs.Clients.{no_clients, with_client}
+use Rattle.client_registry.specs.ClientSets.{no_clients, with_client}
 use Rattle.op_answer.specs.Sessions.{sessions}
 use Rattle.op_answer.specs.Consents.{grant_of}
 use Rattle.request_need.specs.Need.{needed, needed_scopes}
@@ -75,27 +80,94 @@ alice_session = record { word = word 9; sid = word 10; user = 0; auth_time = 100
 pub one_session : sessions past_code ≡ alice_session ∷ []
 one_session = refl
 
--- a sign-out is not here yet, and ends nothing
+-- ---- a sign-out tells the client that the session has answered, and ends the session
+
 abbrev pub sign_out_entry : Entry OpAsk
 sign_out_entry = entry_at 1001 29 (ask.SignOut (Some (word 9)))
 
-pub sign_out_is_not_here : op_answer sample past_code sign_out_entry ≡ NotHere
-unfolding op_answer needed needed_scopes joined scopes_with_any no_clients
-sign_out_is_not_here = refl
+abbrev pub alice_out : SignOut
+alice_out = record { who = record { user = 0; sid = word 10; auth_time = 1000 }; at = 1001; word = word 29 }
 
-pub session_stays : sessions (pair_of sign_out_entry NotHere ∷ past_code) ≡ alice_session ∷ []
-session_stays = refl
+abbrev pub message_to_shop : Message
+message_to_shop = logout_message sample alice_out 0 (codes "http://127.0.0.1:8081/logout")
 
--- a response type that is not served yet
-pub other_type_is_refused : op_answer sample past_code (entry_at 1001 29 (ask.Authorize (Grant (record wish { types = record { code = true; id_token = true; token = false } })) (Some (word 5)) (Some (word 9))))
-    ≡ Refused (record { redirect = callback_uri; fragment = true; state = Some (codes "state"); code = UnsupportedResponseType }) None
+pub alice_signs_out : op_answer sample past_code sign_out_entry ≡ SignedOut (message_to_shop ∷ [])
+unfolding op_answer logout_messages no_clients
+alice_signs_out = refl
+
+abbrev pub past_signed_out : OpPast
+past_signed_out = pair_of sign_out_entry (SignedOut (message_to_shop ∷ [])) ∷ past_code
+
+pub no_session_is_left : sessions past_signed_out ≡ []
+no_session_is_left = refl
+
+-- one that answered nobody tells nobody
+pub signs_out_of_no_client : op_answer sample past_consent sign_out_entry ≡ SignedOut []
+unfolding op_answer logout_messages no_clients
+signs_out_of_no_client = refl
+
+-- nor does one without a live session
+pub signs_out_again : op_answer sample past_signed_out sign_out_entry ≡ SignedOut []
+unfolding op_answer
+signs_out_again = refl
+
+pub signs_out_without_a_session : op_answer sample past_code (entry_at 1001 29 (ask.SignOut None)) ≡ SignedOut []
+unfolding op_answer
+signs_out_without_a_session = refl
+
+-- ---- the other response types
+
+abbrev pub typed_entry : Types → Entry OpAsk
+typed_entry types = entry_at 1001 29 (ask.Authorize (Grant (record wish { types = types })) (Some (word 5)) (Some (word 9)))
+
+abbrev pub typed_id : Types → Option Word → Option Word → Option Text
+typed_id types access code = Some (issued_id sample (record wish { types = types }) alice_out.who 1001 access code)
+
+abbrev pub typed_answer : Option Word → Option Word → Option Text → OpReply
+typed_answer code access id = Answered (record { redirect = callback_uri; fragment = true; code = code; access = access; id = id; state = Some (codes "state") }) None
+
+abbrev pub code_id_token : Types
+code_id_token = record { code = true; id_token = true; token = false }
+
+pub a_code_and_an_id_token : op_answer sample past_code (typed_entry code_id_token) ≡ typed_answer (Some (word 31)) None (typed_id code_id_token None (Some (word 31)))
 unfolding op_answer needed needed_scopes joined scopes_with_any no_clients
-other_type_is_refused = refl
+a_code_and_an_id_token = refl
+
+abbrev pub only_id_token : Types
+only_id_token = record { code = false; id_token = true; token = false }
+
+pub an_id_token_alone : op_answer sample past_code (typed_entry only_id_token) ≡ typed_answer None None (typed_id only_id_token None None)
+unfolding op_answer needed needed_scopes joined scopes_with_any no_clients
+an_id_token_alone = refl
+
+abbrev pub code_token : Types
+code_token = record { code = true; id_token = false; token = true }
+
+pub a_code_and_an_access_token : op_answer sample past_code (typed_entry code_token) ≡ typed_answer (Some (word 31)) (Some (word 32)) None
+unfolding op_answer needed needed_scopes joined scopes_with_any no_clients
+a_code_and_an_access_token = refl
+
+abbrev pub all_three : Types
+all_three = record { code = true; id_token = true; token = true }
+
+pub all_three_are_answered : op_answer sample past_code (typed_entry all_three) ≡ typed_answer (Some (word 31)) (Some (word 32)) (typed_id all_three (Some (word 32)) (Some (word 31)))
+unfolding op_answer needed needed_scopes joined scopes_with_any no_clients
+all_three_are_answered = refl
 
 -- ---- another user logs in where alice's session is presented
 
+abbrev pub login_asked : Entry OpAsk
+login_asked = entry_at 1000 37 (ask.Authorize (Grant (record wish { login = true })) (Some (word 5)) (Some (word 9)))
+
+abbrev pub login_again : OpReply
+login_again = LoginPage (word 38) (word 37) false
+
+pub login_is_shown : op_answer sample past_code login_asked ≡ login_again
+unfolding op_answer needed needed_scopes joined scopes_with_any no_clients
+login_is_shown = refl
+
 abbrev pub fresh_turn : OpPast
-fresh_turn = pair_of (entry_at 1000 37 (ask.Authorize (Grant (record wish { login = true })) (Some (word 5)) (Some (word 9)))) (LoginPage (word 38) (word 37) false) ∷ past_code
+fresh_turn = pair_of login_asked login_again ∷ past_code
 
 abbrev pub bob_entry : List Word → Entry OpAsk
 bob_entry fresh = record { at = 1001; fresh = fresh; ask = ask.Login (Some (word 38)) (Some 1) (Some (word 37)) (Some (word 9)) }
@@ -135,7 +207,13 @@ pub alice_is_answered : op_answer sample fresh_turn alice_entry ≡ alice_answer
 unfolding op_answer needed needed_scopes joined scopes_with_any no_clients
 alice_is_answered = refl
 
-pub alice_is_renewed : sessions (pair_of alice_entry alice_answer ∷ fresh_turn) ≡ (record alice_session { auth_time = 1001 }) ∷ []
+abbrev pub past_renewed : OpPast
+past_renewed = pair_of alice_entry alice_answer ∷ fresh_turn
+
+abbrev pub renewed_session : SessionRow
+renewed_session = record alice_session { auth_time = 1001 }
+
+pub alice_is_renewed : sessions past_renewed ≡ renewed_session ∷ []
 unfolding no_clients
 alice_is_renewed = refl
 

@@ -24,7 +24,7 @@ use Rattle.op_answer.specs.Replies.{token, tokens_by}
 use Rattle.op_answer.specs.Answering.{op_reply, op_answer}
 use Rattle.op_answer.specs.Causes.{TokensForCode, TokensCause, TokenRefusedCause}
 use Rattle.op_answer.proofs.Standing.{own_replies_stand}
-use Rattle.op_answer.proofs.Forms.{request_told, login_told, consent_told}
+use Rattle.op_answer.proofs.Forms.{request_told, login_told, consent_told, info_told, sign_out_told}
 
 -- ---- the code's row, where it is redeemed
 
@@ -86,8 +86,8 @@ module _ (c : Configuration) (past : OpPast) (e : Entry OpAsk) where
   tokens_asked (ask.Login turn signed browser presented) w id h = let told = login_told c past e (Tokens w id) turn signed browser presented h in cc
   tokens_asked (ask.Consent turn agree browser presented) w id h = let told = consent_told c past e (Tokens w id) turn agree browser presented h in cc
   tokens_asked (ask.Token grant) w id h = tokens_granted grant w id h
-  tokens_asked (ask.Info bearer) w id h = cc
-  tokens_asked (ask.SignOut session) w id h = cc
+  tokens_asked (ask.Info bearer) w id h = let told = info_told c past e (Tokens w id) bearer h in cc
+  tokens_asked (ask.SignOut session) w id h = let told = sign_out_told c past e (Tokens w id) session h in cc
   tokens_asked ask.Metadata w id h = cc
   tokens_asked ask.Keys w id h = cc
   tokens_asked ask.Twice w id h = cc
@@ -119,8 +119,8 @@ module _ (c : Configuration) (past : OpPast) (e : Entry OpAsk) where
   refused_asked (ask.Login turn signed browser presented) code h = let told = login_told c past e (TokenRefused code) turn signed browser presented h in cc
   refused_asked (ask.Consent turn agree browser presented) code h = let told = consent_told c past e (TokenRefused code) turn agree browser presented h in cc
   refused_asked (ask.Token grant) code h = refused_granted grant code h
-  refused_asked (ask.Info bearer) code h = cc
-  refused_asked (ask.SignOut session) code h = cc
+  refused_asked (ask.Info bearer) code h = let told = info_told c past e (TokenRefused code) bearer h in cc
+  refused_asked (ask.SignOut session) code h = let told = sign_out_told c past e (TokenRefused code) session h in cc
   refused_asked ask.Metadata code h = cc
   refused_asked ask.Keys code h = cc
   refused_asked ask.Twice code h = cc

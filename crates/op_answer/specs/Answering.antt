@@ -12,17 +12,17 @@ use Rattle.op_exchange.specs.declared.reply.OpReply.TheVariants.{ErrorPage, Meta
 use Rattle.op_answer.specs.Past.{OpPast}
 use Rattle.op_exchange.specs.Asks.{is_prepared}
 use Rattle.op_answer.specs.Turns.{live_turn}
-use Rattle.op_answer.specs.Replies.{authorize, login, consent, token}
+use Rattle.op_answer.specs.Replies.{authorize, login, consent, token, info, sign_out}
 use Rattle.op_answer.specs.Room.{unless_full}
 
--- The reply, were there always room. Neither UserInfo nor sign-outs are here yet.
+-- the reply, were there always room
 abbrev pub op_reply : Configuration → OpPast → Entry OpAsk → OpAsk → OpReply
 op_reply c past e (ask.Authorize verdict browser session) = authorize c past e verdict browser session
 op_reply c past e (ask.Login turn signed browser session) = login c past e (live_turn past e.at turn) signed browser session
 op_reply c past e (ask.Consent turn agree browser session) = consent c past e (live_turn past e.at turn) agree browser session
 op_reply c past e (ask.Token grant) = token c past e grant
-op_reply c past e (ask.Info bearer) = NotHere
-op_reply c past e (ask.SignOut session) = NotHere
+op_reply c past e (ask.Info bearer) = info c past e bearer
+op_reply c past e (ask.SignOut session) = sign_out c past e session
 op_reply c past e ask.Metadata = Metadata (claims_text (metadata c.provider))
 op_reply c past e ask.Keys = Keys
 op_reply c past e ask.Twice = ErrorPage page.Twice

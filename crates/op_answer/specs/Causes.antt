@@ -1,15 +1,17 @@
 -- What a reply of the provider says of the past and of the ask that led to it.
-use Rattle.std.specs.Prelude.{◌≡◌, ◌≢◌, ℕ, Bool, true, false, Option, Some, None, option_map, Ok, Err, ◌⊎◌}
+use Rattle.std.specs.Prelude.{◌≡◌, ◌≢◌, ℕ, Bool, true, false, List, [], Option, Some, None, option_map, Ok, Err, ◌⊎◌}
 use Rattle.sso_base.specs.Words.{Word, Text, is_word, fresh_word, word_of_text}
 use Rattle.sso_base.specs.Rows.{lives}
 use Rattle.sso_base.specs.declared.history.Entry.{Entry}
+use Rattle.sso_base.specs.declared.message.Message.{Message}
 use Rattle.client_registry.specs.Configuration.{Configuration}
 use Rattle.client_registry.specs.Numbers.{client_id}
+use Rattle.claim_set.specs.Reading.{claims_text}
 use Rattle.oidc_words.specs.declared.scopes.Scopes.{Scopes}
 use Rattle.auth_request.specs.declared.wish.Wish.{Wish}
 use Rattle.oidc_words.specs.declared.errors.Refusal.{Refusal}
 use Rattle.oidc_words.specs.declared.errors.AuthError.{AuthError}
-use Rattle.oidc_words.specs.declared.errors.AuthError.TheVariants.{LoginRequired, ConsentRequired, AccessDenied, UnsupportedResponseType}
+use Rattle.oidc_words.specs.declared.errors.AuthError.TheVariants.{LoginRequired, ConsentRequired, AccessDenied}
 use Rattle.auth_request.specs.declared.wish.PageNo.{PageNo}
 use Rattle.auth_request.specs.declared.wish.PageNo.TheVariants as page
 use Rattle.auth_request.specs.declared.wish.Verdict.TheVariants as verdict
@@ -21,9 +23,12 @@ use Rattle.token_endpoint.specs.declared.granting.Grant.{Grant}
 use Rattle.token_endpoint.specs.declared.error.TokenError.{TokenError}
 use Rattle.token_endpoint.specs.declared.error.TokenError.TheVariants.{InvalidGrant}
 use Rattle.token_endpoint.specs.Errors.{token_error}
+use Rattle.userinfo.specs.declared.header.Bearer.TheVariants as bearer
+use Rattle.userinfo.specs.Held.{info_members}
 use Rattle.code_grant.specs.declared.rows.TurnRow.{TurnRow}
 use Rattle.code_grant.specs.declared.rows.SessionRow.{SessionRow}
 use Rattle.code_grant.specs.declared.rows.CodeRow.{CodeRow}
+use Rattle.code_grant.specs.declared.rows.TokenRow.{TokenRow}
 use Rattle.code_grant.specs.declared.redeem.Redeem.TheVariants.{Redeemed}
 use Rattle.oidc_words.specs.Lives.{code_usable}
 use Rattle.op_exchange.specs.declared.ask.OpAsk.{OpAsk}
@@ -35,10 +40,12 @@ use Rattle.op_exchange.specs.Asks.{is_prepared}
 use Rattle.op_answer.specs.Turns.{live_turn}
 use Rattle.op_answer.specs.Sessions.{live_session}
 use Rattle.op_answer.specs.Codes.{held_code, redeem}
+use Rattle.op_answer.specs.AccessTokens.{live_access_token}
 use Rattle.op_issue.specs.IdTokens.{issued_id}
 use Rattle.op_answer.specs.Authentications.{session_authentication, code_authentication}
-use Rattle.op_answer.specs.Replies.{refusal_of, standing_of, standing_agreed, is_served, is_turns, page_browser, session_after}
+use Rattle.op_answer.specs.Replies.{refusal_of, standing_of, standing_agreed, is_turns, page_browser, session_after, sign_out_of}
 use Rattle.op_issue.specs.Issued.{issued}
+use Rattle.op_issue.specs.LogoutMessages.{logout_messages}
 use Rattle.op_answer.specs.Room.{lacks_room}
 use Rattle.op_answer.specs.Answering.{op_reply}
 
@@ -81,7 +88,6 @@ need_after_yes c past e row session = needed c row.wish (Some (standing_agreed p
 -- ---- a login page: of a new turn where a login is needed, or again after a wrong password
 
 pub record NewTurn (c : Configuration) (past : OpPast) (e : Entry OpAsk) (wish : Wish) (browser presented : Option Word) (w b : Word) (again : Bool) : Type 0 where
-  pub served : is_served wish.types ≡ true
   pub wanted : need_at_once c past e wish (live_session past e.at presented) ≡ need.Login
   pub drawn : fresh_word e.fresh 1 ≡ w
   pub browser_is : page_browser past e browser ≡ b
@@ -102,7 +108,6 @@ LoginPageCause c past e other w b again = ⊥
 -- ---- a consent page: at once, or after a right password
 
 pub record ConsentAtOnce (c : Configuration) (past : OpPast) (e : Entry OpAsk) (wish : Wish) (browser presented : Option Word) (w b : Word) (given : Option Word) (client : Text) (scopes : Scopes) : Type 0 where
-  pub served : is_served wish.types ≡ true
   pub session : SessionRow
   pub live : live_session past e.at presented ≡ Some session
   pub wanted : need_at_once c past e wish (Some session) ≡ need.Consent
@@ -132,7 +137,6 @@ ConsentPageCause c past e other w b given client scopes = ⊥
 -- ---- a successful response: at once, after a right password, or after a yes
 
 pub record AnsweredAtOnce (c : Configuration) (past : OpPast) (e : Entry OpAsk) (wish : Wish) (presented : Option Word) (answer : Answer) (given : Option Word) : Type 0 where
-  pub served : is_served wish.types ≡ true
   pub session : SessionRow
   pub live : live_session past e.at presented ≡ Some session
   pub enough : need_at_once c past e wish (Some session) ≡ need.Answer
@@ -166,7 +170,7 @@ pub record RefusedAtOnce (c : Configuration) (past : OpPast) (e : Entry OpAsk) (
   pub code : AuthError
   pub refusal_is : refusal_of wish code ≡ refusal
   pub none_given : given ≡ None
-  pub why : ((is_served wish.types ≡ false) × (code ≡ UnsupportedResponseType)) ⊎ (need_at_once c past e wish (live_session past e.at presented) ≡ need.Error code)
+  pub why : need_at_once c past e wish (live_session past e.at presented) ≡ need.Error code
 
 -- the error that a need leads to after a right password, and after a yes
 abbrev pub ErrorAfterLogin : Need → AuthError → Type 0
@@ -260,3 +264,35 @@ abbrev pub TokenRefusedCause : OpPast → Entry OpAsk → OpAsk → TokenError �
 TokenRefusedCause past e (ask.Token (Err why)) code = token_error why ≡ code
 TokenRefusedCause past e (ask.Token (Ok grant)) code = (redeem past e.at grant ≢ Redeemed) × (code ≡ InvalidGrant)
 TokenRefusedCause past e other code = ⊥
+
+-- ---- a UserInfo response: the access token lives, and it is about the token's client, user, scope values and asked claims
+
+pub record InfoForToken (c : Configuration) (past : OpPast) (e : Entry OpAsk) (w : Word) (claims : Text) : Type 0 where
+  pub token : TokenRow
+  pub live : live_access_token past e.at w ≡ Some token
+  pub claims_are : claims_text (info_members c token.client token.user token.scopes token.asked) ≡ claims
+
+abbrev pub InfoCause : Configuration → OpPast → Entry OpAsk → OpAsk → Text → Type 0
+InfoCause c past e (ask.Info (bearer.Given w)) claims = InfoForToken c past e w claims
+InfoCause c past e other claims = ⊥
+
+-- ---- a UserInfo error response: to a request without a token, with one that is no word, or with one that does not live
+
+abbrev pub InfoRefusedCause : OpPast → Entry OpAsk → OpAsk → Bool → Type 0
+InfoRefusedCause past e (ask.Info bearer.Absent) given = given ≡ false
+InfoRefusedCause past e (ask.Info bearer.Unreadable) given = given ≡ true
+InfoRefusedCause past e (ask.Info (bearer.Given w)) given = (live_access_token past e.at w ≡ None) × (given ≡ true)
+InfoRefusedCause past e other given = ⊥
+
+-- ---- a sign-out: of no live session, which tells nobody, or of the presented one, which tells those of the clients that it has
+-- answered that have a logout URI
+
+pub record EndedSession (c : Configuration) (past : OpPast) (e : Entry OpAsk) (presented : Option Word) (messages : List Message) : Type 0 where
+  pub session : SessionRow
+  pub live : live_session past e.at presented ≡ Some session
+  pub messages_are : logout_messages c (sign_out_of e session) session.clients ≡ messages
+
+abbrev pub SignedOutCause : Configuration → OpPast → Entry OpAsk → OpAsk → List Message → Type 0
+SignedOutCause c past e (ask.SignOut presented) messages =
+    ((live_session past e.at presented ≡ None) × (messages ≡ [])) ⊎ EndedSession c past e presented messages
+SignedOutCause c past e other messages = ⊥

@@ -8,13 +8,12 @@ use Rattle.client_registry.specs.Configuration.{Configuration}
 use Rattle.code_grant.specs.Rows.{turn_name, session_name, code_name, access_name}
 use Rattle.held_rows.specs.Held.{most_rows}
 use Rattle.op_exchange.specs.declared.ask.OpAsk.{OpAsk}
-use Rattle.op_exchange.specs.declared.ask.OpAsk.TheVariants.{Authorize, Login}
+use Rattle.op_exchange.specs.declared.ask.OpAsk.TheVariants.{Login}
 use Rattle.op_exchange.specs.declared.reply.OpReply.{OpReply}
-use Rattle.op_exchange.specs.declared.reply.OpReply.TheVariants.{LoginPage, ConsentPage}
 use Rattle.op_exchange.specs.Asks.{is_prepared}
 use Rattle.op_exchange.specs.Replied.{session_given}
 use Rattle.op_answer.specs.Past.{OpPast}
-use Rattle.op_answer.specs.Turns.{live_turns}
+use Rattle.op_answer.specs.Turns.{BeginsTurn, live_turns}
 use Rattle.op_answer.specs.Sessions.{live_sessions}
 use Rattle.op_answer.specs.Codes.{code_in, held_codes}
 use Rattle.op_answer.specs.AccessTokens.{live_accesses}
@@ -27,11 +26,6 @@ abbrev pub NoPlace : {R : Type 0} → (R → Word) → Word → List R → Type 
 NoPlace {R} name w rows = (most_rows ≤ length rows) ⊎ ((row : R) × (row_of name w rows ≡ Some row))
 
 -- a page of this turn comes at once
-abbrev pub BeginsTurn : OpAsk → OpReply → Word → Type 0
-BeginsTurn (Authorize verdict browser session) (LoginPage w b again) v = w ≡ v
-BeginsTurn (Authorize verdict browser session) (ConsentPage w b given client scopes) v = w ≡ v
-BeginsTurn asked told v = ⊥
-
 pub record NoTurnPlace (past : OpPast) (e : Entry OpAsk) (told : OpReply) : Type 0 where
   pub begins : BeginsTurn e.ask told (fresh_word e.fresh 1)
   pub full : NoPlace turn_name (fresh_word e.fresh 1) (live_turns past e.at)

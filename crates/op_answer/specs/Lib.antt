@@ -12,3 +12,5 @@ pub mod FullTables
 pub mod Causes
 pub mod Legal
 pub mod Authentications
+pub mod OwnRows
+pub mod Drawn

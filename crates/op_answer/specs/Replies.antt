@@ -1,10 +1,10 @@
 -- What the provider replies, were there always room in its tables.
-use Rattle.std.specs.Prelude.{ℕ, ◌==◌, Bool, true, false, not, ◌&&◌, ◌||◌, Option, Some, None, option_map, option_and_then, Result, Ok, Err, if◌then◌else◌}
+use Rattle.std.specs.Prelude.{ℕ, ◌==◌, Bool, true, false, not, ◌||◌, [], Option, Some, None, option_map, option_and_then, Result, Ok, Err, if◌then◌else◌}
 use Rattle.sso_base.specs.Words.{Word, is_word, fresh_word, word_of_text}
 use Rattle.sso_base.specs.declared.history.Entry.{Entry}
-use Rattle.oidc_words.specs.declared.response_types.Types.{Types}
 use Rattle.client_registry.specs.Configuration.{Configuration}
 use Rattle.client_registry.specs.Numbers.{client_id}
+use Rattle.claim_set.specs.Reading.{claims_text}
 use Rattle.oidc_words.specs.Scopes.{joined}
 use Rattle.auth_request.specs.declared.wish.Wish.{Wish}
 use Rattle.oidc_words.specs.declared.errors.Refusal.{Refusal}
@@ -12,7 +12,7 @@ use Rattle.auth_request.specs.declared.wish.Verdict.{Verdict}
 use Rattle.auth_request.specs.declared.wish.Verdict.TheVariants as verdict
 use Rattle.auth_request.specs.declared.wish.PageNo.TheVariants as page
 use Rattle.oidc_words.specs.declared.errors.AuthError.{AuthError}
-use Rattle.oidc_words.specs.declared.errors.AuthError.TheVariants.{LoginRequired, ConsentRequired, AccessDenied, UnsupportedResponseType}
+use Rattle.oidc_words.specs.declared.errors.AuthError.TheVariants.{LoginRequired, ConsentRequired, AccessDenied}
 use Rattle.request_need.specs.declared.standing.Standing.{Standing}
 use Rattle.request_need.specs.declared.need.Need.{Need}
 use Rattle.request_need.specs.declared.need.Need.TheVariants as need
@@ -21,23 +21,30 @@ use Rattle.token_endpoint.specs.declared.granting.Grant.{Grant}
 use Rattle.token_endpoint.specs.declared.no.GrantNo.{GrantNo}
 use Rattle.token_endpoint.specs.declared.error.TokenError.TheVariants.{InvalidGrant}
 use Rattle.token_endpoint.specs.Errors.{token_error}
+use Rattle.userinfo.specs.declared.header.Bearer.{Bearer}
+use Rattle.userinfo.specs.declared.header.Bearer.TheVariants as bearer
+use Rattle.userinfo.specs.Held.{info_members}
 use Rattle.code_grant.specs.declared.rows.TurnRow.{TurnRow}
 use Rattle.code_grant.specs.declared.rows.SessionRow.{SessionRow}
 use Rattle.code_grant.specs.declared.rows.CodeRow.{CodeRow}
+use Rattle.code_grant.specs.declared.rows.TokenRow.{TokenRow}
 use Rattle.code_grant.specs.declared.redeem.Redeem.{Redeem}
 use Rattle.code_grant.specs.declared.redeem.Redeem.TheVariants.{Redeemed}
-use Rattle.code_grant.specs.Clients.{no_clients}
+use Rattle.client_registry.specs.ClientSets.{no_clients}
 use Rattle.op_exchange.specs.declared.ask.OpAsk.{OpAsk}
 use Rattle.op_exchange.specs.declared.reply.OpReply.{OpReply}
-use Rattle.op_exchange.specs.declared.reply.OpReply.TheVariants.{LoginPage, ConsentPage, Answered, Refused, ErrorPage, Tokens, TokenRefused}
+use Rattle.op_exchange.specs.declared.reply.OpReply.TheVariants.{LoginPage, ConsentPage, Answered, Refused, ErrorPage, Tokens, TokenRefused, Info, InfoRefused, SignedOut}
 use Rattle.oidc_words.specs.Types.{is_in_fragment}
 use Rattle.op_issue.specs.Issued.{issued}
 use Rattle.op_answer.specs.Past.{OpPast}
 use Rattle.op_answer.specs.Turns.{has_turn_browser}
 use Rattle.op_answer.specs.Sessions.{live_session}
 use Rattle.op_answer.specs.Codes.{held_code, redeem}
+use Rattle.op_answer.specs.AccessTokens.{live_access_token}
 use Rattle.op_answer.specs.Consents.{grant_of}
 use Rattle.op_issue.specs.IdTokens.{issued_id}
+use Rattle.op_issue.specs.declared.sign_out.SignOut.{SignOut}
+use Rattle.op_issue.specs.LogoutMessages.{logout_messages}
 use Rattle.op_answer.specs.Authentications.{session_authentication, code_authentication}
 
 -- ---- what an authorization request gets (OpenID Connect Core 1.0, 3.1.2.5, 3.1.2.6, 3.2.2.5 and 3.3.2.5)
@@ -57,10 +64,6 @@ standing_of past wish in_turn session =
 
 -- ---- an authorization request (Core 3.1.2.1 to 3.1.2.4)
 
--- the response types that are answered today: `code`, and `id_token token`
-abbrev pub is_served : Types → Bool
-is_served types = (types.code && not types.id_token && not types.token) || (not types.code && types.id_token && types.token)
-
 -- a page keeps the presented browser word where a live turn has it
 abbrev pub page_browser : OpPast → Entry OpAsk → Option Word → Word
 page_browser past e None = fresh_word e.fresh 0
@@ -75,9 +78,7 @@ authorize_by c e wish browser other session = LoginPage (fresh_word e.fresh 1) b
 
 abbrev pub authorize_wish : Configuration → OpPast → Entry OpAsk → Wish → Word → Option SessionRow → OpReply
 authorize_wish c past e wish browser session =
-    if is_served wish.types
-    then authorize_by c e wish browser (needed c wish (option_map (standing_of past wish false) session) e.at) session
-    else Refused (refusal_of wish UnsupportedResponseType) None
+    authorize_by c e wish browser (needed c wish (option_map (standing_of past wish false) session) e.at) session
 
 abbrev pub authorize : Configuration → OpPast → Entry OpAsk → Verdict → Option Word → Option Word → OpReply
 authorize c past e (verdict.Page why) browser session = ErrorPage why
@@ -179,3 +180,27 @@ tokens c past e grant = tokens_by c e (redeem past e.at grant) (held_code past e
 abbrev pub token : Configuration → OpPast → Entry OpAsk → Result Grant GrantNo → OpReply
 token c past e (Err why) = TokenRefused (token_error why)
 token c past e (Ok grant) = tokens c past e grant
+
+-- ---- a UserInfo request (Core 5.3; RFC 6750, 3.1)
+
+abbrev pub info_by : Configuration → Option TokenRow → OpReply
+info_by c None = InfoRefused true
+info_by c (Some token) = Info (claims_text (info_members c token.client token.user token.scopes token.asked))
+
+-- no token; one that is no word; one that lives, or does not
+abbrev pub info : Configuration → OpPast → Entry OpAsk → Bearer → OpReply
+info c past e bearer.Absent = InfoRefused false
+info c past e bearer.Unreadable = InfoRefused true
+info c past e (bearer.Given w) = info_by c (live_access_token past e.at w)
+
+-- ---- a sign-out (OpenID Connect Back-Channel Logout 1.0, 2.3 and 2.5)
+
+abbrev pub sign_out_of : Entry OpAsk → SessionRow → SignOut
+sign_out_of e session = record { who = session_authentication session; at = e.at; word = fresh_word e.fresh 0 }
+
+abbrev pub sign_out_by : Configuration → Entry OpAsk → Option SessionRow → OpReply
+sign_out_by c e None = SignedOut []
+sign_out_by c e (Some session) = SignedOut (logout_messages c (sign_out_of e session) session.clients)
+
+abbrev pub sign_out : Configuration → OpPast → Entry OpAsk → Option Word → OpReply
+sign_out c past e presented = sign_out_by c e (live_session past e.at presented)

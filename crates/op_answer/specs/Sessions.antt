@@ -9,7 +9,7 @@ use Rattle.code_grant.specs.declared.rows.TurnRow.{TurnRow}
 use Rattle.code_grant.specs.declared.rows.SessionRow.{SessionRow}
 use Rattle.code_grant.specs.Rows.{session_name, session_begun}
 use Rattle.oidc_words.specs.Lives.{session_life}
-use Rattle.code_grant.specs.Clients.{no_clients, with_client}
+use Rattle.client_registry.specs.ClientSets.{no_clients, with_client}
 use Rattle.op_exchange.specs.declared.ask.OpAsk.{OpAsk}
 use Rattle.op_exchange.specs.declared.ask.OpAsk.TheVariants.{Authorize, Login, Consent, SignOut}
 use Rattle.op_exchange.specs.declared.reply.OpReply.{OpReply}

@@ -1,5 +1,5 @@
 -- Turns: from the page of an authorization request to its answer or refusal (OpenID Connect Core 1.0, 3.1.2.3 and 3.1.2.4).
-use Rattle.std.specs.Prelude.{ℕ, Bool, true, false, not, List, Option, Some, None, option_and_then, if◌then◌else◌}
+use Rattle.std.specs.Prelude.{◌≡◌, ℕ, Bool, true, false, not, List, Option, Some, None, option_and_then, if◌then◌else◌}
 use Rattle.std.specs.Str.{bytes_eq}
 use Rattle.std.specs.List.{list_any}
 use Rattle.sso_base.specs.Words.{Word, is_word}
@@ -20,6 +20,12 @@ abbrev pub turn_named : OpAsk → Option Word
 turn_named (Login turn signed browser session) = turn
 turn_named (Consent turn agree browser session) = turn
 turn_named ask = None
+
+-- an authorization request got a page, and this is the word of its turn
+abbrev pub BeginsTurn : OpAsk → OpReply → Word → Type 0
+BeginsTurn (Authorize verdict browser session) (LoginPage w b again) v = w ≡ v
+BeginsTurn (Authorize verdict browser session) (ConsentPage w b given client scopes) v = w ≡ v
+BeginsTurn asked told v = ⊥
 
 -- A turn is made by an authorization request that got a page. Its session is the presented one where that was a consent
 -- page.

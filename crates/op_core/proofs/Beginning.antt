@@ -2,7 +2,7 @@
 use Rattle.std.proofs.Common.{◌≡◌, List, [], refl, sym, subst, arith}
 use Rattle.client_registry.specs.Configuration.{Configuration}
 use Rattle.code_grant.specs.Tables.{Tables, no_tables}
-use Rattle.code_grant.proofs.Sets.{granted_to-none}
+use Rattle.code_grant.proofs.Granting.{granted_to-none}
 use Rattle.op_answer.specs.Past.{OpPair}
 use Rattle.op_core.specs.Keeps.{KeepsTables, Keeps}
 
@@ -11,7 +11,7 @@ none_kept c =
     record {
       agrees = record { turns = refl; sessions = refl; codes = refl; tokens = refl; granted = λ user client small low. granted_to-none user client };
       begun = record { turns = refl; sessions = refl; codes = refl; tokens = refl };
-      own = record { turns = refl; sessions = refl; codes = refl };
+      own = record { turns = refl; sessions = refl; codes = refl; tokens = refl };
     }
 
 pub begins : (c : Configuration) (history : List OpPair) (t : Tables) → history ≡ [] → t ≡ no_tables → Keeps c history t

@@ -15,8 +15,9 @@ use Rattle.op_answer.specs.Past.{OpPair, OpPast}
 use Rattle.op_answer.specs.Turns.{turns, turn_made}
 use Rattle.op_answer.specs.Sessions.{sessions, session_made}
 use Rattle.op_answer.specs.Codes.{codes_issued, code_made}
+use Rattle.op_answer.specs.AccessTokens.{accesses, access_made}
 use Rattle.op_answer.specs.Answering.{op_answer}
-use Rattle.op_tables.specs.Agreeing.{is_own_turn, is_own_session, is_own_code}
+use Rattle.op_tables.specs.Agreeing.{is_own_turn, is_own_session, is_own_code, is_own_token}
 use Rattle.op_core.specs.Keeps.{KeepsPast, Keeps}
 use Rattle.op_tables.specs.Keeping.{FollowsPair}
 use Rattle.op_core.specs.Outcome.{Brings}
@@ -30,7 +31,7 @@ with_room_keeps c past t k =
     record {
       agrees = record { turns = k.agrees.turns; sessions = k.agrees.sessions; codes = k.agrees.codes; tokens = k.agrees.tokens; granted = k.agrees.granted };
       begun = record { turns = k.begun.turns; sessions = k.begun.sessions; codes = k.begun.codes; tokens = k.begun.tokens };
-      own = record { turns = k.own.turns; sessions = k.own.sessions; codes = k.own.codes };
+      own = record { turns = k.own.turns; sessions = k.own.sessions; codes = k.own.codes; tokens = k.own.tokens };
     }
 
 -- a row that was made is an own one
@@ -49,6 +50,7 @@ module _ (c : Configuration) (history items : List OpPair) (t u : Tables) (p : O
       × IfSome turn (λ row. is_own_turn s.registry row ≡ true)
       × IfSome session (λ row. is_own_session s.registry row ≡ true)
       × IfSome code (λ row. is_own_code s.registry row ≡ true)
+      × IfSome token (λ row. is_own_token s.registry row ≡ true)
       × (history_weight ask_weight s.history + weight ≤ most_weight)
 
   abbrev pub Follows : Type 0
@@ -81,10 +83,11 @@ module _ (c : Configuration) (history items : List OpPair) (t u : Tables) (p : O
       let own = own_carried c (with_room t) u past p kept.own one
       (if_made (λ row. is_own_turn c row ≡ true) turn (turn_made (turns past) past p) brings.turn_is shown.3)
       (if_made (λ row. is_own_session c row ≡ true) session (session_made (sessions past) past p) brings.session_is shown.4)
-      (if_made (λ row. is_own_code c row ≡ true) code (code_made (codes_issued past) past p) brings.code_is shown.5) in
+      (if_made (λ row. is_own_code c row ≡ true) code (code_made (codes_issued past) past p) brings.code_is shown.5)
+      (if_made (λ row. is_own_token c row ≡ true) token (access_made (accesses past) past p) brings.token_is shown.6) in
       let I : List OpPair → Type 0 = λ x. Keeps c x u in
       let L : ℕ → Type 0 = λ n. history_weight ask_weight history + n ≤ most_weight in
-      subst I (sym items_are) (keeps_more c history (with_room t) u p (record { tables = kept; legal = keeps.legal }) shown.0 one own entry shown.1 (subst L weight_is shown.6))
+      subst I (sym items_are) (keeps_more c history (with_room t) u p (record { tables = kept; legal = keeps.legal }) shown.0 one own entry shown.1 (subst L weight_is shown.7))
 
   pub committed_as : (s : Providing) → ◌≡◌ {A = Providing} (record { registry = c; history = history; tables = t }) s → Keeps c history t → IsEntry IsOpAsk p.entry → weight ≡ ask_weight p.entry.ask
       → items ≡ history ++ p ∷ [] → Follows → Shown s → Keeps c items u

@@ -21,7 +21,7 @@ use Rattle.op_answer.specs.Turns.{turns, turn_made, turn_kept, live_turns, live_
 use Rattle.op_answer.specs.Sessions.{sessions, session_made, session_kept, live_sessions, live_session}
 use Rattle.op_answer.specs.Codes.{codes_issued, code_made, code_kept, held_codes, held_code}
 use Rattle.op_answer.specs.AccessTokens.{accesses, access_made, access_kept, live_accesses, live_access_token}
-use Rattle.op_tables.specs.Agreeing.{is_own_turn, is_own_session, is_own_code}
+use Rattle.op_tables.specs.Agreeing.{is_own_turn, is_own_session, is_own_code, is_own_token}
 use Rattle.op_core.specs.Keeps.{KeepsTables}
 use Rattle.op_answer.proofs.KeptNames.{turn_names, session_names, code_names, access_names}
 use Rattle.held_rows.proofs.Found.{same_later, found_in_both, found_good}
@@ -98,6 +98,11 @@ module _ (c : Configuration) (history : List OpPair) (t : Tables) (keeps : Keeps
       found_in_both access_name access_life access_begun (last_moment (reverse history)) at in_order w t.tokens (accesses (reverse history)) held.distinct
       (rows_distinct access_name access_made access_kept access_names (reverse history)) keeps.agrees.tokens
       ∙ ap L past_is
+
+  pub token_own : (w : Word) (row : TokenRow) → Some row ≡ row_of access_name w t.tokens → is_own_token p.registry row ≡ true
+  token_own w row found =
+      let O : Providing → Type 0 = λ q. is_own_token q.registry row ≡ true in
+      subst O view (found_good access_name (is_own_token c) w t.tokens row keeps.own.tokens (sym found))
 
   pub turns_room : has_room_for_one turn_life turn_begun at t.turns ≡ nat_lt (length (live_turns (past_of p) at)) most_rows
   turns_room = let N : List TurnRow → Bool = λ rows. nat_lt (length rows) most_rows in ap N turns_live

@@ -1,10 +1,10 @@
 -- The client that a pair answers and the session that it makes, from what lives before it.
-use Rattle.std.proofs.Common.{◌≡◌, ℕ, ◌==◌, Bool, true, false, cond, Option, Some, None, option_map, option_and_then, refl, sym, ◌∙◌, ap, subst}
+use Rattle.std.proofs.Common.{◌≡◌, ℕ, Bool, true, false, cond, Option, Some, None, option_map, refl, sym, ◌∙◌, ap, subst}
 use Rattle.std.specs.Str.{bytes_eq}
 use Rattle.sso_base.specs.Words.{Word, fresh_word}
 use Rattle.sso_base.specs.Rows.{row_of, without}
 use Rattle.sso_base.specs.declared.history.Entry.{Entry}
-use Rattle.sso_base.proofs.RowLaws.{bytes_same, row_of-without_other, rows_distinct}
+use Rattle.sso_base.proofs.RowLaws.{row_of-without_other, rows_distinct}
 use Rattle.client_registry.specs.Configuration.{Configuration}
 use Rattle.auth_request.specs.declared.wish.Wish.{Wish}
 use Rattle.auth_request.specs.declared.wish.Verdict.TheVariants as verdict
@@ -14,15 +14,14 @@ use Rattle.code_grant.specs.declared.rows.SessionRow.{SessionRow}
 use Rattle.code_grant.specs.Rows.{turn_begun, session_name, session_begun}
 use Rattle.oidc_words.specs.Lives.{turn_life, session_life}
 use Rattle.held_rows.specs.Held.{most_rows}
-use Rattle.held_rows.proofs.HeldLaws.{row_of_named}
 use Rattle.op_exchange.specs.declared.ask.OpAsk.{OpAsk}
 use Rattle.op_exchange.specs.declared.ask.OpAsk.TheVariants as ask
 use Rattle.op_exchange.specs.declared.reply.OpReply.{OpReply}
 use Rattle.op_exchange.specs.declared.reply.OpReply.TheVariants as reply
 use Rattle.op_answer.specs.Past.{OpPast}
 use Rattle.op_answer.specs.Turns.{turn_of, live_turn}
-use Rattle.op_answer.specs.Sessions.{session_set, signed_user, wish_by, client_of_wish, client_answered, and_client, session_before, live_in, session_made_by, session_made, session_kept, sessions, live_sessions, live_session}
-use Rattle.op_answer.specs.Replies.{if_of_user, session_renewed, session_left, session_after}
+use Rattle.op_answer.specs.Sessions.{session_set, signed_user, wish_by, client_of_wish, client_answered, and_client, session_before, live_in, session_made_by, session_made, session_kept, sessions, live_sessions}
+use Rattle.op_answer.specs.Replies.{session_renewed, session_left, session_after}
 use Rattle.op_answer.specs.Room.{sessions_beside, lacks_turn, lacks_session, lacks_new_session, lacks_code, lacks_access, access_in}
 use Rattle.op_answer.specs.Codes.{code_in}
 use Rattle.op_answer.specs.Answering.{op_answer}
@@ -30,8 +29,9 @@ use Rattle.op_answer.specs.Causes.{is_own, ConsentPageCause, AnsweredCause, Refu
 use Rattle.op_core.specs.Making.{wish_found, client_found, session_with, session_put_by, session_put}
 use Rattle.op_tables.proofs.TakenSessions.{second_false}
 use Rattle.op_answer.proofs.KeptNames.{some_same, session_names}
+use Rattle.op_answer.proofs.Renewals.{renewed_lives}
 use Rattle.held_rows.proofs.Added.{unnamed_there}
-use Rattle.held_rows.proofs.Found.{found_live, if_some, row_that_lives}
+use Rattle.held_rows.proofs.Found.{found_live, row_that_lives}
 use Rattle.op_answer.proofs.Standing.{own_replies_stand}
 use Rattle.op_answer.proofs.Pages.{consent_pages_have_a_cause}
 use Rattle.op_answer.proofs.Answers.{answers_have_a_cause}
@@ -64,23 +64,6 @@ module _ (past : OpPast) (at : ℕ) where
   new_is_free presented w h =
       let rows = sessions_beside presented w (live_sessions past at) in
       live_found w ∙ unnamed presented w (unnamed_there most_rows session_name w rows h)
-
-  -- a renewed session is the live one of its word
-  of_user : (user : ℕ) (found : Option SessionRow) (s : SessionRow) → option_and_then (if_of_user user) found ≡ Some s → found ≡ Some s
-  of_user user None s h = cc
-  of_user user (Some found) s h = if_some (found.user == user) found s h
-
-  live_named : (v w : Word) (s : SessionRow) → live_in at v (sessions past) ≡ Some s → w ≡ s.word → live_in at w (sessions past) ≡ Some s
-  live_named v w s live is =
-      let row = row_that_lives session_life session_begun at (row_of session_name v (sessions past)) s live in
-      let named : s.word ≡ v = bytes_same s.word v (row_of_named session_name v (sessions past) s row) in
-      let L : Word → Option SessionRow = λ x. live_in at x (sessions past) in
-      ap L (is ∙ named) ∙ live
-
-  renewed_lives : (user : ℕ) (presented : Option Word) (s : SessionRow) (w : Word) → session_renewed past at user presented ≡ Some s → w ≡ s.word
-      → live_in at w (sessions past) ≡ Some s
-  renewed_lives user None s w h is = cc
-  renewed_lives user (Some v) s w h is = live_named v w s (of_user user (live_session past at (Some v)) s h) is
 
 -- ---- the session that a right password leaves, as its word says
 

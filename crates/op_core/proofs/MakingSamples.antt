@@ -3,7 +3,7 @@ use Rattle.std.proofs.Common.{◌≡◌, false, [], Some, None, refl}
 use Rattle.sso_base.specs.Words.{Text, word_of_text}
 use Rattle.sso_base.specs.declared.history.Entry.{Entry}
 use Rattle.code_grant.specs.declared.rows.SessionRow.{SessionRow}
-use Rattle.code_grant.specs.Clients.{no_clients}
+use Rattle.client_registry.specs.ClientSets.{no_clients}
 use Rattle.op_exchange.specs.declared.ask.OpAsk.{OpAsk}
 use Rattle.op_exchange.specs.declared.ask.OpAsk.TheVariants as ask
 use Rattle.op_exchange.specs.declared.reply.OpReply.{OpReply}

@@ -86,12 +86,14 @@ impl OpCore {
                 self.consent(alloc, entry, turn, *agree, *browser, *session)
             }
             OpAsk::Token { grant } => self.token(alloc, entry, grant),
+            OpAsk::Info { bearer } => self.info(alloc, entry, bearer),
+            OpAsk::SignOut { session } => self.sign_out(alloc, entry, *session),
             OpAsk::Metadata => Ok(OpReply::Metadata {
                 text: print_discovery(alloc, &self.registry)?,
             }),
             OpAsk::Keys => Ok(OpReply::Keys),
             OpAsk::Twice => Ok(OpReply::ErrorPage { why: PageNo::Twice }),
-            OpAsk::Info { .. } | OpAsk::SignOut { .. } | OpAsk::NotHere => Ok(OpReply::NotHere),
+            OpAsk::NotHere => Ok(OpReply::NotHere),
         }
     }
 

@@ -7,7 +7,7 @@
 //! |---|---|
 //! | `state` | [`OpCore`], a provider with its history and its tables |
 //! | `step` | one step |
-//! | `answering`, `replying`, `redeeming` | the reply, by the rows that live |
+//! | `answering`, `replying`, `redeeming`, `info`, `sign_out` | the reply, by the rows that live |
 //! | `authentications` | the login that tokens tell |
 //! | `questions`, `room` | what is asked of the tables, and whether they have room |
 //! | `outcome`, `making` | what a reply brings: rows, the session that it used, the client that it answered |
@@ -17,12 +17,14 @@
 
 mod answering;
 mod authentications;
+mod info;
 mod making;
 mod outcome;
 mod questions;
 mod redeeming;
 mod replying;
 mod room;
+mod sign_out;
 mod state;
 mod step;
 

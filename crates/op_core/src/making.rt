@@ -8,7 +8,7 @@ ghost use Rattle.code_grant.specs.declared.rows.TurnRow.{TurnRow};
 ghost use Rattle.op_exchange.specs.Asks.{is_prepared, is_prepared_wish};
 ghost use Rattle.client_registry.specs.Numbers.{is_user};
 ghost use Rattle.op_core.specs.Providing.{past_of};
-ghost use Rattle.op_tables.specs.Agreeing.{is_own_turn, is_own_session, is_own_code};
+ghost use Rattle.op_tables.specs.Agreeing.{is_own_turn, is_own_session, is_own_code, is_own_token};
 ghost use Rattle.op_core.specs.Making as spec;
 ghost use Rattle.op_answer.specs.Turns as turns;
 ghost use Rattle.op_answer.specs.Codes as codes;
@@ -17,7 +17,8 @@ ghost use Rattle.op_answer.specs.Replies.{session_after};
 
 use crate::state::OpCore;
 use auth_request::{Verdict, Wish};
-use code_grant::{Clients, CodeRow, SessionRow, TokenRow, TurnRow};
+use client_registry::ClientSet;
+use code_grant::{CodeRow, SessionRow, TokenRow, TurnRow};
 use op_exchange::{OpAsk, OpReply};
 use op_tables::{Made, session_set};
 use sso_base::{Entry, Moment, NoMemory, Word};
@@ -195,7 +196,7 @@ impl OpCore {
                 sid: entry.fresh[1],
                 user,
                 auth_time: entry.at,
-                clients: Clients::new(),
+                clients: ClientSet::new(),
             },
         }
     }
@@ -320,6 +321,29 @@ impl OpCore {
         Ok(Some(code))
     }
 
+    // An access token of this wish and user of the registry.
+    #[tactic(auto, using(crate::proofs::Ranges::token_is_own))]
+    fn access_made(
+        &self,
+        alloc: Global,
+        at: Moment,
+        word: Word,
+        code: Option<Word>,
+        wish: &Wish,
+        user: u32,
+    ) -> Result<TokenRow, NoMemory>
+        requires wish { is_prepared_wish self.now.registry wish.now ≡ true }
+        requires user { is_user self.now.registry user ≡ true }
+        ensures row { IfOk result (λ row. row ≡ tokens.access_issued (length (past_of self.now)) at word code wish.now user) }
+        ensures own { IfOk result (λ row. is_own_token self.now.registry row ≡ true) }
+        ensures user { IfOk result (λ row. row.user < 512) }
+        ensures client { IfOk result (λ row. row.client < 128) }
+    {
+        self.bound_client(wish);
+        self.bound_user(user);
+        access_issued(alloc, self.place(), at, word, code, wish, user)
+    }
+
     // The access token that came for a code.
     fn access_redeemed(
         &self,
@@ -330,16 +354,15 @@ impl OpCore {
     ) -> Result<Option<TokenRow>, NoMemory>
         requires { last_moment (past_of self.now) ≤ at }
         ensures row { IfOk result (λ row. row ≡ tokens.access_redeemed (length (past_of self.now)) at word (codes.held_code (past_of self.now) at (word_of_text grant.now.code))) }
+        ensures own { IfOk result (λ row. IfSome row (λ token. is_own_token self.now.registry token ≡ true)) }
         ensures user { IfOk result (λ row. IfSome row (λ token. token.user < 512)) }
         ensures client { IfOk result (λ row. IfSome row (λ token. token.client < 128)) }
     {
         let Some(code) = self.held_code(at, Word::read(grant.code.as_str().as_bytes())) else {
             return Ok(None);
         };
-        self.bound_client(&code.wish);
-        self.bound_user(code.user);
         let from = Some(code.word);
-        let token = access_issued(alloc, self.place(), at, word, from, &code.wish, code.user)?;
+        let token = self.access_made(alloc, at, word, from, &code.wish, code.user)?;
         Ok(Some(token))
     }
 
@@ -353,6 +376,7 @@ impl OpCore {
         requires moment { last_moment (past_of self.now) ≤ entry.now.at }
         requires prepared { is_prepared self.now.registry entry.now.ask ≡ true }
         ensures row { IfOk result (λ row. row ≡ tokens.access_answered (length (past_of self.now)) entry.now.at word (spec.wish_found (past_of self.now) entry.now.at entry.now.ask) (spec.session_found (past_of self.now) entry.now entry.now.ask)) }
+        ensures own { IfOk result (λ row. IfSome row (λ token. is_own_token self.now.registry token ≡ true)) }
         ensures user { IfOk result (λ row. IfSome row (λ token. token.user < 512)) }
         ensures client { IfOk result (λ row. IfSome row (λ token. token.client < 128)) }
     {
@@ -365,17 +389,7 @@ impl OpCore {
         let Some(session) = self.session_found(entry) else {
             return Ok(None);
         };
-        self.bound_client(wish);
-        self.bound_user(session.user);
-        let token = access_issued(
-            alloc,
-            self.place(),
-            entry.at,
-            word,
-            None,
-            wish,
-            session.user,
-        )?;
+        let token = self.access_made(alloc, entry.at, word, None, wish, session.user)?;
         Ok(Some(token))
     }
 
@@ -389,6 +403,7 @@ impl OpCore {
         requires moment { last_moment (past_of self.now) ≤ entry.now.at }
         requires prepared { is_prepared self.now.registry entry.now.ask ≡ true }
         ensures row { IfOk result (λ row. row ≡ spec.access_put (past_of self.now) entry.now reply.now) }
+        ensures own { IfOk result (λ row. IfSome row (λ token. is_own_token self.now.registry token ≡ true)) }
         ensures user { IfOk result (λ row. IfSome row (λ token. token.user < 512)) }
         ensures client { IfOk result (λ row. IfSome row (λ token. token.client < 128)) }
     {
@@ -420,6 +435,7 @@ impl OpCore {
         ensures own_turn { IfOk result (λ m. IfSome m.turn (λ row. is_own_turn self.now.registry row ≡ true)) }
         ensures own_session { IfOk result (λ m. IfSome m.session (λ row. is_own_session self.now.registry row ≡ true)) }
         ensures own_code { IfOk result (λ m. IfSome m.code (λ row. is_own_code self.now.registry row ≡ true)) }
+        ensures own_token { IfOk result (λ m. IfSome m.token (λ row. is_own_token self.now.registry row ≡ true)) }
         ensures turn_client { IfOk result (λ m. IfSome m.turn (λ row. row.wish.client < 128)) }
         ensures session_user { IfOk result (λ m. IfSome m.session (λ row. row.user < 512)) }
         ensures code_user { IfOk result (λ m. IfSome m.code (λ row. row.user < 512)) }

@@ -3,7 +3,7 @@
 ghost use Rattle.std.specs.Prelude.{◌≡◌, ◌<◌, ◌≤◌, true, IfOk, IfSome};
 ghost use Rattle.sso_base.specs.Legal.{last_moment};
 ghost use Rattle.op_answer.specs.Answering.{op_answer};
-ghost use Rattle.op_tables.specs.Agreeing.{is_own_turn, is_own_session, is_own_code};
+ghost use Rattle.op_tables.specs.Agreeing.{is_own_turn, is_own_session, is_own_code, is_own_token};
 ghost use Rattle.op_core.specs.Outcome as spec;
 ghost use Rattle.op_core.specs.Providing.{past_of};
 
@@ -51,6 +51,7 @@ impl OpCore {
         ensures own_turn { IfOk result (λ o. IfSome o.made.turn (λ row. is_own_turn self.now.registry row ≡ true)) }
         ensures own_session { IfOk result (λ o. IfSome o.made.session (λ row. is_own_session self.now.registry row ≡ true)) }
         ensures own_code { IfOk result (λ o. IfSome o.made.code (λ row. is_own_code self.now.registry row ≡ true)) }
+        ensures own_token { IfOk result (λ o. IfSome o.made.token (λ row. is_own_token self.now.registry row ≡ true)) }
         ensures client { IfOk result (λ o. IfSome o.client (λ n. n < 128)) }
         ensures turn { IfOk result (λ o. IfSome o.made.turn (λ row. row.wish.client < 128)) }
         ensures session { IfOk result (λ o. IfSome o.made.session (λ row. row.user < 512)) }

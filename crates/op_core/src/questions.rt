@@ -7,7 +7,7 @@ ghost use Rattle.held_rows.specs.Held.{most_rows, is_full};
 ghost use Rattle.code_grant.specs.Rows.{turn_name, code_name, access_name};
 ghost use Rattle.client_registry.specs.Numbers.{is_client, is_user};
 ghost use Rattle.op_core.specs.Providing.{past_of};
-ghost use Rattle.op_tables.specs.Agreeing.{is_own_turn, is_own_session, is_own_code};
+ghost use Rattle.op_tables.specs.Agreeing.{is_own_turn, is_own_session, is_own_code, is_own_token};
 ghost use Rattle.op_answer.specs.Turns as turns;
 ghost use Rattle.op_answer.specs.Sessions as sessions;
 ghost use Rattle.op_answer.specs.Codes as codes;
@@ -80,7 +80,8 @@ impl OpCore {
     /// The live access token of a word.
     pub(crate) fn live_access_token(&self, at: Moment, word: Word) -> Option<&TokenRow>
         requires { last_moment (past_of self.now) ≤ at }
-        ensures { option_copied result ≡ tokens.live_access_token (past_of self.now) at word }
+        ensures row { option_copied result ≡ tokens.live_access_token (past_of self.now) at word }
+        ensures own { IfSome (option_copied result) (λ row. is_own_token self.now.registry row ≡ true) }
     {
         let Some(row) = self.grants.live(word) else {
             return None;

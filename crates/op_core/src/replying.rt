@@ -16,7 +16,7 @@ use crate::authentications::authentication_of_session;
 use crate::state::OpCore;
 use auth_request::{PageNo, Verdict, Wish};
 use code_grant::{SessionRow, TurnRow};
-use oidc_words::{AuthError, Refusal, Types};
+use oidc_words::{AuthError, Refusal};
 use op_exchange::{OpAsk, OpReply};
 use op_issue::issue;
 use request_need::{Need, Standing, decide, needed_scopes};
@@ -31,14 +31,6 @@ fn is_turns(presented: Option<Word>, session: Option<Word>) -> bool
         Some(word) => word.is_presented(presented),
         None => false,
     }
-}
-
-// Whether the response type is answered today.
-fn is_served(types: &Types) -> bool
-    ensures { result ≡ spec.is_served types.now }
-{
-    (types.code && !types.id_token && !types.token)
-        || (!types.code && types.id_token && types.token)
 }
 
 // The refusal of a wish, and the session that a login left.
@@ -186,12 +178,8 @@ impl OpCore {
         requires session { IfSome (option_copied session) (λ row. is_own_session self.now.registry row ≡ true) }
         ensures { IfOk result (λ r. r ≡ spec.authorize_wish self.now.registry (past_of self.now) entry.now wish.now browser (option_copied session.entry)) }
     {
-        if is_served(&wish.types) {
-            let need = self.needed(entry, wish, session);
-            self.authorize_by(alloc, entry, wish, browser, need, session)
-        } else {
-            refused(alloc, wish, AuthError::UnsupportedResponseType, None)
-        }
+        let need = self.needed(entry, wish, session);
+        self.authorize_by(alloc, entry, wish, browser, need, session)
     }
 
     // The reply to an authorization request (OpenID Connect Core 1.0, 3.1.2).

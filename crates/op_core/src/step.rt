@@ -9,7 +9,7 @@ ghost use Rattle.op_exchange.specs.Values.{IsOpAsk};
 ghost use Rattle.op_exchange.specs.Weight as weights;
 ghost use Rattle.op_answer.specs.Answering.{op_answer};
 ghost use Rattle.op_answer.specs.Past.{OpPast};
-ghost use Rattle.op_tables.specs.Agreeing.{is_own_turn, is_own_session, is_own_code};
+ghost use Rattle.op_tables.specs.Agreeing.{is_own_turn, is_own_session, is_own_code, is_own_token};
 ghost use Rattle.op_tables.specs.Keeping.{FollowsPair};
 ghost use Rattle.op_tables.specs.Taking.{TakesUp};
 ghost use Rattle.op_core.specs.Outcome.{Brings};
@@ -115,6 +115,7 @@ impl OpCore {
         requires own_turn { IfSome outcome.made.turn (λ row. is_own_turn self.old.registry row ≡ true) }
         requires own_session { IfSome outcome.made.session (λ row. is_own_session self.old.registry row ≡ true) }
         requires own_code { IfSome outcome.made.code (λ row. is_own_code self.old.registry row ≡ true) }
+        requires own_token { IfSome outcome.made.token (λ row. is_own_token self.old.registry row ≡ true) }
         requires client { IfSome outcome.client (λ n. n < 128) }
         requires turn { IfSome outcome.made.turn (λ row. row.wish.client < 128) }
         requires session { IfSome outcome.made.session (λ row. row.user < 512) }

@@ -13,6 +13,7 @@ use Rattle.auth_request.specs.declared.wish.Verdict.TheVariants as verdict
 use Rattle.auth_answer.specs.declared.answer.Answer.{Answer}
 use Rattle.token_endpoint.specs.declared.granting.Grant.{Grant}
 use Rattle.token_endpoint.specs.declared.no.GrantNo.TheVariants as no
+use Rattle.userinfo.specs.declared.header.Bearer.TheVariants as bearer
 use Rattle.op_exchange.specs.declared.ask.OpAsk.TheVariants as ask
 use Rattle.op_exchange.specs.declared.reply.OpReply.TheVariants as reply
 use Rattle.op_exchange.specs.Asks.{is_prepared}
@@ -23,6 +24,9 @@ use Rattle.op_exchange.proofs.Sample.{word, sample, wish, profile_scopes, callba
 
 abbrev grant : Grant
 grant = record { client = 0; code = codes "code"; redirect = callback_uri }
+
+abbrev refusal : Refusal
+refusal = record { redirect = callback_uri; fragment = false; state = None; code = AccessDenied }
 
 -- ---- weights
 
@@ -108,13 +112,20 @@ no_name_outside_utf8 : IsOpAsk (ask.Token (Err (no.Twice (255 ∷ [])))) → ⊥
 unfolding is_utf8 chars
 no_name_outside_utf8 h = (let k : false ≡ true = is_utf8-from_IsUtf8 (255 ∷ []) h in cc)
 
+no_refusal_outside_utf8 : IsOpAsk (ask.Authorize (verdict.Refuse (record refusal { redirect = 255 ∷ [] })) None None) → ⊥
+unfolding is_utf8 chars
+no_refusal_outside_utf8 h = (let k : false ≡ true = is_utf8-from_IsUtf8 (255 ∷ []) h.0.0 in cc)
+
+no_browser_of_no_bytes : IsOpAsk (ask.Consent None true (Some []) None) → ⊥
+no_browser_of_no_bytes h = let w : IsWord [] = h.1 in let k : ◌≡◌ {A = ℕ} 0 32 = w.long in absurd (omega (arith, k))
+
+no_bearer_of_no_bytes : IsOpAsk (ask.Info (bearer.Given [])) → ⊥
+no_bearer_of_no_bytes h = let k : ◌≡◌ {A = ℕ} 0 32 = h.long in absurd (omega (arith, k))
+
 -- ---- replies
 
 abbrev answer : Answer
 answer = record { redirect = callback_uri; fragment = false; code = Some (word 4); access = None; id = None; state = None }
-
-abbrev refusal : Refusal
-refusal = record { redirect = callback_uri; fragment = false; state = None; code = AccessDenied }
 
 ends-at_an_answer : ends_turn (reply.Answered answer None) ≡ true
 ends-at_an_answer = refl

@@ -3,13 +3,11 @@
 
 mod ask;
 mod fields;
-mod messages;
 mod reply;
 mod values;
 mod weight;
 
 pub use ask::OpAsk;
 pub use fields::{AGREE_FIELD, AGREE_VALUE, PASSWORD_FIELD, TURN_FIELD, USER_FIELD};
-pub use messages::Messages;
 pub use reply::OpReply;
 pub use values::know_op_entry;

@@ -3,11 +3,10 @@
 ghost use Rattle.std.specs.Prelude.{◌≡◌, IfOk};
 ghost use Rattle.op_exchange.specs.Replied as spec;
 
-use crate::messages::Messages;
 use auth_answer::Answer;
 use auth_request::PageNo;
 use oidc_words::{Refusal, Scopes};
-use sso_base::{Blob, NoMemory, Text, Word};
+use sso_base::{Blob, Messages, NoMemory, Text, Word};
 use std::alloc::Global;
 use token_endpoint::TokenError;
 

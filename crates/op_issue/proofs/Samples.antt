@@ -1,27 +1,11 @@
 -- What is issued to one user of a small registry, by computation. Sealing stays closed.
-use Rattle.std.proofs.Common.{◌≡◌, ◌≤◌, ℕ, ◌+◌, ◌++◌, true, false, List, [], ◌∷◌, replicate, codes, Some, None, Ok, refl, ◌∙◌, arith}
-use Rattle.json.specs.Print.{escape_byte}
+use Rattle.std.proofs.Common.{◌≡◌, ◌≤◌, true, false, List, [], ◌∷◌, replicate, codes, Some, None, Ok, refl, ◌∙◌, arith}
 use Rattle.json.proofs.Printed.Utf8.{IsUtf8-are_ascii}
-use Rattle.serde_json.specs.Data.{string, Members, no_members, member}
-use Rattle.url.proofs.OnLiterals.{url_on_literals}
-use Rattle.sso_base.specs.Words.{Word, Text, IsWord, word_text}
-use Rattle.sso_base.proofs.Spelling.{IsBytes-from_all_bytes}
-use Rattle.claim_set.specs.Fitting.{ClaimsFit}
-use Rattle.claim_set.specs.Reading.{claims_text}
-use Rattle.claim_set.proofs.Fitting.{ClaimsFit-none, ClaimsFit-put}
-use Rattle.registered_url.specs.Rule.{parts_of}
-use Rattle.client_registry.specs.declared.records.User.{User}
-use Rattle.client_registry.specs.declared.records.Client.{Client}
+use Rattle.serde_json.specs.Data.{no_members}
+use Rattle.sso_base.specs.Words.{Text, word_text}
 use Rattle.oidc_words.specs.declared.response_types.Types.{Types}
-use Rattle.oidc_words.specs.declared.scopes.Scopes.{Scopes}
-use Rattle.client_registry.specs.Configuration.{Configuration}
-use Rattle.client_registry.specs.Records.{provider_of, urls_of}
-use Rattle.client_registry.specs.Registered.{HoldsClaims, AllHoldClaims, IsUser, IsClient, IsRegistry}
-use Rattle.client_registry.specs.ClaimKinds.{AreKnown}
-use Rattle.client_registry.proofs.KnownClaims.{known_put, known_none}
-use Rattle.client_registry.proofs.SubjectFacts.{user_id_is_subject}
 use Rattle.oidc_words.specs.Scopes.{no_scopes}
-use Rattle.oidc_words.specs.Claims.{is_claim_of, profile_claims, email_claims, address_claims, phone_claims, flag_claims, seconds_claims}
+use Rattle.oidc_words.specs.Claims.{is_claim_of, profile_claims, email_claims, address_claims, phone_claims}
 use Rattle.userinfo.specs.Held.{user_claims, held_members}
 use Rattle.userinfo.proofs.UserTexts.{text_is}
 use Rattle.userinfo.proofs.Told.{claims_are_of}
@@ -34,7 +18,6 @@ use Rattle.id_token.specs.declared.rules.IdRules.{IdRules}
 use Rattle.id_token.specs.declared.rules.Half.TheVariants.{Free, Must}
 use Rattle.id_token.specs.Judging.{IsGoodIdToken}
 use Rattle.auth_request.specs.Values.{is_short_nonce}
-use Rattle.op_issue.specs.declared.issuing.Authentication.{Authentication}
 use Rattle.op_issue.specs.IdTokens.{hash_of, is_id_alone, id_scopes, id_claims, issued_id}
 use Rattle.op_issue.specs.Issuing.{MayIssue}
 use Rattle.oidc_words.specs.Types.{is_in_fragment}
@@ -43,113 +26,7 @@ use Rattle.op_issue.specs.ClientRules.{bound_to, client_rules}
 use Rattle.auth_request.specs.Values.{IsWishValue}
 use Rattle.op_issue.proofs.Sealable.{is_read_back}
 use Rattle.op_issue.proofs.GoodTokens.{is_good, ends}
-
-abbrev word : ℕ → Word
-word n = replicate 31 0 ++ n ∷ []
-
-abbrev words : ℕ → List Word
-words n = word n ∷ word (n + 1) ∷ word (n + 2) ∷ word (n + 3) ∷ []
-
-abbrev profile_scopes : Scopes
-profile_scopes = record { openid = true; profile = true; email = false; address = false; phone = false }
-
--- ---- a registry with one user, who has a name, and one client
-
-abbrev named : Members
-named = member (codes "name") (string (codes "Alice")) no_members
-
-abbrev alice : User
-alice = record { id = codes "alice"; salt = codes "salt"; rounds = 1; proof = replicate 32 0; claims = codes "{\"name\":\"Alice\"}" }
-
-abbrev secret : Text
-secret = codes "01234567890123456789012345678901"
-
-abbrev shop : Client
-shop =
-    record {
-      id = codes "shop";
-      secret = secret;
-      redirects = codes "https://a.b/cb" ∷ [];
-      types = true ∷ true ∷ true ∷ false ∷ false ∷ false ∷ [];
-      pairwise = false;
-      asks_consent = false;
-      logout = None;
-      logout_session = false;
-      redirect_urls = urls_of (codes "https://a.b/cb" ∷ []);
-      logout_url = None;
-    }
-
-abbrev small : Configuration
-small =
-    record {
-      provider = provider_of (codes "https://a.b");
-      prefix = [];
-      listen = codes "a.b:443";
-      secure = true;
-      users = alice ∷ [];
-      clients = shop ∷ [];
-      parties = [];
-      subjects = (codes "alice" ∷ []) ∷ [];
-    }
-
-named_fit : ClaimsFit named
-named_fit =
-    ClaimsFit-put (codes "name") (string (codes "Alice")) no_members (IsUtf8-are_ascii (codes "name") refl) (IsUtf8-are_ascii (codes "Alice") refl) (omega arith) ClaimsFit-none
-
-alice_is_written : alice.claims ≡ claims_text named
-unfolding escape_byte
-alice_is_written = refl
-
-named_is_known : AreKnown named
-unfolding is_claim_of profile_claims email_claims address_claims phone_claims flag_claims seconds_claims
-named_is_known = known_put (codes "name") (string (codes "Alice")) no_members refl known_none
-
-abbrev alice_text : HoldsClaims alice.claims
-alice_text = record { claims = named; fits = named_fit; known = named_is_known; text = alice_is_written }
-
-alice_holds : AllHoldClaims (alice ∷ [])
-unfolding AllHoldClaims
-alice_holds = (alice_text, tt)
-
-alice_is_user : IsUser alice
-alice_is_user = record { id = refl; salt = refl; salt_bytes = IsBytes-from_all_bytes (codes "salt") refl; rounds = refl; proof = refl; proof_bytes = IsBytes-from_all_bytes (replicate 32 0) refl; claims = omega arith }
-
-shop_is_client : IsClient shop
-unfolding url_on_literals parts_of
-shop_is_client = record { id = refl; secret = refl; long_secret = omega arith; redirects = refl; types = refl; urls = refl; kept = refl; logout = refl; logout_kept = refl; one_host = refl }
-
-small_registry : IsRegistry small
-unfolding url_on_literals parts_of
-small_registry =
-    record {
-      users = omega arith;
-      clients = omega arith;
-      parties = omega arith;
-      user_ids = (refl, tt);
-      client_ids = (refl, tt);
-      secrets = (refl, tt);
-      redirects = (tt, tt);
-      issuer_apart = (refl, tt);
-      party_names = tt;
-      not_op = tt;
-      known = tt;
-      fitting = tt;
-      one_party = tt;
-      rows = refl;
-      subjects = ((refl, (refl, tt)), tt);
-      subject_rules = ((user_id_is_subject (codes "alice") refl, tt), tt);
-      salt = replicate 16 7;
-      salted = record { within = refl; bytes = IsBytes-from_all_bytes (replicate 16 7) refl; made = refl };
-      issuer = refl;
-      issuer_url = record { query = refl; prefix = refl; secure = refl };
-      short_issuer = omega arith;
-      provider = refl;
-      listen = refl;
-      user_claims = alice_holds;
-      user_rules = (alice_is_user, tt);
-      client_rules = (shop_is_client, tt);
-      party_rules = tt;
-    }
+use Rattle.op_issue.proofs.SmallRegistry.{word, words, profile_scopes, named, alice, secret, alice_text, small, small_registry, signed, word_10}
 
 -- ---- wishes, and a user who logged in
 
@@ -191,12 +68,6 @@ code_and_token = record { code = true; id_token = false; token = true }
 
 abbrev all_types : Types
 all_types = record { code = true; id_token = true; token = true }
-
-abbrev signed : Authentication
-signed = record { user = 0; sid = word 10; auth_time = 900 }
-
-word_10 : IsWord (word 10)
-word_10 = record { long = refl; bytes = IsBytes-from_all_bytes (word 10) refl }
 
 wish_is_value : (types : Types) → IsWishValue (wishing types [])
 wish_is_value types =

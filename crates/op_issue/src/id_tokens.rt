@@ -40,8 +40,12 @@ fn scopes_told(wish: &Wish) -> Scopes
     }
 }
 
-// The client as a lone audience.
-fn audience_of(alloc: Global, registry: &Registry, client: u32) -> Result<Texts, NoMemory>
+// The client as a lone audience (RFC 7519, 4.1.3).
+pub(crate) fn audience_of(
+    alloc: Global,
+    registry: &Registry,
+    client: u32,
+) -> Result<Texts, NoMemory>
     requires { client < length registry.now.clients }
     ensures { IfOk result (λ t. t ≡ client_id registry.now client ∷ []) }
 {

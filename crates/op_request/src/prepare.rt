@@ -15,7 +15,7 @@ use hmac256::{proof, same};
 use op_exchange::{AGREE_FIELD, AGREE_VALUE, OpAsk, PASSWORD_FIELD, TURN_FIELD, USER_FIELD};
 use request_object::{ObjNo, unseal_request};
 use request_params::{AskNo, Params, merge, read_request};
-use sso_base::{Ask, Blob, Method, NoMemory, Text, Word};
+use sso_base::{Ask, Blob, Method, NoMemory, Text, Word, bytes_if};
 use std::alloc::Global;
 use token_endpoint::{GrantNo, read_grant};
 use userinfo::read_bearer;
@@ -177,16 +177,6 @@ fn consent(alloc: Global, ask: &Ask) -> Result<OpAsk, NoMemory>
     })
 }
 
-// The value of the `Authorization` header.
-fn auth_of(auth: &Option<Text>) -> Option<&[u8]>
-    ensures { option_map (λ h. h.now) result ≡ auth.now }
-{
-    match auth {
-        Some(header) => Some(header.as_str().as_bytes()),
-        None => None,
-    }
-}
-
 // The body of a request, where there is one.
 fn body_of(body: &Option<Blob>) -> Option<&[u8]>
     ensures { option_map (λ b. b.now) result ≡ body.now }
@@ -201,7 +191,7 @@ fn body_of(body: &Option<Blob>) -> Option<&[u8]>
 fn token(alloc: Global, registry: &Registry, ask: &Ask) -> Result<OpAsk, NoMemory>
     ensures { IfOk result (λ asked. asked ≡ OpAsk.Token (grant_read registry.now ask.now.auth ask.now.body)) }
 {
-    match read_grant(alloc, registry, auth_of(&ask.auth), body_of(&ask.body)) {
+    match read_grant(alloc, registry, bytes_if(&ask.auth), body_of(&ask.body)) {
         Err(GrantNo::NoMemory) => Err(NoMemory),
         grant => Ok(OpAsk::Token { grant }),
     }
@@ -245,7 +235,7 @@ pub fn prepare_op(alloc: Global, registry: &Registry, ask: &Ask) -> Result<OpAsk
         Endpoint::Consent => consent(alloc, ask),
         Endpoint::Token => token(alloc, registry, ask),
         Endpoint::UserInfo => Ok(OpAsk::Info {
-            bearer: read_bearer(auth_of(&ask.auth)),
+            bearer: read_bearer(bytes_if(&ask.auth)),
         }),
         Endpoint::SignOut => Ok(OpAsk::SignOut {
             session: ask.second,

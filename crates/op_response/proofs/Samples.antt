@@ -122,6 +122,10 @@ line_of_a_refusal : line_of (reply.Refused denied None) ≡ codes "error access_
 unfolding line_of auth_answer_on_literals
 line_of_a_refusal = refl
 
+line_of_a_dead_token : line_of (reply.InfoRefused true) ≡ codes "info invalid_token"
+unfolding line_of
+line_of_a_dead_token = refl
+
 line_of_a_sign_out : line_of (reply.SignedOut []) ≡ codes "signout 0"
 unfolding line_of digits
 line_of_a_sign_out = refl

@@ -5,7 +5,7 @@ use Rattle.sso_base.specs.Words.{Text}
 use Rattle.auth_request.specs.declared.wish.PageNo.{PageNo}
 use Rattle.auth_request.specs.declared.wish.PageNo.TheVariants as page
 use Rattle.auth_answer.specs.declared.answer.Answer.{Answer}
-use Rattle.oidc_words.specs.Errors.{error_text}
+use Rattle.oidc_words.specs.Errors.{error_text, invalid_token}
 use Rattle.token_endpoint.specs.Errors.{error_code}
 use Rattle.op_exchange.specs.declared.reply.OpReply.{OpReply}
 use Rattle.op_exchange.specs.declared.reply.OpReply.TheVariants as reply
@@ -40,7 +40,7 @@ line_of (reply.ErrorPage why) = codes "page " ++ page_word why
 line_of (reply.Tokens access id) = codes "tokens"
 line_of (reply.TokenRefused code) = codes "refused " ++ error_code code
 line_of (reply.Info claims) = codes "info"
-line_of (reply.InfoRefused true) = codes "info invalid_token"
+line_of (reply.InfoRefused true) = codes "info " ++ invalid_token
 line_of (reply.InfoRefused false) = codes "info no_token"
 line_of (reply.SignedOut messages) = signed_out (length messages)
 line_of (reply.Metadata text) = codes "metadata"

@@ -1,12 +1,12 @@
 // The line that tells a reply is written.
 
-ghost use Rattle.std.specs.Prelude.{◌≡◌, ◌++◌, IfOk};
+ghost use Rattle.std.specs.Prelude.{◌≡◌, IfOk};
 ghost use Rattle.op_response.specs.Lines as spec;
 
 use auth_answer::Answer;
 use auth_request::PageNo;
-use http_reply::joined;
-use oidc_words::{error_text, spaced};
+use http_reply::phrase;
+use oidc_words::{INVALID_TOKEN, error_text, spaced};
 use op_exchange::OpReply;
 use sso_base::{NoMemory, Text};
 use std::alloc::Global;
@@ -22,13 +22,6 @@ pub(crate) fn page_word(why: PageNo) -> &'static str
         PageNo::Turn => "turn",
         PageNo::Browser => "browser",
     }
-}
-
-// Two texts, one behind the other.
-fn phrase(alloc: Global, first: &str, second: &str) -> Result<Text, NoMemory>
-    ensures { IfOk result (λ t. t ≡ first.now ++ second.now) }
-{
-    Ok(Text::from_string(joined(alloc, &[first, second])?))
 }
 
 fn answer_words(alloc: Global, answer: &Answer) -> Result<Text, NoMemory>
@@ -69,7 +62,7 @@ pub fn op_line(alloc: Global, reply: &OpReply) -> Result<Text, NoMemory>
         OpReply::Tokens { .. } => Text::new(alloc, "tokens"),
         OpReply::TokenRefused { code } => phrase(alloc, "refused ", code.as_str()),
         OpReply::Info { .. } => Text::new(alloc, "info"),
-        OpReply::InfoRefused { given: true } => Text::new(alloc, "info invalid_token"),
+        OpReply::InfoRefused { given: true } => phrase(alloc, "info ", INVALID_TOKEN),
         OpReply::InfoRefused { given: false } => Text::new(alloc, "info no_token"),
         OpReply::SignedOut { messages } => signed_out(alloc, messages.count()),
         OpReply::Metadata { .. } => Text::new(alloc, "metadata"),

@@ -11,8 +11,8 @@ use crate::lines::page_word;
 use auth_answer::{print_answer, print_refusal};
 use auth_request::PageNo;
 use client_registry::Registry;
-use http_reply::{html, joined, plain};
-use oidc_words::Scopes;
+use http_reply::{html, joined, phrase, plain};
+use oidc_words::{INVALID_TOKEN, Scopes};
 use op_exchange::OpReply;
 use sso_base::{Blob, HttpReply, Kind, NoMemory, Text, Texts, Word};
 use std::alloc::Global;
@@ -63,18 +63,18 @@ fn token_response(alloc: Global, status: u16, challenge: Option<Text>, body: Blo
     }
 }
 
-fn unauthorized(alloc: Global, challenge: &str) -> Result<HttpReply, NoMemory>
-    ensures { IfOk result (λ h. h ≡ spec.unauthorized challenge.now) }
+fn unauthorized(alloc: Global, challenge: Text) -> HttpReply
+    ensures { result ≡ spec.unauthorized challenge }
 {
-    Ok(HttpReply {
+    HttpReply {
         status: 401,
         pragma: false,
         location: None,
         cookies: Texts::new(alloc),
-        challenge: Some(Text::new(alloc, challenge)?),
+        challenge: Some(challenge),
         kind: Kind::Empty,
         body: Blob::from_vec(Vec::new(alloc)),
-    })
+    }
 }
 
 fn token_refused(alloc: Global, code: TokenError) -> Result<HttpReply, NoMemory>
@@ -91,13 +91,14 @@ fn token_refused(alloc: Global, code: TokenError) -> Result<HttpReply, NoMemory>
     }
 }
 
-fn bearer_challenge(given: bool) -> &'static str
-    ensures { result.now ≡ spec.bearer_challenge given }
+fn bearer_challenge(alloc: Global, given: bool) -> Result<Text, NoMemory>
+    ensures { IfOk result (λ t. t ≡ spec.bearer_challenge given) }
 {
     if given {
-        "Bearer error=\"invalid_token\""
+        let challenge = joined(alloc, &["Bearer error=\"", INVALID_TOKEN, "\""])?;
+        Ok(Text::from_string(challenge))
     } else {
-        "Bearer realm=\"sso\""
+        Text::new(alloc, "Bearer realm=\"sso\"")
     }
 }
 
@@ -135,7 +136,7 @@ fn consent_shown(
 fn error_shown(alloc: Global, why: PageNo) -> Result<HttpReply, NoMemory>
     ensures { IfOk result (λ h. h ≡ spec.error_shown why) }
 {
-    let line = joined(alloc, &["error ", page_word(why)])?;
+    let line = phrase(alloc, "error ", page_word(why))?;
     plain(alloc, 400, line.as_str())
 }
 
@@ -181,7 +182,9 @@ pub fn op_http(alloc: Global, registry: &Registry, reply: &OpReply) -> Result<Ht
         }
         OpReply::TokenRefused { code } => token_refused(alloc, *code),
         OpReply::Info { claims } => json(alloc, claims.as_bytes()),
-        OpReply::InfoRefused { given } => unauthorized(alloc, bearer_challenge(*given)),
+        OpReply::InfoRefused { given } => {
+            Ok(unauthorized(alloc, bearer_challenge(alloc, *given)?))
+        }
         OpReply::SignedOut { .. } => plain(alloc, 200, "signed out"),
         OpReply::Metadata { text } => json(alloc, text.as_str().as_bytes()),
         OpReply::Keys => json(alloc, NO_KEYS.as_bytes()),

@@ -1,6 +1,6 @@
--- The agreement of the tables with the past is carried by one more pair, and so is what holds of every held row.
-use Rattle.std.proofs.Common.{◌≡◌, ◌≤◌, ℕ, Bool, true, false, not, ◌&&◌, cond, List, ◌∷◌, length, Option, Some, None, Ok, refl, sym, ◌∙◌, ap}
-use Rattle.sso_base.specs.Words.{Word, is_word, word_of_text}
+-- The agreement of the tables with the past is carried by one more pair.
+use Rattle.std.proofs.Common.{◌≡◌, ◌≤◌, ℕ, false, List, ◌∷◌, length, Option, Some, None, Ok, sym, ◌∙◌, ap}
+use Rattle.sso_base.specs.Words.{Word, word_of_text}
 use Rattle.oidc_words.specs.declared.scopes.Scopes.{Scopes}
 use Rattle.oidc_words.specs.Scopes.{joined}
 use Rattle.auth_request.specs.declared.wish.Wish.{Wish}
@@ -16,87 +16,17 @@ use Rattle.op_exchange.specs.declared.ask.OpAsk.{OpAsk}
 use Rattle.op_exchange.specs.declared.ask.OpAsk.TheVariants as ask
 use Rattle.op_exchange.specs.declared.reply.OpReply.{OpReply}
 use Rattle.op_exchange.specs.declared.reply.OpReply.TheVariants as reply
-use Rattle.op_exchange.specs.Replied.{ends_turn}
 use Rattle.op_answer.specs.Past.{OpPair, OpPast}
-use Rattle.op_answer.specs.Turns.{turns, turn_named, turn_started, turn_made, turn_taken, turn_kept}
-use Rattle.op_answer.specs.Sessions.{sessions, session_set, signed_user, session_by, live_in, ends_session, session_used, and_client, client_answered, session_made_by, session_made, session_kept, session_of, wish_by}
-use Rattle.op_answer.specs.Codes.{codes_issued, code_issued, code_in, code_made_by, code_made, code_named, is_tokens, found_spent, code_kept, code_of}
-use Rattle.op_answer.specs.AccessTokens.{accesses, access_issued, access_answered, access_redeemed, access_given, access_made, is_for_code, access_kept}
+use Rattle.op_answer.specs.Turns.{turns, turn_started, turn_made, turn_kept}
+use Rattle.op_answer.specs.Sessions.{sessions, session_set, signed_user, session_by, live_in, session_used, session_made_by, session_made, session_kept, session_of, wish_by}
+use Rattle.op_answer.specs.Codes.{codes_issued, code_issued, code_in, code_made_by, code_made, code_kept, code_of}
+use Rattle.op_answer.specs.AccessTokens.{accesses, access_issued, access_answered, access_redeemed, access_given, access_made, access_kept}
 use Rattle.op_answer.specs.Consents.{granted_by, turn_agreed}
 use Rattle.op_tables.specs.Agreeing.{Agrees, IsBegun}
 use Rattle.op_tables.specs.Keeping.{FollowsPair}
 use Rattle.op_answer.proofs.KeptNames.{some_same}
+use Rattle.op_answer.proofs.KeptRows.{turn_begun_kept, session_begun_kept, code_begun_kept, access_begun_kept}
 use Rattle.held_rows.proofs.Added.{rows_carried, begun_carried}
-
--- ---- what no pair changes in a row that it keeps
-
-module _ {R X : Type 0} (f : R → X) where
-  dropped_keeps : (b : Bool) (row after : R) → cond b None (Some row) ≡ Some after → f after ≡ f row
-  dropped_keeps true row after h = cc
-  dropped_keeps false row after h = ap f (sym (some_same row after h))
-
-  changed_keeps : (b : Bool) (row changed after : R) → f changed ≡ f row → cond b (Some changed) (Some row) ≡ Some after → f after ≡ f row
-  changed_keeps true row changed after e h = ap f (sym (some_same changed after h)) ∙ e
-  changed_keeps false row changed after e h = ap f (sym (some_same row after h))
-
-  taken_keeps : (other ends : Bool) (row taken after : R) → f taken ≡ f row → cond other (Some row) (cond ends None (Some taken)) ≡ Some after → f after ≡ f row
-  taken_keeps true ends row taken after e h = ap f (sym (some_same row after h))
-  taken_keeps false true row taken after e h = cc
-  taken_keeps false false row taken after e h = ap f (sym (some_same taken after h)) ∙ e
-
-  used_keeps : (ends uses : Bool) (row used after : R) → f used ≡ f row → cond ends None (cond uses (Some used) (Some row)) ≡ Some after → f after ≡ f row
-  used_keeps true uses row used after e h = cc
-  used_keeps false uses row used after e h = changed_keeps uses row used after e h
-
--- whatever of a turn is neither its session nor whether the user logged in
-pub turn_keeps : {X : Type 0} (f : TurnRow → X) → ((asked : OpAsk) (told : OpReply) (row : TurnRow) → f (turn_taken asked told row) ≡ f row)
-    → (past : OpPast) (p : OpPair) (row after : TurnRow) → turn_kept past p row ≡ Some after → f after ≡ f row
-turn_keeps f same past p row after h =
-    taken_keeps f (not (is_word (turn_named p.entry.ask) row.word)) (ends_turn p.reply) row (turn_taken p.entry.ask p.reply row) after (same p.entry.ask p.reply row) h
-
-taken_begun : (asked : OpAsk) (told : OpReply) (row : TurnRow) → turn_begun (turn_taken asked told row) ≡ turn_begun row
-taken_begun (ask.Login turn signed b presented) (reply.ConsentPage w browser (Some session) client scopes) row = refl
-taken_begun asked told row = refl
-
-taken_client : (asked : OpAsk) (told : OpReply) (row : TurnRow) → (turn_taken asked told row).wish ≡ row.wish
-taken_client (ask.Login turn signed b presented) (reply.ConsentPage w browser (Some session) client scopes) row = refl
-taken_client asked told row = refl
-
-pub turn_begun_kept : (past : OpPast) (p : OpPair) (row after : TurnRow) → turn_kept past p row ≡ Some after → turn_begun after ≡ turn_begun row
-turn_begun_kept past p row after h = turn_keeps turn_begun taken_begun past p row after h
-
-pub turn_wish_kept : (past : OpPast) (p : OpPair) (row after : TurnRow) → turn_kept past p row ≡ Some after → after.wish ≡ row.wish
-turn_wish_kept past p row after h = turn_keeps (λ (r : TurnRow). r.wish) taken_client past p row after h
-
--- whatever of a session is not its clients
-pub session_keeps : {X : Type 0} (f : SessionRow → X) → ((row : SessionRow) (clients : List Bool) → f (record row { clients = clients }) ≡ f row)
-    → (past : OpPast) (p : OpPair) (row after : SessionRow) → session_kept past p row ≡ Some after → f after ≡ f row
-session_keeps f same past p row after h =
-    used_keeps f (ends_session p.entry.ask p.reply row.word) (is_word (session_used past p.entry.ask p.reply) row.word) row
-    (record row { clients = and_client (client_answered past p) row.clients }) after (same row (and_client (client_answered past p) row.clients)) h
-
-pub session_begun_kept : (past : OpPast) (p : OpPair) (row after : SessionRow) → session_kept past p row ≡ Some after → session_begun after ≡ session_begun row
-session_begun_kept past p row after h = session_keeps session_begun (λ row clients. refl) past p row after h
-
-pub session_user_kept : (past : OpPast) (p : OpPair) (row after : SessionRow) → session_kept past p row ≡ Some after → after.user ≡ row.user
-session_user_kept past p row after h = session_keeps (λ (r : SessionRow). r.user) (λ row clients. refl) past p row after h
-
--- whatever of a code is not whether it is spent
-pub code_keeps : {X : Type 0} (f : CodeRow → X) → ((row : CodeRow) (spent : Bool) → f (record row { spent = spent }) ≡ f row)
-    → (past : OpPast) (p : OpPair) (row after : CodeRow) → code_kept past p row ≡ Some after → f after ≡ f row
-code_keeps f same past p row after h =
-    changed_keeps f (is_word (code_named p.entry.ask) row.word && is_tokens p.reply) row (record row { spent = true }) after (same row true) h
-
-pub code_begun_kept : (past : OpPast) (p : OpPair) (row after : CodeRow) → code_kept past p row ≡ Some after → code_begun after ≡ code_begun row
-code_begun_kept past p row after h = code_keeps code_begun (λ row spent. refl) past p row after h
-
--- an access token is kept as it is
-pub access_keeps : {X : Type 0} (f : TokenRow → X) (past : OpPast) (p : OpPair) (row after : TokenRow) → access_kept past p row ≡ Some after → f after ≡ f row
-access_keeps f past p row after h =
-    dropped_keeps f (is_for_code row.code (code_named p.entry.ask) && found_spent past p.entry.at p.entry.ask) row after h
-
-pub access_begun_kept : (past : OpPast) (p : OpPair) (row after : TokenRow) → access_kept past p row ≡ Some after → access_begun after ≡ access_begun row
-access_begun_kept past p row after h = access_keeps access_begun past p row after h
 
 -- ---- what a pair makes begins at its moment
 

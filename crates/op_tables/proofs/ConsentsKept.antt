@@ -9,7 +9,7 @@ use Rattle.code_grant.specs.declared.rows.TurnRow.{TurnRow}
 use Rattle.code_grant.specs.declared.rows.SessionRow.{SessionRow}
 use Rattle.code_grant.specs.Consents.{granted_to, with_grant}
 use Rattle.code_grant.specs.Tables.{Tables}
-use Rattle.code_grant.proofs.Sets.{granted_to-with_grant, granted_to-with_other}
+use Rattle.code_grant.proofs.Granting.{granted_to-with_grant, granted_to-with_other}
 use Rattle.op_exchange.specs.declared.ask.OpAsk.{OpAsk}
 use Rattle.op_exchange.specs.declared.reply.OpReply.{OpReply}
 use Rattle.op_tables.specs.declared.keeping.Agreement.{Agreement}

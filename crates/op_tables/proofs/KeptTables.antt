@@ -3,7 +3,7 @@ use Rattle.std.proofs.Common.{◌≡◌, ◌≢◌, ℕ, Bool, true, false, not,
 use Rattle.std.specs.Str.{bytes_eq}
 use Rattle.sso_base.specs.Words.{Word, is_word, word_of_text}
 use Rattle.sso_base.specs.Rows.{without, row_of}
-use Rattle.sso_base.proofs.RowLaws.{bool_cases, bytes_same, bytes_true, row_of-without_same}
+use Rattle.sso_base.proofs.RowLaws.{bool_cases, bytes_same, row_of-without_same}
 use Rattle.token_endpoint.specs.declared.granting.Grant.{Grant}
 use Rattle.code_grant.specs.declared.rows.TurnRow.{TurnRow}
 use Rattle.code_grant.specs.declared.rows.SessionRow.{SessionRow}
@@ -14,7 +14,7 @@ use Rattle.code_grant.specs.declared.redeem.Redeem.TheVariants as answer
 use Rattle.code_grant.specs.Rows.{turn_name, session_name, session_begun, code_name, access_name}
 use Rattle.held_rows.specs.Held.{changed, MayAddRow}
 use Rattle.code_grant.specs.Redeeming.{redeem_of}
-use Rattle.code_grant.specs.Tables.{Tables, turn_with, session_with, code_spent, redemption, after_answer, with_turn, with_session, with_code, with_token}
+use Rattle.code_grant.specs.Tables.{Tables, turn_with, session_with, code_spent, after_answer, with_turn, with_session, with_code, with_token}
 use Rattle.code_grant.specs.Tables as tables
 use Rattle.op_exchange.specs.declared.ask.OpAsk.{OpAsk}
 use Rattle.op_exchange.specs.declared.ask.OpAsk.TheVariants as ask

@@ -13,22 +13,22 @@ use Rattle.code_grant.specs.declared.rows.SessionRow.{SessionRow}
 use Rattle.code_grant.specs.declared.rows.CodeRow.{CodeRow}
 use Rattle.code_grant.specs.declared.rows.TokenRow.{TokenRow}
 use Rattle.code_grant.specs.declared.redeem.Redeem.TheVariants.{Redeemed, Spent, Expired}
-use Rattle.code_grant.specs.Clients.{no_clients}
+use Rattle.client_registry.specs.ClientSets.{no_clients}
 use Rattle.code_grant.specs.Consents.{no_consents, with_grant}
 use Rattle.code_grant.specs.Rows.{turn_name, turn_begun, session_name, session_begun}
 use Rattle.code_grant.specs.Tables.{Tables, no_tables, with_room}
-use Rattle.code_grant.proofs.Sets.{granted_to-none, length-no_consents}
+use Rattle.code_grant.proofs.Granting.{granted_to-none, length-no_consents}
 use Rattle.op_exchange.specs.declared.ask.OpAsk.TheVariants as ask
-use Rattle.op_exchange.specs.declared.reply.OpReply.TheVariants.{TokenRefused, NotHere, Full}
+use Rattle.op_exchange.specs.declared.reply.OpReply.TheVariants.{TokenRefused, SignedOut, Full}
 use Rattle.op_answer.specs.Sessions.{sessions}
 use Rattle.op_tables.specs.declared.keeping.Agreement.{Agreement}
-use Rattle.op_tables.specs.Agreeing.{Agrees, IsBegun, AreOwn, is_own_turn, is_own_session, is_own_code}
+use Rattle.op_tables.specs.Agreeing.{Agrees, IsBegun, AreOwn, is_own_turn, is_own_session, is_own_code, is_own_token}
 use Rattle.op_tables.specs.Keeping.{session_taken, turn_moved, session_replaced, session_ended, ended_if, visited_if, grant_answered, code_asked, TellsRedeem, TellsRedemption, FindsCode, agreed_turn, session_in, turn_in, agreement_of, FindsAgreement, MayPut, turn_put, session_put, code_put, token_put, FollowsPair}
 use Rattle.op_tables.specs.Taking.{TakesUp}
 use Rattle.op_tables.proofs.ConsentsKept.{consent_is_granted}
 use Rattle.op_exchange.proofs.Sample.{word, words, wish, sample, profile_scopes, callback_uri}
 use Rattle.op_answer.proofs.FirstLogin.{pair_of, login_entry, consent_page, past_consent, consent_entry, code_answer, consent_gets_code, past_code, token_entry, tokens_reply}
-use Rattle.op_answer.proofs.Sessions.{alice_session, bob_entry, bob_page, alice_entry, alice_answer, sign_out_entry}
+use Rattle.op_answer.proofs.Sessions.{alice_session, bob_entry, bob_page, alice_entry, alice_answer, sign_out_entry, message_to_shop}
 
 -- ---- the tables before and after the consent of a first login
 
@@ -86,8 +86,14 @@ code_of_a_user = refl
 code_of_nobody : is_own_code sample (record alice_code { user = 2 }) ≡ false
 code_of_nobody = refl
 
+token_of_a_user_and_a_client : is_own_token sample code_token ≡ true
+token_of_a_user_and_a_client = refl
+
+token_of_no_client : is_own_token sample (record code_token { client = 1 }) ≡ false
+token_of_no_client = refl
+
 pub they_are_own : AreOwn sample before_consent
-they_are_own = record { turns = refl; sessions = refl; codes = refl }
+they_are_own = record { turns = refl; sessions = refl; codes = refl; tokens = refl }
 
 not_own_with_a_session_of_nobody : AreOwn sample (record before_consent { sessions = record new_session { user = 2 } ∷ [] }) → ⊥
 not_own_with_a_session_of_nobody own = (let k : false ≡ true = own.sessions in cc)
@@ -123,8 +129,8 @@ a_login_of_another_user_ends_it = refl
 a_login_of_the_same_user_ends_none : session_ended alice_entry.ask alice_answer ≡ None
 a_login_of_the_same_user_ends_none = refl
 
-a_sign_out_that_is_not_here_ends_none : session_ended sign_out_entry.ask NotHere ≡ None
-a_sign_out_that_is_not_here_ends_none = refl
+a_sign_out_ends_it : session_ended sign_out_entry.ask (SignedOut (message_to_shop ∷ [])) ≡ Some (word 9)
+a_sign_out_ends_it = refl
 
 an_ended_session_is_gone : ended_if (Some (word 9)) before_consent ≡ record before_consent { sessions = [] }
 an_ended_session_is_gone = refl

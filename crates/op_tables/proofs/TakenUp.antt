@@ -40,7 +40,8 @@ use Rattle.op_tables.specs.Agreeing.{is_own_code}
 use Rattle.op_tables.specs.Keeping.{FindsCode, FindsAgreement, TellsRedemption, MayPut, FollowsPair}
 use Rattle.op_tables.specs.Taking.{TakesUp}
 use Rattle.op_tables.proofs.AnswerTells.{IsOfClient, answer_tells}
-use Rattle.op_tables.proofs.Carried.{turn_begun_kept, session_begun_kept, code_begun_kept, access_begun_kept, turn_made_begun, session_made_begun, code_made_begun, access_made_begun}
+use Rattle.op_answer.proofs.KeptRows.{turn_begun_kept, session_begun_kept, code_begun_kept, access_begun_kept}
+use Rattle.op_tables.proofs.Carried.{turn_made_begun, session_made_begun, code_made_begun, access_made_begun}
 use Rattle.op_tables.proofs.Finding.{finds_code, finds_agreement}
 use Rattle.held_rows.proofs.Kept.{all_live}
 use Rattle.held_rows.proofs.Found.{same_later, found_good}

@@ -3,10 +3,11 @@ use Rattle.std.specs.Prelude.{◌≡◌, ◌<◌, ℕ, Bool, true, ◌&&◌}
 use Rattle.std.specs.List.{list_all}
 use Rattle.sso_base.specs.Rows.{live_rows}
 use Rattle.client_registry.specs.Configuration.{Configuration}
-use Rattle.client_registry.specs.Numbers.{is_user}
+use Rattle.client_registry.specs.Numbers.{is_client, is_user}
 use Rattle.code_grant.specs.declared.rows.TurnRow.{TurnRow}
 use Rattle.code_grant.specs.declared.rows.SessionRow.{SessionRow}
 use Rattle.code_grant.specs.declared.rows.CodeRow.{CodeRow}
+use Rattle.code_grant.specs.declared.rows.TokenRow.{TokenRow}
 use Rattle.oidc_words.specs.Lives.{turn_life, session_life, code_life, access_life}
 use Rattle.code_grant.specs.Rows.{turn_begun, session_begun, code_begun, access_begun}
 use Rattle.held_rows.specs.Held.{none_after}
@@ -34,7 +35,7 @@ pub record IsBegun (t : Tables) (at : ℕ) : Type 0 where
   pub codes : none_after code_begun at t.codes ≡ true
   pub tokens : none_after access_begun at t.tokens ≡ true
 
--- the rows are about users and wishes that requests to this provider give
+-- the rows are about users, clients and wishes that requests to this provider give
 abbrev pub is_own_turn : Configuration → TurnRow → Bool
 is_own_turn c row = is_prepared_wish c row.wish
 
@@ -44,7 +45,11 @@ is_own_session c row = is_user c row.user
 abbrev pub is_own_code : Configuration → CodeRow → Bool
 is_own_code c row = is_user c row.user && is_prepared_wish c row.wish
 
+abbrev pub is_own_token : Configuration → TokenRow → Bool
+is_own_token c row = is_user c row.user && is_client c row.client
+
 pub record AreOwn (c : Configuration) (t : Tables) : Type 0 where
   pub turns : list_all (is_own_turn c) t.turns ≡ true
   pub sessions : list_all (is_own_session c) t.sessions ≡ true
   pub codes : list_all (is_own_code c) t.codes ≡ true
+  pub tokens : list_all (is_own_token c) t.tokens ≡ true

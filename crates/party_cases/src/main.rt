@@ -5,13 +5,12 @@
 //! and `Provider` of `case_roles` which calls there are. A line `party|NAME` or `party|NAME|elsewhere` begins a relying party, at the
 //! provider of the cases or at another, and a line `provider` begins that provider; either begins the count of places anew. The lines
 //! below ask the relying party, and those with `provider` in front the provider. The ask at place p, from 1, of whichever of them,
-//! draws the words 4p - 3 to 4p. Beside the texts of words, names stand for those of the last reply, and for ID Tokens as `sealed`
-//! says.
+//! draws the words 4p - 3 to 4p. Beside the texts of words, names stand for those of the last reply, and for tokens as `sealed` says.
 //!
 //! | Module | What it has |
 //! |---|---|
 //! | `setup` | the configuration of the relying parties and their provider |
-//! | `sealed` | ID Tokens |
+//! | `sealed` | ID Tokens and logout tokens |
 #![tactic(auto)]
 
 mod sealed;
@@ -58,7 +57,7 @@ fn new_party(alloc: Global, place: &[&str]) -> Result<Option<RelyingParty>, NoMe
 impl Table {
     fn begin_provider(&mut self, alloc: Global) -> Result<String, NoMemory> {
         self.provider = new_provider(alloc)?;
-        self.run = Run::new();
+        self.run = Run::new(alloc);
         match self.provider {
             Some(_) => told(alloc, "begun"),
             None => told(alloc, "no such provider"),
@@ -67,7 +66,7 @@ impl Table {
 
     fn begin_party(&mut self, alloc: Global, place: &[&str]) -> Result<String, NoMemory> {
         self.party = new_party(alloc, place)?;
-        self.run = Run::new();
+        self.run = Run::new(alloc);
         match self.party {
             Some(_) => told(alloc, "nobody came"),
             None => told(alloc, "no such party"),
@@ -100,11 +99,14 @@ impl Cases for Table {
     }
 
     fn text(&self, name: &str) -> Option<&str> {
-        self.run.text(name)
+        match self.run.text(name) {
+            Some(text) => Some(text),
+            None => sealed::named(name),
+        }
     }
 
     fn made(&self, alloc: Global, name: &str) -> Result<Option<Text>, NoMemory> {
-        sealed::id_token(alloc, name)
+        sealed::token(alloc, name)
     }
 }
 
@@ -112,7 +114,7 @@ fn main(rt: HostRuntime) -> io::Result<()> {
     let mut table = Table {
         party: None,
         provider: None,
-        run: Run::new(),
+        run: Run::new(rt.alloc()),
     };
     print_cases(&rt, &mut table)
 }

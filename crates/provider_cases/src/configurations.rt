@@ -4,9 +4,21 @@ use sample_rows::{ALICE, ALICES_CLAIMS, BOB, MAIL_CLIENT, NEWS_CLIENT, PROVIDER,
 use sso_base::NoMemory;
 use std::alloc::Global;
 
+const SHOP_LINES: &str = "consent = \"ask\"
+logout_uri = \"http://127.0.0.1:8081/logout\"
+";
+
 const NEWS_LINES: &str = "response_types = [\"code\", \"id_token token\"]
 subject = \"pairwise\"
 consent = \"given\"
+";
+
+const MAIL_LINES: &str =
+    "response_types = [\"code\", \"id_token\", \"id_token token\", \"code id_token\", \"code token\", \"code id_token token\"]
+subject = \"pairwise\"
+consent = \"given\"
+logout_uri = \"http://127.0.0.1:8083/logout\"
+logout_session = true
 ";
 
 // A client whose redirection URI has a query.
@@ -18,8 +30,9 @@ response_types = [\"code\", \"id_token token\"]
 consent = \"given\"
 ";
 
-// Two users with the password `password`, of whom the first has claims. The first client asks for consent, and the third has
-// pairwise subjects and the response type `id_token token` too.
+// Two users with the password `password`, of whom the first has claims. The first client asks for consent and has a logout URI; the second
+// has all response types, a logout URI, and is told the session; the third has the response type `id_token token` too. The second and
+// the third have pairwise subjects.
 fn shop(alloc: Global) -> Result<String, NoMemory> {
     let users = [
         PROVIDER,
@@ -31,8 +44,9 @@ fn shop(alloc: Global) -> Result<String, NoMemory> {
     .concat(alloc)?;
     let clients = [
         SHOP_CLIENT,
-        "consent = \"ask\"\n",
+        SHOP_LINES,
         MAIL_CLIENT,
+        MAIL_LINES,
         NEWS_CLIENT,
         NEWS_LINES,
     ]

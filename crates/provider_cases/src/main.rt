@@ -36,7 +36,7 @@ fn new_provider(alloc: Global, name: &str) -> Result<Option<Provider>, NoMemory>
 impl Table {
     fn begin(&mut self, alloc: Global, name: &str) -> Result<String, NoMemory> {
         self.provider = new_provider(alloc, name)?;
-        self.run = Run::new();
+        self.run = Run::new(alloc);
         match self.provider {
             Some(_) => told(alloc, "begun"),
             None => told(alloc, "no such provider"),
@@ -70,7 +70,7 @@ impl Cases for Table {
 fn main(rt: HostRuntime) -> io::Result<()> {
     let mut table = Table {
         provider: None,
-        run: Run::new(),
+        run: Run::new(rt.alloc()),
     };
     print_cases(&rt, &mut table)
 }

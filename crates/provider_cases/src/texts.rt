@@ -2,7 +2,7 @@
 
 // Beside the words: authorization requests and token requests of the clients, and request objects. The objects are sealed by
 // Python's `hmac` and `base64`: with the nonce `inside`, the same under another secret, and with the response type `id_token`.
-const TEXTS: [(&str, &str); 15] = [
+const TEXTS: [(&str, &str); 19] = [
     (
         "shop",
         "client_id=shop-client&redirect_uri=http%3A%2F%2F127.0.0.1%3A8081%2Fcb&response_type=code&scope=openid",
@@ -58,6 +58,22 @@ const TEXTS: [(&str, &str); 15] = [
     (
         "email",
         "claims=%7B%22id_token%22%3A%7B%22email%22%3Anull%7D%7D",
+    ),
+    (
+        "mail",
+        "client_id=mail-client&redirect_uri=http%3A%2F%2F127.0.0.1%3A8083%2Fcb&nonce=n&state=s&scope=openid",
+    ),
+    (
+        "mail's own code",
+        "grant_type=authorization_code&client_id=mail-client&client_secret=mail-secret-mail-secret-mail-secret&redirect_uri=http%3A%2F%2F127.0.0.1%3A8083%2Fcb&code=",
+    ),
+    (
+        "phone at UserInfo",
+        "claims=%7B%22userinfo%22%3A%7B%22phone_number%22%3Anull%7D%7D",
+    ),
+    (
+        "email at both",
+        "claims=%7B%22id_token%22%3A%7B%22email%22%3Anull%7D%2C%22userinfo%22%3A%7B%22email%22%3Anull%7D%7D",
     ),
     (
         "bob",

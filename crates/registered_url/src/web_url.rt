@@ -3,7 +3,7 @@
 ghost use Rattle.std.specs.Prelude.{◌≡◌, ◌<◌, [], ◌∷◌, ◌++◌, length, IfOk, OnOk, OnErr, slice_get, Some};
 ghost use Rattle.registered_url.specs.Rule.{is_same_server};
 
-use sso_base::{NoMemory, Text};
+use sso_base::{NoMemory, Text, copied_text};
 use std::alloc::Global;
 use std::marker::Model;
 
@@ -41,18 +41,8 @@ impl WebUrl {
             host: self.host.copy(alloc)?,
             port: self.port,
             path: self.path.copy(alloc)?,
-            query: copied(alloc, &self.query)?,
+            query: copied_text(alloc, &self.query)?,
         })
-    }
-}
-
-// An equal text, where there is one.
-fn copied(alloc: Global, text: &Option<Text>) -> Result<Option<Text>, NoMemory>
-    ensures { IfOk result (λ o. o ≡ text.now) }
-{
-    match text {
-        Some(text) => Ok(Some(text.copy(alloc)?)),
-        None => Ok(None),
     }
 }
 

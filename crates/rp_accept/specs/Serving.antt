@@ -1,14 +1,13 @@
 -- Which setups of relying parties are served.
-use Rattle.std.specs.Prelude.{◌≡◌, true, ℕ}
+use Rattle.std.specs.Prelude.{◌≡◌, ◌<◌, ℕ, length}
 use Rattle.client_registry.specs.declared.records.Provider.{Provider}
 use Rattle.client_registry.specs.Configuration.{Configuration}
-use Rattle.rp_exchange.specs.Parties.{is_served_at}
 use Rattle.rp_answer.specs.Setup.{PartySetup}
 
 abbrev pub setup_of : Configuration → ℕ → Provider → PartySetup
 setup_of c n provider = record { configuration = c; number = n; provider = provider }
 
--- a party that can be served so far, and a provider of the registry's issuer
+-- a party of the registry, and a provider of the registry's issuer
 pub record MayServe (s : PartySetup) : Type 0 where
-  pub served : is_served_at s.configuration s.number ≡ true
+  pub known : s.number < length s.configuration.parties
   pub issuer : s.provider.issuer ≡ s.configuration.provider.issuer

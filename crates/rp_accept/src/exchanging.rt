@@ -4,6 +4,7 @@ ghost use Rattle.std.specs.Prelude.{◌≡◌, IfOk};
 ghost use Rattle.id_token.specs.Judging.{id_judged};
 ghost use Rattle.rp_answer.specs.Replies as spec;
 
+use crate::fetching::is_other;
 use crate::setup::Setup;
 use id_token::{Half, IdClaims, IdNo, IdRules, half_hash, judge_id};
 use rp_exchange::{Part, RpAsk, RpNo, RpReply, copied_id};
@@ -19,16 +20,6 @@ fn may_hash(text: &Option<Text>) -> Half
     match text {
         Some(text) => Half::IfThere(half_hash(text.as_str().as_bytes())),
         None => Half::Free,
-    }
-}
-
-// Whether a subject came before, and is another.
-fn is_other(before: &Option<Text>, sub: &Text) -> bool
-    ensures { result ≡ spec.is_other before.now sub.now }
-{
-    match before {
-        Some(before) => before.as_str() != sub.as_str(),
-        None => false,
     }
 }
 
@@ -55,7 +46,7 @@ impl Setup {
         tokens: &Tokens,
         claims: &IdClaims,
     ) -> Result<RpReply, NoMemory>
-        ensures { IfOk result (λ r. r ≡ spec.back_judged entry.now pending.now claims.now (id_judged (spec.back_rules self.now pending.now tokens.now) claims.now entry.now.at)) }
+        ensures { IfOk result (λ r. r ≡ spec.back_judged self.now entry.now pending.now tokens.now claims.now (id_judged (spec.back_rules self.now pending.now tokens.now) claims.now entry.now.at)) }
     {
         let rules = self.back_rules(alloc, pending, tokens)?;
         if let Err(why) = judge_id(&rules, claims, entry.at) {
@@ -66,10 +57,8 @@ impl Setup {
                 why: RpNo::SubjectDiffers,
             });
         }
-        Ok(RpReply::Entered {
-            session: entry.fresh[1],
-            sub: claims.sub.copy(alloc)?,
-        })
+        let access = Some(&tokens.access);
+        self.fetch_or_enter(alloc, entry, access, pending.word, &claims.sub)
     }
 
     /// The reply to the tokens of this exchange, which lives: the claims of their ID Token are judged.

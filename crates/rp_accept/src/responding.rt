@@ -17,7 +17,7 @@ use std::alloc::Global;
 use token_endpoint::print_grant;
 
 // The text, where it counts.
-fn text_if(wanted: bool, text: &Option<Text>) -> Option<&Text>
+pub(crate) fn text_if(wanted: bool, text: &Option<Text>) -> Option<&Text>
     ensures { option_copied result ≡ asked.if_wanted wanted text.now }
 {
     if !wanted {
@@ -98,6 +98,13 @@ impl Setup {
         text_if(self.party().types.code, &heard.code)
     }
 
+    // The access token of a response, where its type has one.
+    fn front_access<'a>(&self, heard: &'a Heard) -> Option<&'a Text>
+        ensures { option_copied result ≡ spec.front_access self.now heard.now }
+    {
+        text_if(self.party().types.token, &heard.access)
+    }
+
     fn front_rules(
         &self,
         alloc: Global,
@@ -106,7 +113,7 @@ impl Setup {
     ) -> Result<IdRules, NoMemory>
         ensures { IfOk result (λ r. r ≡ spec.front_rules self.now login.now heard.now) }
     {
-        let token = must_hash(text_if(self.party().types.token, &heard.access));
+        let token = must_hash(self.front_access(heard));
         let code = must_hash(self.front_code(heard));
         self.rules_for(alloc, &login.nonce, login.begun, token, code)
     }
@@ -128,28 +135,27 @@ impl Setup {
         })
     }
 
-    // A code is exchanged, else the claims of the ID Token let in.
+    // A code is exchanged, else the claims of the ID Token count.
     fn exchange_or_enter(
         &self,
         alloc: Global,
         entry: &Entry<RpAsk>,
+        heard: &Heard,
         code: Option<&Text>,
         claims: Option<&IdClaims>,
     ) -> Result<RpReply, NoMemory>
-        ensures { IfOk result (λ r. r ≡ spec.exchange_or_enter self.now entry.now (option_copied code.entry) (option_copied claims.entry)) }
+        ensures { IfOk result (λ r. r ≡ spec.exchange_or_enter self.now entry.now heard.now (option_copied code.entry) (option_copied claims.entry)) }
     {
         if let Some(code) = code {
             return self.exchange(alloc, entry, code);
         }
-        match claims {
-            Some(claims) => Ok(RpReply::Entered {
-                session: entry.fresh[1],
-                sub: claims.sub.copy(alloc)?,
-            }),
-            None => Ok(RpReply::Refused {
+        let Some(claims) = claims else {
+            return Ok(RpReply::Refused {
                 why: RpNo::Missing(Part::Id),
-            }),
-        }
+            });
+        };
+        let access = self.front_access(heard);
+        self.fetch_or_enter(alloc, entry, access, entry.fresh[0], &claims.sub)
     }
 
     // The claims of the response's ID Token are judged.
@@ -167,7 +173,7 @@ impl Setup {
         if let Err(why) = judge_id(&rules, claims, entry.at) {
             return Ok(RpReply::Refused { why: RpNo::Id(why) });
         }
-        self.exchange_or_enter(alloc, entry, self.front_code(heard), Some(claims))
+        self.exchange_or_enter(alloc, entry, heard, self.front_code(heard), Some(claims))
     }
 
     // The response's ID Token, where its type has one.
@@ -182,7 +188,7 @@ impl Setup {
         ensures { IfOk result (λ r. r ≡ spec.front_read self.now entry.now login.now heard.now (option_copied id.entry)) }
     {
         let Some(id) = id else {
-            return self.exchange_or_enter(alloc, entry, self.front_code(heard), None);
+            return self.exchange_or_enter(alloc, entry, heard, self.front_code(heard), None);
         };
         match id {
             Ok(claims) => self.judge_front(alloc, entry, login, heard, claims),

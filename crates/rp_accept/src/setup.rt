@@ -1,14 +1,15 @@
 // What a relying party was set up with.
 
-ghost use Rattle.std.specs.Prelude.{◌≡◌, true, IfOk};
+ghost use Rattle.std.specs.Prelude.{◌≡◌, ◌<◌, length, IfOk};
 ghost use Rattle.login_request.specs.Request.{login_location};
-ghost use Rattle.rp_exchange.specs.Parties.{is_served_at};
+ghost use Rattle.logout_token.specs.Judging.{logout_judged};
 ghost use Rattle.rp_answer.specs.Setup.{party_of, client_of};
 ghost use Rattle.rp_accept.specs.Serving.{setup_of};
 
 use client_registry::{Client, Party, Provider, Registry};
 use login_request::login_request;
-use sso_base::{NoMemory, Text, Word};
+use logout_token::{LogoutClaims, LogoutNo, judge_logout};
+use sso_base::{Moment, NoMemory, Text, Word};
 use std::alloc::Global;
 use std::marker::Model;
 
@@ -33,12 +34,9 @@ impl Model for Setup {
 }
 
 impl Setup {
-    /// The party of this number in the registry, which trusts this provider.
-    ///
-    /// So far the response type of the party is `code` or `id_token token`, and it asks for no UserInfo. The provider's issuer
-    /// is the registry's.
+    /// The party of this number in the registry, which trusts this provider. The provider's issuer is the registry's.
     pub fn new(registry: Registry, number: u32, provider: Provider) -> Setup
-        requires served { is_served_at registry number ≡ true }
+        requires party { number < length registry.parties }
         requires issuer { provider.issuer ≡ registry.provider.issuer }
         ensures { result ≡ setup_of registry number provider }
     {
@@ -70,6 +68,13 @@ impl Setup {
         ensures { result.now ≡ self.now.provider }
     {
         &self.provider
+    }
+
+    /// Judges the claims of a logout token, which the party received, at a moment (OpenID Connect Back-Channel Logout 1.0, 2.6).
+    pub fn judge_logout(&self, claims: &LogoutClaims, at: Moment) -> Result<(), LogoutNo>
+        ensures { result ≡ logout_judged self.now.provider.issuer (client_of self.now).id claims.now at }
+    {
+        judge_logout(&self.provider().issuer, &self.client().id, claims, at)
     }
 
     /// Where a login of this state and nonce begins: an authorization request at the provider (OpenID Connect Core 1.0, 3.1.2.1).

@@ -1,14 +1,15 @@
 -- What each reply says of the past and of the ask that led to it, but for the refusals.
-use Rattle.std.proofs.Common.{◌≡◌, true, Option, Some, None, Ok, Err, refl, subst}
+use Rattle.std.proofs.Common.{◌≡◌, ℕ, Bool, true, Option, Some, None, Ok, Err, refl, subst}
 use Rattle.sso_base.specs.Words.{Word, Text}
 use Rattle.sso_base.specs.declared.history.Entry.{Entry}
 use Rattle.sso_base.specs.declared.message.Message.{Message}
 use Rattle.auth_answer.specs.declared.no.AnswerNo.TheVariants as answer_no
 use Rattle.rp_login.specs.declared.rows.SessionRow.{SessionRow}
+use Rattle.rp_login.specs.declared.rows.Stage.TheVariants as stage
 use Rattle.rp_exchange.specs.declared.ask.RpAsk.{RpAsk}
 use Rattle.rp_exchange.specs.declared.ask.RpAsk.TheVariants as ask
 use Rattle.rp_exchange.specs.declared.reply.RpReply.{RpReply}
-use Rattle.rp_exchange.specs.declared.reply.RpReply.TheVariants.{Ask, Exchange, Entered, User, Nobody}
+use Rattle.rp_exchange.specs.declared.reply.RpReply.TheVariants.{Ask, Fragment, Exchange, Fetch, Entered, User, Nobody, Left, Ended}
 use Rattle.rp_exchange.specs.Asks.{is_prepared}
 use Rattle.rp_answer.specs.Past.{RpPast}
 use Rattle.rp_answer.specs.Setup.{PartySetup, party_of}
@@ -16,11 +17,13 @@ use Rattle.rp_answer.specs.Pendings.{live_pending}
 use Rattle.rp_answer.specs.Visits.{live_visit}
 use Rattle.rp_answer.specs.Replies.{visited}
 use Rattle.rp_answer.specs.Answering.{rp_reply, rp_answer}
-use Rattle.rp_answer.specs.Causes.{is_own, AskCause, ExchangeCause, EnteredCause, UserCause, NobodyCause}
+use Rattle.rp_answer.specs.Causes.{is_own, AskCause, FragmentCause, ExchangeCause, FetchCause, EnteredCause, UserCause, NobodyCause, LeftCause, EndedCause}
 use Rattle.rp_answer.proofs.Stood.{own_replies_stand}
 use Rattle.rp_answer.proofs.Caused.{Caused}
 use Rattle.rp_answer.proofs.Responses.{responses_caused}
 use Rattle.rp_answer.proofs.TokenResponses.{tokens_caused}
+use Rattle.rp_answer.proofs.InfoResponses.{infos_caused}
+use Rattle.rp_answer.proofs.LogoutRequests.{logouts_caused}
 
 module _ (s : PartySetup) (past : RpPast) (e : Entry RpAsk) where
   visit_by : (session : Option Word) (found : Option SessionRow) → live_visit (party_of s).types past e.at session ≡ found → Caused s past e (ask.Visit session) (visited found)
@@ -33,11 +36,11 @@ module _ (s : PartySetup) (past : RpPast) (e : Entry RpAsk) where
   replies_caused (ask.Callback (Err (answer_no.Twice name)) id browser) prepared = refl
   replies_caused (ask.Callback (Err answer_no.NoMemory) id browser) prepared = tt
   replies_caused (ask.Callback (Ok heard) id browser) prepared = responses_caused s past e heard id browser heard.state refl
-  replies_caused (ask.Tokens w came id) prepared = tokens_caused s past e w (live_pending (party_of s).types past e.at w) refl came id prepared
-  replies_caused (ask.Info w came) prepared = tt
+  replies_caused (ask.Tokens w came id) prepared = tokens_caused s past e w (live_pending (party_of s).types past e.at w stage.Tokens) refl came id prepared
+  replies_caused (ask.Info w came) prepared = infos_caused s past e w (live_pending (party_of s).types past e.at w stage.Info) refl came
   replies_caused (ask.Visit session) prepared = visit_by session (live_visit (party_of s).types past e.at session) refl
-  replies_caused (ask.Leave session) prepared = tt
-  replies_caused (ask.Logout claims) prepared = tt
+  replies_caused (ask.Leave session) prepared = refl
+  replies_caused (ask.Logout claims) prepared = logouts_caused s past e claims
   replies_caused ask.NotHere prepared = tt
 
   -- a reply that is the relying party's own has its cause
@@ -53,8 +56,20 @@ module _ (s : PartySetup) (past : RpPast) (e : Entry RpAsk) where
   pub exchanges_have_a_cause : (w : Word) (message : Message) → rp_answer s past e ≡ Exchange w message → ExchangeCause s past e e.ask w message
   exchanges_have_a_cause w message h = own_replies_caused (Exchange w message) refl h
 
+  pub fragments_have_a_cause : rp_answer s past e ≡ Fragment → FragmentCause e.ask
+  fragments_have_a_cause h = own_replies_caused Fragment refl h
+
+  pub fetches_have_a_cause : (w : Word) (message : Message) → rp_answer s past e ≡ Fetch w message → FetchCause s past e e.ask w message
+  fetches_have_a_cause w message h = own_replies_caused (Fetch w message) refl h
+
   pub entered_have_a_cause : (w : Word) (sub : Text) → rp_answer s past e ≡ Entered w sub → EnteredCause s past e e.ask w sub
   entered_have_a_cause w sub h = own_replies_caused (Entered w sub) refl h
+
+  pub left_has_a_cause : (ended : Bool) → rp_answer s past e ≡ Left ended → LeftCause s past e e.ask ended
+  left_has_a_cause ended h = own_replies_caused (Left ended) refl h
+
+  pub ended_has_a_cause : (count : ℕ) → rp_answer s past e ≡ Ended count → EndedCause s past e e.ask count
+  ended_has_a_cause count h = own_replies_caused (Ended count) refl h
 
   pub users_have_a_cause : (sub : Text) → rp_answer s past e ≡ User sub → UserCause s past e e.ask sub
   users_have_a_cause sub h = own_replies_caused (User sub) refl h

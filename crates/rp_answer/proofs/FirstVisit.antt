@@ -12,7 +12,7 @@ use Rattle.rp_exchange.specs.declared.ask.RpAsk.{RpAsk}
 use Rattle.rp_exchange.specs.declared.ask.RpAsk.TheVariants as ask
 use Rattle.rp_exchange.specs.declared.no.RpNo.TheVariants as no
 use Rattle.rp_exchange.specs.declared.reply.RpReply.{RpReply}
-use Rattle.rp_exchange.specs.declared.reply.RpReply.TheVariants.{Ask, Exchange, Entered, User, Nobody, Refused, NotHere}
+use Rattle.rp_exchange.specs.declared.reply.RpReply.TheVariants.{Ask, Exchange, Entered, User, Nobody, Refused}
 use Rattle.rp_answer.specs.Past.{RpPast}
 use Rattle.rp_answer.specs.Answering.{rp_answer}
 use Rattle.rp_answer.proofs.Sample.{word, entry_at, pair_of, op, shop_client, shop, shop_uri, shop_setup, claims_for}
@@ -131,15 +131,3 @@ visit_after_eight_hours t = refl
 pub visit_without_session : (t : Text) → rp_answer shop_setup (past_entered t) (entry_at 1000 29 (ask.Visit None)) ≡ Nobody
 unfolding rp_answer
 visit_without_session t = refl
-
--- leaving is not here yet, and ends nothing
-abbrev pub leave_entry : Entry RpAsk
-leave_entry = entry_at 1001 33 (ask.Leave (Some (word 26)))
-
-pub leave_is_not_here : (t : Text) → rp_answer shop_setup (past_entered t) leave_entry ≡ NotHere
-unfolding rp_answer
-leave_is_not_here t = refl
-
-pub visit_after_leave : (t : Text) → rp_answer shop_setup (pair_of leave_entry NotHere ∷ past_entered t) (visit_entry 1002) ≡ User (codes "alice")
-unfolding rp_answer
-visit_after_leave t = refl

@@ -1,5 +1,5 @@
 -- Legal pasts, who began and who entered, on the sample logins. The whole past of a login by code is legal.
-use Rattle.std.proofs.Common.{◌≡◌, ◌+◌, ℕ, true, false, [], ◌∷◌, ◌++◌, Option, Some, None, Ok, codes, refl, sym, ◌∙◌, ap, subst, arith, inl, inr}
+use Rattle.std.proofs.Common.{◌≡◌, ◌≤◌, ◌+◌, ℕ, true, false, List, length, [], ◌∷◌, ◌++◌, Option, Some, None, Ok, codes, refl, sym, ◌∙◌, ap, subst, arith, inl, inr}
 use Rattle.std.specs.Str.{IsUtf8, bytes_eq}
 use Rattle.json.proofs.Printed.Utf8.{IsUtf8-are_ascii}
 use Rattle.sso_base.specs.Words.{Word, Text, IsWord, word_text}
@@ -7,6 +7,7 @@ use Rattle.sso_base.specs.Base64Url.{all_bytes}
 use Rattle.sso_base.specs.Values.{AreWords}
 use Rattle.sso_base.specs.Drawn.{IsDrawn}
 use Rattle.sso_base.proofs.DrawnWords.{texts_tell_words}
+use Rattle.sso_base.proofs.Histories.{few_pairs}
 use Rattle.sso_base.proofs.RowLaws.{bytes_same}
 use Rattle.sso_base.proofs.WordUtf8.{IsUtf8-word_text}
 use Rattle.sso_base.specs.declared.history.Entry.{Entry}
@@ -19,11 +20,13 @@ use Rattle.rp_exchange.specs.declared.ask.RpAsk.{RpAsk}
 use Rattle.rp_exchange.specs.declared.ask.RpAsk.TheVariants as ask
 use Rattle.rp_exchange.specs.declared.reply.RpReply.TheVariants.{NotHere}
 use Rattle.rp_exchange.specs.Values.{IsRpAsk, IsIdValue}
+use Rattle.rp_exchange.specs.Weight.{ask_weight}
+use Rattle.rp_exchange.proofs.LeastWeight.{least_weight}
 use Rattle.rp_answer.specs.Past.{RpPast, RpPair}
 use Rattle.rp_answer.specs.Logins.{live_login}
 use Rattle.rp_answer.specs.Answering.{rp_answer}
 use Rattle.rp_answer.specs.Replies.{front_rules, back_rules}
-use Rattle.rp_answer.specs.Legal.{IsLegalRp, IsLegalHistory, BegunBy, ExchangedBy, EnteredBy, Before, Responded, LoginEntered, place_of_login, place_of_pending, login_entered}
+use Rattle.rp_answer.specs.Legal.{IsLegalRp, IsLegalHistory, BegunBy, JudgedWith, JudgedFor, ExchangedBy, EnteredBy, Before, Responded, LoginEntered, place_of_login, place_of_pending, login_entered}
 use Rattle.rp_answer.proofs.Sample.{word, words, entry_at, pair_of, op, only_code, id_and_token, shop_client, shop, shop_uri, shop_setup, news_setup}
 use Rattle.rp_answer.proofs.FirstVisit.{begin_entry, asked, begin_asks, past_begin, heard, callback_entry, exchange, callback_exchanges_at_once, past_callback, claims, tokens_entry, entered, tokens_enter_at_once, past_entered}
 use Rattle.rp_answer.proofs.FrontLogin.{past_front, heard_front, callback_with, with_hash, entered_front, waiting}
@@ -31,10 +34,10 @@ use Rattle.rp_answer.proofs.EachRefusal.{came}
 use Rattle.rp_answer.proofs.RowSamples.{login, visit}
 use Rattle.rp_answer.proofs.Entering.{sessions_need_a_login}
 
-is_word : (n : ℕ) → all_bytes (word n) ≡ true → IsWord (word n)
+pub is_word : (n : ℕ) → all_bytes (word n) ≡ true → IsWord (word n)
 is_word n bytes = record { long = refl; bytes = IsBytes-from_all_bytes (word n) bytes }
 
-are_words : (n : ℕ) → all_bytes (word n) ≡ true → all_bytes (word (n + 1)) ≡ true → all_bytes (word (n + 2)) ≡ true → all_bytes (word (n + 3)) ≡ true → AreWords (words n)
+pub are_words : (n : ℕ) → all_bytes (word n) ≡ true → all_bytes (word (n + 1)) ≡ true → all_bytes (word (n + 2)) ≡ true → all_bytes (word (n + 3)) ≡ true → AreWords (words n)
 are_words n first second third fourth = (is_word n first, (is_word (n + 1) second, (is_word (n + 2) third, (is_word (n + 3) fourth, tt))))
 
 -- an ask of texts in UTF-8 and words of 32 bytes
@@ -63,7 +66,7 @@ callback_is_legal = (
   sym callback_exchanges_at_once,
 )
 
-claims_are_values : (t : Text) → IsUtf8 t → IsIdValue (claims t)
+pub claims_are_values : (t : Text) → IsUtf8 t → IsIdValue (claims t)
 claims_are_values t spelled = record {
   iss = IsUtf8-are_ascii (codes "http://127.0.0.1:8080") refl;
   sub = IsUtf8-are_ascii (codes "alice") refl;
@@ -91,7 +94,7 @@ visit_is_legal t spelled same = (
   sym (tokens_enter_at_once t same),
 )
 
-entered_is_legal : (t : Text) → bytes_eq t (word_text (word 3)) ≡ true → IsLegalRp shop_setup (past_entered t)
+pub entered_is_legal : (t : Text) → bytes_eq t (word_text (word 3)) ≡ true → IsLegalRp shop_setup (past_entered t)
 entered_is_legal t same = visit_is_legal t (subst IsUtf8 (sym (bytes_same t (word_text (word 3)) same)) (IsUtf8-word_text (word 3))) same
 
 other_reply_is_not_legal : IsLegalRp shop_setup (pair_of begin_entry NotHere ∷ []) → ⊥
@@ -147,7 +150,7 @@ begun = record {
 nothing_begun : BegunBy [] login → ⊥
 nothing_begun h = no_parts h.later h.maker h.earlier h.parts
 
-exchanged : ExchangedBy past_callback waiting
+exchanged : ExchangedBy shop_setup past_callback waiting
 exchanged = record {
   later = [];
   maker = pair_of (callback_entry 1000 (word 1)) exchange;
@@ -166,24 +169,13 @@ exchanged = record {
   nonce_is = refl;
   begun_is = refl;
   place = refl;
+  code_is = refl;
+  sub_is = refl;
+  sid_is = refl;
 }
 
-nothing_exchanged : ExchangedBy [] waiting → ⊥
+nothing_exchanged : ExchangedBy shop_setup [] waiting → ⊥
 nothing_exchanged h = no_parts h.later h.maker h.earlier h.parts
-
-let_in : (t : Text) → EnteredBy (past_entered t) visit
-let_in t = record {
-  later = [];
-  maker = pair_of (tokens_entry 1000 t) entered;
-  earlier = past_callback;
-  parts = refl;
-  replied = refl;
-  drawn = refl;
-  entered_then = refl;
-}
-
-nobody_let_in : EnteredBy [] visit → ⊥
-nobody_let_in h = no_parts h.later h.maker h.earlier h.parts
 
 begun_before : Before past_callback [] begin_entry
 begun_before = record { later = pair_of (callback_entry 1000 (word 1)) exchange ∷ []; reply = asked; parts = refl }
@@ -205,12 +197,8 @@ responded t = record {
   now_or_before = inr (record { later = []; reply = exchange; parts = refl });
 }
 
-enters : (t : Text) → bytes_eq t (word_text (word 3)) ≡ true → LoginEntered shop_setup past_callback (tokens_entry 1000 t) (word 26) (codes "alice")
-enters t same = record {
-  login = login;
-  responded = responded t;
-  enters = refl;
-  claims = claims t;
+token_judged : (t : Text) → bytes_eq t (word_text (word 3)) ≡ true → JudgedWith shop_setup (tokens_entry 1000 t) login (claims t)
+token_judged t same = record {
   came = refl;
   rules = back_rules shop_setup waiting came;
   issuer_is = refl;
@@ -220,8 +208,45 @@ enters t same = record {
   age_is = refl;
   good = tt;
   judged = rw same refl;
-  sub_is = refl;
 }
+
+no_token_came : (t : Text) → JudgedWith shop_setup begin_entry login (claims t) → ⊥
+no_token_came t h = let came = h.came in cc
+
+judged_now : (t : Text) → bytes_eq t (word_text (word 3)) ≡ true → JudgedFor shop_setup past_callback (tokens_entry 1000 t) (tokens_entry 1000 t).ask login (claims t)
+judged_now t same = token_judged t same
+
+none_judged_now : (t : Text) → JudgedFor shop_setup [] begin_entry begin_entry.ask login (claims t) → ⊥
+none_judged_now t h = no_token_came t h
+
+enters : (t : Text) → bytes_eq t (word_text (word 3)) ≡ true → LoginEntered shop_setup past_callback (tokens_entry 1000 t) (word 26) (codes "alice")
+enters t same = record {
+  login = login;
+  responded = responded t;
+  enters = refl;
+  claims = claims t;
+  judged = judged_now t same;
+  sub_is = refl;
+  visit_is = refl;
+}
+
+let_in : (t : Text) → bytes_eq t (word_text (word 3)) ≡ true → EnteredBy shop_setup (past_entered t) visit
+unfolding enters
+let_in t same = record {
+  later = [];
+  maker = pair_of (tokens_entry 1000 t) entered;
+  earlier = past_callback;
+  parts = refl;
+  replied = refl;
+  drawn = refl;
+  entered_then = refl;
+  entered = enters t same;
+  nonce_is = refl;
+  sid_is = refl;
+}
+
+nobody_let_in : EnteredBy shop_setup [] visit → ⊥
+nobody_let_in h = no_parts h.later h.maker h.earlier h.parts
 
 responds : (access t h : Text) → Responded past_front (callback_with 1000 access (with_hash t h)) login
 responds access t h = record {
@@ -242,16 +267,19 @@ enters_at_once access t h nonce hash = record {
   responded = responds access t h;
   enters = refl;
   claims = with_hash t h;
-  came = refl;
-  rules = front_rules news_setup login (heard_front access);
-  issuer_is = refl;
-  client_is = refl;
-  nonce_is = refl;
-  begun_is = refl;
-  age_is = refl;
-  good = tt;
-  judged = rw (nonce, hash) refl;
+  judged = record {
+    came = refl;
+    rules = front_rules news_setup login (heard_front access);
+    issuer_is = refl;
+    client_is = refl;
+    nonce_is = refl;
+    begun_is = refl;
+    age_is = refl;
+    good = tt;
+    judged = rw (nonce, hash) refl;
+  };
   sub_is = refl;
+  visit_is = refl;
 }
 
 -- the law says the same of the whole visit
@@ -306,3 +334,9 @@ no_exchange_enters_late t = refl
 -- a login is named by the place of the pair that began it: the same browser begins another
 the_second : place_of_login (live_login (pair_of (entry_at 1000 5 (ask.Begin (Some (word 1)))) asked ∷ past_begin) 1000 (Some (word 6))) ≡ Some 1
 the_second = refl
+
+-- no history has a pair more than the limit of its weight leaves room for
+no_history_of_262145_pairs : (history : List RpPair) → length history ≡ 262145 → IsLegalHistory shop_setup history → ⊥
+no_history_of_262145_pairs history long legal =
+    let short : length history ≤ 262144 = few_pairs ask_weight least_weight history legal.light in
+    absurd (omega (arith, long, short))

@@ -2,6 +2,8 @@ pub mod Stood
 pub mod Caused
 pub mod Responses
 pub mod TokenResponses
+pub mod InfoResponses
+pub mod LogoutRequests
 pub mod Answers
 pub mod Refusals
 pub mod Sample
@@ -9,13 +11,26 @@ pub mod FirstVisit
 pub mod FrontLogin
 pub mod EachRefusal
 pub mod RowSamples
+pub mod Fetching
+mod FetchSamples
+pub mod LoggedOut
 mod ReplySamples
 pub mod Legality
+mod MailLogin
 mod CauseSamples
 pub mod KeptNames
 pub mod Drawn
+pub mod Sending
 pub mod Exchanges
 pub mod Entering
+pub mod Sessions
+pub mod Accepted
+pub mod VisitEnds
+pub mod VisitsLive
+pub mod TokensOnce
+mod EndSamples
+pub mod Hashes
 pub mod Counting
 pub mod LoginsOnce
 mod NoCause
+pub mod ObjectsApart

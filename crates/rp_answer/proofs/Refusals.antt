@@ -40,10 +40,12 @@ module _ (s : PartySetup) (past : RpPast) (e : Entry RpAsk) where
   full_asked (ask.Callback (Ok heard) id browser) table room h = room
   full_asked (ask.Tokens w (Err why) id) table room h = room
   full_asked (ask.Tokens w (Ok came) id) table room h = room
-  full_asked (ask.Info w came) table room h = cc
+  full_asked (ask.Info w (Err why)) table room h = room
+  full_asked (ask.Info w (Ok sub)) table room h = room
   full_asked (ask.Visit session) table room h = let none = visit_adds_none (live_visit (party_of s).types past e.at session) in cc
   full_asked (ask.Leave session) table room h = cc
-  full_asked (ask.Logout claims) table room h = cc
+  full_asked (ask.Logout (Err why)) table room h = cc
+  full_asked (ask.Logout (Ok claims)) table room h = room
   full_asked ask.NotHere table room h = cc
 
   -- a reply without regard to room is never Full

@@ -10,7 +10,7 @@ use Rattle.rp_login.specs.Rows.{login_name}
 use Rattle.rp_exchange.specs.declared.ask.RpAsk.TheVariants as ask
 use Rattle.rp_exchange.specs.declared.no.Part.TheVariants as part
 use Rattle.rp_exchange.specs.declared.no.RpNo.TheVariants as no
-use Rattle.rp_exchange.specs.declared.reply.RpReply.TheVariants.{Entered, User, Nobody, Refused, NotHere}
+use Rattle.rp_exchange.specs.declared.reply.RpReply.TheVariants.{Fragment, Entered, User, Nobody, Refused, NotHere}
 use Rattle.rp_answer.specs.Setup.{party_of, client_of}
 use Rattle.client_registry.specs.Numbers.{no_party}
 use Rattle.rp_answer.specs.Replies.{login_browser, must_hash, may_hash, front_access, front_code, front_rules, back_rules, part_missing, exchange_or_enter, is_other, visited}
@@ -106,13 +106,13 @@ access_missing = refl
 id_missing : part_missing code_and_id heard ≡ Some part.Id
 id_missing = refl
 
-code_is_exchanged : exchange_or_enter shop_setup (callback_entry 1000 (word 1)) (Some (codes "code")) None ≡ exchange
+code_is_exchanged : exchange_or_enter shop_setup (callback_entry 1000 (word 1)) heard (Some (codes "code")) None ≡ exchange
 code_is_exchanged = refl
 
-claims_enter : (t : Text) → exchange_or_enter news_setup (callback_entry 1000 (word 1)) None (Some (front_claims t)) ≡ Entered (word 18) (codes "alice")
+claims_enter : (t : Text) → exchange_or_enter news_setup (callback_entry 1000 (word 1)) heard None (Some (front_claims t)) ≡ Entered (word 18) (codes "alice")
 claims_enter t = refl
 
-neither_is_refused : exchange_or_enter news_setup (callback_entry 1000 (word 1)) None None ≡ Refused (no.Missing part.Id)
+neither_is_refused : exchange_or_enter news_setup (callback_entry 1000 (word 1)) heard None None ≡ Refused (no.Missing part.Id)
 neither_is_refused = refl
 
 -- ---- subjects
@@ -183,8 +183,11 @@ begin_without_room = refl
 begin_anyway : rp_reply shop_setup past_begin begin_entry begin_entry.ask ≡ asked
 begin_anyway = refl
 
-fragment_is_not_here : rp_reply shop_setup past_begin begin_entry ask.Fragment ≡ NotHere
-fragment_is_not_here = refl
+fragment_has_its_page : rp_reply news_setup past_begin begin_entry ask.Fragment ≡ Fragment
+fragment_has_its_page = refl
+
+elsewhere_is_not_here : rp_reply shop_setup past_begin begin_entry ask.NotHere ≡ NotHere
+elsewhere_is_not_here = refl
 
 -- ---- replies that are the party's own
 

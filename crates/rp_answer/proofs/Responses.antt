@@ -1,6 +1,6 @@
 -- What the replies to authorization responses say: each test of the response is seen here once.
 use Rattle.std.proofs.Common.{◌≡◌, Bool, true, false, cond, Option, Some, None, Result, Ok, Err, refl, sym, subst, inl, inr}
-use Rattle.sso_base.specs.Words.{Word, Text, is_word}
+use Rattle.sso_base.specs.Words.{Word, Text, is_word, fresh_word}
 use Rattle.sso_base.specs.declared.history.Entry.{Entry}
 use Rattle.id_token.specs.declared.claims.IdClaims.{IdClaims}
 use Rattle.id_token.specs.declared.no.IdNo.{IdNo}
@@ -18,7 +18,7 @@ use Rattle.rp_answer.specs.Past.{RpPast}
 use Rattle.rp_answer.specs.Setup.{PartySetup, party_of}
 use Rattle.rp_answer.specs.Asked.{if_wanted}
 use Rattle.rp_answer.specs.Logins.{live_login}
-use Rattle.rp_answer.specs.Replies.{front_code, front_rules, part_missing, exchange_or_enter, front_judged, front_read, response_parts, response_error, response_of, response_to}
+use Rattle.rp_answer.specs.Replies.{front_access, front_code, front_rules, part_missing, info_endpoint, fetch_or_enter, exchange_or_enter, front_judged, front_read, response_parts, response_error, response_of, response_to}
 use Rattle.rp_answer.specs.Causes.{OwnLogin, WholeResponse, GoodClaims, IdRefused, IfGood}
 use Rattle.rp_answer.proofs.Caused.{Caused}
 
@@ -30,9 +30,32 @@ module _ (s : PartySetup) (past : RpPast) (e : Entry RpAsk) (heard : Heard) (id 
   abbrev wanted_id : Option (Result IdClaims IdNo)
   wanted_id = if_wanted (party_of s).types.id_token id
 
-  -- the ID Token was accepted: a code is exchanged, else its claims let in
+  -- there is no code: UserInfo is asked for, else the claims let in
+  without_code : (login : LoginRow) → WholeResponse s past e heard browser login → (claims : IdClaims) → GoodClaims (front_rules s login heard) e.at wanted_id claims → front_code s heard ≡ None
+      → (endpoint : Option Text) → info_endpoint s ≡ endpoint → (access : Option Text) → front_access s heard ≡ access
+      → Told (fetch_or_enter e endpoint access (fresh_word e.fresh 0) claims.sub)
+  without_code login response claims good no_code None no_endpoint access access_is =
+      record { login = login; response = response; claims = claims; accepted = good; no_code = no_code; not_fetched = inl no_endpoint; drawn = refl; sub_is = refl }
+  without_code login response claims good no_code (Some endpoint) endpoint_is None no_access =
+      record { login = login; response = response; claims = claims; accepted = good; no_code = no_code; not_fetched = inr no_access; drawn = refl; sub_is = refl }
+  without_code login response claims good no_code (Some endpoint) endpoint_is (Some access) access_is =
+      record {
+        login = login;
+        response = response;
+        claims = claims;
+        accepted = good;
+        no_code = no_code;
+        endpoint = endpoint;
+        endpoint_is = endpoint_is;
+        access = access;
+        access_is = access_is;
+        drawn = refl;
+        message_is = refl;
+      }
+
+  -- the ID Token was accepted: a code is exchanged, else its claims count
   accepted_by : (login : LoginRow) → WholeResponse s past e heard browser login → (claims : IdClaims) → GoodClaims (front_rules s login heard) e.at wanted_id claims
-      → (code : Option Text) → front_code s heard ≡ code → Told (exchange_or_enter s e code (Some claims))
+      → (code : Option Text) → front_code s heard ≡ code → Told (exchange_or_enter s e heard code (Some claims))
   accepted_by login response claims good (Some code) code_is =
       let G : Option (Result IdClaims IdNo) → Type 0 = IfGood (front_rules s login heard) e.at in
       let accepted : G (Some (Ok claims)) = record { read = refl; good = good.good; judged = good.judged } in
@@ -45,12 +68,11 @@ module _ (s : PartySetup) (past : RpPast) (e : Entry RpAsk) (heard : Heard) (id 
         drawn = refl;
         message_is = refl;
       }
-  accepted_by login response claims good None no_code =
-      record { login = login; response = response; claims = claims; accepted = good; no_code = no_code; drawn = refl; sub_is = refl }
+  accepted_by login response claims good None no_code = without_code login response claims good no_code (info_endpoint s) refl (front_access s heard) refl
 
   -- there was none to accept
   without_id : (login : LoginRow) → WholeResponse s past e heard browser login → wanted_id ≡ None → (code : Option Text) → front_code s heard ≡ code
-      → Told (exchange_or_enter s e code None)
+      → Told (exchange_or_enter s e heard code None)
   without_id login response none (Some code) code_is =
       let G : Option (Result IdClaims IdNo) → Type 0 = IfGood (front_rules s login heard) e.at in
       record {

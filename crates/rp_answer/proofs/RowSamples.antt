@@ -1,18 +1,19 @@
 -- What asks tell, and the rows that stand after a past, on the sample logins.
 use Rattle.std.proofs.Common.{◌≡◌, true, false, [], ◌∷◌, Some, None, Ok, Err, codes, refl}
-use Rattle.sso_base.specs.Words.{Text, is_word}
+use Rattle.sso_base.specs.Words.{Text}
 use Rattle.id_token.specs.declared.no.IdNo.{IdNo}
 use Rattle.id_token.specs.declared.no.IdNo.TheVariants as id_no
 use Rattle.oidc_words.specs.declared.errors.AuthError.TheVariants.{AccessDenied}
 use Rattle.token_endpoint.specs.declared.no.TokensNo.TheVariants as tokens_no
 use Rattle.rp_login.specs.declared.rows.LoginRow.{LoginRow}
 use Rattle.rp_login.specs.declared.rows.SessionRow.{SessionRow}
+use Rattle.rp_login.specs.declared.rows.Stage.TheVariants as stage
 use Rattle.rp_login.specs.declared.table.RpTable.TheVariants as table
 use Rattle.rp_exchange.specs.declared.no.RpNo.TheVariants as no
 use Rattle.rp_exchange.specs.declared.reply.RpReply.TheVariants.{Refused, NotHere}
 use Rattle.rp_answer.specs.Asked.{if_wanted, state_named, code_heard, claims_read, claims_judged, sub_in, sid_in}
 use Rattle.rp_answer.specs.Logins.{login_started, leaves_login, ends_login, login_kept, logins, login_of, live_login, live_logins, has_login_browser}
-use Rattle.rp_answer.specs.Pendings.{pending_by, pending_named, ends_pending, pending_kept, pendings, pending_of, live_pending, live_pendings}
+use Rattle.rp_answer.specs.Pendings.{pending_by, answer_named, is_answered, ends_pending, pending_kept, pendings, pending_of, live_pending, live_pendings}
 use Rattle.rp_answer.specs.Visits.{nonce_by, visit_by, visit_kept, visits, live_visit, live_visits}
 use Rattle.rp_answer.proofs.Sample.{word, words, pair_of, only_code, id_and_token, code_and_id}
 use Rattle.rp_answer.proofs.FirstVisit.{begin_entry, asked, past_begin, callback_entry, exchange, past_callback, claims, tokens_entry, entered, past_entered}
@@ -157,14 +158,14 @@ browser_of_old_login = refl
 
 -- ---- pending exchanges
 
-exchange_makes_pending : pending_by only_code 1000 past_begin (callback_entry 1000 (word 1)).ask exchange ≡ Some waiting
+exchange_makes_pending : pending_by only_code 1000 past_begin [] (callback_entry 1000 (word 1)).ask exchange ≡ Some waiting
 exchange_makes_pending = refl
 
-refusal_makes_none : pending_by only_code 1000 past_begin (callback_entry 1000 (word 1)).ask (Refused no.WrongBrowser) ≡ None
+refusal_makes_none : pending_by only_code 1000 past_begin [] (callback_entry 1000 (word 1)).ask (Refused no.WrongBrowser) ≡ None
 refusal_makes_none = refl
 
 -- the ID Token that came with the code leaves its subject and session
-hybrid_makes_pending : (code t h : Text) → pending_by code_and_id 1000 past_begin (hybrid_response code t h).ask (hybrid_exchange code)
+hybrid_makes_pending : (code t h : Text) → pending_by code_and_id 1000 past_begin [] (hybrid_response code t h).ask (hybrid_exchange code)
     ≡ Some (record waiting { sub = Some (codes "alice"); sid = Some (codes "sid"); code = Some code })
 hybrid_makes_pending code t h = refl
 
@@ -191,14 +192,20 @@ answer_keeps_none t = refl
 begin_keeps_pending : pending_kept past_callback (pair_of second_begin asked_second) waiting ≡ Some waiting
 begin_keeps_pending = refl
 
-answers_own : (t : Text) → is_word (pending_named (tokens_entry 1000 t).ask) (word 17) ≡ true
-answers_own t = refl
+tokens_answer : (t : Text) → answer_named (tokens_entry 1000 t).ask ≡ Some (word 17, stage.Tokens)
+tokens_answer t = refl
 
-answers_no_other : (t : Text) → is_word (pending_named (tokens_entry 1000 t).ask) (word 18) ≡ false
-answers_no_other t = refl
-
-callback_answers_none : is_word (pending_named stray.ask) (word 17) ≡ false
+callback_answers_none : answer_named stray.ask ≡ None
 callback_answers_none = refl
+
+answers_own : is_answered (Some (word 17, stage.Tokens)) waiting ≡ true
+answers_own = refl
+
+answers_no_other : is_answered (Some (word 18, stage.Tokens)) waiting ≡ false
+answers_no_other = refl
+
+answers_no_other_stage : is_answered (Some (word 17, stage.Info)) waiting ≡ false
+answers_no_other_stage = refl
 
 full_ends_none : ends_pending (Refused (no.Full table.Sessions)) ≡ false
 full_ends_none = refl
@@ -209,10 +216,10 @@ pending_found = refl
 pending_not_found : pending_of only_code past_callback (word 18) ≡ None
 pending_not_found = refl
 
-pending_lives : live_pending only_code past_callback 1119 (word 17) ≡ Some waiting
+pending_lives : live_pending only_code past_callback 1119 (word 17) stage.Tokens ≡ Some waiting
 pending_lives = refl
 
-pending_is_over : live_pending only_code past_callback 1120 (word 17) ≡ None
+pending_is_over : live_pending only_code past_callback 1120 (word 17) stage.Tokens ≡ None
 pending_is_over = refl
 
 pendings_live : live_pendings only_code past_callback 1119 ≡ waiting ∷ []

@@ -1,4 +1,5 @@
--- Two relying parties, one of the response type `code` and one of `id_token token`, to try the definitions on.
+-- Relying parties of the response types `code`, `id_token token` and `code id_token`, without and with UserInfo, to try the
+-- definitions on.
 use Rattle.std.proofs.Common.{ℕ, true, false, List, [], ◌∷◌, Some, codes}
 use Rattle.sso_base.specs.declared.history.Entry.{Entry}
 use Rattle.sso_base.specs.Words.{Text}
@@ -41,12 +42,25 @@ shop_setup = record { configuration = sample; number = 0; provider = op }
 abbrev pub news_setup : PartySetup
 news_setup = record { configuration = sample; number = 1; provider = op }
 
--- a party of the response type `code id_token`, which is not served yet
+-- a party of the response type `code id_token`
 abbrev pub hybrid : Party
 hybrid = record shop { types = code_and_id }
 
 abbrev pub hybrid_setup : PartySetup
 hybrid_setup = record { configuration = registered (hybrid ∷ []); number = 0; provider = op }
+
+-- two that ask for UserInfo: of `code id_token`, and of `id_token token`
+abbrev pub mail : Party
+mail = record hybrid { userinfo = true }
+
+abbrev pub mail_setup : PartySetup
+mail_setup = record { configuration = registered (mail ∷ []); number = 0; provider = op }
+
+abbrev pub press : Party
+press = record news { userinfo = true }
+
+abbrev pub press_setup : PartySetup
+press_setup = record { configuration = registered (press ∷ []); number = 0; provider = op }
 
 -- what the provider says of alice to a client, for the login of this nonce
 abbrev pub claims_for : Text → Text → IdClaims

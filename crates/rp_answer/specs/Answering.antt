@@ -1,28 +1,29 @@
 -- A relying party's answer to an entry, by its past alone.
 use Rattle.std.specs.Prelude.{if◌then◌else◌}
 use Rattle.sso_base.specs.declared.history.Entry.{Entry}
+use Rattle.rp_login.specs.declared.rows.Stage.TheVariants as stage
 use Rattle.rp_exchange.specs.declared.ask.RpAsk.{RpAsk}
 use Rattle.rp_exchange.specs.declared.ask.RpAsk.TheVariants as ask
 use Rattle.rp_exchange.specs.declared.reply.RpReply.{RpReply}
-use Rattle.rp_exchange.specs.declared.reply.RpReply.TheVariants.{NotHere}
+use Rattle.rp_exchange.specs.declared.reply.RpReply.TheVariants.{Fragment, NotHere}
 use Rattle.rp_exchange.specs.Asks.{is_prepared}
 use Rattle.rp_answer.specs.Past.{RpPast}
 use Rattle.rp_answer.specs.Setup.{PartySetup, party_of}
 use Rattle.rp_answer.specs.Pendings.{live_pending}
 use Rattle.rp_answer.specs.Visits.{live_visit}
-use Rattle.rp_answer.specs.Replies.{begin, callback, tokens, visited}
+use Rattle.rp_answer.specs.Replies.{begin, callback, tokens, info, visited, left, logout}
 use Rattle.rp_answer.specs.Room.{unless_full}
 
--- The reply, were there always room. The page of the fragment, UserInfo, leaving and logout tokens are not here yet.
+-- The reply, were there always room.
 abbrev pub rp_reply : PartySetup → RpPast → Entry RpAsk → RpAsk → RpReply
 rp_reply s past e (ask.Begin browser) = begin s past e browser
-rp_reply s past e ask.Fragment = NotHere
+rp_reply s past e ask.Fragment = Fragment
 rp_reply s past e (ask.Callback heard id browser) = callback s past e heard id browser
-rp_reply s past e (ask.Tokens w came id) = tokens s e (live_pending (party_of s).types past e.at w) came id
-rp_reply s past e (ask.Info w came) = NotHere
+rp_reply s past e (ask.Tokens w came id) = tokens s e (live_pending (party_of s).types past e.at w stage.Tokens) came id
+rp_reply s past e (ask.Info w came) = info e (live_pending (party_of s).types past e.at w stage.Info) came
 rp_reply s past e (ask.Visit session) = visited (live_visit (party_of s).types past e.at session)
-rp_reply s past e (ask.Leave session) = NotHere
-rp_reply s past e (ask.Logout claims) = NotHere
+rp_reply s past e (ask.Leave session) = left (live_visit (party_of s).types past e.at session)
+rp_reply s past e (ask.Logout claims) = logout s past e claims
 rp_reply s past e ask.NotHere = NotHere
 
 -- the relying party's answer: an ask that no request gives finds nothing here

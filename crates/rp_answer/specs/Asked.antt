@@ -4,9 +4,12 @@ use Rattle.std.specs.Prelude.{Bool, Option, Some, None, option_map, option_and_t
 use Rattle.sso_base.specs.Words.{Word, Text}
 use Rattle.id_token.specs.declared.claims.IdClaims.{IdClaims}
 use Rattle.id_token.specs.declared.no.IdNo.{IdNo}
+use Rattle.logout_token.specs.declared.claims.LogoutClaims.{LogoutClaims}
 use Rattle.oidc_words.specs.declared.response_types.Types.{Types}
 use Rattle.rp_exchange.specs.declared.ask.RpAsk.{RpAsk}
-use Rattle.rp_exchange.specs.declared.ask.RpAsk.TheVariants.{Callback, Tokens}
+use Rattle.rp_exchange.specs.declared.ask.RpAsk.TheVariants.{Callback, Tokens, Logout}
+use Rattle.rp_exchange.specs.declared.reply.RpReply.{RpReply}
+use Rattle.rp_exchange.specs.declared.reply.RpReply.TheVariants.{Ended}
 
 abbrev pub if_wanted : {X : Type 0} → Bool → Option X → Option X
 if_wanted wanted x = if wanted then x else None
@@ -37,3 +40,8 @@ sub_in claims = option_map (λ (x : IdClaims). x.sub) claims
 
 abbrev pub sid_in : Option IdClaims → Option Text
 sid_in claims = option_and_then (λ (x : IdClaims). x.sid) claims
+
+-- the claims of the logout token that a reply accepts (OpenID Connect Back-Channel Logout 1.0, 2.6)
+abbrev pub token_accepted : RpAsk → RpReply → Option LogoutClaims
+token_accepted (Logout (Ok claims)) (Ended count) = Some claims
+token_accepted asked reply = None

@@ -1,5 +1,5 @@
 -- What a reply of a relying party says of the past and of the ask that led to it.
-use Rattle.std.specs.Prelude.{◌≡◌, ℕ, Bool, true, false, Option, Some, None, Result, Ok, Err, ◌⊎◌}
+use Rattle.std.specs.Prelude.{◌≡◌, ℕ, Bool, true, false, Option, Some, None, is_some, Result, Ok, Err, ◌⊎◌}
 use Rattle.sso_base.specs.Words.{Word, Text, is_word, fresh_word}
 use Rattle.sso_base.specs.declared.history.Entry.{Entry}
 use Rattle.id_token.specs.declared.claims.IdClaims.{IdClaims}
@@ -12,11 +12,18 @@ use Rattle.auth_answer.specs.declared.no.AnswerNo.TheVariants as answer_no
 use Rattle.token_endpoint.specs.declared.reading.Tokens.{Tokens}
 use Rattle.token_endpoint.specs.declared.no.TokensNo.{TokensNo}
 use Rattle.token_endpoint.specs.Request.{token_message}
+use Rattle.userinfo.specs.declared.no.InfoNo.{InfoNo}
+use Rattle.userinfo.specs.Request.{info_message}
 use Rattle.sso_base.specs.declared.message.Message.{Message}
+use Rattle.logout_token.specs.declared.claims.LogoutClaims.{LogoutClaims}
+use Rattle.logout_token.specs.declared.no.LogoutNo.{LogoutNo}
+use Rattle.logout_token.specs.Judging.{logout_judged}
 use Rattle.login_request.specs.Request.{login_location}
 use Rattle.rp_login.specs.declared.rows.LoginRow.{LoginRow}
 use Rattle.rp_login.specs.declared.rows.PendingRow.{PendingRow}
 use Rattle.rp_login.specs.declared.rows.SessionRow.{SessionRow}
+use Rattle.rp_login.specs.declared.rows.SeenRow.{SeenRow}
+use Rattle.rp_login.specs.declared.rows.Stage.TheVariants as stage
 use Rattle.rp_login.specs.declared.table.RpTable.{RpTable}
 use Rattle.rp_exchange.specs.declared.ask.RpAsk.{RpAsk}
 use Rattle.rp_exchange.specs.declared.ask.RpAsk.TheVariants as ask
@@ -32,8 +39,9 @@ use Rattle.rp_answer.specs.Setup.{PartySetup, party_of, client_of}
 use Rattle.rp_answer.specs.Asked.{if_wanted}
 use Rattle.rp_answer.specs.Logins.{live_login}
 use Rattle.rp_answer.specs.Pendings.{live_pending}
-use Rattle.rp_answer.specs.Visits.{live_visit}
-use Rattle.rp_answer.specs.Replies.{login_browser, front_code, front_rules, back_rules, part_missing, is_other}
+use Rattle.rp_answer.specs.Visits.{live_visits, live_visit}
+use Rattle.rp_answer.specs.Seens.{live_seen}
+use Rattle.rp_answer.specs.Replies.{login_browser, front_access, front_code, front_rules, back_rules, part_missing, info_endpoint, is_other, meant_count}
 use Rattle.rp_answer.specs.Room.{table_lacking}
 use Rattle.rp_answer.specs.Answering.{rp_reply}
 
@@ -116,7 +124,49 @@ abbrev pub ExchangeCause : PartySetup → RpPast → Entry RpAsk → RpAsk → W
 ExchangeCause s past e (ask.Callback (Ok heard) id browser) w message = CodeExchanged s past e heard id browser w message
 ExchangeCause s past e other w message = ⊥
 
--- ---- a session: the same without a code, or an accepted ID Token for a live exchange
+-- ---- the page of the fragment
+
+abbrev pub FragmentCause : RpAsk → Type 0
+FragmentCause ask.Fragment = Unit {0}
+FragmentCause other = ⊥
+
+-- ---- a UserInfo request: the same without a code, or an accepted ID Token for a live exchange; the party asks for UserInfo at
+-- this endpoint, and there is an access token
+
+pub record FetchedAtOnce (s : PartySetup) (past : RpPast) (e : Entry RpAsk) (heard : Heard) (id : Option (Result IdClaims IdNo)) (browser : Option Word) (w : Word) (message : Message) : Type 0 where
+  pub login : LoginRow
+  pub response : WholeResponse s past e heard browser login
+  pub claims : IdClaims
+  pub accepted : GoodClaims (front_rules s login heard) e.at (if_wanted (party_of s).types.id_token id) claims
+  pub no_code : front_code s heard ≡ None
+  pub endpoint : Text
+  pub endpoint_is : info_endpoint s ≡ Some endpoint
+  pub access : Text
+  pub access_is : front_access s heard ≡ Some access
+  pub drawn : fresh_word e.fresh 0 ≡ w
+  pub message_is : info_message endpoint access ≡ message
+
+pub record FetchedAfterExchange (s : PartySetup) (past : RpPast) (e : Entry RpAsk) (pending : Word) (came : Tokens) (id : Option (Result IdClaims IdNo)) (w : Word) (message : Message) : Type 0 where
+  pub exchange : PendingRow
+  pub live : live_pending (party_of s).types past e.at pending stage.Tokens ≡ Some exchange
+  pub claims : IdClaims
+  pub accepted : GoodClaims (back_rules s exchange came) e.at id claims
+  pub same_subject : is_other exchange.sub claims.sub ≡ false
+  pub endpoint : Text
+  pub endpoint_is : info_endpoint s ≡ Some endpoint
+  pub word_kept : exchange.word ≡ w
+  pub message_is : info_message endpoint came.access ≡ message
+
+abbrev pub FetchCause : PartySetup → RpPast → Entry RpAsk → RpAsk → Word → Message → Type 0
+FetchCause s past e (ask.Callback (Ok heard) id browser) w message = FetchedAtOnce s past e heard id browser w message
+FetchCause s past e (ask.Tokens pending (Ok came) id) w message = FetchedAfterExchange s past e pending came id w message
+FetchCause s past e other w message = ⊥
+
+-- ---- a session: the same without UserInfo, or a UserInfo response of the subject before
+
+-- UserInfo is not asked for: there is no endpoint for it, or no access token
+abbrev pub NotFetched : Option Text → Option Text → Type 0
+NotFetched endpoint access = (endpoint ≡ None) ⊎ (access ≡ None)
 
 pub record EnteredAtOnce (s : PartySetup) (past : RpPast) (e : Entry RpAsk) (heard : Heard) (id : Option (Result IdClaims IdNo)) (browser : Option Word) (w : Word) (sub : Text) : Type 0 where
   pub login : LoginRow
@@ -124,21 +174,31 @@ pub record EnteredAtOnce (s : PartySetup) (past : RpPast) (e : Entry RpAsk) (hea
   pub claims : IdClaims
   pub accepted : GoodClaims (front_rules s login heard) e.at (if_wanted (party_of s).types.id_token id) claims
   pub no_code : front_code s heard ≡ None
+  pub not_fetched : NotFetched (info_endpoint s) (front_access s heard)
   pub drawn : fresh_word e.fresh 1 ≡ w
   pub sub_is : claims.sub ≡ sub
 
 pub record EnteredAfterExchange (s : PartySetup) (past : RpPast) (e : Entry RpAsk) (pending : Word) (came : Tokens) (id : Option (Result IdClaims IdNo)) (w : Word) (sub : Text) : Type 0 where
   pub exchange : PendingRow
-  pub live : live_pending (party_of s).types past e.at pending ≡ Some exchange
+  pub live : live_pending (party_of s).types past e.at pending stage.Tokens ≡ Some exchange
   pub claims : IdClaims
   pub accepted : GoodClaims (back_rules s exchange came) e.at id claims
   pub same_subject : is_other exchange.sub claims.sub ≡ false
+  pub not_fetched : info_endpoint s ≡ None
   pub drawn : fresh_word e.fresh 1 ≡ w
   pub sub_is : claims.sub ≡ sub
+
+pub record EnteredAfterInfo (s : PartySetup) (past : RpPast) (e : Entry RpAsk) (pending : Word) (came : Text) (w : Word) (sub : Text) : Type 0 where
+  pub exchange : PendingRow
+  pub live : live_pending (party_of s).types past e.at pending stage.Info ≡ Some exchange
+  pub same_subject : is_other exchange.sub came ≡ false
+  pub drawn : fresh_word e.fresh 1 ≡ w
+  pub sub_is : came ≡ sub
 
 abbrev pub EnteredCause : PartySetup → RpPast → Entry RpAsk → RpAsk → Word → Text → Type 0
 EnteredCause s past e (ask.Callback (Ok heard) id browser) w sub = EnteredAtOnce s past e heard id browser w sub
 EnteredCause s past e (ask.Tokens pending (Ok came) id) w sub = EnteredAfterExchange s past e pending came id w sub
+EnteredCause s past e (ask.Info pending (Ok came)) w sub = EnteredAfterInfo s past e pending came w sub
 EnteredCause s past e other w sub = ⊥
 
 -- ---- who is logged in
@@ -155,6 +215,25 @@ UserCause s past e other sub = ⊥
 abbrev pub NobodyCause : PartySetup → RpPast → Entry RpAsk → RpAsk → Type 0
 NobodyCause s past e (ask.Visit session) = live_visit (party_of s).types past e.at session ≡ None
 NobodyCause s past e other = ⊥
+
+-- ---- leaving
+
+abbrev pub LeftCause : PartySetup → RpPast → Entry RpAsk → RpAsk → Bool → Type 0
+LeftCause s past e (ask.Leave session) ended = is_some (live_visit (party_of s).types past e.at session) ≡ ended
+LeftCause s past e other ended = ⊥
+
+-- ---- a logout: the claims of a logout token are good for this client, and it was not accepted before; so many sessions equal
+-- each part that it has
+
+pub record LogoutAccepted (s : PartySetup) (past : RpPast) (e : Entry RpAsk) (claims : LogoutClaims) (count : ℕ) : Type 0 where
+  pub good : Unit {0}
+  pub judged : logout_judged s.provider.issuer (client_of s).id claims e.at ≡ Ok good
+  pub unseen : live_seen past e.at claims.jti ≡ None
+  pub count_is : meant_count claims (live_visits (party_of s).types past e.at) ≡ count
+
+abbrev pub EndedCause : PartySetup → RpPast → Entry RpAsk → RpAsk → ℕ → Type 0
+EndedCause s past e (ask.Logout (Ok claims)) count = LogoutAccepted s past e claims count
+EndedCause s past e other count = ⊥
 
 -- ---- the refusals of an authorization response
 
@@ -206,28 +285,66 @@ ResponseRefused s past e heard id browser other = ⊥
 
 pub record ExchangeFailed (s : PartySetup) (past : RpPast) (e : Entry RpAsk) (pending : Word) (came why : TokensNo) : Type 0 where
   pub exchange : PendingRow
-  pub live : live_pending (party_of s).types past e.at pending ≡ Some exchange
+  pub live : live_pending (party_of s).types past e.at pending stage.Tokens ≡ Some exchange
   pub failed : came ≡ why
 
 pub record BackTokenRefused (s : PartySetup) (past : RpPast) (e : Entry RpAsk) (pending : Word) (came : Tokens) (id : Option (Result IdClaims IdNo)) (why : IdNo) : Type 0 where
   pub exchange : PendingRow
-  pub live : live_pending (party_of s).types past e.at pending ≡ Some exchange
+  pub live : live_pending (party_of s).types past e.at pending stage.Tokens ≡ Some exchange
   pub refused : IdRefused (back_rules s exchange came) e.at id why
 
 pub record AnotherSubject (s : PartySetup) (past : RpPast) (e : Entry RpAsk) (pending : Word) (came : Tokens) (id : Option (Result IdClaims IdNo)) : Type 0 where
   pub exchange : PendingRow
-  pub live : live_pending (party_of s).types past e.at pending ≡ Some exchange
+  pub live : live_pending (party_of s).types past e.at pending stage.Tokens ≡ Some exchange
   pub claims : IdClaims
   pub accepted : GoodClaims (back_rules s exchange came) e.at id claims
   pub other : is_other exchange.sub claims.sub ≡ true
 
 abbrev pub TokensRefused : PartySetup → RpPast → Entry RpAsk → Word → Result Tokens TokensNo → Option (Result IdClaims IdNo) → RpNo → Type 0
-TokensRefused s past e pending came id no.StalePending = live_pending (party_of s).types past e.at pending ≡ None
+TokensRefused s past e pending came id no.StalePending = live_pending (party_of s).types past e.at pending stage.Tokens ≡ None
 TokensRefused s past e pending (Err came) id (no.Tokens why) = ExchangeFailed s past e pending came why
 TokensRefused s past e pending (Ok came) id (no.Id why) = BackTokenRefused s past e pending came id why
 TokensRefused s past e pending (Ok came) id no.SubjectDiffers = AnotherSubject s past e pending came id
 TokensRefused s past e pending came id (no.Full table) = NoRoom s past e table
 TokensRefused s past e pending came id other = ⊥
+
+-- ---- the refusals of a UserInfo response
+
+pub record InfoFailed (s : PartySetup) (past : RpPast) (e : Entry RpAsk) (pending : Word) (came why : InfoNo) : Type 0 where
+  pub exchange : PendingRow
+  pub live : live_pending (party_of s).types past e.at pending stage.Info ≡ Some exchange
+  pub failed : came ≡ why
+
+pub record InfoOfAnother (s : PartySetup) (past : RpPast) (e : Entry RpAsk) (pending : Word) (came : Text) : Type 0 where
+  pub exchange : PendingRow
+  pub live : live_pending (party_of s).types past e.at pending stage.Info ≡ Some exchange
+  pub other : is_other exchange.sub came ≡ true
+
+abbrev pub InfoRefused : PartySetup → RpPast → Entry RpAsk → Word → Result Text InfoNo → RpNo → Type 0
+InfoRefused s past e pending came no.StalePending = live_pending (party_of s).types past e.at pending stage.Info ≡ None
+InfoRefused s past e pending (Err came) (no.Info why) = InfoFailed s past e pending came why
+InfoRefused s past e pending (Ok came) no.SubjectDiffers = InfoOfAnother s past e pending came
+InfoRefused s past e pending came (no.Full table) = NoRoom s past e table
+InfoRefused s past e pending came other = ⊥
+
+-- ---- the refusals of a logout request
+
+pub record BadLogout (s : PartySetup) (e : Entry RpAsk) (claims : LogoutClaims) (why : LogoutNo) : Type 0 where
+  pub judged : logout_judged s.provider.issuer (client_of s).id claims e.at ≡ Err why
+
+pub record SeenBefore (s : PartySetup) (past : RpPast) (e : Entry RpAsk) (claims : LogoutClaims) (place : ℕ) : Type 0 where
+  pub good : Unit {0}
+  pub judged : logout_judged s.provider.issuer (client_of s).id claims e.at ≡ Ok good
+  pub seen : SeenRow
+  pub live : live_seen past e.at claims.jti ≡ Some seen
+  pub place_is : seen.place ≡ place
+
+abbrev pub LogoutRefused : PartySetup → RpPast → Entry RpAsk → Result LogoutClaims LogoutNo → RpNo → Type 0
+LogoutRefused s past e (Err read) (no.Logout why) = read ≡ why
+LogoutRefused s past e (Ok claims) (no.Logout why) = BadLogout s e claims why
+LogoutRefused s past e (Ok claims) (no.Seen place) = SeenBefore s past e claims place
+LogoutRefused s past e (Ok claims) (no.Full table) = NoRoom s past e table
+LogoutRefused s past e claims other = ⊥
 
 -- ---- all refusals
 
@@ -236,4 +353,6 @@ RefusedCause s past e (ask.Begin presented) (no.Full table) = NoRoom s past e ta
 RefusedCause s past e (ask.Callback (Err (answer_no.Twice name)) id browser) why = why ≡ no.Twice name
 RefusedCause s past e (ask.Callback (Ok heard) id browser) why = ResponseRefused s past e heard id browser why
 RefusedCause s past e (ask.Tokens pending came id) why = TokensRefused s past e pending came id why
+RefusedCause s past e (ask.Info pending came) why = InfoRefused s past e pending came why
+RefusedCause s past e (ask.Logout claims) why = LogoutRefused s past e claims why
 RefusedCause s past e other why = ⊥

@@ -1,6 +1,6 @@
 -- Legal pasts of a relying party, and what holds in them: who enters has a live login of the same browser and nonce and an
 -- accepted ID Token, and each login enters at most once.
-use Rattle.std.specs.Prelude.{◌≡◌, ℕ, List, ◌∷◌, ◌++◌, length, Option, Some, None, option_map, Result, Ok, ◌⊎◌}
+use Rattle.std.specs.Prelude.{◌≡◌, ℕ, ◌+◌, List, ◌∷◌, ◌++◌, length, Option, Some, None, option_map, Result, Ok, ◌⊎◌}
 use Rattle.sso_base.specs.Words.{Word, Text, fresh_word, word_text}
 use Rattle.sso_base.specs.Legal.{IsLegalBy}
 use Rattle.sso_base.specs.Journal.{IsLegalHistoryBy}
@@ -11,10 +11,15 @@ use Rattle.id_token.specs.declared.no.IdNo.{IdNo}
 use Rattle.id_token.specs.declared.rules.IdRules.{IdRules}
 use Rattle.id_token.specs.Judging.{id_judged}
 use Rattle.auth_answer.specs.declared.heard.Heard.{Heard}
+use Rattle.token_endpoint.specs.declared.reading.Tokens.{Tokens}
 use Rattle.oidc_words.specs.declared.response_types.Types.{Types}
 use Rattle.rp_login.specs.declared.rows.LoginRow.{LoginRow}
 use Rattle.rp_login.specs.declared.rows.PendingRow.{PendingRow}
 use Rattle.rp_login.specs.declared.rows.SessionRow.{SessionRow}
+use Rattle.rp_login.specs.declared.rows.SeenRow.{SeenRow}
+use Rattle.logout_token.specs.declared.claims.LogoutClaims.{LogoutClaims}
+use Rattle.rp_login.specs.declared.rows.Stage.{Stage}
+use Rattle.rp_login.specs.declared.rows.Stage.TheVariants as stage
 use Rattle.rp_exchange.specs.declared.ask.RpAsk.{RpAsk}
 use Rattle.rp_exchange.specs.declared.ask.RpAsk.TheVariants as ask
 use Rattle.rp_exchange.specs.declared.reply.RpReply.{RpReply}
@@ -23,9 +28,10 @@ use Rattle.rp_exchange.specs.Values.{IsRpAsk}
 use Rattle.rp_exchange.specs.Weight.{ask_weight}
 use Rattle.rp_answer.specs.Past.{RpPair, RpPast}
 use Rattle.rp_answer.specs.Setup.{PartySetup, party_of, client_of}
-use Rattle.rp_answer.specs.Asked.{claims_judged}
+use Rattle.rp_answer.specs.Asked.{code_heard, claims_judged, sub_in, sid_in}
 use Rattle.rp_answer.specs.Logins.{live_login}
 use Rattle.rp_answer.specs.Pendings.{live_pending}
+use Rattle.rp_answer.specs.Visits.{visit_by}
 use Rattle.rp_answer.specs.Answering.{rp_answer}
 use Rattle.rp_answer.specs.Causes.{OwnLogin}
 
@@ -54,8 +60,49 @@ pub record BegunBy (past : RpPast) (login : LoginRow) : Type 0 where
   pub begun_then : login.begun ≡ maker.entry.at
   pub place : login.by ≡ length earlier
 
--- a pair exchanged the code of a login's response and drew the exchange's word; what waits has the login's nonce, begin and place
-pub record ExchangedBy (past : RpPast) (pending : PendingRow) : Type 0 where
+-- ---- who responds
+
+-- a pair of the entry stands in the past, after these earlier pairs
+pub record Before (past earlier : RpPast) (entry : Entry RpAsk) : Type 0 where
+  pub later : RpPast
+  pub reply : RpReply
+  pub parts : past ≡ later ++ (record { entry = entry; reply = reply }) ∷ earlier
+
+-- the entry is this very one, or one before
+abbrev pub NowOrBefore : RpPast → Entry RpAsk → RpPast → Entry RpAsk → Type 0
+NowOrBefore past e earlier entry = ((past ≡ earlier) × (e ≡ entry)) ⊎ Before past earlier entry
+
+-- the login's own browser brought the response of its state: by this very ask, or by an earlier one
+pub record Responded (past : RpPast) (e : Entry RpAsk) (login : LoginRow) : Type 0 where
+  pub earlier : RpPast
+  pub entry : Entry RpAsk
+  pub heard : Heard
+  pub id : Option (Result IdClaims IdNo)
+  pub browser : Option Word
+  pub asked : entry.ask ≡ ask.Callback (Ok heard) id browser
+  pub own : OwnLogin earlier entry heard browser login
+  pub now_or_before : NowOrBefore past e earlier entry
+
+-- ---- what is judged for a login
+
+-- an ID Token came with the ask and is good by the rules of the login: its issuer is the trusted provider, it is for this client,
+-- and it has the login's nonce
+pub record JudgedWith (s : PartySetup) (e : Entry RpAsk) (login : LoginRow) (claims : IdClaims) : Type 0 where
+  pub came : claims_judged (party_of s).types e.ask ≡ Some claims
+  pub rules : IdRules
+  pub issuer_is : rules.issuer ≡ s.provider.issuer
+  pub client_is : rules.client ≡ (client_of s).id
+  pub nonce_is : rules.nonce ≡ word_text login.nonce
+  pub begun_is : rules.begun ≡ login.begun
+  pub age_is : rules.max_age ≡ (party_of s).max_age
+  pub good : Unit {0}
+  pub judged : id_judged rules claims e.at ≡ Ok good
+
+-- ---- who sent the requests that wait
+
+-- a pair exchanged the code of a login's response and drew the exchange's word; what waits has the login's nonce, begin and
+-- place, the response's code, and what its ID Token says of the user, where its type has one
+pub record ExchangedBy (s : PartySetup) (past : RpPast) (pending : PendingRow) : Type 0 where
   pub later : RpPast
   pub maker : RpPair
   pub earlier : RpPast
@@ -73,16 +120,87 @@ pub record ExchangedBy (past : RpPast) (pending : PendingRow) : Type 0 where
   pub nonce_is : pending.nonce ≡ login.nonce
   pub begun_is : pending.begun ≡ login.begun
   pub place : pending.by ≡ login.by
+  pub code_is : pending.code ≡ code_heard (party_of s).types maker.entry.ask
+  pub sub_is : pending.sub ≡ sub_in (claims_judged (party_of s).types maker.entry.ask)
+  pub sid_is : pending.sid ≡ sid_in (claims_judged (party_of s).types maker.entry.ask)
 
--- a pair let the session in, under the subject of its reply, and drew its word
-pub record EnteredBy (past : RpPast) (visit : SessionRow) : Type 0 where
+-- UserInfo was asked for at once, with the response of the login, which its own browser brought, and the word was drawn
+pub record AskedAtOnce (past : RpPast) (e : Entry RpAsk) (login : LoginRow) (w : Word) : Type 0 where
+  pub heard : Heard
+  pub id : Option (Result IdClaims IdNo)
+  pub browser : Option Word
+  pub asked : e.ask ≡ ask.Callback (Ok heard) id browser
+  pub own : OwnLogin past e heard browser login
+  pub drawn : w ≡ fresh_word e.fresh 0
+
+-- it was asked for after the token response to an exchange of this very word
+pub record AskedAfterExchange (s : PartySetup) (past : RpPast) (e : Entry RpAsk) (login : LoginRow) (w : Word) : Type 0 where
+  pub came : Tokens
+  pub id : Option (Result IdClaims IdNo)
+  pub asked : e.ask ≡ ask.Tokens w (Ok came) id
+  pub exchange : PendingRow
+  pub live : live_pending (party_of s).types past e.at w stage.Tokens ≡ Some exchange
+  pub word_is : exchange.word ≡ w
+  pub sent : ExchangedBy s past exchange
+  pub of_login : sent.login ≡ login
+
+-- a pair asked for UserInfo; what waits has the nonce, begin and place of the login for which it asked, and the subject and the
+-- `sid` of the ID Token that was judged then
+pub record FetchedBy (s : PartySetup) (past : RpPast) (pending : PendingRow) : Type 0 where
   pub later : RpPast
   pub maker : RpPair
   pub earlier : RpPast
   pub parts : past ≡ later ++ maker ∷ earlier
-  pub replied : maker.reply ≡ reply.Entered visit.word visit.sub
-  pub drawn : visit.word ≡ fresh_word maker.entry.fresh 1
-  pub entered_then : visit.entered ≡ maker.entry.at
+  pub message : Message
+  pub replied : maker.reply ≡ reply.Fetch pending.word message
+  pub since_then : pending.since ≡ maker.entry.at
+  pub login : LoginRow
+  pub responded : Responded earlier maker.entry login
+  pub word_is : AskedAtOnce earlier maker.entry login pending.word ⊎ AskedAfterExchange s earlier maker.entry login pending.word
+  pub nonce_is : pending.nonce ≡ login.nonce
+  pub begun_is : pending.begun ≡ login.begun
+  pub place : pending.by ≡ login.by
+  pub claims : IdClaims
+  pub token : JudgedWith s maker.entry login claims
+  pub sub_is : pending.sub ≡ Some claims.sub
+  pub sid_is : pending.sid ≡ claims.sid
+
+-- by what it waits for
+abbrev pub SentBy : PartySetup → RpPast → PendingRow → Stage → Type 0
+SentBy s past pending stage.Tokens = ExchangedBy s past pending
+SentBy s past pending stage.Info = FetchedBy s past pending
+
+-- ---- which ID Token lets a login in
+
+-- the UserInfo response is to a request that waits for it, and the ID Token is the one that was judged with the very ask after
+-- which UserInfo was asked for so
+pub record JudgedBefore (s : PartySetup) (past : RpPast) (e : Entry RpAsk) (w : Word) (login : LoginRow) (claims : IdClaims) : Type 0 where
+  pub waiting : PendingRow
+  pub live : live_pending (party_of s).types past e.at w stage.Info ≡ Some waiting
+  pub asked_by : FetchedBy s past waiting
+  pub of_login : asked_by.login ≡ login
+  pub claims_are : asked_by.claims ≡ claims
+
+-- by the ask: one that was judged before, where UserInfo came; else one that came with this very ask and is judged now
+abbrev pub JudgedFor : PartySetup → RpPast → Entry RpAsk → RpAsk → LoginRow → IdClaims → Type 0
+JudgedFor s past e (ask.Info w came) login claims = JudgedBefore s past e w login claims
+JudgedFor s past e other login claims = JudgedWith s e login claims
+
+-- ---- which logout tokens are remembered
+
+-- a pair accepted a logout token of this `jti`, at this place of the history, from 1
+pub record AcceptedBy (past : RpPast) (seen : SeenRow) : Type 0 where
+  pub later : RpPast
+  pub maker : RpPair
+  pub earlier : RpPast
+  pub parts : past ≡ later ++ maker ∷ earlier
+  pub claims : LogoutClaims
+  pub asked : maker.entry.ask ≡ ask.Logout (Ok claims)
+  pub count : ℕ
+  pub replied : maker.reply ≡ reply.Ended count
+  pub jti_is : seen.jti ≡ claims.jti
+  pub accepted_then : seen.accepted ≡ maker.entry.at
+  pub place : seen.place ≡ length earlier + 1
 
 -- ---- which login enters, by the place of the pair that began it, from 0
 
@@ -94,7 +212,8 @@ place_of_pending pending = option_map (λ (row : PendingRow). row.by) pending
 
 abbrev pub login_entered_by : Types → RpPast → Entry RpAsk → RpAsk → RpReply → Option ℕ
 login_entered_by types past e (ask.Callback (Ok heard) id browser) (reply.Entered w sub) = place_of_login (live_login past e.at heard.state)
-login_entered_by types past e (ask.Tokens pending came id) (reply.Entered w sub) = place_of_pending (live_pending types past e.at pending)
+login_entered_by types past e (ask.Tokens pending came id) (reply.Entered w sub) = place_of_pending (live_pending types past e.at pending stage.Tokens)
+login_entered_by types past e (ask.Info pending came) (reply.Entered w sub) = place_of_pending (live_pending types past e.at pending stage.Info)
 login_entered_by types past e asked replied = None
 
 abbrev pub login_entered : Types → RpPast → RpPair → Option ℕ
@@ -102,38 +221,29 @@ login_entered types past p = login_entered_by types past p.entry p.entry.ask p.r
 
 -- ---- who enters
 
--- a pair of the entry stands in the past, after these earlier pairs
-pub record Before (past earlier : RpPast) (entry : Entry RpAsk) : Type 0 where
-  pub later : RpPast
-  pub reply : RpReply
-  pub parts : past ≡ later ++ (record { entry = entry; reply = reply }) ∷ earlier
-
--- the login's own browser brought the response of its state: by this very ask, or by an earlier one
-pub record Responded (past : RpPast) (e : Entry RpAsk) (login : LoginRow) : Type 0 where
-  pub earlier : RpPast
-  pub entry : Entry RpAsk
-  pub heard : Heard
-  pub id : Option (Result IdClaims IdNo)
-  pub browser : Option Word
-  pub asked : entry.ask ≡ ask.Callback (Ok heard) id browser
-  pub own : OwnLogin earlier entry heard browser login
-  pub now_or_before : ((past ≡ earlier) × (e ≡ entry)) ⊎ Before past earlier entry
-
--- a session begins with a login whose browser brought its response, and with an ID Token that came with this very ask and is
--- good by the rules of that login: its issuer is the trusted provider, it is for this client, and it has the login's nonce;
--- this very login enters then
+-- a session begins with a login whose browser brought its response, and with an ID Token that was judged good for this login: it
+-- came with this very ask, or, where UserInfo came, with the ask after which that was asked for. This login enters, and the
+-- session has its nonce, the subject and the `sid` of that token, and the moment.
 pub record LoginEntered (s : PartySetup) (past : RpPast) (e : Entry RpAsk) (w : Word) (sub : Text) : Type 0 where
   pub login : LoginRow
   pub responded : Responded past e login
   pub enters : login_entered_by (party_of s).types past e e.ask (reply.Entered w sub) ≡ Some login.by
   pub claims : IdClaims
-  pub came : claims_judged (party_of s).types e.ask ≡ Some claims
-  pub rules : IdRules
-  pub issuer_is : rules.issuer ≡ s.provider.issuer
-  pub client_is : rules.client ≡ (client_of s).id
-  pub nonce_is : rules.nonce ≡ word_text login.nonce
-  pub begun_is : rules.begun ≡ login.begun
-  pub age_is : rules.max_age ≡ (party_of s).max_age
-  pub good : Unit {0}
-  pub judged : id_judged rules claims e.at ≡ Ok good
+  pub judged : JudgedFor s past e e.ask login claims
   pub sub_is : claims.sub ≡ sub
+  pub visit_is : visit_by (party_of s).types e.at past e.ask (reply.Entered w sub)
+      ≡ Some (record { word = w; nonce = login.nonce; sub = sub; sid = claims.sid; entered = e.at })
+
+-- a pair let the session in, and drew its word; the session has the nonce of the login that entered, and the subject and the
+-- `sid` of the ID Token that was judged for it
+pub record EnteredBy (s : PartySetup) (past : RpPast) (visit : SessionRow) : Type 0 where
+  pub later : RpPast
+  pub maker : RpPair
+  pub earlier : RpPast
+  pub parts : past ≡ later ++ maker ∷ earlier
+  pub replied : maker.reply ≡ reply.Entered visit.word visit.sub
+  pub drawn : visit.word ≡ fresh_word maker.entry.fresh 1
+  pub entered_then : visit.entered ≡ maker.entry.at
+  pub entered : LoginEntered s earlier maker.entry visit.word visit.sub
+  pub nonce_is : visit.nonce ≡ entered.login.nonce
+  pub sid_is : visit.sid ≡ entered.claims.sid

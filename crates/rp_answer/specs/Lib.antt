@@ -4,8 +4,11 @@ pub mod Asked
 pub mod Logins
 pub mod Pendings
 pub mod Visits
+pub mod Seens
 pub mod Replies
 pub mod Room
 pub mod Answering
 pub mod Causes
 pub mod Legal
+pub mod Hashes
+pub mod Endings

@@ -1,5 +1,5 @@
 -- What a relying party replies, were there always room in its tables.
-use Rattle.std.specs.Prelude.{ℕ, Bool, false, not, ◌&&◌, Option, Some, None, is_none, Result, Ok, Err, if◌then◌else◌}
+use Rattle.std.specs.Prelude.{ℕ, Bool, false, not, ◌&&◌, List, length, filter, Option, Some, None, is_some, is_none, Result, Ok, Err, if◌then◌else◌}
 use Rattle.std.specs.Str.{bytes_eq}
 use Rattle.sso_base.specs.Words.{Word, Text, is_word, fresh_word, word_text}
 use Rattle.sso_base.specs.declared.history.Entry.{Entry}
@@ -18,20 +18,29 @@ use Rattle.auth_answer.specs.declared.no.AnswerNo.TheVariants as answer_no
 use Rattle.token_endpoint.specs.declared.reading.Tokens.{Tokens}
 use Rattle.token_endpoint.specs.declared.no.TokensNo.{TokensNo}
 use Rattle.token_endpoint.specs.Request.{token_message}
+use Rattle.userinfo.specs.declared.no.InfoNo.{InfoNo}
+use Rattle.userinfo.specs.Request.{info_message}
+use Rattle.logout_token.specs.declared.claims.LogoutClaims.{LogoutClaims}
+use Rattle.logout_token.specs.declared.no.LogoutNo.{LogoutNo}
+use Rattle.logout_token.specs.Judging.{logout_judged}
 use Rattle.login_request.specs.Request.{login_location}
 use Rattle.rp_login.specs.declared.rows.LoginRow.{LoginRow}
 use Rattle.rp_login.specs.declared.rows.PendingRow.{PendingRow}
 use Rattle.rp_login.specs.declared.rows.SessionRow.{SessionRow}
+use Rattle.rp_login.specs.declared.rows.SeenRow.{SeenRow}
+use Rattle.rp_login.specs.Named.{is_meant}
 use Rattle.rp_exchange.specs.declared.ask.RpAsk.{RpAsk}
 use Rattle.rp_exchange.specs.declared.no.Part.{Part}
 use Rattle.rp_exchange.specs.declared.no.Part.TheVariants as part
 use Rattle.rp_exchange.specs.declared.no.RpNo.TheVariants as no
 use Rattle.rp_exchange.specs.declared.reply.RpReply.{RpReply}
-use Rattle.rp_exchange.specs.declared.reply.RpReply.TheVariants.{Ask, Exchange, Entered, User, Nobody, Refused, NotHere}
+use Rattle.rp_exchange.specs.declared.reply.RpReply.TheVariants.{Ask, Exchange, Fetch, Entered, User, Nobody, Left, Ended, Refused, NotHere}
 use Rattle.rp_answer.specs.Past.{RpPast}
 use Rattle.rp_answer.specs.Setup.{PartySetup, party_of, client_of}
 use Rattle.rp_answer.specs.Asked.{if_wanted}
 use Rattle.rp_answer.specs.Logins.{live_login, has_login_browser}
+use Rattle.rp_answer.specs.Visits.{live_visits}
+use Rattle.rp_answer.specs.Seens.{live_seen}
 
 -- ---- the begin of a login (OpenID Connect Core 1.0, 3.1.2.1)
 
@@ -96,18 +105,35 @@ part_missing types heard =
 abbrev pub exchange : PartySetup → Entry RpAsk → Text → RpReply
 exchange s e code = Exchange (fresh_word e.fresh 0) (token_message (client_of s) s.provider.token code (party_of s).redirect)
 
--- a code is exchanged, else the claims of the ID Token let in
-abbrev pub exchange_or_enter : PartySetup → Entry RpAsk → Option Text → Option IdClaims → RpReply
-exchange_or_enter s e (Some code) claims = exchange s e code
-exchange_or_enter s e None (Some claims) = Entered (fresh_word e.fresh 1) claims.sub
-exchange_or_enter s e None None = Refused (no.Missing part.Id)
+-- the UserInfo endpoint, where the party asks for UserInfo and the provider has it (Core 5.3)
+abbrev pub info_endpoint : PartySetup → Option Text
+info_endpoint s = if_wanted (party_of s).userinfo s.provider.userinfo
+
+-- a UserInfo request with this access token, under this word; and a session of this subject
+abbrev pub fetched : Text → Text → Word → RpReply
+fetched endpoint access w = Fetch w (info_message endpoint access)
+
+abbrev pub entered : Entry RpAsk → Text → RpReply
+entered e sub = Entered (fresh_word e.fresh 1) sub
+
+-- UserInfo is asked for with the access token, else the subject enters
+abbrev pub fetch_or_enter : Entry RpAsk → Option Text → Option Text → Word → Text → RpReply
+fetch_or_enter e None access w sub = entered e sub
+fetch_or_enter e (Some endpoint) None w sub = entered e sub
+fetch_or_enter e (Some endpoint) (Some access) w sub = fetched endpoint access w
+
+-- a code is exchanged, else the claims of the ID Token count
+abbrev pub exchange_or_enter : PartySetup → Entry RpAsk → Heard → Option Text → Option IdClaims → RpReply
+exchange_or_enter s e heard (Some code) claims = exchange s e code
+exchange_or_enter s e heard None (Some claims) = fetch_or_enter e (info_endpoint s) (front_access s heard) (fresh_word e.fresh 0) claims.sub
+exchange_or_enter s e heard None None = Refused (no.Missing part.Id)
 
 abbrev pub front_judged : PartySetup → Entry RpAsk → Heard → IdClaims → Result (Unit {0}) IdNo → RpReply
 front_judged s e heard claims (Err why) = Refused (no.Id why)
-front_judged s e heard claims (Ok good) = exchange_or_enter s e (front_code s heard) (Some claims)
+front_judged s e heard claims (Ok good) = exchange_or_enter s e heard (front_code s heard) (Some claims)
 
 abbrev pub front_read : PartySetup → Entry RpAsk → LoginRow → Heard → Option (Result IdClaims IdNo) → RpReply
-front_read s e login heard None = exchange_or_enter s e (front_code s heard) None
+front_read s e login heard None = exchange_or_enter s e heard (front_code s heard) None
 front_read s e login heard (Some (Err why)) = Refused (no.Id why)
 front_read s e login heard (Some (Ok claims)) = front_judged s e heard claims (id_judged (front_rules s login heard) claims e.at)
 
@@ -144,15 +170,19 @@ abbrev pub is_other : Option Text → Text → Bool
 is_other None sub = false
 is_other (Some before) sub = not (bytes_eq before sub)
 
-abbrev pub back_judged : Entry RpAsk → PendingRow → IdClaims → Result (Unit {0}) IdNo → RpReply
-back_judged e pending claims (Err why) = Refused (no.Id why)
-back_judged e pending claims (Ok good) =
-    if is_other pending.sub claims.sub then Refused no.SubjectDiffers else Entered (fresh_word e.fresh 1) claims.sub
+-- a question that follows keeps the word of the exchange
+abbrev pub back_accepted : PartySetup → Entry RpAsk → PendingRow → Tokens → IdClaims → RpReply
+back_accepted s e pending came claims = fetch_or_enter e (info_endpoint s) (Some came.access) pending.word claims.sub
+
+abbrev pub back_judged : PartySetup → Entry RpAsk → PendingRow → Tokens → IdClaims → Result (Unit {0}) IdNo → RpReply
+back_judged s e pending came claims (Err why) = Refused (no.Id why)
+back_judged s e pending came claims (Ok good) =
+    if is_other pending.sub claims.sub then Refused no.SubjectDiffers else back_accepted s e pending came claims
 
 abbrev pub back_read : PartySetup → Entry RpAsk → PendingRow → Tokens → Option (Result IdClaims IdNo) → RpReply
 back_read s e pending came None = Refused (no.Missing part.Id)
 back_read s e pending came (Some (Err why)) = Refused (no.Id why)
-back_read s e pending came (Some (Ok claims)) = back_judged e pending claims (id_judged (back_rules s pending came) claims e.at)
+back_read s e pending came (Some (Ok claims)) = back_judged s e pending came claims (id_judged (back_rules s pending came) claims e.at)
 
 -- The refusals in order: no live exchange, a bad response, a bad ID Token, another subject.
 abbrev pub tokens : PartySetup → Entry RpAsk → Option PendingRow → Result Tokens TokensNo → Option (Result IdClaims IdNo) → RpReply
@@ -160,8 +190,43 @@ tokens s e None came id = Refused no.StalePending
 tokens s e (Some pending) (Err why) id = Refused (no.Tokens why)
 tokens s e (Some pending) (Ok came) id = back_read s e pending came id
 
+-- ---- a UserInfo response (Core 5.3.2 and 5.3.4)
+
+abbrev pub info_came : Entry RpAsk → PendingRow → Text → RpReply
+info_came e pending sub = if is_other pending.sub sub then Refused no.SubjectDiffers else entered e sub
+
+-- The refusals in order: no live exchange, a bad response, another subject.
+abbrev pub info : Entry RpAsk → Option PendingRow → Result Text InfoNo → RpReply
+info e None came = Refused no.StalePending
+info e (Some pending) (Err why) = Refused (no.Info why)
+info e (Some pending) (Ok sub) = info_came e pending sub
+
 -- ---- who is logged in
 
 abbrev pub visited : Option SessionRow → RpReply
 visited None = Nobody
 visited (Some visit) = User visit.sub
+
+-- ---- leaving
+
+abbrev pub left : Option SessionRow → RpReply
+left visit = Left (is_some visit)
+
+-- ---- a logout request (OpenID Connect Back-Channel Logout 1.0, 2.5 to 2.8)
+
+-- how many of the sessions a logout token names: those that equal each part that it has
+abbrev pub meant_count : LogoutClaims → List SessionRow → ℕ
+meant_count claims visits = length (filter (is_meant claims.sub claims.sid) visits)
+
+abbrev pub logout_new : PartySetup → RpPast → Entry RpAsk → LogoutClaims → Option SeenRow → RpReply
+logout_new s past e claims (Some seen) = Refused (no.Seen seen.place)
+logout_new s past e claims None = Ended (meant_count claims (live_visits (party_of s).types past e.at))
+
+abbrev pub logout_good : PartySetup → RpPast → Entry RpAsk → LogoutClaims → Result (Unit {0}) LogoutNo → RpReply
+logout_good s past e claims (Err why) = Refused (no.Logout why)
+logout_good s past e claims (Ok good) = logout_new s past e claims (live_seen past e.at claims.jti)
+
+-- The refusals in order: a bad logout token, one that was accepted before.
+abbrev pub logout : PartySetup → RpPast → Entry RpAsk → Result LogoutClaims LogoutNo → RpReply
+logout s past e (Err why) = Refused (no.Logout why)
+logout s past e (Ok claims) = logout_good s past e claims (logout_judged s.provider.issuer (client_of s).id claims e.at)

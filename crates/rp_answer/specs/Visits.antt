@@ -1,20 +1,22 @@
 -- Visits: the sessions of a relying party. Each is of one browser, which has its cookie.
-use Rattle.std.specs.Prelude.{ℕ, List, Option, Some, None, option_map, option_and_then}
-use Rattle.sso_base.specs.Words.{Word}
+use Rattle.std.specs.Prelude.{ℕ, Bool, false, List, ◌||◌, Option, Some, None, option_map, option_and_then, if◌then◌else◌}
+use Rattle.sso_base.specs.Words.{Word, Text, is_word}
 use Rattle.sso_base.specs.Rows.{rows_by, row_of, live_rows, if_lives}
 use Rattle.id_token.specs.declared.claims.IdClaims.{IdClaims}
+use Rattle.logout_token.specs.declared.claims.LogoutClaims.{LogoutClaims}
 use Rattle.oidc_words.specs.declared.response_types.Types.{Types}
 use Rattle.rp_login.specs.declared.rows.LoginRow.{LoginRow}
 use Rattle.rp_login.specs.declared.rows.PendingRow.{PendingRow}
 use Rattle.rp_login.specs.declared.rows.SessionRow.{SessionRow}
+use Rattle.rp_login.specs.Named.{is_meant}
 use Rattle.rp_login.specs.Rows.{visit_name, visit_begun}
 use Rattle.oidc_words.specs.Lives.{visit_life}
 use Rattle.rp_exchange.specs.declared.ask.RpAsk.{RpAsk}
-use Rattle.rp_exchange.specs.declared.ask.RpAsk.TheVariants.{Callback, Tokens}
+use Rattle.rp_exchange.specs.declared.ask.RpAsk.TheVariants.{Callback, Tokens, Info, Leave}
 use Rattle.rp_exchange.specs.declared.reply.RpReply.{RpReply}
-use Rattle.rp_exchange.specs.declared.reply.RpReply.TheVariants.{Entered}
+use Rattle.rp_exchange.specs.declared.reply.RpReply.TheVariants.{Entered, Left}
 use Rattle.rp_answer.specs.Past.{RpPair, RpPast}
-use Rattle.rp_answer.specs.Asked.{state_named, claims_judged}
+use Rattle.rp_answer.specs.Asked.{state_named, claims_judged, token_accepted}
 use Rattle.rp_answer.specs.Logins.{login_of}
 use Rattle.rp_answer.specs.Pendings.{pending_of}
 
@@ -28,18 +30,39 @@ nonce_by types past asked = None
 abbrev pub visit_of : ℕ → Word → Word → IdClaims → SessionRow
 visit_of at w nonce claims = record { word = w; nonce = nonce; sub = claims.sub; sid = claims.sid; entered = at }
 
--- A visit begins where a login enters, with the subject and the `sid` of the ID Token that was judged then.
+-- after UserInfo: the ID Token was judged before it was asked for
+abbrev pub visit_of_pending : ℕ → Word → PendingRow → Text → SessionRow
+visit_of_pending at w pending sub = record { word = w; nonce = pending.nonce; sub = sub; sid = pending.sid; entered = at }
+
+abbrev pub visit_after : ℕ → Word → PendingRow → Option SessionRow
+visit_after at w pending = option_map (visit_of_pending at w pending) pending.sub
+
+-- A visit has the nonce of its login, and the subject and the `sid` of the last ID Token that was judged for it.
+abbrev pub visit_for : Types → ℕ → RpPast → Word → RpAsk → Option SessionRow
+visit_for types at past w (Info answered came) = option_and_then (visit_after at w) (pending_of types past answered)
+visit_for types at past w asked = option_and_then (λ nonce. option_map (visit_of at w nonce) (claims_judged types asked)) (nonce_by types past asked)
+
+-- It begins where a login enters.
 abbrev pub visit_by : Types → ℕ → RpPast → RpAsk → RpReply → Option SessionRow
-visit_by types at past asked (Entered w sub) =
-    option_and_then (λ nonce. option_map (visit_of at w nonce) (claims_judged types asked)) (nonce_by types past asked)
+visit_by types at past asked (Entered w sub) = visit_for types at past w asked
 visit_by types at past asked reply = None
 
 abbrev pub visit_made : Types → List SessionRow → RpPast → RpPair → Option SessionRow
 visit_made types held past p = visit_by types p.entry.at past p.entry.ask p.reply
 
--- Nothing ends it but its life: neither leaving nor logout tokens are here yet.
+-- the word of the session that is left
+abbrev pub session_left : RpAsk → RpReply → Option Word
+session_left (Leave session) (Left ended) = session
+session_left asked reply = None
+
+-- a logout token names the session: it equals each part that the token has (OpenID Connect Back-Channel Logout 1.0, 2.7)
+abbrev pub is_named : Option LogoutClaims → SessionRow → Bool
+is_named None row = false
+is_named (Some claims) row = is_meant claims.sub claims.sid row
+
+-- It is ended where its browser leaves, and by an accepted logout token that names it.
 abbrev pub visit_kept : RpPast → RpPair → SessionRow → Option SessionRow
-visit_kept past p row = Some row
+visit_kept past p row = if is_word (session_left p.entry.ask p.reply) row.word || is_named (token_accepted p.entry.ask p.reply) row then None else Some row
 
 abbrev pub visits : Types → RpPast → List SessionRow
 visits types past = rows_by visit_name (visit_made types) visit_kept past

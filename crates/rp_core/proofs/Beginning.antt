@@ -9,7 +9,7 @@ none_kept : (s : PartySetup) → KeepsPast (party_of s).types [] no_tables
 none_kept s =
     record {
       agrees = record { logins = refl; pendings = refl; visits = refl; seens = refl };
-      begun = record { logins = refl; pendings = refl; visits = refl };
+      begun = record { logins = refl; pendings = refl; visits = refl; seens = refl };
     }
 
 pub begins : (s : PartySetup) (history : List RpPair) (t : Tables) → history ≡ [] → t ≡ no_tables → Keeps s history t

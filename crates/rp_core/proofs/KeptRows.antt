@@ -8,11 +8,11 @@ both : (a b : Bool) → a ≡ false → (a && b) ≡ false
 both true b h = cc
 both false b h = refl
 
-second : (a b : Bool) → b ≡ false → (a && b) ≡ false
+pub second : (a b : Bool) → b ≡ false → (a && b) ≡ false
 second true b h = h
 second false b h = refl
 
-met : (a b : Bool) → b ≡ true → (a && b) ≡ a
+pub met : (a b : Bool) → b ≡ true → (a && b) ≡ a
 met true b h = h
 met false b h = refl
 

@@ -1,5 +1,6 @@
 mod LiveInBoth
 mod KeptRows
+mod Answered
 mod KeptTables
 mod Carried
 mod RoomFor
@@ -9,3 +10,5 @@ mod Places
 mod Beginning
 mod Committing
 mod Samples
+mod FetchSamples
+mod LogoutSamples

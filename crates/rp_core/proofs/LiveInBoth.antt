@@ -1,27 +1,32 @@
 -- For each table of a relying party: what lives in it at a moment is what lives after the past.
-use Rattle.std.proofs.Common.{◌≡◌, ◌≤◌, ℕ, Bool, nat_lt, List, length, Option, Some, option_and_then, reverse, sym, ◌∙◌, ap, subst}
+use Rattle.std.proofs.Common.{◌≡◌, ◌≤◌, ℕ, Bool, nat_lt, List, length, Option, Some, option_and_then, reverse, sym, ◌∙◌, ap, subst, arith}
 use Rattle.std.specs.List.{list_any}
 use Rattle.std.specs.Str.{bytes_eq}
-use Rattle.sso_base.specs.Words.{Word}
-use Rattle.sso_base.specs.Rows.{row_of, if_lives, live_rows}
+use Rattle.sso_base.specs.Words.{Word, Text}
+use Rattle.sso_base.specs.Rows.{row_of, lives, if_lives, live_rows}
 use Rattle.sso_base.specs.Legal.{last_moment}
 use Rattle.sso_base.proofs.RowLaws.{rows_distinct}
+use Rattle.logout_token.specs.declared.claims.LogoutClaims.{LogoutClaims}
 use Rattle.oidc_words.specs.declared.response_types.Types.{Types}
 use Rattle.rp_login.specs.declared.rows.LoginRow.{LoginRow}
 use Rattle.rp_login.specs.declared.rows.PendingRow.{PendingRow}
 use Rattle.rp_login.specs.declared.rows.SessionRow.{SessionRow}
-use Rattle.rp_login.specs.Rows.{login_name, login_begun, pending_name, pending_begun, visit_name, visit_begun}
-use Rattle.oidc_words.specs.Lives.{login_life, pending_life, visit_life}
+use Rattle.rp_login.specs.declared.rows.SeenRow.{SeenRow}
+use Rattle.rp_login.specs.Rows.{login_name, login_begun, pending_name, pending_begun, visit_name, visit_begun, seen_name, seen_begun}
+use Rattle.oidc_words.specs.Lives.{login_life, pending_life, visit_life, seen_life}
 use Rattle.held_rows.specs.Held.{most_rows, has_room_for_one}
-use Rattle.rp_login.specs.Tables.{Tables, AreLogins, ArePendings, AreVisits}
+use Rattle.rp_login.specs.Tables.{Tables, AreLogins, ArePendings, AreVisits, AreSeens, live_named_count}
 use Rattle.rp_answer.specs.Past.{RpPair, RpPast}
 use Rattle.rp_answer.specs.Setup.{PartySetup, party_of}
 use Rattle.rp_answer.specs.Logins.{logins, login_made, login_kept, live_logins, live_login, has_login_browser}
-use Rattle.rp_answer.specs.Pendings.{pendings, pending_made, pending_kept, live_pendings, live_pending}
+use Rattle.rp_answer.specs.Pendings.{pendings, pending_made, pending_kept, live_pendings, any_live_pending}
+use Rattle.rp_answer.specs.Seens.{seens, seen_made, seen_kept, live_seens, live_seen}
+use Rattle.rp_answer.specs.Replies.{meant_count}
 use Rattle.rp_answer.specs.Visits.{visits, visit_made, visit_kept, live_visits, live_visit}
-use Rattle.rp_answer.proofs.KeptNames.{login_names, pending_names, visit_names}
+use Rattle.rp_answer.proofs.KeptNames.{login_names, pending_names, visit_names, seen_names}
 use Rattle.rp_core.specs.Relying.{Relying, past_of}
 use Rattle.rp_core.specs.Agreeing.{KeepsPast}
+use Rattle.held_rows.proofs.HeldLaws.{filter_short}
 use Rattle.held_rows.proofs.Found.{same_later, found_in_both, found_live}
 
 -- the response type that the party asks for
@@ -56,12 +61,21 @@ module _ (s : PartySetup) (history : List RpPair) (t : Tables) (keeps : KeepsPas
       let L : Relying → List PendingRow = λ x. live_pendings (types_of x) (past_of x) at in
       same_later pending_name pending_life pending_begun (last_moment (reverse history)) at in_order t.pendings (pendings (party_of s).types (reverse history)) keeps.agrees.pendings ∙ ap L view
 
-  pub pending_live : (w : Word) → ArePendings t.pendings → option_and_then (if_lives pending_life pending_begun at) (row_of pending_name w t.pendings) ≡ live_pending (types_of r) (past_of r) at w
+  pub pending_live : (w : Word) → ArePendings t.pendings → option_and_then (if_lives pending_life pending_begun at) (row_of pending_name w t.pendings) ≡ any_live_pending (types_of r) (past_of r) at w
   pending_live w held =
-      let L : Relying → Option PendingRow = λ x. live_pending (types_of x) (past_of x) at w in
+      let L : Relying → Option PendingRow = λ x. any_live_pending (types_of x) (past_of x) at w in
       found_in_both pending_name pending_life pending_begun (last_moment (reverse history)) at in_order w t.pendings (pendings (party_of s).types (reverse history)) held.distinct
       (rows_distinct pending_name (pending_made (party_of s).types) pending_kept pending_names (reverse history)) keeps.agrees.pendings
       ∙ ap L view
+
+  -- they are at most as many as the table may hold
+  pub pendings_few : ArePendings t.pendings → length (live_pendings (types_of r) (past_of r) at) ≤ most_rows
+  pendings_few held =
+      let L : List PendingRow → ℕ = λ rows. length rows in
+      let is : length (live_rows pending_life pending_begun at t.pendings) ≡ length (live_pendings (types_of r) (past_of r) at) = ap L pendings_live in
+      let fewer : length (live_rows pending_life pending_begun at t.pendings) ≤ length t.pendings = filter_short (λ (row : PendingRow). lives pending_life (pending_begun row) at) t.pendings in
+      let few : length t.pendings ≤ most_rows = held.few in
+      omega (arith, is, fewer, few)
 
   pub visits_live : live_rows visit_life visit_begun at t.visits ≡ live_visits (types_of r) (past_of r) at
   visits_live =
@@ -85,6 +99,29 @@ module _ (s : PartySetup) (history : List RpPair) (t : Tables) (keeps : KeepsPas
   pub visits_room : has_room_for_one visit_life visit_begun at t.visits ≡ nat_lt (length (live_visits (types_of r) (past_of r) at)) most_rows
   visits_room = let N : List SessionRow → Bool = λ rows. nat_lt (length rows) most_rows in ap N visits_live
 
+  pub seens_live : live_rows seen_life seen_begun at t.seens ≡ live_seens (past_of r) at
+  seens_live =
+      let L : Relying → List SeenRow = λ x. live_seens (past_of x) at in
+      same_later seen_name seen_life seen_begun (last_moment (reverse history)) at in_order t.seens (seens (reverse history)) keeps.agrees.seens ∙ ap L view
+
+  pub seen_live : (jti : Text) → AreSeens t.seens → option_and_then (if_lives seen_life seen_begun at) (row_of seen_name jti t.seens) ≡ live_seen (past_of r) at jti
+  seen_live jti held =
+      let L : Relying → Option SeenRow = λ x. live_seen (past_of x) at jti in
+      found_in_both seen_name seen_life seen_begun (last_moment (reverse history)) at in_order jti t.seens (seens (reverse history)) held.distinct
+      (rows_distinct seen_name seen_made seen_kept seen_names (reverse history)) keeps.agrees.seens
+      ∙ ap L view
+
+  pub seens_room : has_room_for_one seen_life seen_begun at t.seens ≡ nat_lt (length (live_seens (past_of r) at)) most_rows
+  seens_room = let N : List SeenRow → Bool = λ rows. nat_lt (length rows) most_rows in ap N seens_live
+
+  -- so many sessions does a logout token name
+  pub meant_live : (claims : LogoutClaims) (sub sid : Option Text) → sub ≡ claims.sub → sid ≡ claims.sid → live_named_count sub sid at t ≡ meant_count claims (live_visits (types_of r) (past_of r) at)
+  meant_live claims sub sid one two =
+      let A : Option Text → ℕ = λ o. live_named_count o sid at t in
+      let B : Option Text → ℕ = λ o. live_named_count claims.sub o at t in
+      let M : List SessionRow → ℕ = λ rows. meant_count claims rows in
+      ap A one ∙ ap B two ∙ ap M visits_live
+
   pub browser_live : (browser : Word) → list_any (λ (login : LoginRow). bytes_eq login.browser browser) (live_rows login_life login_begun at t.logins) ≡ has_login_browser (past_of r) at browser
   browser_live browser =
       let A : List LoginRow → Bool = λ rows. list_any (λ (login : LoginRow). bytes_eq login.browser browser) rows in
@@ -96,8 +133,12 @@ module _ (past : RpPast) (at : ℕ) (w : Word) where
   pub login_named : live_login past at (Some w) ≡ row_of login_name w (live_logins past at)
   login_named = found_live login_name login_life login_begun at w (logins past) (rows_distinct login_name login_made login_kept login_names past)
 
+module _ (past : RpPast) (at : ℕ) (jti : Text) where
+  pub seen_named : live_seen past at jti ≡ row_of seen_name jti (live_seens past at)
+  seen_named = found_live seen_name seen_life seen_begun at jti (seens past) (rows_distinct seen_name seen_made seen_kept seen_names past)
+
 module _ (types : Types) (past : RpPast) (at : ℕ) (w : Word) where
-  pub pending_named : live_pending types past at w ≡ row_of pending_name w (live_pendings types past at)
+  pub pending_named : any_live_pending types past at w ≡ row_of pending_name w (live_pendings types past at)
   pending_named = found_live pending_name pending_life pending_begun at w (pendings types past) (rows_distinct pending_name (pending_made types) pending_kept pending_names past)
 
   pub visit_named : live_visit types past at (Some w) ≡ row_of visit_name w (live_visits types past at)

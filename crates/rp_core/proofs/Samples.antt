@@ -59,7 +59,7 @@ one_that_lives_may_not : Agrees only_code no_tables past_begin 1599 → ⊥
 one_that_lives_may_not agrees = (let k : [] ≡ login ∷ [] = agrees.logins in cc)
 
 they_are_begun : IsBegun with_login_begun 1000
-they_are_begun = record { logins = refl; pendings = refl; visits = refl }
+they_are_begun = record { logins = refl; pendings = refl; visits = refl; seens = refl }
 
 not_begun_one_second_before : IsBegun with_login_begun 999 → ⊥
 not_begun_one_second_before begun = (let k : false ≡ true = begun.logins in cc)
@@ -109,16 +109,16 @@ late_ones_let_none_in t = refl
 refused_ones_let_none_in : (t : Text) → visit_found only_code past_callback (tokens_entry 1119 t) (Refused no.SubjectDiffers) ≡ None
 refused_ones_let_none_in t = refl
 
-begin_brings_a_login : Brings only_code [] begin_pair (Some login) None None
-begin_brings_a_login = record { login_is = refl; pending_is = refl; visit_is = refl }
+begin_brings_a_login : Brings only_code [] begin_pair (Some login) None None None
+begin_brings_a_login = record { login_is = refl; pending_is = refl; visit_is = refl; seen_is = refl }
 
-a_callback_brings_an_exchange : Brings only_code past_begin callback_pair None (Some waiting) None
-a_callback_brings_an_exchange = record { login_is = refl; pending_is = refl; visit_is = refl }
+a_callback_brings_an_exchange : Brings only_code past_begin callback_pair None (Some waiting) None None
+a_callback_brings_an_exchange = record { login_is = refl; pending_is = refl; visit_is = refl; seen_is = refl }
 
-tokens_bring_a_session : (t : Text) → Brings only_code past_callback (tokens_pair t) None None (Some visit)
-tokens_bring_a_session t = record { login_is = refl; pending_is = refl; visit_is = refl }
+tokens_bring_a_session : (t : Text) → Brings only_code past_callback (tokens_pair t) None None (Some visit) None
+tokens_bring_a_session t = record { login_is = refl; pending_is = refl; visit_is = refl; seen_is = refl }
 
-a_callback_does_not_bring_nothing : Brings only_code past_begin callback_pair None None None → ⊥
+a_callback_does_not_bring_nothing : Brings only_code past_begin callback_pair None None None None → ⊥
 a_callback_does_not_bring_nothing brings = (let k : None ≡ Some waiting = brings.pending_is in cc)
 
 -- ---- rows that are put
@@ -167,12 +167,12 @@ the_tokens_are_followed t = record { logins_are = refl; pendings_are = refl; vis
 their_exchange_does_not_stay : (t : Text) → FollowsPair only_code with_exchange (record with_session { pendings = waiting ∷ [] }) past_callback (tokens_pair t) → ⊥
 their_exchange_does_not_stay t follows = (let k : waiting ∷ [] ≡ [] = follows.pendings_are in cc)
 
-the_callback_is_taken_up : TakesUp shop_setup past_begin 1000 with_login_begun callback_pair None (Some waiting) None
+the_callback_is_taken_up : TakesUp shop_setup past_begin 1000 with_login_begun callback_pair None (Some waiting) None None
 the_callback_is_taken_up =
     record { order = omega arith; agrees = they_agree; begun = they_are_begun; reply_is = sym callback_exchanges_at_once; brings = a_callback_brings_an_exchange }
 
-not_without_its_exchange : TakesUp shop_setup past_begin 1000 with_login_begun callback_pair None None None → ⊥
+not_without_its_exchange : TakesUp shop_setup past_begin 1000 with_login_begun callback_pair None None None None → ⊥
 not_without_its_exchange up = (let k : None ≡ Some waiting = up.brings.pending_is in cc)
 
-not_before_the_moment_of_the_tables : TakesUp shop_setup past_begin 1001 with_login_begun callback_pair None (Some waiting) None → ⊥
+not_before_the_moment_of_the_tables : TakesUp shop_setup past_begin 1001 with_login_begun callback_pair None (Some waiting) None None → ⊥
 not_before_the_moment_of_the_tables up = (let k : 1001 ≤ 1000 = up.order in absurd (omega arith))

@@ -1,10 +1,10 @@
 -- A relying party's tables and the questions of its past: what lives in both at a moment is the same.
-use Rattle.std.specs.Prelude.{◌≡◌, ℕ, true, List, [], reverse}
+use Rattle.std.specs.Prelude.{◌≡◌, ℕ, true, List, reverse}
 use Rattle.sso_base.specs.Rows.{live_rows}
 use Rattle.sso_base.specs.Legal.{last_moment}
 use Rattle.oidc_words.specs.declared.response_types.Types.{Types}
-use Rattle.oidc_words.specs.Lives.{login_life, pending_life, visit_life}
-use Rattle.rp_login.specs.Rows.{login_begun, pending_begun, visit_begun}
+use Rattle.oidc_words.specs.Lives.{login_life, pending_life, visit_life, seen_life}
+use Rattle.rp_login.specs.Rows.{login_begun, pending_begun, visit_begun, seen_begun}
 use Rattle.held_rows.specs.Held.{none_after}
 use Rattle.rp_login.specs.Tables.{Tables}
 use Rattle.rp_answer.specs.Past.{RpPair, RpPast}
@@ -12,20 +12,21 @@ use Rattle.rp_answer.specs.Setup.{PartySetup, party_of}
 use Rattle.rp_answer.specs.Logins.{live_logins}
 use Rattle.rp_answer.specs.Pendings.{live_pendings}
 use Rattle.rp_answer.specs.Visits.{live_visits}
+use Rattle.rp_answer.specs.Seens.{live_seens}
 use Rattle.rp_answer.specs.Legal.{IsLegalHistory}
 
--- no logout token is accepted so far, so none is remembered
 pub record Agrees (types : Types) (t : Tables) (past : RpPast) (at : ℕ) : Type 0 where
   pub logins : live_rows login_life login_begun at t.logins ≡ live_logins past at
   pub pendings : live_rows pending_life pending_begun at t.pendings ≡ live_pendings types past at
   pub visits : live_rows visit_life visit_begun at t.visits ≡ live_visits types past at
-  pub seens : t.seens ≡ []
+  pub seens : live_rows seen_life seen_begun at t.seens ≡ live_seens past at
 
 -- no held row begins after the moment
 pub record IsBegun (t : Tables) (at : ℕ) : Type 0 where
   pub logins : none_after login_begun at t.logins ≡ true
   pub pendings : none_after pending_begun at t.pendings ≡ true
   pub visits : none_after visit_begun at t.visits ≡ true
+  pub seens : none_after seen_begun at t.seens ≡ true
 
 -- what the party keeps beside its history, by its past
 pub record KeepsPast (types : Types) (past : RpPast) (t : Tables) : Type 0 where

@@ -1,18 +1,23 @@
 -- What the tables are after one more pair.
-use Rattle.std.specs.Prelude.{◌≡◌, ◌≤◌, ℕ, filter_map, [], Option, Some, None}
-use Rattle.sso_base.specs.Rows.{put, live_rows}
+use Rattle.std.specs.Prelude.{◌≡◌, ◌≤◌, ℕ, Bool, List, ◌||◌, true, filter_map, Option, Some, None, is_some, option_and_then, if◌then◌else◌}
+use Rattle.sso_base.specs.Words.{Word}
+use Rattle.sso_base.specs.Rows.{put, row_of, live_rows}
+use Rattle.logout_token.specs.declared.claims.LogoutClaims.{LogoutClaims}
 use Rattle.oidc_words.specs.declared.response_types.Types.{Types}
 use Rattle.rp_login.specs.declared.rows.LoginRow.{LoginRow}
 use Rattle.rp_login.specs.declared.rows.PendingRow.{PendingRow}
 use Rattle.rp_login.specs.declared.rows.SessionRow.{SessionRow}
-use Rattle.rp_login.specs.Rows.{login_name, login_begun, pending_name, pending_begun, visit_name, visit_begun}
-use Rattle.oidc_words.specs.Lives.{login_life, pending_life, visit_life}
-use Rattle.rp_login.specs.Tables.{Tables, with_login, with_pending, with_visit}
+use Rattle.rp_login.specs.declared.rows.SeenRow.{SeenRow}
+use Rattle.rp_login.specs.declared.rows.Stage.{Stage}
+use Rattle.rp_login.specs.Rows.{login_name, login_begun, pending_name, pending_begun, visit_name, visit_begun, seen_name, seen_begun}
+use Rattle.oidc_words.specs.Lives.{login_life, pending_life, visit_life, seen_life}
+use Rattle.rp_login.specs.Tables.{Tables, with_login, with_pending, with_visit, with_seen}
 use Rattle.rp_answer.specs.Past.{RpPair, RpPast}
 use Rattle.rp_answer.specs.Setup.{PartySetup, party_of}
 use Rattle.rp_answer.specs.Logins.{logins, login_made, login_kept}
-use Rattle.rp_answer.specs.Pendings.{pendings, pending_made, pending_kept}
+use Rattle.rp_answer.specs.Pendings.{if_stage, is_answered, pendings, pending_made, pending_kept}
 use Rattle.rp_answer.specs.Visits.{visits, visit_made, visit_kept}
+use Rattle.rp_answer.specs.Seens.{seens, seen_made, seen_kept}
 use Rattle.rp_answer.specs.Answering.{rp_answer}
 use Rattle.rp_core.specs.Agreeing.{Agrees, IsBegun}
 use Rattle.rp_core.specs.Making.{Brings}
@@ -23,15 +28,31 @@ pub record FollowsPair (types : Types) (before after : Tables) (past : RpPast) (
   pub pendings_are : after.pendings
       ≡ put pending_name (pending_made types (pendings types past) past p) (filter_map (pending_kept past p) (live_rows pending_life pending_begun p.entry.at before.pendings))
   pub visits_are : after.visits ≡ put visit_name (visit_made types (visits types past) past p) (filter_map (visit_kept past p) (live_rows visit_life visit_begun p.entry.at before.visits))
-  pub seens_are : after.seens ≡ []
+  pub seens_are : after.seens ≡ put seen_name (seen_made (seens past) past p) (filter_map (seen_kept past p) (live_rows seen_life seen_begun p.entry.at before.seens))
 
 -- What a step takes up: a pair whose reply is the answer after a past with which the tables agree, and the rows that it makes.
-pub record TakesUp (s : PartySetup) (past : RpPast) (before : ℕ) (t : Tables) (p : RpPair) (login : Option LoginRow) (pending : Option PendingRow) (visit : Option SessionRow) : Type 0 where
+pub record TakesUp (s : PartySetup) (past : RpPast) (before : ℕ) (t : Tables) (p : RpPair) (login : Option LoginRow) (pending : Option PendingRow) (visit : Option SessionRow) (seen : Option SeenRow) : Type 0 where
   pub order : before ≤ p.entry.at
   pub agrees : Agrees (party_of s).types t past before
   pub begun : IsBegun t before
   pub reply_is : p.reply ≡ rp_answer s past p.entry
-  pub brings : Brings (party_of s).types past p login pending visit
+  pub brings : Brings (party_of s).types past p login pending visit seen
+
+-- ---- exchanges that are answered
+
+-- the exchange of this word waits for this answer
+abbrev pub is_waiting : Word → Stage → List PendingRow → Bool
+is_waiting w waits rows = is_some (option_and_then (if_stage waits) (row_of pending_name w rows))
+
+-- it is gone
+abbrev pub without_answered : Word → Stage → List PendingRow → List PendingRow
+without_answered w waits rows = filter_map (λ row. if is_answered (Some (w, waits)) row then None else Some row) rows
+
+-- ---- sessions that a logout token ends
+
+-- the token has a subject or a `sid` (OpenID Connect Back-Channel Logout 1.0, 2.4)
+abbrev pub NamesSomebody : LogoutClaims → Type 0
+NamesSomebody claims = (is_some claims.sub || is_some claims.sid) ≡ true
 
 -- ---- rows that are added
 
@@ -46,3 +67,7 @@ pending_put (Some row) t = with_pending row t
 abbrev pub visit_put : Option SessionRow → Tables → Tables
 visit_put None t = t
 visit_put (Some row) t = with_visit row t
+
+abbrev pub seen_put : Option SeenRow → Tables → Tables
+seen_put None t = t
+seen_put (Some row) t = with_seen row t

@@ -27,12 +27,12 @@ impl RpCore {
                 tokens,
                 id,
             } => self.tokens(alloc, entry, *pending, tokens, id),
+            RpAsk::Info { pending, sub } => self.info(alloc, entry, *pending, sub),
             RpAsk::Visit { session } => self.visit(alloc, entry, *session),
-            RpAsk::Fragment
-            | RpAsk::Info { .. }
-            | RpAsk::Leave { .. }
-            | RpAsk::Logout { .. }
-            | RpAsk::NotHere => Ok(RpReply::NotHere),
+            RpAsk::Fragment => Ok(RpReply::Fragment),
+            RpAsk::Leave { session } => Ok(self.leave(entry, *session)),
+            RpAsk::Logout { claims } => self.logout(alloc, entry, claims),
+            RpAsk::NotHere => Ok(RpReply::NotHere),
         }
     }
 

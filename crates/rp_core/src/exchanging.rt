@@ -1,7 +1,8 @@
-// The replies to an answer of the token endpoint and to a visit, were there always room.
+// The replies to answers of the token endpoint and of UserInfo, and to a visit, were there always room.
 
 ghost use Rattle.std.specs.Prelude.{◌≡◌, ◌≤◌, IfOk};
 ghost use Rattle.sso_base.specs.Legal.{last_moment};
+ghost use Rattle.rp_login.specs.declared.rows.Stage.TheVariants as stage;
 ghost use Rattle.rp_answer.specs.Setup.{party_of};
 ghost use Rattle.rp_answer.specs.Pendings.{live_pending};
 ghost use Rattle.rp_answer.specs.Replies as spec;
@@ -10,10 +11,13 @@ ghost use Rattle.rp_core.specs.Relying.{past_of};
 
 use crate::state::RpCore;
 use id_token::{IdClaims, IdNo};
-use rp_exchange::{RpAsk, RpNo, RpReply, copied_tokens};
-use sso_base::{Entry, NoMemory, Word};
+use rp_accept::reply_to_info;
+use rp_exchange::{RpAsk, RpNo, RpReply, copied_info, copied_tokens};
+use rp_login::Stage;
+use sso_base::{Entry, NoMemory, Text, Word};
 use std::alloc::Global;
 use token_endpoint::{Tokens, TokensNo};
+use userinfo::InfoNo;
 
 impl RpCore {
     // An answer of the token endpoint.
@@ -26,9 +30,9 @@ impl RpCore {
         id: &Option<Result<IdClaims, IdNo>>,
     ) -> Result<RpReply, NoMemory>
         requires { last_moment (past_of self.now) ≤ entry.now.at }
-        ensures { IfOk result (λ r. r ≡ spec.tokens self.now.setup entry.now (live_pending (party_of self.now.setup).types (past_of self.now) entry.now.at pending) tokens.now id.now) }
+        ensures { IfOk result (λ r. r ≡ spec.tokens self.now.setup entry.now (live_pending (party_of self.now.setup).types (past_of self.now) entry.now.at pending stage.Tokens) tokens.now id.now) }
     {
-        let Some(row) = self.live_pending(entry.at, pending) else {
+        let Some(row) = self.live_pending(entry.at, pending, Stage::Tokens) else {
             return Ok(RpReply::Refused {
                 why: RpNo::StalePending,
             });
@@ -37,6 +41,30 @@ impl RpCore {
             Ok(tokens) => self.setup.reply_to_tokens(alloc, entry, row, tokens, id),
             Err(why) => Ok(RpReply::Refused {
                 why: RpNo::Tokens(copied_tokens(alloc, why)?),
+            }),
+        }
+    }
+
+    // An answer of UserInfo.
+    pub(crate) fn info(
+        &self,
+        alloc: Global,
+        entry: &Entry<RpAsk>,
+        pending: Word,
+        sub: &Result<Text, InfoNo>,
+    ) -> Result<RpReply, NoMemory>
+        requires { last_moment (past_of self.now) ≤ entry.now.at }
+        ensures { IfOk result (λ r. r ≡ spec.info entry.now (live_pending (party_of self.now.setup).types (past_of self.now) entry.now.at pending stage.Info) sub.now) }
+    {
+        let Some(row) = self.live_pending(entry.at, pending, Stage::Info) else {
+            return Ok(RpReply::Refused {
+                why: RpNo::StalePending,
+            });
+        };
+        match sub {
+            Ok(sub) => reply_to_info(alloc, entry, row, sub),
+            Err(why) => Ok(RpReply::Refused {
+                why: RpNo::Info(copied_info(alloc, why)?),
             }),
         }
     }

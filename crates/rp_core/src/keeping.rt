@@ -1,18 +1,22 @@
 // A pair is taken up by the tables. It takes no memory.
 
-ghost use Rattle.std.specs.Prelude.{◌≡◌, true, false, filter_map, IfSome, ℕ};
+ghost use Rattle.std.specs.Prelude.{◌≡◌, true, false, filter_map, IfSome, ℕ, None};
 ghost use Rattle.held_rows.specs.Held.{MayAddRow};
-ghost use Rattle.rp_login.specs.Rows.{login_name, login_begun, pending_name, pending_begun, visit_name, visit_begun};
+ghost use Rattle.rp_login.specs.Tables.{ArePendings};
+ghost use Rattle.rp_login.specs.Rows.{login_name, login_begun, pending_name, pending_begun, visit_name, visit_begun, seen_name, seen_begun};
 ghost use Rattle.rp_answer.specs.Past.{RpPast};
 ghost use Rattle.rp_answer.specs.Setup.{PartySetup, party_of};
+ghost use Rattle.rp_answer.specs.Asked as asked;
 ghost use Rattle.rp_answer.specs.Logins as logins;
 ghost use Rattle.rp_answer.specs.Pendings as pendings;
+ghost use Rattle.rp_answer.specs.Visits as visits;
 ghost use Rattle.rp_core.specs.Keeping as spec;
 
-use crate::making::{Made, state_named};
+use crate::making::{Made, state_named, token_accepted};
+use crate::questions::is_stage;
 use rp_exchange::{RpAsk, RpNo, RpReply};
-use rp_login::{LoginRow, Logins, PendingRow, SessionRow};
-use sso_base::{Pair, Word};
+use rp_login::{LoginRow, Logins, PendingRow, SeenRow, SessionRow, Stage};
+use sso_base::{Pair, Word, bytes_if};
 
 fn leaves_login(why: &RpNo) -> bool
     ensures { result ≡ logins.leaves_login why.now }
@@ -42,13 +46,34 @@ fn ends_pending(reply: &RpReply) -> bool
     )
 }
 
-// The exchange that an answer of the token endpoint is to.
-fn pending_named(ask: &RpAsk) -> Option<Word>
-    ensures { result ≡ pendings.pending_named ask.now }
+// The word of the exchange that an answer is to, and what that exchange waits for.
+fn answer_named(ask: &RpAsk) -> Option<(Word, Stage)>
+    ensures { result ≡ pendings.answer_named ask.now }
 {
     match ask {
-        RpAsk::Tokens { pending, .. } => Some(*pending),
+        RpAsk::Tokens { pending, .. } => Some((*pending, Stage::Tokens)),
+        RpAsk::Info { pending, .. } => Some((*pending, Stage::Info)),
         _ => None,
+    }
+}
+
+// Whether the exchange of this word waits for this answer.
+fn is_waiting(tables: &Logins, word: Word, waits: Stage) -> bool
+    ensures row { result ≡ spec.is_waiting word waits tables.now.pendings }
+    ensures held { ArePendings tables.now.pendings }
+{
+    match tables.pending(word) {
+        Some(row) => is_stage(waits, row.stage),
+        None => false,
+    }
+}
+
+// Ends the exchange of this word, where it waits for this answer.
+fn end_answered(tables: &mut Logins, word: Word, waits: Stage)
+    ensures { tables.new ≡ record tables.old { pendings = spec.without_answered word waits tables.old.pendings } }
+{
+    if is_waiting(tables, word, waits) {
+        tables.end_pending(word);
     }
 }
 
@@ -71,8 +96,44 @@ fn keep_pendings(tables: &mut Logins, pair: &Pair<RpAsk, RpReply>)
     if !ends_pending(&pair.reply) {
         return;
     }
-    if let Some(word) = pending_named(&pair.entry.ask) {
-        tables.end_pending(word);
+    if let Some(named) = answer_named(&pair.entry.ask) {
+        end_answered(tables, named.0, named.1);
+    }
+}
+
+// The word of the session that is left.
+fn session_left(ask: &RpAsk, reply: &RpReply) -> Option<Word>
+    ensures { result ≡ visits.session_left ask.now reply.now }
+{
+    match (ask, reply) {
+        (RpAsk::Leave { session }, RpReply::Left { .. }) => *session,
+        _ => None,
+    }
+}
+
+// Ends the sessions that an accepted logout token names.
+fn end_accepted(tables: &mut Logins, pair: &Pair<RpAsk, RpReply>)
+    requires none { visits.session_left pair.now.entry.ask pair.now.reply ≡ None }
+    requires names { IfSome (asked.token_accepted pair.now.entry.ask pair.now.reply) spec.NamesSomebody }
+    ensures { (past : RpPast) → tables.new ≡ record tables.old { visits = filter_map (visits.visit_kept past pair.now) tables.old.visits } }
+{
+    if let Some(claims) = token_accepted(&pair.entry.ask, &pair.reply) {
+        let sub = bytes_if(&claims.sub);
+        let sid = bytes_if(&claims.sid);
+        tables.end_named(sub, sid);
+    }
+}
+
+// Leaves the sessions as the pair does: that which is left ends, and those that an accepted logout token names.
+fn keep_visits(tables: &mut Logins, pair: &Pair<RpAsk, RpReply>)
+    requires { IfSome (asked.token_accepted pair.now.entry.ask pair.now.reply) spec.NamesSomebody }
+    ensures { (past : RpPast) → tables.new ≡ record tables.old { visits = filter_map (visits.visit_kept past pair.now) tables.old.visits } }
+{
+    match session_left(&pair.entry.ask, &pair.reply) {
+        Some(word) => {
+            tables.end_session(word);
+        }
+        None => end_accepted(tables, pair),
     }
 }
 
@@ -103,16 +164,27 @@ fn add_visit(tables: &mut Logins, row: Option<SessionRow>)
     }
 }
 
+fn add_seen(tables: &mut Logins, row: Option<SeenRow>)
+    requires may { IfSome row (λ r. MayAddRow seen_name seen_begun tables.old.reserved.seens tables.old.seens r) }
+    ensures { tables.new ≡ spec.seen_put row tables.old }
+{
+    if let Some(row) = row {
+        tables.add_seen(row);
+    }
+}
+
 /// Takes a pair up: what has ended leaves the tables, the pair changes what is held, and its rows are put.
 pub(crate) fn take_up(tables: &mut Logins, pair: &Pair<RpAsk, RpReply>, made: Made)
-    requires may { (s : PartySetup) × (past : RpPast) × (before : ℕ) × spec.TakesUp s past before tables.old pair.now made.login made.pending made.visit }
+    requires may { (s : PartySetup) × (past : RpPast) × (before : ℕ) × spec.TakesUp s past before tables.old pair.now made.login made.pending made.visit made.seen }
     requires reserved { tables.old.reserved ≡ record { logins = true; pendings = true; visits = true; seens = true } }
-    ensures { (s : PartySetup) (past : RpPast) (before : ℕ) → spec.TakesUp s past before tables.old pair.now made.login made.pending made.visit → spec.FollowsPair (party_of s).types tables.old tables.new past pair.now }
+    ensures { (s : PartySetup) (past : RpPast) (before : ℕ) → spec.TakesUp s past before tables.old pair.now made.login made.pending made.visit made.seen → spec.FollowsPair (party_of s).types tables.old tables.new past pair.now }
 {
     tables.purge(pair.entry.at);
     keep_logins(tables, pair);
     keep_pendings(tables, pair);
+    keep_visits(tables, pair);
     add_login(tables, made.login);
     add_pending(tables, made.pending);
     add_visit(tables, made.visit);
+    add_seen(tables, made.seen);
 }

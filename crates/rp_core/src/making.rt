@@ -1,12 +1,15 @@
 // The rows that a reply makes. They take memory, so they are made before anything changes.
 
-ghost use Rattle.std.specs.Prelude.{◌≡◌, ◌≤◌, IfOk, length, Some};
+ghost use Rattle.std.specs.Prelude.{◌≡◌, ◌≤◌, IfOk, length, Some, option_and_then};
 ghost use Rattle.std.specs.Option.{option_copied};
+ghost use Rattle.sso_base.specs.Journal.{most_pairs};
 ghost use Rattle.sso_base.specs.Legal.{last_moment};
+ghost use Rattle.rp_login.specs.declared.rows.Stage.TheVariants as stage;
 ghost use Rattle.rp_answer.specs.Answering.{rp_answer};
 ghost use Rattle.rp_answer.specs.Asked as asked;
 ghost use Rattle.rp_answer.specs.Logins as logins;
 ghost use Rattle.rp_answer.specs.Pendings as pendings;
+ghost use Rattle.rp_answer.specs.Seens as seens;
 ghost use Rattle.rp_answer.specs.Visits as visits;
 ghost use Rattle.rp_answer.specs.Setup.{party_of};
 ghost use Rattle.rp_core.specs.Making as spec;
@@ -14,9 +17,10 @@ ghost use Rattle.rp_core.specs.Relying.{past_of};
 
 use crate::state::RpCore;
 use id_token::{IdClaims, IdNo};
+use logout_token::LogoutClaims;
 use oidc_words::Types;
 use rp_exchange::{RpAsk, RpReply};
-use rp_login::{LoginRow, PendingRow, SessionRow, Stage};
+use rp_login::{LoginRow, PendingRow, SeenRow, SessionRow, Stage};
 use sso_base::{Entry, Moment, NoMemory, Text, Word, copied_text};
 use std::alloc::Global;
 
@@ -26,6 +30,7 @@ pub(crate) struct Made {
     pub login: Option<LoginRow>,
     pub pending: Option<PendingRow>,
     pub visit: Option<SessionRow>,
+    pub seen: Option<SeenRow>,
 }
 
 // The state of a response that can be read.
@@ -37,6 +42,16 @@ pub(crate) fn state_named(ask: &RpAsk) -> Option<Word>
             heard: Ok(heard),
             ..
         } => heard.state,
+        _ => None,
+    }
+}
+
+// The claims of the logout token that a reply accepts.
+pub(crate) fn token_accepted<'a>(ask: &'a RpAsk, reply: &RpReply) -> Option<&'a LogoutClaims>
+    ensures { option_copied result ≡ asked.token_accepted ask.now reply.now }
+{
+    match (ask, reply) {
+        (RpAsk::Logout { claims: Ok(claims) }, RpReply::Ended { .. }) => Some(claims),
         _ => None,
     }
 }
@@ -119,9 +134,10 @@ fn pending_started(
     at: Moment,
     ask: &RpAsk,
     word: Word,
+    waits: Stage,
     login: &LoginRow,
 ) -> Result<PendingRow, NoMemory>
-    ensures { IfOk result (λ row. row ≡ pendings.pending_started types.now at ask.now word login.now) }
+    ensures { IfOk result (λ row. row ≡ pendings.pending_started types.now at ask.now word waits login.now) }
 {
     let claims = claims_judged(types, ask);
     Ok(PendingRow {
@@ -132,8 +148,33 @@ fn pending_started(
         sub: sub_in(alloc, claims)?,
         sid: sid_in(alloc, claims)?,
         code: code_heard(alloc, types, ask)?,
-        stage: Stage::Tokens,
+        stage: waits,
         by: login.by,
+    })
+}
+
+// What a token response leaves pending: a UserInfo request, with the code of the exchange before it.
+fn pending_followed(
+    alloc: Global,
+    types: &Types,
+    at: Moment,
+    ask: &RpAsk,
+    word: Word,
+    before: &PendingRow,
+) -> Result<PendingRow, NoMemory>
+    ensures { IfOk result (λ row. row ≡ pendings.pending_followed types.now at ask.now word before.now) }
+{
+    let claims = claims_judged(types, ask);
+    Ok(PendingRow {
+        word,
+        nonce: before.nonce,
+        begun: before.begun,
+        since: at,
+        sub: sub_in(alloc, claims)?,
+        sid: sid_in(alloc, claims)?,
+        code: copied_text(alloc, &before.code)?,
+        stage: Stage::Info,
+        by: before.by,
     })
 }
 
@@ -156,11 +197,33 @@ fn visit_of(
     })
 }
 
+// The session that follows UserInfo, with what the ID Token before it said.
+fn visit_after(
+    alloc: Global,
+    at: Moment,
+    word: Word,
+    pending: &PendingRow,
+) -> Result<Option<SessionRow>, NoMemory>
+    ensures { IfOk result (λ row. row ≡ visits.visit_after at word pending.now) }
+{
+    match &pending.sub {
+        Some(sub) => Ok(Some(SessionRow {
+            word,
+            nonce: pending.nonce,
+            sub: sub.copy(alloc)?,
+            sid: copied_text(alloc, &pending.sid)?,
+            entered: at,
+        })),
+        None => Ok(None),
+    }
+}
+
 impl RpCore {
     // The place of the next pair in the history, counted from 0.
     #[tactic(auto, using(crate::proofs::Places::as_long))]
     fn place(&self) -> u64
-        ensures { result ≡ length (past_of self.now) }
+        ensures place { result ≡ length (past_of self.now) }
+        ensures few { result ≤ most_pairs }
     {
         self.journal.count()
     }
@@ -181,7 +244,61 @@ impl RpCore {
         }
     }
 
-    // The pending exchange that a response leaves.
+    // What the response of the live login leaves pending.
+    fn started_found(
+        &self,
+        alloc: Global,
+        entry: &Entry<RpAsk>,
+        word: Word,
+        waits: Stage,
+    ) -> Result<Option<PendingRow>, NoMemory>
+        requires { last_moment (past_of self.now) ≤ entry.now.at }
+        ensures { IfOk result (λ row. row ≡ spec.started_found (party_of self.now.setup).types (past_of self.now) entry.now word waits) }
+    {
+        let Some(login) = self.live_login(entry.at, state_named(&entry.ask)) else {
+            return Ok(None);
+        };
+        let types = &self.setup.party().types;
+        let row = pending_started(alloc, types, entry.at, &entry.ask, word, waits, login)?;
+        Ok(Some(row))
+    }
+
+    // What the token response to the live exchange of this word leaves pending.
+    fn followed_found(
+        &self,
+        alloc: Global,
+        entry: &Entry<RpAsk>,
+        answered: Word,
+        word: Word,
+    ) -> Result<Option<PendingRow>, NoMemory>
+        requires { last_moment (past_of self.now) ≤ entry.now.at }
+        ensures { IfOk result (λ row. row ≡ spec.followed_found (party_of self.now.setup).types (past_of self.now) entry.now answered word) }
+    {
+        let Some(before) = self.live_pending(entry.at, answered, Stage::Tokens) else {
+            return Ok(None);
+        };
+        let types = &self.setup.party().types;
+        let row = pending_followed(alloc, types, entry.at, &entry.ask, word, before)?;
+        Ok(Some(row))
+    }
+
+    // What a UserInfo request leaves pending.
+    fn fetched_found(
+        &self,
+        alloc: Global,
+        entry: &Entry<RpAsk>,
+        word: Word,
+    ) -> Result<Option<PendingRow>, NoMemory>
+        requires { last_moment (past_of self.now) ≤ entry.now.at }
+        ensures { IfOk result (λ row. row ≡ spec.fetched_found (party_of self.now.setup).types (past_of self.now) entry.now word entry.now.ask) }
+    {
+        match &entry.ask {
+            RpAsk::Tokens { pending, .. } => self.followed_found(alloc, entry, *pending, word),
+            _ => self.started_found(alloc, entry, word, Stage::Info),
+        }
+    }
+
+    // The pending exchange that a reply leaves.
     fn pending_found(
         &self,
         alloc: Global,
@@ -191,15 +308,13 @@ impl RpCore {
         requires { last_moment (past_of self.now) ≤ entry.now.at }
         ensures { IfOk result (λ row. row ≡ spec.pending_found (party_of self.now.setup).types (past_of self.now) entry.now reply.now) }
     {
-        let RpReply::Exchange { pending, .. } = reply else {
-            return Ok(None);
-        };
-        let Some(login) = self.live_login(entry.at, state_named(&entry.ask)) else {
-            return Ok(None);
-        };
-        let types = &self.setup.party().types;
-        let row = pending_started(alloc, types, entry.at, &entry.ask, *pending, login)?;
-        Ok(Some(row))
+        match reply {
+            RpReply::Exchange { pending, .. } => {
+                self.started_found(alloc, entry, *pending, Stage::Tokens)
+            }
+            RpReply::Fetch { pending, .. } => self.fetched_found(alloc, entry, *pending),
+            _ => Ok(None),
+        }
     }
 
     // The nonce of the live login, or of the live exchange, that an ask is about.
@@ -212,11 +327,63 @@ impl RpCore {
                 Some(login) => Some(login.nonce),
                 None => None,
             },
-            RpAsk::Tokens { pending, .. } => match self.live_pending(at, *pending) {
+            RpAsk::Tokens { pending, .. } => match self.live_pending(at, *pending, Stage::Tokens) {
                 Some(row) => Some(row.nonce),
                 None => None,
             },
             _ => None,
+        }
+    }
+
+    // The session that enters after UserInfo.
+    fn visit_of_info(
+        &self,
+        alloc: Global,
+        at: Moment,
+        word: Word,
+        answered: Word,
+    ) -> Result<Option<SessionRow>, NoMemory>
+        requires { last_moment (past_of self.now) ≤ at }
+        ensures { IfOk result (λ row. row ≡ option_and_then (visits.visit_after at word) (pendings.live_pending (party_of self.now.setup).types (past_of self.now) at answered stage.Info)) }
+    {
+        match self.live_pending(at, answered, Stage::Info) {
+            Some(pending) => visit_after(alloc, at, word, pending),
+            None => Ok(None),
+        }
+    }
+
+    // The session that enters with the claims of its ask.
+    fn visit_of_claims(
+        &self,
+        alloc: Global,
+        entry: &Entry<RpAsk>,
+        word: Word,
+    ) -> Result<Option<SessionRow>, NoMemory>
+        requires { last_moment (past_of self.now) ≤ entry.now.at }
+        ensures { IfOk result (λ row. row ≡ spec.visit_judged (party_of self.now.setup).types (past_of self.now) entry.now word entry.now.ask) }
+    {
+        let Some(nonce) = self.nonce_found(entry.at, &entry.ask) else {
+            return Ok(None);
+        };
+        let Some(claims) = claims_judged(&self.setup.party().types, &entry.ask) else {
+            return Ok(None);
+        };
+        Ok(Some(visit_of(alloc, entry.at, word, nonce, claims)?))
+    }
+
+    // The session that an ask lets in.
+    fn visit_in(
+        &self,
+        alloc: Global,
+        entry: &Entry<RpAsk>,
+        word: Word,
+    ) -> Result<Option<SessionRow>, NoMemory>
+        requires { last_moment (past_of self.now) ≤ entry.now.at }
+        ensures { IfOk result (λ row. row ≡ spec.visit_in (party_of self.now.setup).types (past_of self.now) entry.now word entry.now.ask) }
+    {
+        match &entry.ask {
+            RpAsk::Info { pending, .. } => self.visit_of_info(alloc, entry.at, word, *pending),
+            _ => self.visit_of_claims(alloc, entry, word),
         }
     }
 
@@ -230,16 +397,29 @@ impl RpCore {
         requires { last_moment (past_of self.now) ≤ entry.now.at }
         ensures { IfOk result (λ row. row ≡ spec.visit_found (party_of self.now.setup).types (past_of self.now) entry.now reply.now) }
     {
-        let RpReply::Entered { session, .. } = reply else {
-            return Ok(None);
-        };
-        let Some(nonce) = self.nonce_found(entry.at, &entry.ask) else {
-            return Ok(None);
-        };
-        let Some(claims) = claims_judged(&self.setup.party().types, &entry.ask) else {
-            return Ok(None);
-        };
-        Ok(Some(visit_of(alloc, entry.at, *session, nonce, claims)?))
+        match reply {
+            RpReply::Entered { session, .. } => self.visit_in(alloc, entry, *session),
+            _ => Ok(None),
+        }
+    }
+
+    // What is remembered of a logout token that is accepted.
+    fn seen_accepted(
+        &self,
+        alloc: Global,
+        entry: &Entry<RpAsk>,
+        reply: &RpReply,
+    ) -> Result<Option<SeenRow>, NoMemory>
+        ensures { IfOk result (λ row. row ≡ seens.seen_by (length (past_of self.now)) entry.now.at entry.now.ask reply.now) }
+    {
+        match token_accepted(&entry.ask, reply) {
+            Some(claims) => Ok(Some(SeenRow {
+                jti: claims.jti.copy(alloc)?,
+                place: self.place() + 1,
+                accepted: entry.at,
+            })),
+            None => Ok(None),
+        }
     }
 
     /// The rows that a reply makes that is the party's answer.
@@ -251,12 +431,13 @@ impl RpCore {
     ) -> Result<Made, NoMemory>
         requires moment { last_moment (past_of self.now) ≤ entry.now.at }
         requires answer { reply.now ≡ rp_answer self.now.setup (past_of self.now) entry.now }
-        ensures { IfOk result (λ m. spec.Brings (party_of self.now.setup).types (past_of self.now) (record { entry = entry.now; reply = reply.now }) m.login m.pending m.visit) }
+        ensures { IfOk result (λ m. spec.Brings (party_of self.now.setup).types (past_of self.now) (record { entry = entry.now; reply = reply.now }) m.login m.pending m.visit m.seen) }
     {
         Ok(Made {
             login: self.login_started(entry, reply),
             pending: self.pending_found(alloc, entry, reply)?,
             visit: self.visit_found(alloc, entry, reply)?,
+            seen: self.seen_accepted(alloc, entry, reply)?,
         })
     }
 }

@@ -1,20 +1,34 @@
 // What a relying party asks its tables: the rows that live at a moment, which are those of its past.
 
-ghost use Rattle.std.specs.Prelude.{◌≡◌, ◌≤◌, Some};
+ghost use Rattle.std.specs.Prelude.{◌≡◌, ◌≤◌, true, length, Some, is_some};
 ghost use Rattle.std.specs.Option.{option_copied};
 ghost use Rattle.sso_base.specs.Legal.{last_moment};
+ghost use Rattle.sso_base.specs.Rows.{row_of, without};
 ghost use Rattle.held_rows.specs.Held.{most_rows, is_full};
-ghost use Rattle.rp_login.specs.Rows.{login_name, pending_name, visit_name};
+ghost use Rattle.rp_login.specs.Rows.{login_name, pending_name, visit_name, seen_name};
 ghost use Rattle.rp_answer.specs.Setup.{party_of};
 ghost use Rattle.rp_answer.specs.Logins as logins;
 ghost use Rattle.rp_answer.specs.Pendings as pendings;
+ghost use Rattle.rp_answer.specs.Replies.{meant_count};
+ghost use Rattle.rp_answer.specs.Seens as seens;
 ghost use Rattle.rp_answer.specs.Visits as visits;
 ghost use Rattle.rp_core.specs.Relying.{past_of};
 
 use crate::state::RpCore;
-use oidc_words::{LOGIN_LIFE, PENDING_LIFE, VISIT_LIFE};
-use rp_login::{LoginRow, PendingRow, RpTable, SessionRow};
-use sso_base::{Moment, Word, is_live};
+use logout_token::LogoutClaims;
+use oidc_words::{LOGIN_LIFE, PENDING_LIFE, SEEN_LIFE, VISIT_LIFE};
+use rp_login::{LoginRow, PendingRow, RpTable, SeenRow, SessionRow, Stage};
+use sso_base::{Moment, Word, bytes_if, is_live};
+
+// Whether the answer is the one that is waited for.
+pub(crate) fn is_stage(waits: Stage, stage: Stage) -> bool
+    ensures { result ≡ pendings.is_stage waits stage }
+{
+    match (waits, stage) {
+        (Stage::Tokens, Stage::Tokens) | (Stage::Info, Stage::Info) => true,
+        (Stage::Tokens, Stage::Info) | (Stage::Info, Stage::Tokens) => false,
+    }
+}
 
 impl RpCore {
     /// The live login of a state.
@@ -35,15 +49,30 @@ impl RpCore {
         }
     }
 
-    /// The live pending exchange of a word.
-    pub(crate) fn live_pending(&self, at: Moment, word: Word) -> Option<&PendingRow>
+    /// The live pending exchange of a word, whatever it waits for.
+    fn any_live_pending(&self, at: Moment, word: Word) -> Option<&PendingRow>
         requires { last_moment (past_of self.now) ≤ at }
-        ensures { option_copied result ≡ pendings.live_pending (party_of self.now.setup).types (past_of self.now) at word }
+        ensures { option_copied result ≡ pendings.any_live_pending (party_of self.now.setup).types (past_of self.now) at word }
     {
         let Some(row) = self.logins.pending(word) else {
             return None;
         };
         if is_live(PENDING_LIFE, row.since, at) {
+            Some(row)
+        } else {
+            None
+        }
+    }
+
+    /// The live pending exchange of a word that waits for this answer.
+    pub(crate) fn live_pending(&self, at: Moment, word: Word, waits: Stage) -> Option<&PendingRow>
+        requires { last_moment (past_of self.now) ≤ at }
+        ensures { option_copied result ≡ pendings.live_pending (party_of self.now.setup).types (past_of self.now) at word waits }
+    {
+        let Some(row) = self.any_live_pending(at, word) else {
+            return None;
+        };
+        if is_stage(waits, row.stage) {
             Some(row)
         } else {
             None
@@ -68,6 +97,31 @@ impl RpCore {
         }
     }
 
+    /// The logout token of that `jti` that is remembered.
+    pub(crate) fn live_seen(&self, at: Moment, jti: &[u8]) -> Option<&SeenRow>
+        requires { last_moment (past_of self.now) ≤ at }
+        ensures { option_copied result ≡ seens.live_seen (past_of self.now) at jti.now }
+    {
+        let Some(row) = self.logins.seen(jti) else {
+            return None;
+        };
+        if is_live(SEEN_LIFE, row.accepted, at) {
+            Some(row)
+        } else {
+            None
+        }
+    }
+
+    /// How many live sessions a logout token names.
+    pub(crate) fn count_meant(&self, at: Moment, claims: &LogoutClaims) -> u32
+        requires { last_moment (past_of self.now) ≤ at }
+        ensures { result ≡ meant_count claims.now (visits.live_visits (party_of self.now.setup).types (past_of self.now) at) }
+    {
+        let sub = bytes_if(&claims.sub);
+        let sid = bytes_if(&claims.sid);
+        self.logins.count_named(sub, sid, at)
+    }
+
     /// Whether a live login belongs to this browser.
     pub(crate) fn has_login_browser(&self, at: Moment, browser: Word) -> bool
         requires { last_moment (past_of self.now) ≤ at }
@@ -89,7 +143,40 @@ impl RpCore {
         requires { last_moment (past_of self.now) ≤ at }
         ensures { result ≡ is_full most_rows pending_name word (pendings.live_pendings (party_of self.now.setup).types (past_of self.now) at) }
     {
-        !self.logins.room(RpTable::Pendings, at) || self.live_pending(at, word).is_some()
+        !self.logins.room(RpTable::Pendings, at) || self.any_live_pending(at, word).is_some()
+    }
+
+    // Whether a pending exchange of this word lives. The table keeps few.
+    fn is_pending(&self, at: Moment, word: Word) -> bool
+        requires { last_moment (past_of self.now) ≤ at }
+        ensures row { result ≡ is_some (row_of pending_name word (pendings.live_pendings (party_of self.now.setup).types (past_of self.now) at)) }
+        ensures few { length (pendings.live_pendings (party_of self.now.setup).types (past_of self.now) at) ≤ most_rows }
+    {
+        // A look says what the table keeps: at most 65,536 rows.
+        let _row = self.logins.pending(word);
+        self.any_live_pending(at, word).is_some()
+    }
+
+    // Whether no further one of this word has room beside the answered one, which lives.
+    fn lacks_beside_live(&self, at: Moment, answered: Word, word: Word) -> bool
+        requires order { last_moment (past_of self.now) ≤ at }
+        requires there { is_some (row_of pending_name answered (pendings.live_pendings (party_of self.now.setup).types (past_of self.now) at)) ≡ true }
+        ensures { result ≡ is_full most_rows pending_name word (without pending_name answered (pendings.live_pendings (party_of self.now.setup).types (past_of self.now) at)) }
+    {
+        let named = self.is_pending(at, word);
+        answered != word && named
+    }
+
+    /// Whether no further pending exchange of this word has room beside the one that is answered, which ends.
+    pub(crate) fn lacks_pending_beside(&self, at: Moment, answered: Word, word: Word) -> bool
+        requires { last_moment (past_of self.now) ≤ at }
+        ensures { result ≡ is_full most_rows pending_name word (without pending_name answered (pendings.live_pendings (party_of self.now.setup).types (past_of self.now) at)) }
+    {
+        if self.is_pending(at, answered) {
+            self.lacks_beside_live(at, answered, word)
+        } else {
+            self.lacks_pending(at, word)
+        }
     }
 
     /// Whether no further session of this word has room.
@@ -98,5 +185,13 @@ impl RpCore {
         ensures { result ≡ is_full most_rows visit_name word (visits.live_visits (party_of self.now.setup).types (past_of self.now) at) }
     {
         !self.logins.room(RpTable::Sessions, at) || self.live_visit(at, Some(word)).is_some()
+    }
+
+    /// Whether no further logout token of this `jti` has room.
+    pub(crate) fn lacks_seen(&self, at: Moment, jti: &[u8]) -> bool
+        requires { last_moment (past_of self.now) ≤ at }
+        ensures { result ≡ is_full most_rows seen_name jti.now (seens.live_seens (past_of self.now) at) }
+    {
+        !self.logins.room(RpTable::Seen, at) || self.live_seen(at, jti).is_some()
     }
 }

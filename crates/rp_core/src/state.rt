@@ -1,9 +1,8 @@
 // A relying party: what it was set up with, its history, and the tables that answer for the history.
 
-ghost use Rattle.std.specs.Prelude.{◌≡◌, true, [], IfOk};
+ghost use Rattle.std.specs.Prelude.{◌≡◌, ◌<◌, length, [], IfOk};
 ghost use Rattle.sso_base.specs.Legal.{last_moment};
 ghost use Rattle.rp_login.specs.Tables.{no_tables};
-ghost use Rattle.rp_exchange.specs.Parties.{is_served_at};
 ghost use Rattle.rp_answer.specs.Setup.{party_of};
 ghost use Rattle.rp_accept.specs.Serving.{setup_of};
 ghost use Rattle.rp_core.specs.Agreeing.{Agrees};
@@ -44,17 +43,15 @@ impl Model for RpCore {
 }
 
 impl RpCore {
-    /// A relying party that was asked nothing: the party of this number in the registry, which trusts this provider.
-    ///
-    /// So far the response type of the party is `code` or `id_token token`, and it asks for no UserInfo. The provider's issuer
-    /// is the registry's.
+    /// A relying party that was asked nothing: the party of this number in the registry, which trusts this provider. The
+    /// provider's issuer is the registry's.
     pub fn new(
         alloc: Global,
         registry: Registry,
         number: u32,
         provider: Provider,
     ) -> Result<RpCore, NoMemory>
-        requires served { is_served_at registry number ≡ true }
+        requires party { number < length registry.parties }
         requires issuer { provider.issuer ≡ registry.provider.issuer }
         ensures { IfOk result (λ c. c ≡ record { setup = setup_of registry number provider; history = []; tables = no_tables }) }
     {

@@ -1,4 +1,3 @@
-pub mod Parties
 pub mod LeastWeight
 pub mod Sample
 mod Samples

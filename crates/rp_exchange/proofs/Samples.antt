@@ -1,6 +1,6 @@
 -- The definitions computed on small cases: what each accepts, and what it refuses.
-use Rattle.std.proofs.Common.{◌≡◌, ◌^◌, ℕ, true, false, [], ◌∷◌, replicate, Some, None, Ok, Err, codes, refl, sym, ◌∙◌, true≢false, arith}
-use Rattle.std.specs.Str.{is_utf8}
+use Rattle.std.proofs.Common.{◌≡◌, ◌<◌, ◌^◌, ℕ, true, false, [], ◌∷◌, replicate, Some, None, Ok, Err, codes, refl, sym, ◌∙◌, true≢false, arith}
+use Rattle.std.specs.Str.{IsUtf8, is_utf8}
 use Rattle.std.proofs.lemmas.Str.{is_utf8-from_IsUtf8}
 use Rattle.sso_base.proofs.Spelling.{IsBytes-from_all_bytes}
 use Rattle.sso_base.proofs.Utf8Bytes.{IsUtf8-are_ascii}
@@ -18,10 +18,9 @@ use Rattle.userinfo.specs.declared.no.InfoNo.TheVariants as info_no
 use Rattle.rp_exchange.specs.declared.ask.RpAsk.TheVariants as ask
 use Rattle.rp_exchange.specs.Asks.{is_prepared}
 use Rattle.client_registry.specs.Numbers.{party_secret, party_name}
-use Rattle.rp_exchange.specs.Parties.{is_served, is_served_at}
-use Rattle.rp_exchange.specs.Values.{IsHeardValue, IsIdValue, IsLogoutValue, IsTokensValue}
+use Rattle.rp_exchange.specs.Values.{IsHeardValue, IsIdValue, IsLogoutValue, IsTokensValue, IsRpAsk}
 use Rattle.rp_exchange.specs.Weight.{ask_weight}
-use Rattle.rp_exchange.proofs.Sample.{word, shop, shop_client, sample, alice}
+use Rattle.rp_exchange.proofs.Sample.{word, shop_client, sample, alice}
 
 -- ---- parties
 
@@ -36,21 +35,6 @@ name_of_the_news = refl
 
 name_of_nobody : party_name sample 2 ≡ []
 name_of_nobody = refl
-
-shop_is_served : is_served_at sample 0 ≡ true
-shop_is_served = refl
-
-news_is_served : is_served_at sample 1 ≡ true
-news_is_served = refl
-
-nobody_is_not : is_served_at sample 2 ≡ false
-nobody_is_not = refl
-
-one_with_userinfo_is_not : is_served (record shop { userinfo = true }) ≡ false
-one_with_userinfo_is_not = refl
-
-a_hybrid_is_not : is_served (record shop { types = record { code = true; id_token = true; token = false } }) ≡ false
-a_hybrid_is_not = refl
 
 -- ---- asks that are given
 
@@ -142,6 +126,9 @@ no_text : is_utf8 (255 ∷ []) ≡ false
 unfolding claims_on_literals
 no_text = refl
 
+other_bytes_are_no_text : IsUtf8 (255 ∷ []) → ⊥
+other_bytes_are_no_text h = true≢false (sym (is_utf8-from_IsUtf8 (255 ∷ []) h) ∙ no_text)
+
 heard_is_a_value : IsHeardValue heard
 heard_is_a_value = record {
   state = record { long = refl; bytes = IsBytes-from_all_bytes (word 2) refl };
@@ -175,7 +162,7 @@ tokens_are_a_value : IsTokensValue tokens
 tokens_are_a_value = (IsUtf8-are_ascii (codes "a") refl, IsUtf8-are_ascii (codes "h.p.m") refl)
 
 an_access_token_of_other_bytes_is_none : IsTokensValue (record tokens { access = 255 ∷ [] }) → ⊥
-an_access_token_of_other_bytes_is_none h = true≢false (sym (is_utf8-from_IsUtf8 (255 ∷ []) h.0) ∙ no_text)
+an_access_token_of_other_bytes_is_none h = other_bytes_are_no_text h.0
 
 logout_is_a_value : IsLogoutValue logout
 logout_is_a_value = record {
@@ -189,4 +176,34 @@ logout_is_a_value = record {
 }
 
 an_identifier_of_other_bytes_is_none : IsLogoutValue (record logout { jti = 255 ∷ [] }) → ⊥
-an_identifier_of_other_bytes_is_none h = true≢false (sym (is_utf8-from_IsUtf8 (255 ∷ []) h.jti) ∙ no_text)
+an_identifier_of_other_bytes_is_none h = other_bytes_are_no_text h.jti
+
+a_name_twice_is_asked : IsRpAsk (ask.Callback (Err (answer_no.Twice (codes "state"))) None None)
+a_name_twice_is_asked = (IsUtf8-are_ascii (codes "state") refl, tt, tt)
+
+a_name_twice_of_other_bytes_is_none : IsRpAsk (ask.Callback (Err (answer_no.Twice (255 ∷ []))) None None) → ⊥
+a_name_twice_of_other_bytes_is_none h = other_bytes_are_no_text h.0
+
+an_expired_token_is_asked : IsRpAsk (ask.Callback (Ok heard) (Some (Err (id_no.Expired 1000))) None)
+an_expired_token_is_asked = (heard_is_a_value, omega arith, tt)
+
+an_expired_token_of_65_bits_is_none : IsRpAsk (ask.Callback (Ok heard) (Some (Err (id_no.Expired (2 ^ 64)))) None) → ⊥
+an_expired_token_of_65_bits_is_none h = let k : 2 ^ 64 < 2 ^ 64 = h.1 in absurd (omega (arith, k))
+
+a_claim_of_other_bytes_is_none : IsRpAsk (ask.Callback (Ok heard) (Some (Err (id_no.Claims (claim_no.WrongKind (255 ∷ []))))) None) → ⊥
+a_claim_of_other_bytes_is_none h = other_bytes_are_no_text h.1
+
+a_status_is_asked : IsRpAsk (ask.Tokens (word 5) (Err (tokens_no.Status 400)) None)
+a_status_is_asked = (record { long = refl; bytes = IsBytes-from_all_bytes (word 5) refl }, omega arith, tt)
+
+a_status_of_17_bits_is_none : IsRpAsk (ask.Tokens (word 5) (Err (tokens_no.Status (2 ^ 16))) None) → ⊥
+a_status_of_17_bits_is_none h = let k : 2 ^ 16 < 2 ^ 16 = h.1 in absurd (omega (arith, k))
+
+a_member_of_other_bytes_is_none : IsRpAsk (ask.Info (word 5) (Err (info_no.Claims (claim_no.WrongKind (255 ∷ []))))) → ⊥
+a_member_of_other_bytes_is_none h = other_bytes_are_no_text h.1
+
+a_logout_of_nobody_is_asked : IsRpAsk (ask.Logout (Err logout_no.NamesNobody))
+a_logout_of_nobody_is_asked = tt
+
+an_absent_claim_of_other_bytes_is_none : IsRpAsk (ask.Logout (Err (logout_no.Missing (255 ∷ [])))) → ⊥
+an_absent_claim_of_other_bytes_is_none h = other_bytes_are_no_text h

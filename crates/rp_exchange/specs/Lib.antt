@@ -1,4 +1,3 @@
-pub mod Parties
 pub mod Asks
 pub mod Values
 pub mod Weight

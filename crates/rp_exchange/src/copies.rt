@@ -58,8 +58,8 @@ pub fn copied_tokens(alloc: Global, why: &TokensNo) -> Result<TokensNo, NoMemory
     })
 }
 
-// An equal refusal of a UserInfo response.
-fn copied_info(alloc: Global, why: &InfoNo) -> Result<InfoNo, NoMemory>
+/// An equal refusal of a UserInfo response.
+pub fn copied_info(alloc: Global, why: &InfoNo) -> Result<InfoNo, NoMemory>
     ensures { IfOk result (λ n. n ≡ why.now) }
 {
     Ok(match why {
@@ -70,8 +70,8 @@ fn copied_info(alloc: Global, why: &InfoNo) -> Result<InfoNo, NoMemory>
     })
 }
 
-// An equal refusal of a logout token.
-fn copied_logout(alloc: Global, why: &LogoutNo) -> Result<LogoutNo, NoMemory>
+/// An equal refusal of a logout token.
+pub fn copied_logout(alloc: Global, why: &LogoutNo) -> Result<LogoutNo, NoMemory>
     ensures { IfOk result (λ n. n ≡ why.now) }
 {
     Ok(match why {

@@ -6,7 +6,6 @@
 //! | `reply` | [`RpReply`], what it replies |
 //! | `no` | [`RpNo`], why it refuses |
 //! | `copies` | equal refusals |
-//! | `serving` | [`is_served`], which relying parties can be served |
 //! | `values` | asks hold values of their types |
 //! | `weight` | what an ask weighs |
 #![tactic(auto)]
@@ -15,13 +14,11 @@ mod ask;
 mod copies;
 mod no;
 mod reply;
-mod serving;
 mod values;
 mod weight;
 
 pub use ask::RpAsk;
-pub use copies::{copied_id, copied_tokens};
+pub use copies::{copied_id, copied_info, copied_logout, copied_tokens};
 pub use no::{Part, RpNo};
 pub use reply::RpReply;
-pub use serving::is_served;
 pub use values::know_rp_entry;

@@ -1,12 +1,12 @@
-// What the types of an ask say of its values, for the proofs: texts are UTF-8, and words have 32 bytes.
+// What the types of an ask say of its values, for the proofs: texts are UTF-8, words have 32 bytes, and numbers their size.
 
-ghost use Rattle.std.specs.Prelude.{IfOk};
-ghost use Rattle.std.specs.Str.{IsUtf8};
+ghost use Rattle.std.specs.Prelude.{◌<◌, ◌^◌};
 ghost use Rattle.sso_base.specs.Legal.{IsEntry};
 ghost use Rattle.rp_exchange.specs.Values as spec;
 
 use crate::ask::RpAsk;
 use auth_answer::{AnswerNo, Heard};
+use claim_set::ClaimNo;
 use id_token::{IdClaims, IdNo};
 use logout_token::{LogoutClaims, LogoutNo};
 use sso_base::{
@@ -16,14 +16,33 @@ use sso_base::{
 use token_endpoint::{Tokens, TokensNo};
 use userinfo::InfoNo;
 
-fn know_heard(heard: &Result<Heard, AnswerNo>)
-    ensures { IfOk heard.now spec.IsHeardValue }
+// A status has 16 bits.
+fn know_status(status: u16)
+    ensures { status < 2 ^ 16 }
+{}
+
+fn know_claim_no(why: &ClaimNo)
+    ensures { spec.IsClaimNoValue why.now }
 {
-    if let Ok(heard) = heard {
-        know_word_if(&heard.state);
-        know_text_if(&heard.code);
-        know_text_if(&heard.access);
-        know_text_if(&heard.id);
+    if let ClaimNo::WrongKind(name) = why {
+        let _name = name.as_str();
+    }
+}
+
+fn know_heard(heard: &Result<Heard, AnswerNo>)
+    ensures { spec.IsHeardRead heard.now }
+{
+    match heard {
+        Ok(heard) => {
+            know_word_if(&heard.state);
+            know_text_if(&heard.code);
+            know_text_if(&heard.access);
+            know_text_if(&heard.id);
+        }
+        Err(AnswerNo::Twice(name)) => {
+            let _name = name.as_str();
+        }
+        Err(AnswerNo::NoMemory) => {}
     }
 }
 
@@ -43,42 +62,102 @@ fn know_claims(claims: &IdClaims)
     know_text_if(&claims.c_hash);
 }
 
+fn know_id_no(why: &IdNo)
+    ensures { spec.IsIdNoValue why.now }
+{
+    match why {
+        IdNo::Claims(why) => know_claim_no(why),
+        IdNo::Missing(name) => {
+            let _name = name.as_str();
+        }
+        IdNo::Expired(moment) | IdNo::TooOld(moment) | IdNo::FromFuture(moment) => {
+            know_number(*moment)
+        }
+        _ => {}
+    }
+}
+
 fn know_id(id: &Option<Result<IdClaims, IdNo>>)
     ensures { spec.IsIdRead id.now }
 {
-    if let Some(Ok(claims)) = id {
-        know_claims(claims);
+    match id {
+        Some(Ok(claims)) => know_claims(claims),
+        Some(Err(why)) => know_id_no(why),
+        None => {}
+    }
+}
+
+fn know_tokens_no(why: &TokensNo)
+    ensures { spec.IsTokensNoValue why.now }
+{
+    match why {
+        TokensNo::Status(status) => know_status(*status),
+        TokensNo::Claims(why) => know_claim_no(why),
+        TokensNo::Missing(name) => {
+            let _name = name.as_str();
+        }
+        _ => {}
     }
 }
 
 fn know_tokens(tokens: &Result<Tokens, TokensNo>)
-    ensures { IfOk tokens.now spec.IsTokensValue }
+    ensures { spec.IsTokensRead tokens.now }
 {
-    if let Ok(tokens) = tokens {
-        let _access = tokens.access.as_str();
-        let _id = tokens.id.as_str();
+    match tokens {
+        Ok(tokens) => {
+            let _access = tokens.access.as_str();
+            let _id = tokens.id.as_str();
+        }
+        Err(why) => know_tokens_no(why),
     }
 }
 
 fn know_subject(sub: &Result<Text, InfoNo>)
-    ensures { IfOk sub.now IsUtf8 }
+    ensures { spec.IsSubRead sub.now }
 {
-    if let Ok(sub) = sub {
-        let _sub = sub.as_str();
+    match sub {
+        Ok(sub) => {
+            let _sub = sub.as_str();
+        }
+        Err(InfoNo::Status(status)) => know_status(*status),
+        Err(InfoNo::Claims(why)) => know_claim_no(why),
+        Err(_) => {}
+    }
+}
+
+fn know_logout_claims(claims: &LogoutClaims)
+    ensures { spec.IsLogoutValue claims.now }
+{
+    let _iss = claims.iss.as_str();
+    know_texts(&claims.aud);
+    know_number(claims.iat);
+    know_number(claims.exp);
+    let _jti = claims.jti.as_str();
+    know_text_if(&claims.sub);
+    know_text_if(&claims.sid);
+}
+
+fn know_logout_no(why: &LogoutNo)
+    ensures { spec.IsLogoutNoValue why.now }
+{
+    match why {
+        LogoutNo::Claims(why) => know_claim_no(why),
+        LogoutNo::Missing(name) => {
+            let _name = name.as_str();
+        }
+        LogoutNo::Expired(moment) | LogoutNo::TooOld(moment) | LogoutNo::FromFuture(moment) => {
+            know_number(*moment)
+        }
+        _ => {}
     }
 }
 
 fn know_logout(claims: &Result<LogoutClaims, LogoutNo>)
-    ensures { IfOk claims.now spec.IsLogoutValue }
+    ensures { spec.IsLogoutRead claims.now }
 {
-    if let Ok(claims) = claims {
-        let _iss = claims.iss.as_str();
-        know_texts(&claims.aud);
-        know_number(claims.iat);
-        know_number(claims.exp);
-        let _jti = claims.jti.as_str();
-        know_text_if(&claims.sub);
-        know_text_if(&claims.sid);
+    match claims {
+        Ok(claims) => know_logout_claims(claims),
+        Err(why) => know_logout_no(why),
     }
 }
 

@@ -13,7 +13,7 @@ use Rattle.held_rows.specs.Held.{IsInOrder, none_after, IsFull}
 use Rattle.rp_login.specs.Named.{is_meant, IsMeant}
 use Rattle.rp_login.specs.Rows.{login_begun, seen_name}
 use Rattle.oidc_words.specs.Lives.{login_life, pending_life, visit_life, seen_life}
-use Rattle.rp_login.specs.Tables.{Tables, AreLogins, with_room, purged, has_room, IsFullTable, with_login, with_pending, with_visit, with_seen, login_ended, pending_ended, visit_ended, named_ended, named_count}
+use Rattle.rp_login.specs.Tables.{Tables, AreLogins, with_room, purged, has_room, IsFullTable, with_login, with_pending, with_visit, with_seen, login_ended, pending_ended, visit_ended, named_ended, named_count, live_named_count}
 use Rattle.rp_login.specs.Calls.{reserve, purge, add_login, add_pending, add_session, add_seen, end_login, end_named, after_all, adds_login, adds_pending, adds_session, NoneAdds, AllLeaveSeen}
 
 -- ---- words and texts
@@ -176,6 +176,14 @@ named_ended-by_both = refl
 
 named_count-of_each : (named_count (Some alice) None tables ≡ 2) × (named_count (Some alice) (Some phone) tables ≡ 1) × (named_count (Some phone) None tables ≡ 0)
 named_count-of_each = (refl, refl, refl)
+
+-- the first of the two lives its last second, and then no more
+live_named_count-of_those_that_live : (live_named_count (Some alice) None 29799 tables ≡ 2) × (live_named_count (Some alice) None 29800 tables ≡ 1)
+live_named_count-of_those_that_live = (refl, refl)
+
+-- all that are held are counted, also where none lives any more
+named_count-of_those_that_are_held : (named_count (Some alice) None tables ≡ 2) × (live_named_count (Some alice) None 29801 tables ≡ 0)
+named_count-of_those_that_are_held = (refl, refl)
 
 -- ---- calls one after another
 

@@ -106,3 +106,7 @@ named_ended sub sid t = record t { visits = filter (λ visit. not (is_meant sub 
 -- how many they are
 abbrev pub named_count : Option Text → Option Text → Tables → ℕ
 named_count sub sid t = length (filter (is_meant sub sid) t.visits)
+
+-- how many of those that live at the moment
+abbrev pub live_named_count : Option Text → Option Text → ℕ → Tables → ℕ
+live_named_count sub sid at t = named_count sub sid (purged at t)

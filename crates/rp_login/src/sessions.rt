@@ -11,7 +11,7 @@ ghost use Rattle.rp_login.specs.Tables as spec;
 use crate::rows::SessionRow;
 use crate::tables::Logins;
 use held_rows::Test;
-use sso_base::{Text, Word};
+use sso_base::{Moment, Text, Word};
 
 // Whether the part is not given, or is this text.
 fn fits(part: Option<&[u8]>, text: Option<&Text>) -> bool
@@ -75,6 +75,14 @@ impl Logins {
         let held = self.session(word).is_some();
         self.visits.remove(&word.bytes());
         held
+    }
+
+    /// How many sessions that live at the moment equal each given part, a subject or a `sid`. Right after a purge at that moment
+    /// they are those that `end_named` ends; without one, it also ends held sessions whose life is over.
+    pub fn count_named(&self, sub: Option<&[u8]>, sid: Option<&[u8]>, at: Moment) -> u32
+        ensures { result ≡ spec.live_named_count (option_map (λ p. p.now) sub.entry) (option_map (λ p. p.now) sid.entry) at self.now }
+    {
+        self.visits.count_live(&Meant { sub, sid }, at)
     }
 
     /// Takes out the sessions that equal each given part, a subject or a `sid`, and answers their number (OpenID Connect

@@ -1,9 +1,9 @@
 -- What a callback holds: what was heard in its form, and what was read of the ID Token in it.
-use Rattle.std.proofs.Common.{◌≡◌, ℕ, List, Option, Some, None, option_map, Result, Ok, Err, refl, sym, ◌∙◌, ap, subst}
+use Rattle.std.proofs.Common.{◌≡◌, ℕ, Bool, true, false, cond, List, Option, Some, None, option_map, Result, Ok, Err, refl, sym, ◌∙◌, ap, subst}
 use Rattle.sso_base.specs.Words.{Word, Text}
 use Rattle.sso_base.specs.declared.http.Ask.{Ask}
 use Rattle.client_registry.specs.Configuration.{Configuration}
-use Rattle.client_registry.specs.Numbers.{party_secret}
+use Rattle.client_registry.specs.Numbers.{party_row, party_secret}
 use Rattle.client_registry.specs.Registered.{IsRegistry}
 use Rattle.id_token.specs.declared.claims.IdClaims.{IdClaims}
 use Rattle.id_token.specs.declared.no.IdNo.{IdNo}
@@ -14,12 +14,13 @@ use Rattle.auth_answer.specs.declared.heard.Heard.{Heard}
 use Rattle.auth_answer.specs.declared.no.AnswerNo.{AnswerNo}
 use Rattle.auth_answer.specs.Reading.{answer_read, HasAnswer, RefusesAnswer}
 use Rattle.auth_answer.proofs.HeardParts.{read-answer, answer-read, answer_refused, refused_answer}
+use Rattle.rp_exchange.specs.declared.ask.RpAsk.{RpAsk}
 use Rattle.rp_exchange.specs.declared.ask.RpAsk.TheVariants as ask
 use Rattle.rp_request.specs.declared.routes.Endpoint.{Endpoint}
 use Rattle.rp_request.specs.declared.routes.Endpoint.TheVariants as endpoint
-use Rattle.rp_request.specs.Prepared.{response_in, callback_asked, asked_at, endpoint_at, prepared}
+use Rattle.rp_request.specs.Prepared.{response_in, callback_asked, wants_page, asked_at, endpoint_at, prepared}
 use Rattle.rp_request.specs.Requests.{IsTo, IsOpened}
-use Rattle.rp_request.proofs.Routing.{prepared_at}
+use Rattle.rp_request.proofs.Routing.{response_asked}
 
 abbrev pub IdRead : Type 0
 IdRead = Result IdClaims IdNo
@@ -69,12 +70,19 @@ module _ (c : Configuration) (n : ℕ) (request : Ask) where
   abbrev response : List ℕ
   response = response_in request.method request
 
+  no_page : (page : Bool) (asked : RpAsk) (r : Result Heard AnswerNo) (id : Option IdRead) (browser : Option Word) → cond page ask.Fragment asked ≡ ask.Callback r id browser → asked ≡ ask.Callback r id browser
+  no_page true asked r id browser h = absurd (cc)
+  no_page false asked r id browser h = h
+
   callback_at : (o : Option Endpoint) (r : Result Heard AnswerNo) (id : Option IdRead) (browser : Option Word)
-      → asked_at (party_secret c n) request o ≡ ask.Callback r id browser → callback_asked (party_secret c n) request.first (answer_read response) ≡ ask.Callback r id browser
+      → asked_at (party_secret c n) (party_row c n).types request o ≡ ask.Callback r id browser → callback_asked (party_secret c n) request.first (answer_read response) ≡ ask.Callback r id browser
   callback_at None r id browser h = absurd (cc)
   callback_at (Some endpoint.Login) r id browser h = absurd (cc)
   callback_at (Some endpoint.Home) r id browser h = absurd (cc)
-  callback_at (Some endpoint.Redirection) r id browser h = h
+  callback_at (Some endpoint.Leave) r id browser h = absurd (cc)
+  callback_at (Some endpoint.Logout) r id browser h = absurd (cc)
+  callback_at (Some endpoint.Redirection) r id browser h =
+      no_page (wants_page (party_row c n).types request) (callback_asked (party_secret c n) request.first (answer_read response)) r id browser h
 
   callback_of : (r : Result Heard AnswerNo) (id : Option IdRead) (browser : Option Word) → prepared c n request ≡ ask.Callback r id browser
       → callback_asked (party_secret c n) request.first (answer_read response) ≡ ask.Callback r id browser
@@ -87,18 +95,18 @@ module _ (c : Configuration) (n : ℕ) (request : Ask) where
   pub has_answer : (heard : Heard) (id : Option IdRead) (browser : Option Word) → prepared c n request ≡ ask.Callback (Ok heard) id browser → HasAnswer response heard
   has_answer heard id browser h = read-answer response heard (made_of heard id browser h).response
 
-  pub hears_answer : (heard : Heard) → IsRegistry c → IsTo c n request endpoint.Redirection → HasAnswer response heard
+  pub hears_answer : (heard : Heard) → IsRegistry c → IsTo c n request endpoint.Redirection → wants_page (party_row c n).types request ≡ false → HasAnswer response heard
       → prepared c n request ≡ ask.Callback (Ok heard) (option_map (id_read (party_secret c n)) heard.id) request.first
-  hears_answer heard r to has =
-      prepared_at c n request endpoint.Redirection r to ∙ ap (callback_asked (party_secret c n) request.first) (answer-read response heard has)
+  hears_answer heard r to no_page has =
+      response_asked c n request r to no_page ∙ ap (callback_asked (party_secret c n) request.first) (answer-read response heard has)
 
   pub refuses_answer : (why : AnswerNo) (id : Option IdRead) (browser : Option Word) → prepared c n request ≡ ask.Callback (Err why) id browser → RefusesAnswer response why
   refuses_answer why id browser h =
       answer_refused response why (refused_in (party_secret c n) request.first (answer_read response) why id browser (callback_of (Err why) id browser h))
 
-  pub answer_refuses : (why : AnswerNo) → IsRegistry c → IsTo c n request endpoint.Redirection → RefusesAnswer response why → prepared c n request ≡ ask.Callback (Err why) None request.first
-  answer_refuses why r to refuses =
-      prepared_at c n request endpoint.Redirection r to ∙ ap (callback_asked (party_secret c n) request.first) (refused_answer response why refuses)
+  pub answer_refuses : (why : AnswerNo) → IsRegistry c → IsTo c n request endpoint.Redirection → wants_page (party_row c n).types request ≡ false → RefusesAnswer response why → prepared c n request ≡ ask.Callback (Err why) None request.first
+  answer_refuses why r to no_page refuses =
+      response_asked c n request r to no_page ∙ ap (callback_asked (party_secret c n) request.first) (refused_answer response why refuses)
 
   pub callback_opened : (heard : Heard) (id : Option IdRead) (browser : Option Word) → prepared c n request ≡ ask.Callback (Ok heard) id browser → IsOpened (party_secret c n) heard.id id
   callback_opened heard id browser h =

@@ -1,11 +1,11 @@
 -- What is prepared is an ask that requests and answers give.
-use Rattle.std.proofs.Common.{◌≡◌, ℕ, List, true, ◌&&◌, Option, Some, None, option_map, Result, Ok, Err, refl, ap}
+use Rattle.std.proofs.Common.{◌≡◌, ℕ, List, Bool, true, false, cond, ◌&&◌, Option, Some, None, option_map, Result, Ok, Err, refl, ap}
 use Rattle.std.specs.Prelude.{IfErr}
 use Rattle.sso_base.specs.Words.{Word, Text}
 use Rattle.sso_base.specs.declared.http.Ask.{Ask}
 use Rattle.sso_base.specs.declared.message.Answered.{Answered}
 use Rattle.client_registry.specs.Configuration.{Configuration}
-use Rattle.client_registry.specs.Numbers.{party_secret}
+use Rattle.client_registry.specs.Numbers.{party_row, party_secret}
 use Rattle.id_token.specs.Reading.{id_read}
 use Rattle.auth_answer.specs.declared.heard.Heard.{Heard}
 use Rattle.auth_answer.specs.declared.no.AnswerNo.{AnswerNo}
@@ -15,11 +15,14 @@ use Rattle.auth_answer.proofs.HeardParts.{answer_refused}
 use Rattle.token_endpoint.specs.declared.reading.Tokens.{Tokens}
 use Rattle.token_endpoint.specs.declared.no.TokensNo.{TokensNo}
 use Rattle.token_endpoint.specs.Answer.{tokens_read}
+use Rattle.oidc_words.specs.declared.response_types.Types.{Types}
+use Rattle.rp_exchange.specs.declared.ask.RpAsk.{RpAsk}
+use Rattle.rp_exchange.specs.declared.ask.RpAsk.TheVariants as ask
 use Rattle.rp_exchange.specs.Asks.{is_read_of, is_tokens_refusal, is_prepared}
 use Rattle.rp_request.specs.declared.routes.Endpoint.{Endpoint}
 use Rattle.rp_request.specs.declared.routes.Endpoint.TheVariants as endpoint
-use Rattle.rp_request.specs.Prepared.{response_in, callback_asked, asked_at, endpoint_at, prepared, tokens_asked, tokens_prepared}
-use Rattle.rp_request.proofs.Refused.{id_is_read, tokens_refused}
+use Rattle.rp_request.specs.Prepared.{posted, response_in, callback_asked, wants_page, logout_token_in, asked_at, endpoint_at, prepared, tokens_asked, tokens_prepared, info_prepared}
+use Rattle.rp_request.proofs.Refused.{id_is_read, tokens_refused, info_is_read, logout_is_read}
 
 read_if_there : (secret : Text) (o : Option Text) → is_read_of o (option_map (id_read secret) o) ≡ true
 read_if_there secret None = refl
@@ -30,16 +33,23 @@ callback_prepared secret browser form (Ok heard) is = read_if_there secret heard
 callback_prepared secret browser form (Err (answer_no.Twice name)) is = refl
 callback_prepared secret browser form (Err answer_no.NoMemory) is = absurd (answer_refused form answer_no.NoMemory is)
 
-prepared_at : (secret : Text) (request : Ask) (o : Option Endpoint) → is_prepared (asked_at secret request o) ≡ true
-prepared_at secret request None = refl
-prepared_at secret request (Some endpoint.Login) = refl
-prepared_at secret request (Some endpoint.Home) = refl
-prepared_at secret request (Some endpoint.Redirection) =
-    let form = response_in request.method request in callback_prepared secret request.first form (answer_read form) refl
+redirected_prepared : (page : Bool) (asked : RpAsk) → is_prepared asked ≡ true → is_prepared (cond page ask.Fragment asked) ≡ true
+redirected_prepared true asked h = refl
+redirected_prepared false asked h = h
+
+prepared_at : (secret : Text) (types : Types) (request : Ask) (o : Option Endpoint) → is_prepared (asked_at secret types request o) ≡ true
+prepared_at secret types request None = refl
+prepared_at secret types request (Some endpoint.Login) = refl
+prepared_at secret types request (Some endpoint.Home) = refl
+prepared_at secret types request (Some endpoint.Redirection) =
+    let form = response_in request.method request in
+    redirected_prepared (wants_page types request) (callback_asked secret request.first (answer_read form)) (callback_prepared secret request.first form (answer_read form) refl)
+prepared_at secret types request (Some endpoint.Leave) = refl
+prepared_at secret types request (Some endpoint.Logout) = logout_is_read secret (logout_token_in (posted request.body))
 
 pub always_prepared : (c : Configuration) (n : ℕ) (request : Ask) → is_prepared (prepared c n request) ≡ true
 unfolding prepared
-always_prepared c n request = prepared_at (party_secret c n) request (endpoint_at c n request)
+always_prepared c n request = prepared_at (party_secret c n) (party_row c n).types request (endpoint_at c n request)
 
 answer_prepared : (secret : Text) (pending : Word) (r : Result Tokens TokensNo) → IfErr r (λ e. is_tokens_refusal e ≡ true) → is_prepared (tokens_asked secret pending r) ≡ true
 answer_prepared secret pending (Ok tokens) h = id_is_read secret tokens.id
@@ -48,3 +58,7 @@ answer_prepared secret pending (Err why) h = ap (λ b. b && true) h
 pub always_answered : (c : Configuration) (n : ℕ) (pending : Word) (answer : Answered) → is_prepared (tokens_prepared c n pending answer) ≡ true
 unfolding tokens_prepared
 always_answered c n pending answer = answer_prepared (party_secret c n) pending (tokens_read answer) (tokens_refused answer)
+
+pub always_told : (pending : Word) (answer : Answered) → is_prepared (info_prepared pending answer) ≡ true
+unfolding info_prepared
+always_told pending answer = info_is_read answer

@@ -1,11 +1,12 @@
 -- No definition of reading refuses for want of memory.
-use Rattle.std.proofs.Common.{◌≡◌, ◌≢◌, ◌==◌, ℕ, List, [], ◌∷◌, ◌++◌, length, Bool, true, false, not, nat_lt, Option, Some, None, Result, Ok, Err, IsOk, refl, sym, ap, ◌∙◌, subst, true≢false, arith}
+use Rattle.std.proofs.Common.{◌≡◌, ◌≢◌, ◌==◌, ℕ, List, [], ◌∷◌, ◌++◌, length, Bool, true, false, not, nat_lt, Option, Some, None, Result, Ok, Err, IsOk, codes, refl, sym, ap, ◌∙◌, subst, true≢false, arith}
 use Rattle.std.specs.Prelude.{IfErr}
 use Rattle.std.specs.List.{AllByRecursion}
 use Rattle.std.specs.Str.{bytes_eq}
 use Rattle.std.proofs.lemmas.Bool.Decides.{nat_tests}
 use Rattle.serde_json.specs.Data.{Data, Members}
-use Rattle.serde_json.specs.Find.{as_object}
+use Rattle.serde_json.specs.Find.{get_member, as_object, as_str}
+use Rattle.claim_set.specs.Kinds.{of_kind, kind_found}
 use Rattle.hmac256.specs.Hmac.{hmac_of}
 use Rattle.sso_base.specs.Base64Url.{unb64u, unb64u_32}
 use Rattle.sso_base.specs.Refusals.{first_refusal, demand, forbid}
@@ -29,11 +30,21 @@ use Rattle.token_endpoint.specs.declared.no.TokensNo.{TokensNo}
 use Rattle.token_endpoint.specs.declared.no.TokensNo.TheVariants as tokens_no
 use Rattle.token_endpoint.specs.Answer as tokens
 use Rattle.token_endpoint.proofs.Responses.{other_status, unread, refused, accepted}
-use Rattle.rp_exchange.specs.Asks.{is_id_refusal, is_tokens_refusal, is_id_read}
+use Rattle.userinfo.specs.declared.no.InfoNo.{InfoNo}
+use Rattle.userinfo.specs.declared.no.InfoNo.TheVariants as info_no
+use Rattle.userinfo.specs.Answer as info
+use Rattle.logout_token.specs.declared.claims.LogoutClaims.{LogoutClaims}
+use Rattle.logout_token.specs.declared.no.LogoutNo.{LogoutNo}
+use Rattle.logout_token.specs.declared.no.LogoutNo.TheVariants as logout_no
+use Rattle.logout_token.specs.LogoutToken as logout_token
+use Rattle.logout_token.specs.Token.{logout_refusals}
+use Rattle.logout_token.proofs.Refused.{logout_of-refused, logout_of-accepted}
+use Rattle.logout_token.proofs.Tokens.{IsLogoutToken-read}
+use Rattle.rp_exchange.specs.Asks.{is_id_refusal, is_tokens_refusal, is_info_refusal, is_logout_refusal, is_id_read, is_info_read, is_logout_read}
 
 -- ---- what each refusal keeps
 
-if_err : {A E : Type 0} (P : E → Type 0) (r : Result A E) → ((x : E) → r ≡ Err x → P x) → IfErr r P
+pub if_err : {A E : Type 0} (P : E → Type 0) (r : Result A E) → ((x : E) → r ≡ Err x → P x) → IfErr r P
 if_err P (Ok a) each = tt
 if_err P (Err e) each = each e refl
 
@@ -172,3 +183,79 @@ module _ (a : Answered) where
 
   pub tokens_refused : IfErr (tokens.tokens_read a) (λ e. is_tokens_refusal e ≡ true)
   tokens_refused = status_at (a.status == 200) refl
+
+-- ---- UserInfo responses
+
+abbrev IsInfoRefusal : InfoNo → Type 0
+IsInfoRefusal e = is_info_refusal e ≡ true
+
+abbrev InInfo : ClaimNo → Type 0
+InInfo e = is_info_refusal (info_no.Claims e) ≡ true
+
+kind_refused : (name : List ℕ) (o : Option (List ℕ)) → IfErr (info.if_there (kind_found name o)) IsInfoRefusal
+kind_refused name None = refl
+kind_refused name (Some sub) = tt
+
+sub_refused : (o : Option Data) → IfErr (info.if_there (of_kind (codes "sub") o as_str)) IsInfoRefusal
+sub_refused None = refl
+sub_refused (Some d) = kind_refused (codes "sub") (as_str d)
+
+told_refused : (r : Result Members ClaimNo) → IfErr r InInfo → IfErr (info.if_claims r) IsInfoRefusal
+told_refused (Ok ms) h = sub_refused (get_member (codes "sub") ms)
+told_refused (Err e) h = h
+
+info_at : (a : Answered) (b : Bool) → IfErr (forbid (info_no.Status a.status) b (info.if_claims (claims_read a.body))) IsInfoRefusal
+info_at a true = refl
+info_at a false = told_refused (claims_read a.body) (claims_refused InInfo refl refl (λ n. refl) a.body)
+
+info_refused : (a : Answered) → IfErr (info.info_read a) IsInfoRefusal
+unfolding info.info_read
+info_refused a = info_at a (not (a.status == 200))
+
+is_told_at : (r : Result (List ℕ) InfoNo) → IfErr r IsInfoRefusal → is_info_read r ≡ true
+is_told_at (Ok sub) h = refl
+is_told_at (Err why) h = h
+
+pub info_is_read : (a : Answered) → is_info_read (info.info_read a) ≡ true
+info_is_read a = is_told_at (info.info_read a) (info_refused a)
+
+-- ---- logout tokens
+
+abbrev IsLogoutRefusal : LogoutNo → Type 0
+IsLogoutRefusal e = is_logout_refusal e ≡ true
+
+abbrev InLogout : ClaimNo → Type 0
+InLogout e = is_logout_refusal (logout_no.Claims e) ≡ true
+
+-- a text that is not sealed is refused alike
+jws_alike : (e : JwsNo) → is_id_refusal (id_no.Jws e) ≡ is_logout_refusal (logout_no.Jws e)
+jws_alike jws_no.NoMemory = refl
+jws_alike e = refl
+
+logout_of_at : (typ : Option (List ℕ)) (ms : Members) (r : Result (Unit {0}) LogoutNo) → first_refusal (logout_refusals typ ms) ≡ r → IfErr r IsLogoutRefusal → IfErr (logout_token.logout_of typ ms) IsLogoutRefusal
+logout_of_at typ ms (Ok u) is p = is_ok_keeps IsLogoutRefusal (logout_token.logout_of typ ms) (logout_of-accepted typ ms is)
+logout_of_at typ ms (Err e) is p = subst (λ (r : Result LogoutClaims LogoutNo). IfErr r IsLogoutRefusal) (sym (logout_of-refused typ ms e is)) p
+
+logout_of_refused : (typ : Option (List ℕ)) (ms : Members) → IfErr (logout_token.logout_of typ ms) IsLogoutRefusal
+logout_of_refused typ ms =
+    logout_of_at typ ms (first_refusal (logout_refusals typ ms)) refl
+    (first_keeps IsLogoutRefusal (logout_refusals typ ms) (refl, (refl, (refl, (refl, (refl, (refl, (refl, (refl, (refl, (refl, (refl, (refl, (refl, (refl, (refl, (refl, tt)))))))))))))))))
+
+logout_read_refused : (typ : Option (List ℕ)) (r : Result Members ClaimNo) → IfErr r InLogout → IfErr (logout_token.if_claims typ r) IsLogoutRefusal
+logout_read_refused typ (Ok ms) h = logout_of_refused typ ms
+logout_read_refused typ (Err e) h = h
+
+logout_opened_refused : (r : Result Unsealed JwsNo) → IfErr r IsJwsRefusal → IfErr (logout_token.if_opened r) IsLogoutRefusal
+logout_opened_refused (Ok u) h = logout_read_refused u.typ (claims_read u.payload) (claims_refused InLogout refl refl (λ n. refl) u.payload)
+logout_opened_refused (Err e) h = sym (jws_alike e) ∙ h
+
+logout_refused : (k t : List ℕ) → IfErr (logout_token.logout_read k t) IsLogoutRefusal
+unfolding logout_token.logout_read
+logout_refused k t = logout_opened_refused (verdict k t) (jws_refused k t)
+
+is_logout_at : (k t : List ℕ) (r : Result LogoutClaims LogoutNo) → logout_token.logout_read k t ≡ r → IfErr r IsLogoutRefusal → is_logout_read r ≡ true
+is_logout_at k t (Ok claims) is h = (IsLogoutToken-read k t claims is).has.names
+is_logout_at k t (Err why) is h = h
+
+pub logout_is_read : (k t : List ℕ) → is_logout_read (logout_token.logout_read k t) ≡ true
+logout_is_read k t = is_logout_at k t (logout_token.logout_read k t) refl (logout_refused k t)

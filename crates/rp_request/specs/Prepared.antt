@@ -1,20 +1,29 @@
--- What a request asks of a relying party, and what the token endpoint's answer does.
-use Rattle.std.specs.Prelude.{ℕ, List, [], Option, Some, None, option_map, option_and_then, unwrap_or, Result, Ok, Err}
+-- What a request asks of a relying party, and what the answers of the token endpoint and of UserInfo do.
+use Rattle.std.specs.Prelude.{ℕ, ◌==◌, nat_lt, Bool, true, false, ◌&&◌, List, [], length, filter, codes, Option, Some, None, option_map, option_and_then, unwrap_or, Result, Ok, Err, if◌then◌else◌}
+use Rattle.std.specs.Str.{bytes_eq}
 use Rattle.sso_base.specs.Words.{Word, Text}
 use Rattle.sso_base.specs.declared.http.Method.{Method}
-use Rattle.sso_base.specs.declared.http.Method.TheVariants.{Post}
+use Rattle.sso_base.specs.declared.http.Method.TheVariants.{Get, Post}
 use Rattle.sso_base.specs.declared.http.Ask.{Ask}
 use Rattle.sso_base.specs.declared.message.Answered.{Answered}
+use Rattle.oidc_words.specs.declared.response_types.Types.{Types}
+use Rattle.oidc_words.specs.Types.{is_in_fragment}
+use Rattle.registered_url.specs.declared.web_url.WebUrl.{WebUrl}
+use Rattle.client_registry.specs.declared.records.Client.{Client}
 use Rattle.client_registry.specs.declared.records.Party.{Party}
 use Rattle.client_registry.specs.Configuration.{Configuration}
-use Rattle.client_registry.specs.Numbers.{party_at, party_secret}
+use Rattle.client_registry.specs.Numbers.{client_at, party_at, party_row, party_secret}
+use Rattle.request_params.specs.Form.{Pair, form_pairs}
+use Rattle.request_params.specs.Reading.{value_of}
 use Rattle.id_token.specs.Reading.{id_read}
+use Rattle.logout_token.specs.LogoutToken.{logout_read}
 use Rattle.auth_answer.specs.declared.heard.Heard.{Heard}
 use Rattle.auth_answer.specs.declared.no.AnswerNo.{AnswerNo}
 use Rattle.auth_answer.specs.Reading.{answer_read}
 use Rattle.token_endpoint.specs.declared.reading.Tokens.{Tokens}
 use Rattle.token_endpoint.specs.declared.no.TokensNo.{TokensNo}
 use Rattle.token_endpoint.specs.Answer.{tokens_read}
+use Rattle.userinfo.specs.Answer.{info_read}
 use Rattle.rp_exchange.specs.declared.ask.RpAsk.{RpAsk}
 use Rattle.rp_exchange.specs.declared.ask.RpAsk.TheVariants as ask
 use Rattle.rp_request.specs.declared.routes.Endpoint.{Endpoint}
@@ -37,21 +46,58 @@ abbrev pub callback_asked : Text → Option Word → Result Heard AnswerNo → R
 callback_asked secret browser (Ok heard) = ask.Callback (Ok heard) (option_map (id_read secret) heard.id) browser
 callback_asked secret browser (Err why) = ask.Callback (Err why) None browser
 
+-- ---- a response in the fragment of the location, which only the browser sees (Core 3.2.2.5): the page that posts it is asked for
+
+abbrev pub is_get : Method → Bool
+is_get Get = true
+is_get method = false
+
+-- a GET with an empty query, where the response type answers in the fragment
+abbrev pub wants_page : Types → Ask → Bool
+wants_page types request = is_get request.method && (length request.query == 0 && is_in_fragment types)
+
+abbrev pub redirected : Text → Types → Ask → RpAsk
+redirected secret types request =
+    if wants_page types request then ask.Fragment else callback_asked secret request.first (answer_read (response_in request.method request))
+
+-- ---- a logout request (OpenID Connect Back-Channel Logout 1.0, 2.5)
+
+-- the value of a name that stands once among pairs
+abbrev pub only_value : Text → List Pair → Option Text
+only_value name pairs = if nat_lt 1 (length (filter (λ (pair : Pair). bytes_eq pair.0 name) pairs)) then None else value_of name pairs
+
+-- the logout token of a form; where there is none, or two, it is the empty text
+abbrev pub logout_token_in : List ℕ → Text
+logout_token_in form = unwrap_or (only_value (codes "logout_token") (form_pairs form)) []
+
+-- it is read under the secret
+abbrev pub logout_asked : Text → List ℕ → RpAsk
+logout_asked secret form = ask.Logout (logout_read secret (logout_token_in form))
+
 -- ---- any request: its first cookie is the browser's word, its second the session's
 
-abbrev pub asked_at : Text → Ask → Option Endpoint → RpAsk
-asked_at secret request None = ask.NotHere
-asked_at secret request (Some endpoint.Login) = ask.Begin request.first
-asked_at secret request (Some endpoint.Home) = ask.Visit request.second
-asked_at secret request (Some endpoint.Redirection) = callback_asked secret request.first (answer_read (response_in request.method request))
+abbrev pub asked_at : Text → Types → Ask → Option Endpoint → RpAsk
+asked_at secret types request None = ask.NotHere
+asked_at secret types request (Some endpoint.Login) = ask.Begin request.first
+asked_at secret types request (Some endpoint.Home) = ask.Visit request.second
+asked_at secret types request (Some endpoint.Redirection) = redirected secret types request
+asked_at secret types request (Some endpoint.Leave) = ask.Leave request.second
+asked_at secret types request (Some endpoint.Logout) = logout_asked secret (posted request.body)
+
+-- the path of the logout URI of the client that a party is, where it has one
+abbrev pub logout_path_of : Client → Option Text
+logout_path_of client = option_map (λ (url : WebUrl). url.path) client.logout_url
+
+abbrev pub logout_path : Configuration → Party → Option Text
+logout_path c party = option_and_then logout_path_of (client_at c party.client)
 
 -- the endpoint that a request to the party of this number is to
 abbrev pub endpoint_at : Configuration → ℕ → Ask → Option Endpoint
-endpoint_at c n request = option_and_then (λ (party : Party). endpoint_asked party.redirect_url.path request) (party_at c n)
+endpoint_at c n request = option_and_then (λ (party : Party). endpoint_asked party.redirect_url.path (logout_path c party) request) (party_at c n)
 
 -- what a request asks of the party of this number
 unfoldable pub prepared : Configuration → ℕ → Ask → RpAsk
-prepared c n request = asked_at (party_secret c n) request (endpoint_at c n request)
+prepared c n request = asked_at (party_secret c n) (party_row c n).types request (endpoint_at c n request)
 
 -- ---- a token endpoint's answer (Core 3.1.3.3)
 
@@ -62,3 +108,9 @@ tokens_asked secret pending (Err why) = ask.Tokens pending (Err why) None
 -- what such an answer asks of the party of this number, in the exchange that waits for it under this word
 unfoldable pub tokens_prepared : Configuration → ℕ → Word → Answered → RpAsk
 tokens_prepared c n pending answer = tokens_asked (party_secret c n) pending (tokens_read answer)
+
+-- ---- an answer of UserInfo (Core 5.3.2)
+
+-- it needs no secret: what such an answer asks in the exchange that waits for it under this word
+unfoldable pub info_prepared : Word → Answered → RpAsk
+info_prepared pending answer = ask.Info pending (info_read answer)

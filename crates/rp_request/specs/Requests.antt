@@ -1,18 +1,24 @@
 -- What a request to a relying party is and what it asks, in plain words.
-use Rattle.std.specs.Prelude.{◌≡◌, ◌⊎◌, ℕ, List, [], ◌∷◌, Option, Some, None, Result, Ok, Err}
+use Rattle.std.specs.Prelude.{◌≡◌, ◌⊎◌, ℕ, List, [], ◌∷◌, ◌++◌, IsFalse, Option, Some, None, Result, Ok, Err}
 use Rattle.sso_base.specs.Words.{Text}
 use Rattle.sso_base.specs.declared.http.Ask.{Ask}
 use Rattle.client_registry.specs.declared.records.Party.{Party}
 use Rattle.client_registry.specs.Configuration.{Configuration}
 use Rattle.client_registry.specs.Numbers.{party_at}
+use Rattle.request_params.specs.Form.{Pair}
+use Rattle.request_params.specs.Reading.{has_name}
 use Rattle.id_token.specs.declared.claims.IdClaims.{IdClaims}
 use Rattle.id_token.specs.declared.no.IdNo.{IdNo}
 use Rattle.id_token.specs.Token.{IsIdToken}
+use Rattle.logout_token.specs.declared.claims.LogoutClaims.{LogoutClaims}
+use Rattle.logout_token.specs.declared.no.LogoutNo.{LogoutNo}
+use Rattle.logout_token.specs.Token.{IsLogoutToken}
 use Rattle.rp_exchange.specs.declared.ask.RpAsk.{RpAsk}
 use Rattle.rp_exchange.specs.declared.ask.RpAsk.TheVariants as ask
 use Rattle.rp_request.specs.declared.routes.Endpoint.{Endpoint}
 use Rattle.rp_request.specs.declared.routes.Endpoint.TheVariants as endpoint
 use Rattle.rp_request.specs.Routes.{Route, routes_of}
+use Rattle.rp_request.specs.Prepared.{logout_path}
 
 -- ---- where a request goes
 
@@ -21,17 +27,20 @@ IsListed route [] = ⊥
 IsListed route (first ∷ routes) = (first ≡ route) ⊎ IsListed route routes
 
 -- the request is to this endpoint of the party of this number: its path is listed for its method, or is that of the party's
--- redirection URI
+-- redirection URI or of its client's logout URI
 pub record IsTo (c : Configuration) (n : ℕ) (request : Ask) (e : Endpoint) : Type 0 where
   pub party : Party
   pub there : party_at c n ≡ Some party
-  pub listed : IsListed (request.path, e) (routes_of request.method party.redirect_url.path)
+  pub listed : IsListed (request.path, e) (routes_of request.method party.redirect_url.path (logout_path c party))
 
 -- the endpoint to which an ask belongs
 abbrev pub own_endpoint : RpAsk → Option Endpoint
 own_endpoint (ask.Begin browser) = Some endpoint.Login
+own_endpoint ask.Fragment = Some endpoint.Redirection
 own_endpoint (ask.Callback heard id browser) = Some endpoint.Redirection
 own_endpoint (ask.Visit session) = Some endpoint.Home
+own_endpoint (ask.Leave session) = Some endpoint.Leave
+own_endpoint (ask.Logout claims) = Some endpoint.Logout
 own_endpoint other = None
 
 -- ---- ID Tokens
@@ -44,6 +53,30 @@ IsOpened secret None (Some id) = ⊥
 IsOpened secret (Some text) None = ⊥
 IsOpened secret (Some text) (Some (Ok claims)) = IsIdToken secret text claims
 IsOpened secret (Some text) (Some (Err why)) = (claims : IdClaims) → ¬ IsIdToken secret text claims
+
+-- ---- logout tokens
+
+-- the pair of this name and this value is one of the pairs, and no other pair has the name
+pub record StandsAlone (name value : Text) (pairs : List Pair) : Type 0 where
+  pub before : List Pair
+  pub after : List Pair
+  pub cut : pairs ≡ before ++ (name, value) ∷ after
+  pub none_before : IsFalse (has_name name before)
+  pub none_after : IsFalse (has_name name after)
+
+-- the name stands twice among the pairs, or more often
+pub record StandsTwice (name : Text) (pairs : List Pair) : Type 0 where
+  pub before : List Pair
+  pub first : Text
+  pub between : List Pair
+  pub second : Text
+  pub after : List Pair
+  pub cut : pairs ≡ before ++ (name, first) ∷ (between ++ (name, second) ∷ after)
+
+-- what was read of a text: the claims of the logout token that it is under this secret, or a refusal where it is none
+abbrev pub IsLogoutOpened : Text → Text → Result LogoutClaims LogoutNo → Type 0
+IsLogoutOpened secret text (Ok claims) = IsLogoutToken secret text claims
+IsLogoutOpened secret text (Err why) = (claims : LogoutClaims) → ¬ IsLogoutToken secret text claims
 
 -- ---- cookies
 

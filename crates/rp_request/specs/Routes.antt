@@ -1,14 +1,14 @@
--- Which endpoint of a relying party a request is to, by its method and its path. The paths are this party's own, but for that of
--- its redirection URI.
+-- Which endpoint of a relying party a request is to, by its method and its path. The paths are this party's own, but for those of
+-- its redirection URI and its logout URI.
 use Rattle.std.specs.Prelude.{List, [], ◌∷◌, Option, Some, None, if◌then◌else◌}
 use Rattle.std.specs.Str.{bytes_eq}
 use Rattle.sso_base.specs.Words.{Text}
 use Rattle.sso_base.specs.declared.http.Method.{Method}
 use Rattle.sso_base.specs.declared.http.Method.TheVariants.{Get, Post, Other}
 use Rattle.sso_base.specs.declared.http.Ask.{Ask}
-use Rattle.oidc_words.specs.Paths.{home_path, begin_path}
+use Rattle.oidc_words.specs.Paths.{home_path, begin_path, leave_path}
 use Rattle.rp_request.specs.declared.routes.Endpoint.{Endpoint}
-use Rattle.rp_request.specs.declared.routes.Endpoint.TheVariants.{Login, Home, Redirection}
+use Rattle.rp_request.specs.declared.routes.Endpoint.TheVariants.{Login, Home, Redirection, Leave, Logout}
 
 abbrev pub Route : Type 0
 Route = Text × Endpoint
@@ -16,19 +16,24 @@ Route = Text × Endpoint
 abbrev pub get_routes : Text → List Route
 get_routes redirection = (begin_path, Login) ∷ (home_path, Home) ∷ (redirection, Redirection) ∷ []
 
-abbrev pub post_routes : Text → List Route
-post_routes redirection = (redirection, Redirection) ∷ []
+-- where the client of the party has a logout URI (OpenID Connect Back-Channel Logout 1.0, 2.2), by its path
+abbrev pub logout_routes : Option Text → List Route
+logout_routes None = []
+logout_routes (Some logout) = (logout, Logout) ∷ []
 
-abbrev pub routes_of : Method → Text → List Route
-routes_of Get redirection = get_routes redirection
-routes_of Post redirection = post_routes redirection
-routes_of Other redirection = []
+abbrev pub post_routes : Text → Option Text → List Route
+post_routes redirection logout = (redirection, Redirection) ∷ (leave_path, Leave) ∷ logout_routes logout
+
+abbrev pub routes_of : Method → Text → Option Text → List Route
+routes_of Get redirection logout = get_routes redirection
+routes_of Post redirection logout = post_routes redirection logout
+routes_of Other redirection logout = []
 
 -- the endpoint of this path
 abbrev pub endpoint_of : List Route → Text → Option Endpoint
 endpoint_of [] path = None
 endpoint_of (route ∷ routes) path = if bytes_eq path route.0 then Some route.1 else endpoint_of routes path
 
--- the endpoint that a request is to, where the redirection URI has this path
-abbrev pub endpoint_asked : Text → Ask → Option Endpoint
-endpoint_asked redirection request = endpoint_of (routes_of request.method redirection) request.path
+-- the endpoint that a request is to, where the redirection URI and the logout URI have these paths
+abbrev pub endpoint_asked : Text → Option Text → Ask → Option Endpoint
+endpoint_asked redirection logout request = endpoint_of (routes_of request.method redirection logout) request.path

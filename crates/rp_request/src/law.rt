@@ -1,15 +1,18 @@
 // What holds of the asks that requests and answers give.
 
-ghost use Rattle.std.specs.Prelude.{◌≡◌, ℕ, true, Option, Some, None, option_map, Result, Ok, Err};
+ghost use Rattle.std.specs.Prelude.{◌≡◌, ℕ, List, [], true, false, IsFalse, codes, Option, Some, None, option_map, Result, Ok, Err};
 ghost use Rattle.sso_base.specs.Words.{Word, Text};
 ghost use Rattle.sso_base.specs.declared.http.Ask.{Ask};
 ghost use Rattle.sso_base.specs.declared.message.Answered.{Answered};
 ghost use Rattle.client_registry.specs.Configuration.{Configuration};
-ghost use Rattle.client_registry.specs.Numbers.{party_secret};
+ghost use Rattle.client_registry.specs.Numbers.{party_row, party_secret};
 ghost use Rattle.client_registry.specs.Registered.{IsRegistry};
+ghost use Rattle.request_params.specs.Form.{form_pairs};
+ghost use Rattle.request_params.specs.Reading.{has_name};
 ghost use Rattle.id_token.specs.declared.claims.IdClaims.{IdClaims};
 ghost use Rattle.id_token.specs.declared.no.IdNo.{IdNo};
 ghost use Rattle.id_token.specs.Token.{IsIdToken};
+ghost use Rattle.jws_compact.specs.declared.no.JwsNo.TheVariants as jws_no;
 ghost use Rattle.id_token.specs.Reading.{id_read};
 ghost use Rattle.auth_answer.specs.declared.heard.Heard.{Heard};
 ghost use Rattle.auth_answer.specs.declared.no.AnswerNo.{AnswerNo};
@@ -17,28 +20,43 @@ ghost use Rattle.auth_answer.specs.Reading.{HasAnswer, RefusesAnswer};
 ghost use Rattle.token_endpoint.specs.declared.reading.Tokens.{Tokens};
 ghost use Rattle.token_endpoint.specs.declared.no.TokensNo.{TokensNo};
 ghost use Rattle.token_endpoint.specs.Answer.{tokens_read, HasTokens};
+ghost use Rattle.userinfo.specs.declared.no.InfoNo.{InfoNo};
+ghost use Rattle.userinfo.specs.Answer.{info_read, IsUserInfo};
+ghost use Rattle.logout_token.specs.declared.claims.LogoutClaims.{LogoutClaims};
+ghost use Rattle.logout_token.specs.declared.no.LogoutNo.{LogoutNo};
+ghost use Rattle.logout_token.specs.declared.no.LogoutNo.TheVariants as logout_no;
+ghost use Rattle.logout_token.specs.LogoutToken.{logout_read};
+ghost use Rattle.logout_token.specs.Token.{IsLogoutToken};
 ghost use Rattle.rp_exchange.specs.declared.ask.RpAsk.TheVariants as ask;
 ghost use Rattle.rp_exchange.specs.Asks.{is_prepared};
 ghost use Rattle.rp_request.specs.declared.routes.Endpoint.{Endpoint};
 ghost use Rattle.rp_request.specs.declared.routes.Endpoint.TheVariants as endpoint;
-ghost use Rattle.rp_request.specs.Prepared.{response_in, prepared, tokens_prepared};
-ghost use Rattle.rp_request.specs.Requests.{IsTo, own_endpoint, IsOpened, HasCookies};
+ghost use Rattle.rp_request.specs.Prepared.{posted, response_in, wants_page, logout_token_in, prepared, tokens_prepared, info_prepared};
+ghost use Rattle.rp_request.specs.Requests.{IsTo, own_endpoint, IsOpened, IsLogoutOpened, StandsAlone, StandsTwice, HasCookies};
 
 /// A request finds nothing here exactly where it is to no endpoint: its path is neither one that is listed for its method nor that of
-/// the redirection URI. Any other ask is that of the endpoint that the request is to.
+/// the redirection URI or of the logout URI. Any other ask is that of the endpoint that the request is to.
 pub fn requests_are_told_by_method_and_path()
     ensures elsewhere { (c : Configuration) (n : ℕ) (request : Ask) → ((e : Endpoint) → ¬ IsTo c n request e) → prepared c n request ≡ ask.NotHere }
     ensures nothing { (c : Configuration) (n : ℕ) (request : Ask) (e : Endpoint) → prepared c n request ≡ ask.NotHere → ¬ IsTo c n request e }
     ensures own { (c : Configuration) (n : ℕ) (request : Ask) (e : Endpoint) → own_endpoint (prepared c n request) ≡ Some e → IsTo c n request e }
 {}
 
-/// An authorization response is the form in the query of a GET, or in the body of a POST, of the redirection URI. Its parts are heard
-/// exactly where no name of a part stands twice in the form, and it is refused with the first such name elsewhere (RFC 6749, 3.1).
+/// The page of the fragment is asked for exactly by a GET of the redirection URI with an empty query, where the response type answers
+/// in the fragment (OpenID Connect Core 1.0, 3.2.2.5).
+pub fn the_page_is_asked_for_without_a_query()
+    ensures wanted { (c : Configuration) (n : ℕ) (request : Ask) → prepared c n request ≡ ask.Fragment → IsTo c n request endpoint.Redirection × (wants_page (party_row c n).types request ≡ true) }
+    ensures asked { (c : Configuration) (n : ℕ) (request : Ask) → IsRegistry c → IsTo c n request endpoint.Redirection → wants_page (party_row c n).types request ≡ true → prepared c n request ≡ ask.Fragment }
+{}
+
+/// Any other authorization response is the form in the query of a GET, or in the body of a POST, of the redirection URI. Its parts are
+/// heard exactly where no name of a part stands twice in the form, and it is refused with the first such name elsewhere (RFC 6749,
+/// 3.1).
 pub fn callbacks_are_read_from_forms()
     ensures heard { (c : Configuration) (n : ℕ) (request : Ask) (heard : Heard) (id : Option (Result IdClaims IdNo)) (browser : Option Word) → prepared c n request ≡ ask.Callback (Ok heard) id browser → HasAnswer (response_in request.method request) heard }
-    ensures hears { (c : Configuration) (n : ℕ) (request : Ask) (heard : Heard) → IsRegistry c → IsTo c n request endpoint.Redirection → HasAnswer (response_in request.method request) heard → prepared c n request ≡ ask.Callback (Ok heard) (option_map (id_read (party_secret c n)) heard.id) request.first }
+    ensures hears { (c : Configuration) (n : ℕ) (request : Ask) (heard : Heard) → IsRegistry c → IsTo c n request endpoint.Redirection → wants_page (party_row c n).types request ≡ false → HasAnswer (response_in request.method request) heard → prepared c n request ≡ ask.Callback (Ok heard) (option_map (id_read (party_secret c n)) heard.id) request.first }
     ensures refused { (c : Configuration) (n : ℕ) (request : Ask) (why : AnswerNo) (id : Option (Result IdClaims IdNo)) (browser : Option Word) → prepared c n request ≡ ask.Callback (Err why) id browser → RefusesAnswer (response_in request.method request) why }
-    ensures refuses { (c : Configuration) (n : ℕ) (request : Ask) (why : AnswerNo) → IsRegistry c → IsTo c n request endpoint.Redirection → RefusesAnswer (response_in request.method request) why → prepared c n request ≡ ask.Callback (Err why) None request.first }
+    ensures refuses { (c : Configuration) (n : ℕ) (request : Ask) (why : AnswerNo) → IsRegistry c → IsTo c n request endpoint.Redirection → wants_page (party_row c n).types request ≡ false → RefusesAnswer (response_in request.method request) why → prepared c n request ≡ ask.Callback (Err why) None request.first }
 {}
 
 /// What is read of the ID Token in an authorization response are its claims, exactly where it is an ID Token under the secret of the
@@ -63,14 +81,42 @@ pub fn token_answers_have_opened_id_tokens()
     ensures accepted { (c : Configuration) (n : ℕ) (pending w : Word) (answer : Answered) (tokens : Tokens) (id : Option (Result IdClaims IdNo)) (claims : IdClaims) → tokens_prepared c n pending answer ≡ ask.Tokens w (Ok tokens) id → IsIdToken (party_secret c n) tokens.id claims → id ≡ Some (Ok claims) }
 {}
 
+/// What UserInfo answers is asked of the exchange that waits for it. Its subject is that of a UserInfo response, exactly where it is
+/// one (Core 5.3.2), and else it is refused for the first reason.
+pub fn info_answers_are_read_for_their_exchange()
+    ensures read { (pending w : Word) (answer : Answered) (sub : Text) → info_prepared pending answer ≡ ask.Info w (Ok sub) → (w ≡ pending) × IsUserInfo answer sub }
+    ensures reads { (pending : Word) (answer : Answered) (sub : Text) → IsUserInfo answer sub → info_prepared pending answer ≡ ask.Info pending (Ok sub) }
+    ensures refuses { (pending : Word) (answer : Answered) (why : InfoNo) → info_read answer ≡ Err why → info_prepared pending answer ≡ ask.Info pending (Err why) }
+{}
+
+/// What a logout request asks is what is read of the logout token in its form, under the secret of the client that the party
+/// is: the claims, exactly where it is a logout token under that secret, or why it is none (OpenID Connect Back-Channel Logout
+/// 1.0, 2.5 and 2.6).
+pub fn logout_tokens_are_opened_by_the_secret()
+    ensures reads { (c : Configuration) (n : ℕ) (request : Ask) → IsRegistry c → IsTo c n request endpoint.Logout → prepared c n request ≡ ask.Logout (logout_read (party_secret c n) (logout_token_in (posted request.body))) }
+    ensures opened { (c : Configuration) (n : ℕ) (request : Ask) (claims : Result LogoutClaims LogoutNo) → prepared c n request ≡ ask.Logout claims → IsLogoutOpened (party_secret c n) (logout_token_in (posted request.body)) claims }
+    ensures accepted { (c : Configuration) (n : ℕ) (request : Ask) (claims : LogoutClaims) → IsRegistry c → IsTo c n request endpoint.Logout → IsLogoutToken (party_secret c n) (logout_token_in (posted request.body)) claims → prepared c n request ≡ ask.Logout (Ok claims) }
+{}
+
+/// The logout token of a form is the value of the one pair with the name `logout_token`. Where no pair has that name, or
+/// several have it, it is the empty text, which is refused as it has not three parts (OpenID Connect Back-Channel Logout 1.0,
+/// 2.5; RFC 7515, 7.1).
+pub fn the_one_logout_token_is_read()
+    ensures one { (form : List ℕ) (t : Text) → StandsAlone (codes "logout_token") t (form_pairs form) → logout_token_in form ≡ t }
+    ensures none { (form : List ℕ) → IsFalse (has_name (codes "logout_token") (form_pairs form)) → logout_token_in form ≡ [] }
+    ensures several { (form : List ℕ) → StandsTwice (codes "logout_token") (form_pairs form) → logout_token_in form ≡ [] }
+    ensures empty { (k : Text) → logout_read k [] ≡ Err (logout_no.Jws jws_no.NotThreeParts) }
+{}
+
 /// An ask has the words of the request's cookies: the browser's is the first, the session's the second.
 pub fn asks_have_the_cookies()
     ensures { (c : Configuration) (n : ℕ) (request : Ask) → HasCookies request (prepared c n request) }
 {}
 
-/// What is prepared is an ask that requests and answers give: something is read of an ID Token exactly where there is one, and no
-/// want of memory is inside.
+/// What is prepared is an ask that requests and answers give: something is read of an ID Token exactly where there is one, a logout
+/// token that was read names somebody, and no want of memory is inside.
 pub fn prepared_asks_are_given_by_requests()
     ensures request { (c : Configuration) (n : ℕ) (request : Ask) → is_prepared (prepared c n request) ≡ true }
     ensures answer { (c : Configuration) (n : ℕ) (pending : Word) (answer : Answered) → is_prepared (tokens_prepared c n pending answer) ≡ true }
+    ensures info { (pending : Word) (answer : Answered) → is_prepared (info_prepared pending answer) ≡ true }
 {}

@@ -1,20 +1,23 @@
-// A request to a relying party, and an answer of the token endpoint, is read as what it asks.
+// A request to a relying party, and an answer of the token endpoint or of UserInfo, is read as what it asks.
 
-ghost use Rattle.std.specs.Prelude.{◌≡◌, ◌<◌, length, IfOk, IsTrue, option_map};
+ghost use Rattle.std.specs.Prelude.{◌≡◌, ◌<◌, length, IfOk, option_map};
+ghost use Rattle.std.specs.Option.{option_copied};
 ghost use Rattle.id_token.specs.Reading.{id_read};
 ghost use Rattle.auth_answer.specs.Reading.{answer_read};
-ghost use Rattle.client_registry.specs.Numbers.{party_secret};
-ghost use Rattle.rp_exchange.specs.Parties.{is_served_at};
+ghost use Rattle.client_registry.specs.Numbers.{party_row, party_secret};
 ghost use Rattle.rp_request.specs.Prepared as spec;
 
+use crate::logout::logout_asked;
 use crate::routes::{Endpoint, endpoint_asked};
 use auth_answer::{AnswerNo, read_answer};
-use client_registry::Registry;
+use client_registry::{Client, Registry};
 use id_token::{IdClaims, IdNo, read_id};
+use oidc_words::Types;
 use rp_exchange::RpAsk;
 use sso_base::{Answered, Ask, Blob, Method, NoMemory, Text, Word};
 use std::alloc::Global;
 use token_endpoint::{TokensNo, read_tokens};
+use userinfo::{InfoNo, read_info};
 
 // What is read of an ID Token, which may be a refusal.
 type IdRead = Result<IdClaims, IdNo>;
@@ -29,6 +32,38 @@ fn secret_of(registry: &Registry, party: u32) -> &[u8]
     let _parties = registry.parties();
     let client = registry.client(registry.party(party).client);
     client.secret.as_str().as_bytes()
+}
+
+// The response type that the party asks for.
+#[tactic(auto, using(crate::proofs::Parties::row_there))]
+fn types_of(registry: &Registry, party: u32) -> &Types
+    requires { party < length registry.now.parties }
+    ensures { result.now ≡ (party_row registry.now party).types }
+{
+    &registry.party(party).types
+}
+
+// The path of the logout URI of the client that the party is, where it has one.
+fn logout_path<'a>(client: &'a Client) -> Option<&'a Text>
+    ensures { option_copied result ≡ spec.logout_path_of client.now }
+{
+    match &client.logout_url {
+        Some(url) => Some(&url.path),
+        None => None,
+    }
+}
+
+// The endpoint that a request is to.
+#[tactic(auto, using(crate::proofs::Parties::known_client))]
+fn endpoint_of(registry: &Registry, party: u32, ask: &Ask) -> Option<Endpoint>
+    requires { party < length registry.now.parties }
+    ensures { result ≡ spec.endpoint_at registry.now party ask.now }
+{
+    // A count says what every registry keeps: that the client of each of its parties is there.
+    let _parties = registry.parties();
+    let row = registry.party(party);
+    let logout = logout_path(registry.client(row.client));
+    endpoint_asked(&row.redirect_url.path, logout, ask)
 }
 
 // What is read of an ID Token.
@@ -75,6 +110,13 @@ fn response_in(ask: &Ask) -> &[u8]
     }
 }
 
+// Whether the page of the fragment is asked for.
+fn wants_page(types: &Types, ask: &Ask) -> bool
+    ensures { result ≡ spec.wants_page types.now ask.now }
+{
+    matches!(ask.method, Method::Get) && ask.query.as_bytes().is_empty() && types.is_in_fragment()
+}
+
 // What an authorization response asks, by its form (OpenID Connect Core 1.0, 3.1.2.5 and 3.2.2.5).
 fn callback(
     alloc: Global,
@@ -103,21 +145,34 @@ fn callback(
     })
 }
 
+// A request to the redirection URI: the page of the fragment, or an authorization response.
+fn redirected(alloc: Global, secret: &[u8], types: &Types, ask: &Ask) -> Result<RpAsk, NoMemory>
+    ensures { IfOk result (λ asked. asked ≡ spec.redirected secret.now types.now ask.now) }
+{
+    if wants_page(types, ask) {
+        return Ok(RpAsk::Fragment);
+    }
+    callback(alloc, secret, ask.first, response_in(ask))
+}
+
 /// What a request asks of the relying party of this number in the registry. `first` of the request is the browser's cookie and
 /// `second` that of the session.
 ///
 /// | Request | Ask |
 /// |---|---|
 /// | GET `/login` | [`RpAsk::Begin`] |
-/// | GET or POST of the path of the redirection URI | [`RpAsk::Callback`], by the query or by the posted form |
+/// | GET of the path of the redirection URI with an empty query, where the response type answers in the fragment | [`RpAsk::Fragment`] |
+/// | other GET or POST of that path | [`RpAsk::Callback`], by the query or by the posted form |
 /// | GET `/` | [`RpAsk::Visit`] |
+/// | POST `/leave` | [`RpAsk::Leave`] |
+/// | POST of the path of the logout URI of the client that the party is | [`RpAsk::Logout`], by the posted form |
 ///
 /// Any other request, also one by another method, is [`RpAsk::NotHere`]. A form that is absent is empty.
 ///
 /// The parts of an authorization response are read as `read_answer` does, and an ID Token in it as `read_id` does, under the secret
 /// of the client that the party is: whether it is for this login at this moment is judged later (OpenID Connect Core 1.0, 3.1.3.7).
-///
-/// The party is there and can be served so far (`is_served`), as conditions; leaving and logout requests find nothing here yet.
+/// The `logout_token` of a logout request is read as `read_logout` does, under the same secret; where there is none, or two, the empty
+/// text is read (OpenID Connect Back-Channel Logout 1.0, 2.5).
 #[tactic(auto, unfolding(crate::specs::Prepared::prepared))]
 pub fn prepare_rp(
     alloc: Global,
@@ -125,24 +180,23 @@ pub fn prepare_rp(
     party: u32,
     ask: &Ask,
 ) -> Result<RpAsk, NoMemory>
-    requires party { party < length registry.now.parties }
-    requires served { IsTrue (is_served_at registry.now party) }
+    requires { party < length registry.now.parties }
     ensures { IfOk result (λ asked. asked ≡ spec.prepared registry.now party ask.now) }
 {
-    let Some(endpoint) = endpoint_asked(&registry.party(party).redirect_url.path, ask) else {
+    let Some(endpoint) = endpoint_of(registry, party, ask) else {
         return Ok(RpAsk::NotHere);
     };
+    let secret = secret_of(registry, party);
     match endpoint {
         Endpoint::Login => Ok(RpAsk::Begin { browser: ask.first }),
         Endpoint::Home => Ok(RpAsk::Visit {
             session: ask.second,
         }),
-        Endpoint::Redirection => callback(
-            alloc,
-            secret_of(registry, party),
-            ask.first,
-            response_in(ask),
-        ),
+        Endpoint::Redirection => redirected(alloc, secret, types_of(registry, party), ask),
+        Endpoint::Leave => Ok(RpAsk::Leave {
+            session: ask.second,
+        }),
+        Endpoint::Logout => logout_asked(alloc, secret, posted(&ask.body)),
     }
 }
 
@@ -152,7 +206,7 @@ pub fn prepare_rp(
 /// It is [`RpAsk::Tokens`] of that word, with the tokens as `read_tokens` reads them, and the ID Token among them as `read_id` does
 /// under the secret of the client that the party is. Where the tokens are refused, no ID Token is read.
 ///
-/// The conditions are those of [`prepare_rp`].
+/// The condition is that of [`prepare_rp`].
 #[tactic(auto, unfolding(crate::specs::Prepared::tokens_prepared))]
 pub fn prepare_tokens(
     alloc: Global,
@@ -161,8 +215,7 @@ pub fn prepare_tokens(
     pending: Word,
     answer: &Answered,
 ) -> Result<RpAsk, NoMemory>
-    requires party { party < length registry.now.parties }
-    requires served { IsTrue (is_served_at registry.now party) }
+    requires { party < length registry.now.parties }
     ensures { IfOk result (λ asked. asked ≡ spec.tokens_prepared registry.now party pending answer.now) }
 {
     let tokens = match read_tokens(alloc, answer) {
@@ -182,4 +235,18 @@ pub fn prepare_tokens(
         tokens: Ok(tokens),
         id: Some(id),
     })
+}
+
+/// What UserInfo's answer asks of a relying party, in the exchange that waits for it under the word `pending` (OpenID Connect
+/// Core 1.0, 5.3.2).
+///
+/// It is [`RpAsk::Info`] of that word, with the subject as `read_info` reads it.
+#[tactic(auto, unfolding(crate::specs::Prepared::info_prepared))]
+pub fn prepare_info(alloc: Global, pending: Word, answer: &Answered) -> Result<RpAsk, NoMemory>
+    ensures { IfOk result (λ asked. asked ≡ spec.info_prepared pending answer.now) }
+{
+    match read_info(alloc, answer) {
+        Err(InfoNo::NoMemory) => Err(NoMemory),
+        sub => Ok(RpAsk::Info { pending, sub }),
+    }
 }

@@ -1,9 +1,10 @@
 // Which endpoint of a relying party a request is to.
 
 ghost use Rattle.std.specs.Prelude.{◌≡◌};
+ghost use Rattle.std.specs.Option.{option_copied};
 ghost use Rattle.rp_request.specs.Routes as spec;
 
-use oidc_words::{BEGIN_PATH, HOME_PATH};
+use oidc_words::{BEGIN_PATH, HOME_PATH, LEAVE_PATH};
 use sso_base::{Ask, Method, Text};
 
 // The endpoints of a relying party.
@@ -15,6 +16,10 @@ pub(crate) enum Endpoint {
     Home,
     // The redirection URI.
     Redirection,
+    // Where a user leaves.
+    Leave,
+    // The logout URI.
+    Logout,
 }
 
 // The endpoint that a GET of the path is to.
@@ -34,24 +39,40 @@ fn got(redirection: &Text, path: &Text) -> Option<Endpoint>
     None
 }
 
-// The endpoint that a POST to the path is to.
-fn posted_to(redirection: &Text, path: &Text) -> Option<Endpoint>
-    ensures { result ≡ spec.endpoint_of (spec.post_routes redirection.now) path.now }
+// The endpoint where the path is that of the logout URI.
+fn logged_out(logout: Option<&Text>, path: &Text) -> Option<Endpoint>
+    ensures { result ≡ spec.endpoint_of (spec.logout_routes (option_copied logout.entry)) path.now }
 {
-    if path.as_str() == redirection.as_str() {
-        Some(Endpoint::Redirection)
-    } else {
-        None
+    match logout {
+        Some(logout) if path.as_str() == logout.as_str() => Some(Endpoint::Logout),
+        _ => None,
     }
 }
 
-// The endpoint that a request is to, where the redirection URI has this path.
-pub(crate) fn endpoint_asked(redirection: &Text, ask: &Ask) -> Option<Endpoint>
-    ensures { result ≡ spec.endpoint_asked redirection.now ask.now }
+// The endpoint that a POST to the path is to.
+fn posted_to(redirection: &Text, logout: Option<&Text>, path: &Text) -> Option<Endpoint>
+    ensures { result ≡ spec.endpoint_of (spec.post_routes redirection.now (option_copied logout.entry)) path.now }
+{
+    if path.as_str() == redirection.as_str() {
+        return Some(Endpoint::Redirection);
+    }
+    if path.as_str() == LEAVE_PATH {
+        return Some(Endpoint::Leave);
+    }
+    logged_out(logout, path)
+}
+
+// The endpoint that a request is to, where the redirection URI and the logout URI have these paths.
+pub(crate) fn endpoint_asked(
+    redirection: &Text,
+    logout: Option<&Text>,
+    ask: &Ask,
+) -> Option<Endpoint>
+    ensures { result ≡ spec.endpoint_asked redirection.now (option_copied logout.entry) ask.now }
 {
     match ask.method {
         Method::Get => got(redirection, &ask.path),
-        Method::Post => posted_to(redirection, &ask.path),
+        Method::Post => posted_to(redirection, logout, &ask.path),
         Method::Other => None,
     }
 }

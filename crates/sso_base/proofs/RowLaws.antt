@@ -1,5 +1,5 @@
 -- The laws of rows: distinct names, one more pair, and what a row that stands literally is.
-use Rattle.std.proofs.Common.{◌≡◌, Bool, true, false, cond, List, [], ◌∷◌, ◌++◌, filter_map, Option, Some, None, option_and_then, ◌⊎◌, inl, inr, refl, sym, ◌∙◌, ap, subst}
+use Rattle.std.proofs.Common.{◌≡◌, Bool, true, false, cond, List, [], ◌∷◌, ◌++◌, filter_map, Option, Some, None, option_and_then, unwrap_or, ◌⊎◌, inl, inr, refl, sym, ◌∙◌, ap, subst}
 use Rattle.std.specs.Str.{bytes_eq}
 use Rattle.std.specs.List.{cons_option}
 use Rattle.std.proofs.lemmas.Slice.Eq.{bytes_eq-Decides}
@@ -20,6 +20,17 @@ bytes_same v w e = (bytes_eq-Decides v w).0 e
 
 pub bytes_true : (v w : Word) → v ≡ w → bytes_eq v w ≡ true
 bytes_true v w e = (bytes_eq-Decides v w).1 e
+
+-- a row that is found has the name
+pub row_has_name : {R : Type 0} (name : R → Word) (w : Word) (rows : List R) (row : R) → row_of name w rows ≡ Some row → name row ≡ w
+row_has_name name w [] row found = cc
+row_has_name {R} name w (r ∷ rows) row found =
+    let C : Bool → Option R = λ b. cond b (Some r) (row_of name w rows) in
+    let U : Option R → R = λ o. unwrap_or o r in
+    elim (bool_cases (bytes_eq (name r) w)) [
+      | inl e ↦ (let same : r ≡ row = ap U (sym (ap C e) ∙ found) in ap name (sym same) ∙ bytes_same (name r) w e)
+      | inr e ↦ row_has_name name w rows row (sym (ap C e) ∙ found)
+    ]
 
 pub bytes_turn : (v w : Word) → bytes_eq v w ≡ false → bytes_eq w v ≡ false
 bytes_turn v w e =

@@ -323,6 +323,15 @@ entry-not_with_a_word_of_other_numbers e = (let wide : 256 < 256 = e.words.1.1.1
 entry-not_after_the_latest_moment : IsEntry Any (record { at = 1099511000001; fresh = drawn; ask = 0 }) → ⊥
 entry-not_after_the_latest_moment e = (let late : 1099511000001 ≤ 1099511000000 = e.moment in omega arith)
 
+abbrev Small : ℕ → Type 0
+Small asked = asked < 5
+
+entry-at_the_latest_moment : IsEntry Small (record { at = 1099511000000; fresh = drawn; ask = 4 })
+entry-at_the_latest_moment = record { moment = omega arith; four = refl; words = drawn_words; ask = omega arith }
+
+entry-not_of_another_ask : IsEntry Small (record { at = 7; fresh = drawn; ask = 5 }) → ⊥
+entry-not_of_another_ask e = (let less : 5 < 5 = e.ask in omega arith)
+
 abbrev ok_or_three : ℕ → Result ℕ ℕ
 ok_or_three n = Ok n
 

@@ -7,7 +7,7 @@
 //! | `text` | `Text`, `Blob`, `Texts` |
 //! | `word` | `Word`, 32 random bytes, and its text |
 //! | `moment` | `Moment`, a number of seconds |
-//! | `message` | `Message` and `Answered`: what servers send each other |
+//! | `message`, `messages` | `Message`, `Messages` and `Answered`: what servers send each other |
 //! | `http` | `Ask` and `HttpReply`: requests and replies, as far as HTTP carries them |
 //! | `history` | `Entry` and `Pair`: what a core was asked, and what it replied |
 //! | `journal` | `Journal`: what a core keeps of its history, and what it may weigh |
@@ -25,6 +25,7 @@ mod journal;
 mod law;
 mod memory;
 mod message;
+mod messages;
 mod moment;
 mod rows;
 mod shelf;
@@ -42,7 +43,8 @@ pub use http::{Ask, HttpReply, Kind, Method};
 pub use journal::{Journal, Weighed};
 pub use law::words_have_one_text;
 pub use memory::NoMemory;
-pub use message::{Answered, Message, copied_text};
+pub use message::{Answered, Message, bytes_if, copied_text};
+pub use messages::Messages;
 pub use moment::{LATEST_MOMENT, Moment};
 pub use rows::{Named, find_row, is_live, put_row, remove_row};
 pub use shelf::{Shelf, ShelfNo};

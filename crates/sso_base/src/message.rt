@@ -1,6 +1,6 @@
 // What servers send each other.
 
-ghost use Rattle.std.specs.Prelude.{◌≡◌, IfOk};
+ghost use Rattle.std.specs.Prelude.{◌≡◌, IfOk, option_map};
 
 use crate::memory::NoMemory;
 use crate::text::{Blob, Text};
@@ -49,5 +49,15 @@ pub fn copied_text(alloc: Global, text: &Option<Text>) -> Result<Option<Text>, N
     match text {
         Some(text) => Ok(Some(text.copy(alloc)?)),
         None => Ok(None),
+    }
+}
+
+/// The bytes of a text, where there is one.
+pub fn bytes_if(text: &Option<Text>) -> Option<&[u8]>
+    ensures { option_map (λ b. b.now) result ≡ text.now }
+{
+    match text {
+        Some(text) => Some(text.as_str().as_bytes()),
+        None => None,
     }
 }

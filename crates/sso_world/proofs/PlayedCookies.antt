@@ -1,12 +1,11 @@
 -- In a play, every cookie word that a place sets was drawn by a place of its browser; so no browser presents another's.
 use Rattle.std.proofs.Common.{◌≡◌, ℕ, ◌==◌, Bool, true, false, not, cond, List, [], ◌∷◌, ◌++◌, length, Option, Some, None, unwrap_or, option_and_then, Result, Ok, Err, inl, inr, refl, sym, ◌∙◌, ap, subst}
 use Rattle.std.specs.List.{AllByRecursion}
-use Rattle.std.specs.Str.{bytes_eq}
 use Rattle.std.proofs.lemmas.Bool.{eqb-true}
 use Rattle.sso_base.specs.declared.history.Entry.{Entry}
 use Rattle.sso_base.specs.Words.{Word, Text, is_word, fresh_word}
 use Rattle.sso_base.specs.Rows.{row_of, lives, if_lives}
-use Rattle.sso_base.proofs.RowLaws.{bool_cases, option_cases, bytes_same}
+use Rattle.sso_base.proofs.RowLaws.{bool_cases, option_cases, bytes_same, row_has_name}
 use Rattle.sso_model.specs.Lists.{Has}
 use Rattle.sso_model.proofs.ListLaws.{all_weaker, all_has, all_append, has_append_left, has_append_right, distinct_tail, distinct_apart}
 use Rattle.oidc_words.specs.Lives.{session_life}
@@ -75,17 +74,6 @@ one_browser world f g word distinct first second =
 
 -- ---- Where a word that a reply sets is from: it is the first fresh word, or the request presented it
 
--- a row that is found has the name
-named_row : {R : Type 0} (name : R → Word) (w : Word) (rows : List R) (row : R) → row_of name w rows ≡ Some row → name row ≡ w
-named_row name w [] row found = cc
-named_row {R} name w (r ∷ rows) row found =
-    let C : Bool → Option R = λ b. cond b (Some r) (row_of name w rows) in
-    let U : Option R → R = λ o. unwrap_or o r in
-    elim (bool_cases (bytes_eq (name r) w)) [
-      | inl e ↦ (let same : r ≡ row = ap U (sym (ap C e) ∙ found) in ap name (sym same) ∙ bytes_same (name r) w e)
-      | inr e ↦ named_row name w rows row (sym (ap C e) ∙ found)
-    ]
-
 -- a presented word or a drawn one
 chosen_from : (P : Word → Type 0) (b : Bool) (presented drawn : Word) → P presented → P drawn → P (cond b presented drawn)
 chosen_from P true presented drawn old new = old
@@ -115,7 +103,7 @@ found_from P past at (Some v) old row found =
     elim (option_cases held) [
       | inl none ↦ (let never : A None ≡ Some row = sym (ap A none) ∙ found in cc)
       | inr some ↦
-          (let named : some.0.word ≡ v = named_row session_name v (sessions past) some.0 some.1 in
+          (let named : some.0.word ≡ v = row_has_name session_name v (sessions past) some.0 some.1 in
           let left : cond (lives session_life (session_begun some.0) at) (Some some.0) None ≡ Some row = sym (ap A some.1) ∙ found in
           let C : Bool → Option Session = λ b. cond b (Some some.0) None in
           let U : Option Session → Word = λ o. (unwrap_or o some.0).word in

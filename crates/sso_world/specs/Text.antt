@@ -2,6 +2,8 @@
 use Rattle.std.specs.Prelude.{ℕ, suc, true, false, [], ◌∷◌, ◌++◌, length, codes}
 use Rattle.std.specs.Fmt.{decimal}
 use Rattle.sso_base.specs.Words.{Text}
+use Rattle.oidc_words.specs.declared.response_types.Types.{Types}
+use Rattle.oidc_words.specs.Types.{types_text}
 use Rattle.sso_world.specs.declared.token.IdNo.TheVariants.{Issuer, Audience, Expired, TooOld, FromFuture, Nonce}
 use Rattle.sso_world.specs.declared.provider.PageNo.TheVariants as page
 use Rattle.sso_world.specs.declared.provider.OpReply.{OpReply}
@@ -14,10 +16,14 @@ use Rattle.sso_world.specs.declared.place.Place.{Place}
 use Rattle.sso_world.specs.declared.place.Place.TheVariants.{Provider, Party, Nothing}
 use Rattle.sso_world.specs.World.{World}
 
+-- the response type of each request
+abbrev pub asked_type : Types
+asked_type = record { code = false; id_token = true; token = true }
+
 abbrev pub op_phrase : OpReply → Text
 op_phrase (LoginPage turn browser false) = codes "op login"
 op_phrase (LoginPage turn browser true) = codes "op login again"
-op_phrase (Answered answer session) = codes "op answer id_token token"
+op_phrase (Answered answer session) = codes "op answer " ++ types_text asked_type
 op_phrase (ErrorPage page.Turn) = codes "op page turn"
 op_phrase (ErrorPage page.Browser) = codes "op page browser"
 

@@ -7,22 +7,16 @@ use crate::party::{RpNo, RpReply};
 use crate::place::Place;
 use crate::provider::{OpReply, PageNo};
 use crate::token::IdNo;
+use oidc_words::Types;
 use sso_base::NoMemory;
 use std::alloc::Global;
 
-fn op_words(reply: &OpReply) -> &'static str
-    ensures { result.now ≡ op_phrase reply.now }
-{
-    match reply {
-        OpReply::LoginPage { again: false, .. } => "op login",
-        OpReply::LoginPage { again: true, .. } => "op login again",
-        OpReply::Answered { .. } => "op answer id_token token",
-        OpReply::ErrorPage { why: PageNo::Turn } => "op page turn",
-        OpReply::ErrorPage {
-            why: PageNo::Browser,
-        } => "op page browser",
-    }
-}
+// The response type of each request.
+const ASKED_TYPE: Types = Types {
+    code: false,
+    id_token: true,
+    token: true,
+};
 
 fn refused_words(why: &RpNo) -> &'static str
     ensures { result.now ≡ refused_phrase why.now }
@@ -47,6 +41,21 @@ fn push_two(out: &mut String, first: &str, second: &str) -> Result<(), NoMemory>
     Ok(())
 }
 
+fn push_provider(out: &mut String, reply: &OpReply) -> Result<(), NoMemory>
+    ensures { OnOk result (string_bytes out.new ≡ string_bytes out.old ++ op_phrase reply.now) }
+{
+    match reply {
+        OpReply::LoginPage { again: false, .. } => out.push_str("op login")?,
+        OpReply::LoginPage { again: true, .. } => out.push_str("op login again")?,
+        OpReply::Answered { .. } => push_two(out, "op answer ", ASKED_TYPE.text())?,
+        OpReply::ErrorPage { why: PageNo::Turn } => out.push_str("op page turn")?,
+        OpReply::ErrorPage {
+            why: PageNo::Browser,
+        } => out.push_str("op page browser")?,
+    }
+    Ok(())
+}
+
 fn push_party(out: &mut String, reply: &RpReply) -> Result<(), NoMemory>
     ensures { OnOk result (string_bytes out.new ≡ string_bytes out.old ++ rp_phrase reply.now) }
 {
@@ -62,7 +71,7 @@ fn push_place(out: &mut String, place: &Place) -> Result<(), NoMemory>
     ensures { OnOk result (string_bytes out.new ≡ string_bytes out.old ++ phrase place.now) }
 {
     match place {
-        Place::Provider { pair, .. } => out.push_str(op_words(&pair.reply))?,
+        Place::Provider { pair, .. } => push_provider(out, &pair.reply)?,
         Place::Party { pair, .. } => push_party(out, &pair.reply)?,
         Place::Nothing => out.push_str("- none")?,
     }

@@ -7,6 +7,7 @@ use Rattle.sso_base.specs.Words.{Text}
 use Rattle.claim_set.specs.Building.{put_all}
 use Rattle.claim_set.specs.Fitting.{ClaimsFit, EntriesFit}
 use Rattle.claim_set.proofs.Fitting.{ClaimsFit-none, ClaimsFit-put_all, text_fits, number_fits}
+use Rattle.oidc_words.specs.TokenTypes.{bearer_word}
 use Rattle.token_endpoint.specs.Answer.{token_entries}
 
 life : 3600 < 2 ^ 40
@@ -23,7 +24,7 @@ tokens_fit access id a i =
         (
           IsUtf8-are_ascii (codes "id_token") refl,
           text_fits (Some id) i,
-          (IsUtf8-are_ascii (codes "token_type") refl, text_fits (Some (codes "Bearer")) (IsUtf8-are_ascii (codes "Bearer") refl), tt),
+          (IsUtf8-are_ascii (codes "token_type") refl, text_fits (Some bearer_word) (IsUtf8-are_ascii bearer_word refl), tt),
         ),
       ),
     ) in

@@ -27,6 +27,8 @@ use Rattle.token_endpoint.specs.declared.no.TokensNo.TheVariants.{Status, Claims
 use Rattle.token_endpoint.specs.declared.error.TokenError.{TokenError}
 use Rattle.token_endpoint.specs.declared.error.TokenError.TheVariants.{InvalidRequest, InvalidClient, InvalidGrant, UnsupportedGrantType}
 use Rattle.token_endpoint.specs.Errors.{error_code, error_text}
+use Rattle.oidc_words.specs.Errors as oidc
+use Rattle.oidc_words.specs.TokenTypes.{bearer_word}
 use Rattle.request_params.specs.Scheme.{is_bearer}
 use Rattle.token_endpoint.specs.Answer.{token_entries, tokens_text, raw_in, whole, if_raw, tokens_in, if_claims, tokens_read, HasTokens, is_other_type, token_refusals}
 use Rattle.sso_base.proofs.WordUtf8.{IsUtf8-word_text}
@@ -232,7 +234,7 @@ written_has access id a i =
       reads = read_reads (claims_text ms) ms (claims_read-claims_text ms (tokens_fit access id a i));
       access = rw (get-put_all (codes "access_token") es no_members) refl;
       id = rw (get-put_all (codes "id_token") es no_members) refl;
-      kind = codes "Bearer";
+      kind = bearer_word;
       token_type = rw (get-put_all (codes "token_type") es no_members) refl;
       bearer = refl;
     }
@@ -249,7 +251,7 @@ unfolding tokens_text claims_on_literals
 tokens_written access id = refl
 
 pub error_written : (e : TokenError) → error_text e ≡ codes "{\"error\":\"" ++ error_code e ++ codes "\"}"
-unfolding error_text claims_on_literals
+unfolding error_text oidc.error_text claims_on_literals
 error_written InvalidRequest = refl
 error_written InvalidClient = refl
 error_written InvalidGrant = refl

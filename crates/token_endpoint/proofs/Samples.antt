@@ -311,3 +311,7 @@ text-of_tokens = refl
 text-of_an_error : error_text InvalidGrant ≡ codes "{\"error\":\"invalid_grant\"}"
 unfolding token_endpoint_on_literals
 text-of_an_error = refl
+
+text-of_a_malformed_request : error_text InvalidRequest ≡ codes "{\"error\":\"invalid_request\"}"
+unfolding token_endpoint_on_literals
+text-of_a_malformed_request = refl

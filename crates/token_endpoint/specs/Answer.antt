@@ -7,6 +7,7 @@ use Rattle.sso_base.specs.Words.{Text}
 use Rattle.sso_base.specs.Refusals.{and_then, demand, forbid}
 use Rattle.sso_base.specs.declared.message.Answered.{Answered}
 use Rattle.oidc_words.specs.Lives.{access_life}
+use Rattle.oidc_words.specs.TokenTypes.{bearer_word}
 use Rattle.request_params.specs.Scheme.{is_bearer}
 use Rattle.claim_set.specs.Building.{Entry, put_all, number_value}
 use Rattle.claim_set.specs.Kinds.{text_claim, another_kind, absent}
@@ -26,7 +27,7 @@ token_entries access id =
     (codes "access_token", Some (string access))
     ∷ (codes "expires_in", Some (number_value access_life))
     ∷ (codes "id_token", Some (string id))
-    ∷ (codes "token_type", Some (string (codes "Bearer"))) ∷ []
+    ∷ (codes "token_type", Some (string bearer_word)) ∷ []
 
 -- the body of a response
 unfoldable pub tokens_text : Text → Text → Text

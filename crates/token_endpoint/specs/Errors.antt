@@ -3,6 +3,8 @@ use Rattle.std.specs.Prelude.{codes}
 use Rattle.serde_json.specs.Data.{string, no_members, put}
 use Rattle.sso_base.specs.Words.{Text}
 use Rattle.claim_set.specs.Reading.{claims_text}
+use Rattle.oidc_words.specs.declared.errors.AuthError.TheVariants as auth
+use Rattle.oidc_words.specs.Errors as oidc
 use Rattle.token_endpoint.specs.declared.no.GrantNo.{GrantNo}
 use Rattle.token_endpoint.specs.declared.no.GrantNo.TheVariants.{NoAuth, WrongClient, OtherGrant}
 use Rattle.token_endpoint.specs.declared.error.TokenError.{TokenError}
@@ -17,7 +19,7 @@ token_error other = InvalidRequest
 
 -- how an error is written
 abbrev pub error_code : TokenError → Text
-error_code InvalidRequest = codes "invalid_request"
+error_code InvalidRequest = oidc.error_text auth.InvalidRequest
 error_code InvalidClient = codes "invalid_client"
 error_code InvalidGrant = codes "invalid_grant"
 error_code UnsupportedGrantType = codes "unsupported_grant_type"

@@ -7,7 +7,7 @@ ghost use Rattle.token_endpoint.specs.Errors.{error_text};
 
 use crate::error::TokenError;
 use claim_set::{ClaimSet, write_claims};
-use oidc_words::ACCESS_LIFE;
+use oidc_words::{ACCESS_LIFE, BEARER};
 use sso_base::{Blob, NoMemory, Text, Word};
 use std::alloc::Global;
 
@@ -23,7 +23,7 @@ pub fn print_tokens(alloc: Global, access: &Word, id: &Text) -> Result<Blob, NoM
     set.put_text("access_token", access.as_str())?;
     set.put_number("expires_in", ACCESS_LIFE as u64)?;
     set.put_text("id_token", id.as_str())?;
-    set.put_text("token_type", "Bearer")?;
+    set.put_text("token_type", BEARER)?;
     write_claims(&set)
 }
 

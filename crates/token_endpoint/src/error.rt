@@ -4,6 +4,7 @@ ghost use Rattle.std.specs.Prelude.{◌≡◌, ◌≢◌};
 ghost use Rattle.token_endpoint.specs.Errors as spec;
 
 use crate::no::GrantNo;
+use oidc_words::{AuthError, error_text};
 
 /// An error code of the token endpoint (RFC 6749, 5.2).
 #[derive(Clone, Copy, PartialEq, Eq)]
@@ -24,7 +25,7 @@ impl TokenError {
         ensures { result.now ≡ spec.error_code self }
     {
         match self {
-            TokenError::InvalidRequest => "invalid_request",
+            TokenError::InvalidRequest => error_text(AuthError::InvalidRequest),
             TokenError::InvalidClient => "invalid_client",
             TokenError::InvalidGrant => "invalid_grant",
             TokenError::UnsupportedGrantType => "unsupported_grant_type",

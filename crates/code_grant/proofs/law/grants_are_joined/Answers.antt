@@ -1,4 +1,4 @@
-use Rattle.code_grant.proofs.Sets.{granted_to-none, length-no_consents, granted_to-with_grant, granted_to-with_other, length-with_grant}
+use Rattle.code_grant.proofs.Granting.{granted_to-none, length-no_consents, granted_to-with_grant, granted_to-with_other, length-with_grant}
 use Rattle.code_grant.proofs.law.grants_are_joined.Goals as goal
 
 pub returns-clause-none : goal.returns-clause-none

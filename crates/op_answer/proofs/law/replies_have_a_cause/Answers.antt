@@ -3,6 +3,8 @@ use Rattle.op_answer.proofs.Pages.{login_pages_have_a_cause, consent_pages_have_
 use Rattle.op_answer.proofs.Answers.{answers_have_a_cause}
 use Rattle.op_answer.proofs.Refusals.{refusals_have_a_cause}
 use Rattle.op_answer.proofs.TokenResponses.{tokens_have_a_cause, token_errors_have_a_cause}
+use Rattle.op_answer.proofs.InfoResponses.{infos_have_a_cause, info_refusals_have_a_cause, caused_infos, caused_info_refusals}
+use Rattle.op_answer.proofs.SignOuts.{sign_outs_have_a_cause, caused_sign_outs}
 use Rattle.op_answer.proofs.law.replies_have_a_cause.Goals as goal
 
 pub returns-clause-own : goal.returns-clause-own
@@ -28,3 +30,12 @@ returns-clause-tokens c = tokens_have_a_cause
 
 pub returns-clause-token_errors : goal.returns-clause-token_errors
 returns-clause-token_errors c = token_errors_have_a_cause
+
+pub returns-clause-infos : goal.returns-clause-infos
+returns-clause-infos c = λ c past e claims. (infos_have_a_cause c past e claims, caused_infos c past e claims)
+
+pub returns-clause-info_refusals : goal.returns-clause-info_refusals
+returns-clause-info_refusals c = λ c past e given. (info_refusals_have_a_cause c past e given, caused_info_refusals c past e given)
+
+pub returns-clause-sign_outs : goal.returns-clause-sign_outs
+returns-clause-sign_outs c = λ c past e messages. (sign_outs_have_a_cause c past e messages, caused_sign_outs c past e messages)

@@ -19,5 +19,5 @@ returns-then-not-room c =
 pub returns-else-not-room : goal.returns-else-not-room
 returns-else-not-room c =
     c.is_some.ensures
-    ∙ found_one c.live_access_token.result (row_of access_name c.args.word (live_accesses (past_of c.args.self.now) c.args.at)) (c.live_access_token.ensures ∙ token_named (past_of c.args.self.now) c.args.at c.args.word)
+    ∙ found_one c.live_access_token.result (row_of access_name c.args.word (live_accesses (past_of c.args.self.now) c.args.at)) (c.live_access_token.ensures.row ∙ token_named (past_of c.args.self.now) c.args.at c.args.word)
     ∙ full_if_named most_rows access_name c.args.word (live_accesses (past_of c.args.self.now) c.args.at) (c.if-not-room.ensures.room ∙ tokens_room c.self.inside.registry c.self.inside.journal.pairs c.self.inside.grants c.self.invariant.tables c.args.self.now c.self.view_is c.args.at c.requires)

@@ -18,5 +18,5 @@ returns-then-not-room c =
 pub returns-else-not-room : goal.returns-else-not-room
 returns-else-not-room c =
     c.is_some.ensures
-    ∙ found_one c.live_pending.result (row_of pending_name c.args.word (live_pendings (types_of c.args.self.now) (past_of c.args.self.now) c.args.at)) (c.live_pending.ensures ∙ pending_named (types_of c.args.self.now) (past_of c.args.self.now) c.args.at c.args.word)
+    ∙ found_one c.any_live_pending.result (row_of pending_name c.args.word (live_pendings (types_of c.args.self.now) (past_of c.args.self.now) c.args.at)) (c.any_live_pending.ensures ∙ pending_named (types_of c.args.self.now) (past_of c.args.self.now) c.args.at c.args.word)
     ∙ full_if_named most_rows pending_name c.args.word (live_pendings (types_of c.args.self.now) (past_of c.args.self.now) c.args.at) (c.if-not-room.ensures.room ∙ pendings_room c.self.inside.setup c.self.inside.journal.pairs c.self.inside.logins c.self.invariant.tables c.args.self.now c.self.view_is c.args.at c.requires)

@@ -1,0 +1,45 @@
+-- The form of a logout request is read as its token.
+use Rattle.std.proofs.Common.{◌≡◌, ℕ, true, ◌∷◌, codes, refl}
+use Rattle.json.proofs.Printed.Utf8.{IsUtf8-are_ascii}
+use Rattle.base64.specs.Engines.{url_safe_no_pad}
+use Rattle.base64.proofs.EngineFacts.{IsAscii-encode_of}
+use Rattle.hmac256.specs.Hmac.{hmac_of}
+use Rattle.sso_base.specs.Base64Url.{b64u}
+use Rattle.sso_base.specs.Words.{Text}
+use Rattle.jws_compact.specs.Jws.{seal_text, header_bytes, signing_input}
+use Rattle.jws_compact.specs.declared.sealing.Typ.{Typ}
+use Rattle.jws_compact.specs.declared.sealing.Typ.TheVariants.{LogoutJwt}
+use Rattle.claim_set.specs.Reading.{claims_text}
+use Rattle.logout_token.specs.LogoutToken.{logout_members, logout_text}
+use Rattle.client_registry.specs.Configuration.{Configuration}
+use Rattle.client_registry.specs.Numbers.{client_secret}
+use Rattle.request_params.specs.Form.{form_pairs, form_text}
+use Rattle.request_params.proofs.Forms.{AreTextPairs, form_pairs-form_text}
+use Rattle.op_issue.specs.declared.sign_out.SignOut.{SignOut}
+use Rattle.op_issue.specs.LogoutTokens.{logout_claims, issued_logout}
+use Rattle.op_issue.specs.LogoutMessages.{logout_pairs}
+use Rattle.op_issue.proofs.Identifiers.{is_ascii, ascii_bytes, ascii_joined}
+
+-- ---- sealed texts are ASCII
+
+spelled_ascii : (b : Text) → is_ascii (b64u b) ≡ true
+unfolding b64u
+spelled_ascii b = ascii_bytes (b64u b) (IsAscii-encode_of url_safe_no_pad b)
+
+sealed_ascii : (k p : Text) (typ : Typ) → is_ascii (seal_text k typ p) ≡ true
+unfolding seal_text
+sealed_ascii k p typ =
+    let input = signing_input (header_bytes typ) p in
+    ascii_joined input (46 ∷ b64u (hmac_of k input)) (ascii_joined (b64u (header_bytes typ)) (46 ∷ b64u p) (spelled_ascii (header_bytes typ)) (spelled_ascii p)) (spelled_ascii (hmac_of k input))
+
+pub token_ascii : (c : Configuration) (client : ℕ) (out : SignOut) → is_ascii (issued_logout c client out) ≡ true
+unfolding issued_logout logout_text
+token_ascii c client out = sealed_ascii (client_secret c client) (claims_text (logout_members (logout_claims c client out))) LogoutJwt
+
+-- ---- the form
+
+pub form_is_read : (c : Configuration) (client : ℕ) (out : SignOut) → form_pairs (form_text (logout_pairs (issued_logout c client out))) ≡ logout_pairs (issued_logout c client out)
+form_is_read c client out =
+    let token : Text = issued_logout c client out in
+    let texts : AreTextPairs (logout_pairs token) = ((IsUtf8-are_ascii (codes "logout_token") refl, IsUtf8-are_ascii token (token_ascii c client out)), tt) in
+    form_pairs-form_text (logout_pairs token) texts

@@ -1,0 +1,15 @@
+use Rattle.op_issue.proofs.LogoutSealable.{has_texts, sealable, is_read_back}
+use Rattle.op_issue.proofs.LogoutForms.{form_is_read}
+use Rattle.op_issue.proofs.logout_law.logout_tokens_are_read.Goals as goal
+
+pub returns-clause-texts : goal.returns-clause-texts
+returns-clause-texts c = has_texts
+
+pub returns-clause-sealable : goal.returns-clause-sealable
+returns-clause-sealable c = sealable
+
+pub returns-clause-read_back : goal.returns-clause-read_back
+returns-clause-read_back c = is_read_back
+
+pub returns-clause-form : goal.returns-clause-form
+returns-clause-form c = form_is_read

@@ -1,0 +1,29 @@
+-- What it means literally that a message tells a sign-out: the session has answered some client of the registry that has a
+-- logout URI, and the message is the one to it.
+use Rattle.std.specs.Prelude.{◌≡◌, ℕ, Bool, true, List, [], ◌∷◌, Some, ◌⊎◌}
+use Rattle.sso_base.specs.Words.{Text}
+use Rattle.sso_base.specs.declared.message.Message.{Message}
+use Rattle.client_registry.specs.declared.records.Client.{Client}
+use Rattle.client_registry.specs.Configuration.{Configuration}
+use Rattle.client_registry.specs.Numbers.{client_at}
+use Rattle.client_registry.specs.ClientSets.{has_client}
+use Rattle.op_issue.specs.declared.sign_out.SignOut.{SignOut}
+use Rattle.op_issue.specs.LogoutMessages.{logout_message}
+
+-- the message tells it to the client of this number
+pub record TellsAt (c : Configuration) (out : SignOut) (answered : List Bool) (number : ℕ) (message : Message) : Type 0 where
+  pub client : Client
+  pub client_is : client_at c number ≡ Some client
+  pub answers : has_client number answered ≡ true
+  pub uri : Text
+  pub uri_is : client.logout ≡ Some uri
+  pub message_is : logout_message c out number uri ≡ message
+
+-- it tells it to some client
+abbrev pub Tells : Configuration → SignOut → List Bool → Message → Type 0
+Tells c out answered message = (number : ℕ) × TellsAt c out answered number message
+
+-- the message is one of these
+abbrev pub IsAmong : Message → List Message → Type 0
+IsAmong message [] = ⊥
+IsAmong message (first ∷ messages) = (first ≡ message) ⊎ IsAmong message messages

@@ -1,0 +1,74 @@
+// A logout request is read as what it asks (OpenID Connect Back-Channel Logout 1.0, 2.5).
+
+ghost use Rattle.std.specs.Prelude.{◌≡◌, IfOk, length, filter};
+ghost use Rattle.std.specs.Option.{option_copied};
+ghost use Rattle.std.specs.Str.{bytes_eq};
+ghost use Rattle.sso_base.specs.Words.{Text};
+ghost use Rattle.logout_token.specs.LogoutToken.{logout_read};
+ghost use Rattle.rp_request.specs.Prepared as spec;
+
+use logout_token::{LogoutClaims, LogoutNo, read_logout};
+use request_params::{Pair, read_pairs, value_of};
+use rp_exchange::RpAsk;
+use sso_base::{NoMemory, Text};
+use std::alloc::Global;
+
+// The name of the field that has the logout token.
+const LOGOUT_TOKEN: &str = "logout_token";
+
+// How many fields have the name.
+fn count(fields: &[Pair], name: &str) -> usize
+    ensures { result ≡ length (filter (λ (field : Text × Text). bytes_eq field.0 name.now) fields.now) }
+{
+    let mut count = 0;
+    for field in fields {
+        if field.0.as_str() == name {
+            count += 1;
+        }
+    }
+    count
+}
+
+// The value of the field that has the name, where only one has it.
+fn only_value<'a>(fields: &'a [Pair], name: &str) -> Option<&'a Text>
+    ensures { option_copied result ≡ spec.only_value name.now fields.now }
+{
+    if count(fields, name) > 1 {
+        return None;
+    }
+    value_of(fields, name)
+}
+
+// The logout token of a form; where there is none, or two, it is the empty text.
+fn logout_token_in(alloc: Global, form: &[u8]) -> Result<Text, NoMemory>
+    ensures { IfOk result (λ t. t ≡ spec.logout_token_in form.now) }
+{
+    let fields = read_pairs(alloc, form)?;
+    match only_value(&fields, LOGOUT_TOKEN) {
+        Some(token) => token.copy(alloc),
+        None => Text::new(alloc, ""),
+    }
+}
+
+// What is read of a logout token, which may be a refusal.
+fn read_as_logout(
+    alloc: Global,
+    secret: &[u8],
+    text: &Text,
+) -> Result<Result<LogoutClaims, LogoutNo>, NoMemory>
+    ensures { IfOk result (λ claims. claims ≡ logout_read secret.now text.now) }
+{
+    match read_logout(alloc, secret, text.as_str().as_bytes()) {
+        Err(LogoutNo::NoMemory) => Err(NoMemory),
+        claims => Ok(claims),
+    }
+}
+
+// What a logout request asks, by its form.
+pub(crate) fn logout_asked(alloc: Global, secret: &[u8], form: &[u8]) -> Result<RpAsk, NoMemory>
+    ensures { IfOk result (λ asked. asked ≡ spec.logout_asked secret.now form.now) }
+{
+    let token = logout_token_in(alloc, form)?;
+    let claims = read_as_logout(alloc, secret, &token)?;
+    Ok(RpAsk::Logout { claims })
+}
