@@ -1,19 +1,20 @@
 -- The definitions of a relying party's core computed at the steps of a first login: what each accepts, and what it refuses.
-use Rattle.std.proofs.Common.{◌≡◌, ◌≤◌, true, false, [], ◌∷◌, Some, None, refl, sym, arith}
+use Rattle.std.proofs.Common.{◌≡◌, ◌≤◌, true, false, List, [], ◌∷◌, Some, None, refl, sym, ap, arith}
 use Rattle.sso_base.specs.Words.{Text}
 use Rattle.rp_login.specs.declared.rows.LoginRow.{LoginRow}
 use Rattle.rp_login.specs.Rows.{login_name, login_begun}
-use Rattle.rp_login.specs.Tables.{Tables, no_tables, with_room}
+use Rattle.rp_login.specs.Tables.{Tables, no_tables, with_room, purged}
+use Rattle.rp_exchange.specs.declared.ask.RpAsk.TheVariants as ask
 use Rattle.rp_exchange.specs.declared.no.RpNo.TheVariants as no
-use Rattle.rp_exchange.specs.declared.reply.RpReply.TheVariants.{Refused}
-use Rattle.rp_answer.specs.Past.{RpPair}
+use Rattle.rp_exchange.specs.declared.reply.RpReply.TheVariants.{Refused, NotHere}
+use Rattle.rp_answer.specs.Past.{RpPair, RpPast}
 use Rattle.held_rows.specs.Held.{MayAddRow}
 use Rattle.rp_core.specs.Relying.{past_of}
 use Rattle.rp_core.specs.Agreeing.{Agrees, IsBegun, KeepsPast, Keeps}
 use Rattle.rp_core.specs.Making.{pending_found, nonce_found, visit_found, Brings}
 use Rattle.rp_core.specs.Keeping.{FollowsPair, TakesUp, login_put, pending_put, visit_put}
 use Rattle.rp_core.proofs.Beginning.{begins}
-use Rattle.rp_answer.proofs.Sample.{word, pair_of, only_code, shop_setup}
+use Rattle.rp_answer.proofs.Sample.{word, entry_at, pair_of, only_code, shop_setup}
 use Rattle.rp_answer.proofs.FirstVisit.{begin_entry, asked, past_begin, callback_entry, exchange, callback_exchanges_at_once, past_callback, tokens_entry, entered}
 use Rattle.rp_answer.proofs.FrontLogin.{waiting}
 use Rattle.rp_answer.proofs.RowSamples.{login, visit}
@@ -69,6 +70,20 @@ the_tables_are_kept = record { agrees = they_agree; begun = they_are_begun }
 
 not_without_the_login : KeepsPast only_code past_begin no_tables → ⊥
 not_without_the_login keeps = (let k : [] ≡ login ∷ [] = keeps.agrees.logins in cc)
+
+-- where a pair came when the login's life was over, the tables may have its row and may be without: so what a step leaves where it
+-- answers an error is not told by this, and a purge would make other tables
+abbrev past_over : RpPast
+past_over = pair_of (entry_at 1600 5 ask.NotHere) NotHere ∷ past_begin
+
+it_may_be_held : KeepsPast only_code past_over with_login_begun
+it_may_be_held = record { agrees = record { logins = refl; pendings = refl; visits = refl; seens = refl }; begun = record { logins = refl; pendings = refl; visits = refl; seens = refl } }
+
+it_may_be_purged : KeepsPast only_code past_over (purged 1600 with_login_begun)
+it_may_be_purged = record { agrees = record { logins = refl; pendings = refl; visits = refl; seens = refl }; begun = record { logins = refl; pendings = refl; visits = refl; seens = refl } }
+
+a_purge_makes_other_tables : purged 1600 with_login_begun ≡ with_login_begun → ⊥
+a_purge_makes_other_tables same = (let L : Tables → List LoginRow = λ t. t.logins in let k : [] ≡ login ∷ [] = ap L same in cc)
 
 nothing_is_kept_at_first : Keeps shop_setup [] no_tables
 nothing_is_kept_at_first = begins shop_setup [] no_tables refl refl
