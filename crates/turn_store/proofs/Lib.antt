@@ -1,0 +1,8 @@
+pub mod Totals
+pub mod Keeping
+pub mod Steps
+pub mod Passing
+pub mod Dealing
+pub mod Ending
+pub mod Moving
+mod Samples

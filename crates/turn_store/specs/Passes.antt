@@ -1,0 +1,65 @@
+-- What clauses say of a store and of its passes.
+use Rattle.std.specs.Prelude.{◌≡◌, ℕ, List, [], ◌∷◌, false}
+use Rattle.sso_base.specs.declared.history.Pair.{Pair}
+use Rattle.sso_base.specs.Journal.{entry_of}
+use Rattle.turn_store.specs.declared.view.Called.{Called}
+use Rattle.turn_store.specs.declared.view.PassView.{PassView}
+use Rattle.turn_store.specs.declared.store.Pass.{Pass}
+use Rattle.turn_store.specs.declared.store.Turn.{Turn}
+use Rattle.turn_store.specs.Places.{places_of}
+
+module _ {C E : Type 0} where
+  abbrev pub first_number : List (PassView C E) → ℕ
+  first_number [] = 0
+  first_number (p ∷ ps) = p.number
+
+  abbrev pub first_front : List (PassView C E) → List E
+  first_front [] = []
+  first_front (p ∷ ps) = p.front
+
+  abbrev pub first_calls : List (PassView C E) → List (Called E)
+  first_calls [] = []
+  first_calls (p ∷ ps) = p.calls
+
+-- the pair that a step stores after a history
+abbrev pub pair_of : {A R : Type 0} → List (Pair A R) → ℕ → List (List ℕ) → A → R → Pair A R
+pair_of history at fresh asked reply = record { entry = entry_of history at fresh asked; reply = reply }
+
+module _ {C A R : Type 0} where
+  -- which pass it is, counted from 0
+  abbrev pub number_of : Pass C A R → ℕ
+  number_of pass = first_number pass.seat.me.0.passes
+
+  -- the beginning of the history that the pass has seen
+  abbrev pub front_of : Pass C A R → List (Pair A R)
+  front_of pass = first_front pass.seat.me.0.passes
+
+  -- the calls that the pass made, each with its place and with what it stored there
+  abbrev pub calls_of : Pass C A R → List (Called (Pair A R))
+  calls_of pass = first_calls pass.seat.me.0.passes
+
+  -- a pass that has seen no history and made no call
+  pub record HasDoneNothing (pass : Pass C A R) : Type 0 where
+    pub front : front_of pass ≡ []
+    pub calls : calls_of pass ≡ []
+
+  -- the core that the store was made with
+  abbrev pub start_of : Turn C A R → C
+  start_of turn = turn.table.shared.key.core.value
+
+  -- how many passes the store has
+  abbrev pub passes_of : Turn C A R → ℕ
+  passes_of turn = turn.table.shared.key.pass_count
+
+  -- what the store was set up with
+  abbrev pub setup_of : {S : Type 0} → (C → S) → Turn C A R → S
+  setup_of setup turn = setup (start_of turn)
+
+-- It is a pass of this store: it knows the store's setup, its front is legal for it, and it holds the places of its calls.
+pub record IsPassOf {C S A R : Type 0} (setup : C → S) (is_legal : S → List (Pair A R) → Type 0) (turn : Turn C A R) (pass : Pass C A R) : Type 0 where
+  pub table : pass.seat.table_id ≡ turn.table.shared.table_id
+  pub empty : pass.seat.me.1 ≡ []
+  pub waits : pass.seat.me.0.holds ≡ false
+  pub view : (p : PassView C (Pair A R)) × (pass.seat.me.0.passes ≡ p ∷ []) × (setup p.start ≡ setup_of setup turn)
+  pub legal : is_legal (setup_of setup turn) (front_of pass)
+  pub told : pass.calls.items ≡ places_of (calls_of pass)

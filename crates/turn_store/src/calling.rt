@@ -1,0 +1,66 @@
+// A call: one step of the core, in turn.
+
+ghost use Rattle.std.specs.Prelude.{◌≡◌, ◌<◌, ◌+◌, ℕ, [], ◌∷◌, ◌++◌, length, Err, IfOk, OnErr};
+ghost use Rattle.std.specs.List.{AllByRecursion};
+ghost use Rattle.sso_base.specs.Journal.{most_weight, history_weight, extended};
+ghost use Rattle.turn_store.specs.Places.{Begins, before_last, call_at};
+ghost use Rattle.turn_store.specs.Passes.{number_of, front_of, calls_of, pair_of, IsPassOf};
+
+use crate::calls::Placed;
+use crate::store::{Pass, Turn};
+use crate::taking::{count_entry, leave_full, leave_turn, take_turn};
+use sso_base::{Core, CoreNo, Moment, Word};
+use std::alloc::Global;
+use std::sync::Wait;
+
+impl<C: Core> Turn<C> {
+    /// Steps the core once the turn is this pass's, which is one of this store, and answers what the core answers. It may wait
+    /// for another pass. The entry has the four drawn words, and this moment or the last entry's where that is later.
+    ///
+    /// # Errors
+    ///
+    /// - `NoMemory` where memory ran out: the pass has seen nothing new.
+    /// - `JournalFull` where the core refused for the weight of its history: the pass has seen that history.
+    pub fn call<R: Wait>(
+        &self,
+        rt: &R,
+        alloc: Global,
+        pass: &mut Pass<C>,
+        at: Moment,
+        fresh: [Word; 4],
+        ask: C::Ask,
+    ) -> Result<Placed<C::Reply>, CoreNo>
+        requires { IsPassOf C.setup C.is_legal self.now pass.old }
+        ensures pass { IsPassOf C.setup C.is_legal self.now pass.new }
+        ensures number { number_of pass.new ≡ number_of pass.old }
+        ensures entry { IfOk result (λ placed. front_of pass.new ≡ extended (before_last (front_of pass.new)) at fresh ask placed.reply) }
+        ensures front { IfOk result (λ placed. Begins (front_of pass.old) (before_last (front_of pass.new))) }
+        ensures place { IfOk result (λ placed. placed.place ≡ length (front_of pass.new)) }
+        ensures later { IfOk result (λ placed. (length (front_of pass.old) < placed.place) × AllByRecursion (λ call. call.place < placed.place) (calls_of pass.old)) }
+        ensures calls { IfOk result (λ placed. calls_of pass.new ≡ calls_of pass.old ++ call_at placed.place (pair_of (before_last (front_of pass.new)) at fresh ask placed.reply) ∷ []) }
+        ensures refused { OnErr result (calls_of pass.new ≡ calls_of pass.old) }
+        ensures no_memory { (result ≡ Err CoreNo.NoMemory) → front_of pass.new ≡ front_of pass.old }
+        ensures full { (w : ℕ) → (result ≡ Err (CoreNo.JournalFull w)) → Begins (front_of pass.old) (front_of pass.new) × (w ≡ history_weight C.weighs (front_of pass.new)) × (most_weight < w + C.weighs ask) }
+    {
+        if pass.calls.reserve(1).is_err() {
+            return Err(CoreNo::NoMemory);
+        }
+        let mut core = take_turn(rt, &self.table.shared, &mut pass.seat);
+        match core.step(alloc, at, fresh, ask) {
+            Ok(reply) => {
+                let place = core.count();
+                count_entry(&self.table.shared, &mut pass.seat, core);
+                pass.calls.push_reserved(place);
+                Ok(Placed { reply, place })
+            }
+            Err(CoreNo::NoMemory) => {
+                leave_turn(&self.table.shared, &mut pass.seat, core);
+                Err(CoreNo::NoMemory)
+            }
+            Err(CoreNo::JournalFull(weight)) => {
+                leave_full(&self.table.shared, &mut pass.seat, core);
+                Err(CoreNo::JournalFull(weight))
+            }
+        }
+    }
+}

@@ -1,0 +1,74 @@
+// What calls answer, and what is left of them when a store closes.
+
+ghost use Rattle.std.specs.Prelude.{◌≡◌, ◌<◌, List, ℕ, length, slice_get, Some};
+
+use std::marker::Model;
+
+/// What a call answers where the core took the ask.
+#[derive(Drop)]
+pub struct Placed<R: Drop> {
+    /// What the core replied.
+    pub reply: R,
+    /// The place of the ask and its reply in the core's history, counted from 1.
+    pub place: u64,
+}
+
+// The places of one pass's calls, in their order.
+#[derive(Drop)]
+pub(crate) struct Places {
+    pub(crate) list: Vec<u64>,
+}
+
+impl Model for Places {
+    ghost use Rattle.std.specs.Prelude.{List, ℕ};
+
+    ghost Value = { List ℕ };
+
+    ghost view = { λ p. p.list.items };
+}
+
+/// The places of the calls that each pass made, seen as one list a pass.
+#[derive(Drop)]
+pub struct Calls {
+    pub(crate) lists: Vec<Places>,
+}
+
+impl Model for Calls {
+    ghost use Rattle.std.specs.Prelude.{List, ℕ};
+
+    ghost Value = { List (List ℕ) };
+
+    ghost view = { λ c. c.lists.items };
+}
+
+impl Calls {
+    pub(crate) fn from_lists(lists: Vec<Places>) -> Calls
+        ensures { result ≡ lists.items }
+    {
+        Calls { lists }
+    }
+
+    /// How many passes there were.
+    pub fn passes(&self) -> usize
+        ensures { result ≡ length self.now }
+    {
+        self.lists.len()
+    }
+
+    /// The places of the calls of this pass, in their order. Passes count from 0, up to one below `passes`, and places from 1.
+    pub fn of(&self, pass: usize) -> &[u64]
+        requires { pass < length self.now }
+        ensures { slice_get self.now pass ≡ Some result.now }
+    {
+        self.lists[pass].list.as_slice()
+    }
+}
+
+/// What is left of a store.
+#[derive(Drop)]
+pub struct Closed<C: Drop> {
+    /// The core, after the last entry.
+    pub core: C,
+    /// Which pass made which entry.
+    pub calls: Calls,
+}
