@@ -1,0 +1,55 @@
+//! Cases of HTTP as the servers speak it, each a line that a person can read: requests as they are read, replies and messages as
+//! they are written, and the answers of other servers.
+//!
+//! The file `stdin` has the cases, and `stdout` the same with their answers. `case_lines` says how a line is read, and the
+//! comments there where the expected answers come from. In the bytes of a request or of an answer `\r` and `\n` are the two bytes
+//! of a line end, and what is printed in quotes has them so too.
+//!
+//! | Module | Its calls |
+//! |---|---|
+//! | `sources` | sources that give few bytes at a call, and fail at some |
+//! | `requests` | `ask`, `cut`, `fronts` and `fault`: a request is read |
+//! | `replies` | `reply`, `refusal` and `message`: a reply or a message is written |
+//! | `peers` | `peer`: the answer of another server is read |
+#![tactic(auto)]
+
+mod peers;
+mod replies;
+mod requests;
+mod sources;
+
+use case_lines::{Cases, print_cases, told};
+use sso_base::NoMemory;
+use std::alloc::Global;
+use std::io;
+
+#[derive(Drop)]
+struct HttpCases;
+
+impl Cases for HttpCases {
+    fn answer(&mut self, alloc: Global, fields: &[&str]) -> Result<String, NoMemory> {
+        match fields {
+            ["ask", bytes] => requests::ask(alloc, bytes),
+            ["cut", most, bytes] => requests::cut(alloc, most, bytes),
+            ["fronts", bytes] => requests::fronts(alloc, bytes),
+            ["fault", call, bytes] => requests::fault(alloc, call, bytes),
+            ["reply", ..] => replies::reply(alloc, fields),
+            ["refusal", name] => replies::refusal(alloc, name),
+            ["message", to, auth, body] => replies::message(alloc, to, auth, body),
+            ["peer", bytes] => peers::peer(alloc, bytes),
+            _ => told(alloc, "no call"),
+        }
+    }
+
+    fn text(&self, name: &str) -> Option<&str> {
+        match name {
+            "form" => Some("Content-Type: application/x-www-form-urlencoded"),
+            _ => None,
+        }
+    }
+}
+
+fn main(rt: HostRuntime) -> io::Result<()> {
+    let mut cases = HttpCases;
+    print_cases(&rt, &mut cases)
+}

@@ -1,0 +1,14 @@
+use Rattle.std.proofs.Common.{◌≡◌, ◌≤◌, ◌+◌, ◌-◌, length, take}
+use Rattle.std.specs.List.{suffix_len}
+use Rattle.sso_http.specs.Blanks.{is_blank}
+use Rattle.sso_http.proofs.blanks.without_end.Given as goal
+
+abbrev pub invariant-loop-end : goal.invariant-loop-end
+invariant-loop-end l =
+    record {
+      within : l.end ≤ length l.text;
+      rest : suffix_len (is_blank l.tabs) l.text ≡ (length l.text - l.end) + suffix_len (is_blank l.tabs) (take l.end l.text);
+    }
+
+abbrev pub decreases-loop-end : goal.decreases-loop-end
+decreases-loop-end l = l.end

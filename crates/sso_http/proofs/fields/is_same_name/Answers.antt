@@ -1,0 +1,11 @@
+use Rattle.std.proofs.Common.{map}
+use Rattle.std.specs.Bool.{one_answer}
+use Rattle.std.specs.Str.{bytes_eq}
+use Rattle.std.specs.Char.{to_ascii_lowercase}
+use Rattle.std.proofs.lemmas.Slice.Eq.{bytes_eq-Decides}
+use Rattle.sso_http.proofs.fields.is_same_name.Goals as goal
+
+pub returns : goal.returns
+returns c =
+    one_answer c.eq_ignore_ascii_case.result (bytes_eq (map to_ascii_lowercase c.args.one.now) (map to_ascii_lowercase c.args.other.now))
+    c.eq_ignore_ascii_case.ensures.test (bytes_eq-Decides (map to_ascii_lowercase c.args.one.now) (map to_ascii_lowercase c.args.other.now))

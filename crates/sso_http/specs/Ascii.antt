@@ -1,0 +1,14 @@
+-- Texts in ASCII.
+use Rattle.std.specs.Prelude.{ℕ, nat_lt, Bool, List, codes, Option, Some, None, option_and_then, if◌then◌else◌}
+use Rattle.std.specs.List.{list_all}
+use Rattle.sso_http.specs.Fields.{Fields, values_of, first_of}
+
+abbrev pub is_ascii : List ℕ → Bool
+is_ascii text = list_all (λ b. nat_lt b 128) text
+
+abbrev pub if_ascii : List ℕ → Option (List ℕ)
+if_ascii text = if is_ascii text then Some text else None
+
+-- the credentials of a request (RFC 9110, 11.6.2): the value of its first `Authorization` field, where that is ASCII
+abbrev pub credentials : Fields → Option (List ℕ)
+credentials fields = option_and_then if_ascii (first_of (values_of (codes "authorization") fields))

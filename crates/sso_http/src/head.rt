@@ -1,0 +1,70 @@
+// The head of a request, byte after byte.
+
+ghost use Rattle.std.specs.Prelude.{◌≡◌, ◌++◌, ℕ, List, [], ◌∷◌, reverse, IfOk, OnErr};
+ghost use Rattle.sso_http.specs.Reading.{after_byte, ends_head, kind_of, Tracks};
+
+use sso_base::NoMemory;
+use std::alloc::Global;
+
+/// The line that is begun, as far as it matters.
+#[derive(Clone, Copy, PartialEq, Eq)]
+pub(crate) enum Begun {
+    /// No byte of it came.
+    Nothing,
+    /// A carriage return alone.
+    Return,
+    /// Anything else.
+    More,
+}
+
+/// The bytes of a head, as far as they came.
+#[derive(Drop)]
+pub(crate) struct Reader {
+    pub(crate) bytes: Vec<u8>,
+    begun: Begun,
+    // Whether some line that has ended is not empty.
+    line: bool,
+}
+
+impl Reader {
+    /// No byte came yet.
+    pub(crate) fn new(alloc: Global) -> Reader
+        ensures tracks { Tracks result }
+        ensures none { result.bytes.items ≡ [] }
+    {
+        Reader {
+            bytes: Vec::new(alloc),
+            begun: Begun::Nothing,
+            line: false,
+        }
+    }
+
+    /// Takes one more byte, and answers whether the head ends with it.
+    pub(crate) fn take(&mut self, byte: u8) -> Result<bool, NoMemory>
+        requires tracks { Tracks self.old }
+        ensures more { IfOk result (λ ends. (self.new.bytes.items ≡ self.old.bytes.items ++ byte ∷ []) × Tracks self.new × (ends ≡ ends_head (byte ∷ reverse self.old.bytes.items))) }
+        ensures same { OnErr result (self.new.bytes.items ≡ self.old.bytes.items) }
+    {
+        self.bytes.push(byte)?;
+        let is_empty = self.begun != Begun::More;
+        let ends = byte == b'\n' && is_empty && self.line;
+        if byte == b'\n' && !is_empty {
+            self.line = true;
+        }
+        self.begun = next(self.begun, byte);
+        Ok(ends)
+    }
+}
+
+// The line that is begun after one more byte.
+fn next(begun: Begun, byte: u8) -> Begun
+    ensures { (line : List ℕ) → begun ≡ kind_of line → result ≡ kind_of (after_byte byte line) }
+{
+    if byte == b'\n' {
+        return Begun::Nothing;
+    }
+    match begun {
+        Begun::Nothing if byte == b'\r' => Begun::Return,
+        _ => Begun::More,
+    }
+}

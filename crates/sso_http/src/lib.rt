@@ -1,0 +1,47 @@
+//! HTTP/1.1 as the servers of the sign-on system speak it (RFC 9110, RFC 9112; cookies: RFC 6265). Heads are read with
+//! `httparse`, and URLs with `url`.
+//!
+//! | Module | What it has |
+//! |---|---|
+//! | `ask` | [`read_ask`] reads a request from a source, and no byte past its body |
+//! | `no` | [`HttpNo`], why a request is refused |
+//! | `head`, `input` | where a head ends; heads and bodies, read from a source |
+//! | `judge` | what a head asks |
+//! | `fields`, `ascii`, `blanks`, `decimals` | the fields of a head, and what their values say |
+//! | `bodies`, `cookies` | what fields say of a body; the cookies of a request |
+//! | `reply` | [`print_reply`]: the bytes of a reply |
+//! | `refusal` | [`print_http_no`]: the bytes of the reply to a refused request |
+//! | `message` | [`print_message`] and [`message_place`]: the bytes of a message to another server, and where it goes |
+//! | `peer` | [`read_peer`] reads another server's answer |
+//! | `lines` | lines of a head are written |
+//! | `law` | laws of requests, replies and peers' answers, for the crates above |
+#![tactic(auto)]
+
+mod ascii;
+mod ask;
+mod blanks;
+mod bodies;
+mod cookies;
+mod decimals;
+mod fields;
+mod head;
+mod input;
+mod judge;
+mod law;
+mod lines;
+mod message;
+mod no;
+mod peer;
+mod refusal;
+mod reply;
+
+pub use ask::read_ask;
+pub use law::{
+    bytes_have_one_answer, heads_end_once, peers_have_one_answer, presented_words_are_found,
+    requests_without_a_cause_are_read, whole_requests_are_read, written_replies_are_read,
+};
+pub use message::{message_place, print_message};
+pub use no::HttpNo;
+pub use peer::read_peer;
+pub use refusal::print_http_no;
+pub use reply::print_reply;
