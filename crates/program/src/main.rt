@@ -17,6 +17,8 @@ mod shelf;
 mod sink;
 #[cfg(test)]
 mod tests;
+#[cfg(test)]
+mod tests_net;
 mod words;
 
 /// Answers the status: that of the top call, or 1 where no memory is found for the words.

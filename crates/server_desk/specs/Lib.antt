@@ -1,1 +1,4 @@
+pub mod Ahead
+pub mod Doors
+pub mod Links
 pub mod Sources

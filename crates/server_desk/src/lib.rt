@@ -3,11 +3,39 @@
 //! | Module | What it has |
 //! |---|---|
 //! | `source` | [`Source`], where bytes are read from, and [`read_whole`], which fills room from one |
+//! | `connection` | [`Connection`], a source and a sink |
+//! | `door` | [`Door`], where connections come from |
+//! | `link` | [`Link`], which carries messages to other servers |
+//! | `clock`, `draw` | [`Clock`] and [`Draw`]: moments and random words |
+//! | `desk` | [`Desk`], all of these together |
 //! | `source_memory` | [`MemorySource`] and [`FaultySource`], sources in memory |
+//! | `door_memory` | [`MemoryDoor`] and [`FaultyDoor`], doors in memory |
+//! | `link_memory` | [`MemoryLink`] and [`FaultyLink`], links in memory, and [`Exchanged`], what they keep |
+//! | `clock_memory`, `draw_memory` | [`MemoryClock`] and [`MemoryDraw`]: moments and words from memory |
 #![tactic(auto)]
 
+mod clock;
+mod clock_memory;
+mod connection;
+mod desk;
+mod door;
+mod door_memory;
+mod draw;
+mod draw_memory;
+mod link;
+mod link_memory;
 mod source;
 mod source_memory;
 
+pub use clock::Clock;
+pub use clock_memory::MemoryClock;
+pub use connection::Connection;
+pub use desk::Desk;
+pub use door::{Door, DoorFault};
+pub use door_memory::{FaultyDoor, MemoryDoor};
+pub use draw::Draw;
+pub use draw_memory::MemoryDraw;
+pub use link::{Link, LinkNo};
+pub use link_memory::{Exchanged, FaultyLink, MemoryLink};
 pub use source::{Source, SourceFault, read_whole};
 pub use source_memory::{FaultySource, MemorySource};

@@ -1,0 +1,115 @@
+-- The definitions computed on small cases: what each accepts, and what it refuses.
+use Rattle.std.proofs.Common.{◌≡◌, true, false, [], ◌∷◌, Some, None, codes, refl}
+use Rattle.std.specs.List.{list_all}
+use Rattle.command_line.specs.declared.command.Command.TheVariants.{Replay, Op, Rp, Token}
+use Rattle.command_line.specs.Commands.{is_plain, command_of, is_command, asks_replay, asks_op, asks_rp, asks_token, words_of}
+
+-- ---- each list of words that is accepted
+
+replay : command_of (codes "replay" ∷ codes "mini.toml" ∷ codes "login.trace" ∷ []) ≡ Some (Replay (codes "mini.toml") (codes "login.trace"))
+unfolding command_of
+replay = refl
+
+op : command_of (codes "op" ∷ codes "mini.toml" ∷ []) ≡ Some (Op (codes "mini.toml"))
+unfolding command_of
+op = refl
+
+rp : command_of (codes "rp" ∷ codes "mini.toml" ∷ codes "news" ∷ []) ≡ Some (Rp (codes "mini.toml") (codes "news") None)
+unfolding command_of
+rp = refl
+
+rp_with_discovery : command_of (codes "rp" ∷ codes "mini.toml" ∷ codes "news" ∷ codes "op.json" ∷ []) ≡ Some (Rp (codes "mini.toml") (codes "news") (Some (codes "op.json")))
+unfolding command_of
+rp_with_discovery = refl
+
+token : command_of (codes "token" ∷ codes "secret" ∷ codes "id.jwt" ∷ []) ≡ Some (Token (codes "secret") (codes "id.jwt"))
+unfolding command_of
+token = refl
+
+-- ---- lists of words that are none
+
+with_an_empty_word : command_of (codes "rp" ∷ codes "mini.toml" ∷ codes "news" ∷ [] ∷ []) ≡ None
+unfolding command_of
+with_an_empty_word = refl
+
+with_a_hyphen : command_of (codes "op" ∷ codes "-v" ∷ []) ≡ None
+unfolding command_of
+with_a_hyphen = refl
+
+five_words : command_of (codes "rp" ∷ codes "mini.toml" ∷ codes "news" ∷ codes "op.json" ∷ codes "more" ∷ []) ≡ None
+unfolding command_of
+five_words = refl
+
+no_word : command_of [] ≡ None
+unfolding command_of
+no_word = refl
+
+name_alone : command_of (codes "op" ∷ []) ≡ None
+unfolding command_of
+name_alone = refl
+
+other_name : command_of (codes "Op" ∷ codes "mini.toml" ∷ []) ≡ None
+unfolding command_of
+other_name = refl
+
+a_word_too_many : command_of (codes "op" ∷ codes "mini.toml" ∷ codes "more" ∷ []) ≡ None
+unfolding command_of
+a_word_too_many = refl
+
+a_word_too_few : command_of (codes "replay" ∷ codes "mini.toml" ∷ []) ≡ None
+unfolding command_of
+a_word_too_few = refl
+
+no_storm_yet : command_of (codes "storm" ∷ codes "1" ∷ codes "2" ∷ []) ≡ None
+unfolding command_of
+no_storm_yet = refl
+
+-- ---- the small tests
+
+hyphen_inside : is_plain (codes "a-b") ≡ true
+hyphen_inside = refl
+
+hyphen_alone : is_plain (codes "-") ≡ false
+hyphen_alone = refl
+
+empty : is_plain [] ≡ false
+empty = refl
+
+command : is_command (codes "op" ∷ codes "mini.toml" ∷ []) ≡ true
+unfolding command_of
+command = refl
+
+no_command : is_command (codes "op" ∷ []) ≡ false
+unfolding command_of
+no_command = refl
+
+asked_replay : asks_replay (Some (Replay (codes "c") (codes "t"))) ≡ true
+asked_replay = refl
+
+asked_other_than_replay : asks_replay (Some (Token (codes "s") (codes "t"))) ≡ false
+asked_other_than_replay = refl
+
+asked_op : asks_op (Some (Op (codes "c"))) ≡ true
+asked_op = refl
+
+asked_none_for_op : asks_op None ≡ false
+asked_none_for_op = refl
+
+asked_rp : asks_rp (Some (Rp (codes "c") (codes "n") None)) ≡ true
+asked_rp = refl
+
+asked_other_than_rp : asks_rp (Some (Op (codes "c"))) ≡ false
+asked_other_than_rp = refl
+
+asked_token : asks_token (Some (Token (codes "s") (codes "t"))) ≡ true
+asked_token = refl
+
+asked_other_than_token : asks_token (Some (Replay (codes "c") (codes "t"))) ≡ false
+asked_other_than_token = refl
+
+-- the law's premise is met by a real command, and by no command with an empty word
+plain_words : list_all is_plain (words_of (Rp (codes "c") (codes "n") (Some (codes "d")))) ≡ true
+plain_words = refl
+
+no_plain_words : list_all is_plain (words_of (Op [])) ≡ false
+no_plain_words = refl

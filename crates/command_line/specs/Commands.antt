@@ -1,0 +1,72 @@
+-- What the program is asked for by the words after its name.
+use Rattle.std.specs.Prelude.{Bool, false, true, not, ◌==◌, List, [], ◌∷◌, Option, Some, None, is_some, codes, if◌then◌else◌}
+use Rattle.std.specs.List.{list_all}
+use Rattle.std.specs.Str.{bytes_eq}
+use Rattle.sso_base.specs.Words.{Text}
+use Rattle.command_line.specs.declared.command.Command.{Command}
+use Rattle.command_line.specs.declared.command.Command.TheVariants.{Replay, Op, Rp, Token}
+
+-- the word has a byte, and does not begin with `-`
+abbrev pub is_plain : Text → Bool
+is_plain [] = false
+is_plain (first ∷ rest) = not (first == 45)
+
+-- the commands of two words
+abbrev pub of_two : Text → Text → Option Command
+of_two name config = if bytes_eq name (codes "op") then Some (Op config) else None
+
+-- the commands of three words
+abbrev pub of_three : Text → Text → Text → Option Command
+of_three name first second =
+    if bytes_eq name (codes "replay") then Some (Replay first second)
+    else if bytes_eq name (codes "rp") then Some (Rp first second None)
+    else if bytes_eq name (codes "token") then Some (Token first second)
+    else None
+
+-- the commands of four words
+abbrev pub of_four : Text → Text → Text → Text → Option Command
+of_four name config party discovery =
+    if bytes_eq name (codes "rp") then Some (Rp config party (Some discovery)) else None
+
+-- the command of these words, by their number and the first of them
+abbrev pub command_in : List Text → Option Command
+command_in (name ∷ first ∷ []) = of_two name first
+command_in (name ∷ first ∷ second ∷ []) = of_three name first second
+command_in (name ∷ first ∷ second ∷ third ∷ []) = of_four name first second third
+command_in words = None
+
+-- the command of these words, each of which must be plain
+unfoldable pub command_of : List Text → Option Command
+command_of words = if list_all is_plain words then command_in words else None
+
+-- the words are a command
+abbrev pub is_command : List Text → Bool
+is_command words = is_some (command_of words)
+
+-- a trace is to be replayed
+abbrev pub asks_replay : Option Command → Bool
+asks_replay (Some (Replay config trace)) = true
+asks_replay command = false
+
+-- the provider is to be served
+abbrev pub asks_op : Option Command → Bool
+asks_op (Some (Op config)) = true
+asks_op command = false
+
+-- a relying party is to be served
+abbrev pub asks_rp : Option Command → Bool
+asks_rp (Some (Rp config name discovery)) = true
+asks_rp command = false
+
+-- a token is to be opened
+abbrev pub asks_token : Option Command → Bool
+asks_token (Some (Token secret token)) = true
+asks_token command = false
+
+-- the words that a command is written in
+abbrev pub words_of : Command → List Text
+words_of (Replay config trace) = codes "replay" ∷ config ∷ trace ∷ []
+words_of (Op config) = codes "op" ∷ config ∷ []
+words_of (Rp config name None) = codes "rp" ∷ config ∷ name ∷ []
+words_of (Rp config name (Some discovery)) = codes "rp" ∷ config ∷ name ∷ discovery ∷ []
+words_of (Token secret token) = codes "token" ∷ secret ∷ token ∷ []

@@ -1,0 +1,181 @@
+// Commands, and which of them the words are.
+
+ghost use Rattle.std.specs.Prelude.{◌≡◌, ◌≤◌, true, length, map, IfOk};
+ghost use Rattle.std.specs.List.{list_all};
+ghost use Rattle.std.specs.Option.{option_copied};
+ghost use Rattle.command_line.specs.Commands as spec;
+ghost use Rattle.command_line.specs.Commands.{command_of};
+ghost use Rattle.command_line.specs.Positionals.{command_at};
+
+use crate::positionals::{Positionals, read_positionals};
+use sso_base::{NoMemory, Text};
+use std::alloc::Global;
+
+/// What the words ask for.
+#[derive(Drop)]
+pub enum Command {
+    /// `replay CONFIG TRACE`: a trace is replayed.
+    Replay {
+        /// The name of the configuration's file.
+        config: Text,
+        /// The name of the trace's file.
+        trace: Text,
+    },
+    /// `op CONFIG`: the provider is served.
+    Op {
+        /// The name of the configuration's file.
+        config: Text,
+    },
+    /// `rp CONFIG NAME` or `rp CONFIG NAME DISCOVERY`: a relying party is served.
+    Rp {
+        /// The name of the configuration's file.
+        config: Text,
+        /// The relying party's name in the configuration.
+        name: Text,
+        /// The name of the file with the provider's discovery document, where one is given.
+        discovery: Option<Text>,
+    },
+    /// `token SECRETFILE TOKENFILE`: a token is opened.
+    Token {
+        /// The name of the secret's file.
+        secret: Text,
+        /// The name of the token's file.
+        token: Text,
+    },
+}
+
+// Whether the word has a byte, and does not begin with `-`.
+fn is_plain(word: &Text) -> bool
+    ensures { result ≡ spec.is_plain word.now }
+{
+    let word = word.as_str();
+    !word.is_empty() && !word.starts_with('-')
+}
+
+// Whether each word is plain.
+fn are_plain(words: &[Text]) -> bool
+    ensures { result ≡ list_all spec.is_plain words.now }
+{
+    for word in words {
+        if !is_plain(word) {
+            return false;
+        }
+    }
+    true
+}
+
+// The words, borrowed.
+fn borrowed(alloc: Global, words: &[Text]) -> Result<Vec<&str>, NoMemory>
+    ensures { IfOk result (λ v. map (λ w. w.now) v.items ≡ words.now) }
+{
+    let mut texts = Vec::new(alloc);
+    for word in words {
+        texts.push(word.as_str())?;
+    }
+    Ok(texts)
+}
+
+// The command of two words.
+fn of_two(alloc: Global, name: &str, config: &str) -> Result<Option<Command>, NoMemory>
+    ensures { IfOk result (λ c. c ≡ spec.of_two name.now config.now) }
+{
+    if name != "op" {
+        return Ok(None);
+    }
+    Ok(Some(Command::Op {
+        config: Text::new(alloc, config)?,
+    }))
+}
+
+// The command of three words.
+fn of_three(
+    alloc: Global,
+    name: &str,
+    first: &str,
+    second: &str,
+) -> Result<Option<Command>, NoMemory>
+    ensures { IfOk result (λ c. c ≡ spec.of_three name.now first.now second.now) }
+{
+    let first = Text::new(alloc, first)?;
+    let second = Text::new(alloc, second)?;
+    Ok(match name {
+        "replay" => Some(Command::Replay {
+            config: first,
+            trace: second,
+        }),
+        "rp" => Some(Command::Rp {
+            config: first,
+            name: second,
+            discovery: None,
+        }),
+        "token" => Some(Command::Token {
+            secret: first,
+            token: second,
+        }),
+        _ => None,
+    })
+}
+
+// The command of four words.
+fn of_four(
+    alloc: Global,
+    name: &str,
+    config: &str,
+    party: &str,
+    discovery: &str,
+) -> Result<Option<Command>, NoMemory>
+    ensures { IfOk result (λ c. c ≡ spec.of_four name.now config.now party.now discovery.now) }
+{
+    if name != "rp" {
+        return Ok(None);
+    }
+    Ok(Some(Command::Rp {
+        config: Text::new(alloc, config)?,
+        name: Text::new(alloc, party)?,
+        discovery: Some(Text::new(alloc, discovery)?),
+    }))
+}
+
+// The command that has its words at these places.
+fn choose(alloc: Global, words: &Positionals<'_>) -> Result<Option<Command>, NoMemory>
+    ensures { IfOk result (λ c. c ≡ command_at (option_copied words.now.name) (option_copied words.now.first) (option_copied words.now.second) (option_copied words.now.third)) }
+{
+    let (Some(name), Some(first)) = (words.name, words.first) else {
+        return Ok(None);
+    };
+    match (words.second, words.third) {
+        (None, None) => of_two(alloc, name, first),
+        (Some(second), None) => of_three(alloc, name, first, second),
+        (Some(second), Some(third)) => of_four(alloc, name, first, second, third),
+        (None, Some(_)) => Ok(None),
+    }
+}
+
+// The command of two to four plain words, as `clap` reads them.
+#[tactic(auto, using(crate::proofs::Laws::of_places))]
+fn read_plain(alloc: Global, words: &[Text]) -> Result<Option<Command>, NoMemory>
+    requires least { 2 ≤ length words.now }
+    requires most { length words.now ≤ 4 }
+    requires plain { list_all spec.is_plain words.now ≡ true }
+    ensures { IfOk result (λ c. c ≡ command_of words.now) }
+{
+    let texts = borrowed(alloc, words)?;
+    match read_positionals(alloc, texts.as_slice()) {
+        Ok(words) => choose(alloc, &words),
+        // `clap` takes such words, so this is want of memory.
+        Err(_) => Err(NoMemory),
+    }
+}
+
+/// The command of these words, those after the program's name; None exactly where they are none. A word that is empty or
+/// begins with `-` is a word of no command.
+#[tactic(auto, using(crate::proofs::Laws::too_few, crate::proofs::Laws::too_many, crate::proofs::Laws::not_plain))]
+pub fn read_command(alloc: Global, words: &[Text]) -> Result<Option<Command>, NoMemory>
+    ensures { IfOk result (λ c. c ≡ command_of words.now) }
+{
+    if (2..=4).contains(&words.len()) && are_plain(words) {
+        read_plain(alloc, words)
+    } else {
+        Ok(None)
+    }
+}

@@ -1,0 +1,14 @@
+// What holds of commands, for the crates above.
+
+ghost use Rattle.std.specs.Prelude.{◌≡◌, true, List, Some};
+ghost use Rattle.std.specs.List.{list_all};
+ghost use Rattle.sso_base.specs.Words.{Text};
+ghost use Rattle.command_line.specs.declared.command.Command.{Command};
+ghost use Rattle.command_line.specs.Commands.{command_of, is_plain, words_of};
+
+/// Words are a command exactly where they are the words that it is written in, and each is plain.
+pub fn commands_are_read_as_they_are_written()
+    ensures words { (words : List Text) (c : Command) → command_of words ≡ Some c → words ≡ words_of c }
+    ensures plain { (words : List Text) (c : Command) → command_of words ≡ Some c → list_all is_plain words ≡ true }
+    ensures read { (c : Command) → list_all is_plain (words_of c) ≡ true → command_of (words_of c) ≡ Some c }
+{}

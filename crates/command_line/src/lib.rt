@@ -1,0 +1,15 @@
+//! What the program is asked for by the words that it was started with, those after its name. They are read by `clap`.
+//!
+//! | Module | What it has | Its definitions, in `specs/` |
+//! |---|---|---|
+//! | `command` | [`Command`] and [`read_command`], which reads one | `Commands` |
+//! | `positionals` | the words by their places, as `clap` reads them | `Positionals` |
+//! | `law` | [`commands_are_read_as_they_are_written`] | `Commands` |
+#![tactic(auto)]
+
+mod command;
+mod law;
+mod positionals;
+
+pub use command::{Command, read_command};
+pub use law::commands_are_read_as_they_are_written;

@@ -1,0 +1,36 @@
+//! The machine's clock as a clock.
+
+ghost use Rattle.std.specs.Prelude.{ℕ, Option, None};
+
+use server_desk::Clock;
+use sso_base::{LATEST_MOMENT, Moment};
+use std::time;
+
+/// The machine's clock. It does not tell its readings to come. Where it can't be read, as before 1970, it stands still, and
+/// at the latest moment it stops.
+#[derive(Drop)]
+pub struct SystemClock<'a, R: time::Clock> {
+    clock: &'a R,
+    last: Moment,
+}
+
+impl<'a, R: time::Clock> SystemClock<'a, R> {
+    /// A clock that was not read yet, and stands at 1970.
+    pub fn new(clock: &'a R) -> SystemClock<'a, R> {
+        SystemClock {
+            clock,
+            last: Moment::new(0).unwrap(),
+        }
+    }
+}
+
+impl<'a, R: time::Clock + Sync> Clock for SystemClock<'a, R> {
+    ghost ahead = { λ _ _. None };
+
+    fn now(&mut self) -> Moment {
+        if let Ok(since) = self.clock.since_1970() {
+            self.last = Moment::new(since.as_secs().min(LATEST_MOMENT)).unwrap();
+        }
+        self.last
+    }
+}

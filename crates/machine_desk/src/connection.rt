@@ -1,0 +1,172 @@
+//! A TCP connection as a source and a sink.
+
+ghost use Rattle.std.specs.Prelude.{◌≡◌, ◌≤◌, length, Option, None, IfSome};
+
+use crate::limit::Limit;
+use crate::read_ahead::{AHEAD, ReadAhead};
+use crate::wire::{receive, send};
+use server_desk::{Connection, Source, SourceFault};
+use sso_base::{Sink, SinkFault};
+use std::net::{Shutdown, TcpStream};
+use std::time::Clock;
+
+/// How many seconds the reply may take to be written, from its first byte on.
+const WRITING: u64 = 10;
+
+/// How many seconds bytes that nobody will read are taken in at the end of a connection.
+const DRAINING: u64 = 1;
+
+/// How many of these bytes at most.
+const DRAINED: usize = 1 << 20;
+
+/// What a TCP stream gives. It does not tell what comes. It reads ahead, so that single bytes cost no call of the system each.
+#[derive(Drop)]
+pub struct TcpSource<'a, R: Clock> {
+    clock: &'a R,
+    stream: TcpStream,
+    ahead: ReadAhead,
+    /// In how much time all has to come; none where the clock failed.
+    limit: Option<Limit>,
+    /// How many seconds no byte may come.
+    silence: u64,
+    faults: u64,
+}
+
+/// What a TCP stream takes. It does not tell what it took.
+#[derive(Drop)]
+pub struct TcpSink<'a, R: Clock> {
+    clock: &'a R,
+    stream: TcpStream,
+    /// In how much time all has to go; none before the first write.
+    limit: Option<Limit>,
+    faults: u64,
+}
+
+/// A stream as a connection: all of it is read within the first limit, no byte in so many seconds is a fault, and all is
+/// written within the second limit, or in 10 seconds from the first byte on. None where the stream fails.
+pub fn connection_over<'a, R: Clock>(
+    clock: &'a R,
+    stream: TcpStream,
+    reading: Option<Limit>,
+    silence: u64,
+    writing: Option<Limit>,
+) -> Option<Connection<TcpSource<'a, R>, TcpSink<'a, R>>>
+    ensures source { IfSome result (λ c. ⟦<TcpSource<'a, R> as Source>⟧.faults c.source ≡ 0) }
+    ensures sink { IfSome result (λ c. ⟦<TcpSink<'a, R> as Sink>⟧.faults c.sink ≡ 0) }
+{
+    stream.set_nodelay(true).ok()?;
+    let other = stream.try_clone().ok()?;
+    let source = TcpSource {
+        clock,
+        stream,
+        ahead: ReadAhead::new([0; AHEAD], 0),
+        limit: reading,
+        silence,
+        faults: 0,
+    };
+    let sink = TcpSink {
+        clock,
+        stream: other,
+        limit: writing,
+        faults: 0,
+    };
+    Some(Connection { source, sink })
+}
+
+impl<'a, R: Clock> TcpSource<'a, R> {
+    // Reads ahead. None is a fault.
+    fn fill(&mut self) -> Option<()>
+        ensures { self.new.faults ≡ self.old.faults }
+    {
+        let limit = self.limit?;
+        let mut bytes = [0u8; AHEAD];
+        let count = receive(
+            self.clock,
+            &mut self.stream,
+            &mut bytes,
+            &limit,
+            self.silence,
+        )?;
+        self.ahead = ReadAhead::new(bytes, count);
+        Some(())
+    }
+
+    // Whether bytes lie there that were not read. It does not wait.
+    fn is_behind(&self) -> bool {
+        let mut byte = [0u8; 1];
+        if self.stream.set_nonblocking(true).is_err() {
+            return false;
+        }
+        let peeked = self.stream.peek(&mut byte);
+        self.stream.set_nonblocking(false).is_ok() && matches!(peeked, Ok(1))
+    }
+
+    // Takes in what still comes, for a moment.
+    fn drain(&mut self) {
+        let Some(limit) = Limit::start(self.clock, DRAINING) else {
+            return;
+        };
+        let mut bytes = [0u8; AHEAD];
+        let mut drained = 0usize;
+        while drained < DRAINED {
+            match receive(self.clock, &mut self.stream, &mut bytes, &limit, DRAINING) {
+                Some(count) if 0 < count => drained += count,
+                _ => return,
+            }
+        }
+    }
+}
+
+impl<'a, R: Clock> Source for TcpSource<'a, R> {
+    ghost left = { λ _. None };
+
+    ghost faults = { λ s. s.faults };
+
+    fn read_some(&mut self, room: &mut [u8]) -> Result<usize, SourceFault> {
+        if !room.is_empty() && self.ahead.is_empty() && self.fill().is_none() {
+            self.faults = self.faults.saturating_add(1);
+            return Err(SourceFault);
+        }
+        Ok(self.ahead.give(room))
+    }
+}
+
+impl<'a, R: Clock> TcpSink<'a, R> {
+    // Writes once. None is a fault.
+    fn write_once(&mut self, piece: &[u8]) -> Option<usize>
+        ensures bound { IfSome result (λ count. count ≤ length piece.now) }
+        ensures faults { self.new.faults ≡ self.old.faults }
+    {
+        if self.limit.is_none() {
+            self.limit = Limit::start(self.clock, WRITING);
+        }
+        let limit = self.limit?;
+        send(self.clock, &mut self.stream, piece, &limit)
+    }
+}
+
+impl<'a, R: Clock> Sink for TcpSink<'a, R> {
+    ghost taken = { λ _. None };
+
+    ghost faults = { λ s. s.faults };
+
+    fn write_some(&mut self, piece: &[u8]) -> Result<usize, SinkFault> {
+        match self.write_once(piece) {
+            Some(count) if 0 < count || piece.is_empty() => Ok(count),
+            _ => {
+                self.faults = self.faults.saturating_add(1);
+                Err(SinkFault)
+            }
+        }
+    }
+}
+
+/// Ends a connection. Where bytes lie there that were not read, as of a request that was refused before its end, it first
+/// takes in what still comes, since the system would else reset the connection, and the reply might be lost.
+pub fn finish<R: Clock>(connection: Connection<TcpSource<'_, R>, TcpSink<'_, R>>) {
+    let Connection { mut source, sink } = connection;
+    let _ = sink.stream.shutdown(Shutdown::Write);
+    if source.is_behind() {
+        source.drain();
+    }
+}

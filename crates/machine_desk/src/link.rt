@@ -1,0 +1,97 @@
+//! TCP as a link.
+
+ghost use Rattle.std.specs.Prelude.{◌≡◌, ◌≤◌, None, IfSome, length};
+
+use crate::connection::connection_over;
+use crate::limit::Limit;
+use server_desk::{Link, LinkNo, read_whole};
+use sso_base::{Blob, Text, write_whole};
+use std::alloc::Global;
+use std::net::{Net, TcpStream, ToSocketAddrs};
+use std::time::Clock;
+
+/// How many seconds an exchange may take in all.
+const EXCHANGE: u64 = 10;
+
+/// TCP connections, one for each exchange. It does not tell what was exchanged.
+#[derive(Drop)]
+pub struct TcpLink<'a, R: Net<Stream = TcpStream> + Clock> {
+    rt: &'a R,
+    faults: u64,
+}
+
+impl<'a, R: Net<Stream = TcpStream> + Clock + Sync> TcpLink<'a, R> {
+    /// A link that never failed.
+    pub fn new(rt: &'a R) -> TcpLink<'a, R>
+        ensures { ⟦<TcpLink<'a, R> as Link>⟧.faults result ≡ 0 }
+    {
+        TcpLink { rt, faults: 0 }
+    }
+
+    /// How often it has failed.
+    pub fn faults(&self) -> u64
+        ensures { result ≡ ⟦<TcpLink<'a, R> as Link>⟧.faults self.now }
+    {
+        self.faults
+    }
+}
+
+// A stream to the first address of this place that takes one.
+fn connect<R: Net<Stream = TcpStream> + Clock>(
+    rt: &R,
+    to: &str,
+    limit: &Limit,
+) -> Option<TcpStream> {
+    for address in to.to_socket_addrs(rt).ok()? {
+        let left = limit.left(rt, EXCHANGE)?;
+        if let Ok(stream) = TcpStream::connect_timeout(rt, &address, left) {
+            return Some(stream);
+        }
+    }
+    None
+}
+
+// Sends the bytes, writes what comes back to the front of the room, and answers how many bytes these are. None is a fault.
+fn exchange_within<R: Net<Stream = TcpStream> + Clock>(
+    rt: &R,
+    to: &str,
+    asked: &[u8],
+    room: &mut [u8],
+) -> Option<usize>
+    ensures length { length room.new ≡ length room.old }
+    ensures bound { IfSome result (λ count. count ≤ length room.new) }
+{
+    let limit = Limit::start(rt, EXCHANGE)?;
+    let stream = connect(rt, to, &limit)?;
+    let mut connection = connection_over(rt, stream, Some(limit), EXCHANGE, Some(limit))?;
+    write_whole(&mut connection.sink, asked).ok()?;
+    read_whole(&mut connection.source, room).ok()
+}
+
+impl<'a, R: Net<Stream = TcpStream> + Clock + Sync> Link for TcpLink<'a, R> {
+    ghost exchanges = { λ _. None };
+
+    ghost faults = { λ l. l.faults };
+
+    fn exchange(
+        &mut self,
+        alloc: Global,
+        to: &Text,
+        asked: &[u8],
+        most: usize,
+    ) -> Result<Blob, LinkNo> {
+        let Ok(mut back) = vec![in alloc; 0u8; most] else {
+            return Err(LinkNo::NoMemory);
+        };
+        match exchange_within(self.rt, to.as_str(), asked, back.as_mut_slice()) {
+            Some(count) => {
+                back.truncate(count);
+                Ok(Blob::from_vec(back))
+            }
+            None => {
+                self.faults = self.faults.saturating_add(1);
+                Err(LinkNo::Failed)
+            }
+        }
+    }
+}

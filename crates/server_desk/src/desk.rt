@@ -1,0 +1,10 @@
+/// What one worker of a server uses.
+#[derive(Drop)]
+pub struct Desk<D: Drop, L: Drop, C: Drop, W: Drop> {
+    pub door: D,
+    pub link: L,
+    pub clock: C,
+    pub draw: W,
+    /// How many connections it serves at most.
+    pub turns: u64,
+}

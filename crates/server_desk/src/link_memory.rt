@@ -1,0 +1,231 @@
+ghost use Rattle.std.specs.Prelude.{◌≡◌, ◌≢◌, ◌+◌, ◌-◌, ◌^◌, ◌≤◌, ◌==◌, ◌++◌, min, true, false, [], ◌∷◌, length, take, drop, Some, Err, IfOk, OnOk, OnErr, IsErr};
+ghost use Rattle.std.specs.List.{list_any};
+ghost use Rattle.sso_base.specs.Faults.{Rose};
+ghost use Rattle.server_desk.specs.Links.{after_exchange, next_answer};
+
+use crate::link::{Link, LinkNo};
+use sso_base::{Blob, NoMemory, Text};
+use std::alloc::Global;
+use std::marker::Model;
+
+/// What was sent over a link, and what came back.
+#[derive(Drop)]
+pub struct Exchanged {
+    /// Where it was sent to, `HOST:PORT`.
+    pub to: Text,
+    /// The bytes that were sent.
+    pub asked: Blob,
+    /// The bytes that came back; None where the exchange failed.
+    pub back: Option<Blob>,
+}
+
+impl Model for Exchanged {
+    ghost use Rattle.server_desk.specs.Links.{Exchange};
+
+    ghost Value = { Exchange };
+
+    ghost view = { λ e. record { to = e.to; asked = e.asked; back = e.back } };
+}
+
+/// A link in memory. Its answers come back in their order, and the empty bytes behind them. It keeps what was exchanged, and
+/// never fails.
+#[derive(Drop)]
+pub struct MemoryLink {
+    answers: Vec<Blob>,
+    place: usize,
+    exchanges: Vec<Exchanged>,
+}
+
+impl Model for MemoryLink {
+    ghost use Rattle.std.specs.Prelude.{◌≤◌, length, drop};
+    ghost use Rattle.server_desk.specs.Links.{LinkMemory};
+
+    ghost Value = { LinkMemory };
+
+    ghost view = { λ l. record { answers = drop l.place l.answers.items; exchanges = l.exchanges.items } };
+
+    ghost invariant = { λ l. l.place ≤ length l.answers.items };
+}
+
+// The first of the answers; no bytes where there is none.
+fn first_of(answers: &[Blob]) -> &[u8]
+    ensures { result.now ≡ next_answer answers.now }
+{
+    match answers {
+        [] => &[],
+        [answer, ..] => answer.as_bytes(),
+    }
+}
+
+// The first `most` bytes, or all if there are fewer.
+fn front(bytes: &[u8], most: usize) -> &[u8]
+    ensures value { result.now ≡ take most bytes.now }
+    ensures bound { length result.now ≤ most }
+{
+    if bytes.len() <= most {
+        bytes
+    } else {
+        &bytes[..most]
+    }
+}
+
+impl MemoryLink {
+    /// A link over which these answers will come back, in this order.
+    pub fn new(alloc: Global, answers: Vec<Blob>) -> MemoryLink
+        ensures { result ≡ record { answers = answers.items; exchanges = [] } }
+    {
+        MemoryLink {
+            answers,
+            place: 0,
+            exchanges: Vec::new(alloc),
+        }
+    }
+
+    /// What was exchanged, in its order.
+    pub fn exchanges(&self) -> &[Exchanged]
+        ensures { result.now ≡ self.now.exchanges }
+    {
+        self.exchanges.as_slice()
+    }
+
+    // A copy of the first `most` bytes of the next answer, which stays.
+    fn answer(&self, alloc: Global, most: usize) -> Result<Blob, NoMemory>
+        ensures { IfOk result (λ back. back ≡ take most (next_answer self.now.answers)) }
+    {
+        Blob::new(alloc, front(first_of(&self.answers[self.place..]), most))
+    }
+
+    // Keeps an exchange: a copy of what was sent, and what came back.
+    fn keep(
+        &mut self,
+        alloc: Global,
+        to: &Text,
+        asked: &[u8],
+        back: Option<Blob>,
+    ) -> Result<(), NoMemory>
+        ensures ok { OnOk result (self.new ≡ record self.old { exchanges = self.old.exchanges ++ record { to = to.now; asked = asked.now; back = back } ∷ [] }) }
+        ensures err { OnErr result (self.new ≡ self.old) }
+    {
+        let exchanged = Exchanged {
+            to: to.copy(alloc)?,
+            asked: Blob::new(alloc, asked)?,
+            back,
+        };
+        self.exchanges.push(exchanged)?;
+        Ok(())
+    }
+
+    // Goes on behind the next answer.
+    fn advance(&mut self)
+        ensures { self.new ≡ record self.old { answers = drop 1 self.old.answers } }
+    {
+        if self.place < self.answers.len() {
+            self.place += 1;
+        }
+    }
+}
+
+impl Link for MemoryLink {
+    ghost exchanges = { λ l. Some l.exchanges };
+
+    ghost faults = { λ _. 0 };
+
+    fn exchange(
+        &mut self,
+        alloc: Global,
+        to: &Text,
+        asked: &[u8],
+        most: usize,
+    ) -> Result<Blob, LinkNo>
+        ensures told { Some self.new.exchanges ≡ after_exchange (Some self.old.exchanges) to.now asked.now result }
+        ensures bound { IfOk result (λ back. length back ≤ most) }
+        ensures later { 0 ≤ 0 }
+        ensures failed { result ≡ Err LinkNo.Failed → Rose 0 0 }
+        ensures answer { IfOk result (λ back. back ≡ take most (next_answer self.old.answers)) }
+        ensures answers { OnOk result (self.new.answers ≡ drop 1 self.old.answers) }
+        ensures kept { OnErr result (self.new ≡ self.old) }
+        ensures sure { result ≢ Err LinkNo.Failed }
+    {
+        let back = self.answer(alloc, most)?;
+        let kept = back.copy(alloc)?;
+        self.keep(alloc, to, asked, Some(kept))?;
+        self.advance();
+        Ok(back)
+    }
+}
+
+/// A link in memory whose calls of these numbers fail, from 1, and no others. A call that fails keeps its exchange, with
+/// nothing that came back, and leaves the answers.
+#[derive(Drop)]
+pub struct FaultyLink {
+    link: MemoryLink,
+    failing: Vec<u64>,
+    calls: u64,
+    faults: u64,
+}
+
+impl Model for FaultyLink {
+    ghost use Rattle.server_desk.specs.Links.{FaultyLinkMemory};
+
+    ghost Value = { FaultyLinkMemory };
+
+    ghost view = { λ l. record { link = l.link; failing = l.failing.items; calls = l.calls; faults = l.faults } };
+}
+
+impl FaultyLink {
+    /// This link, whose calls of these numbers will fail.
+    pub fn new(link: MemoryLink, failing: Vec<u64>) -> FaultyLink
+        ensures { result ≡ record { link = link; failing = failing.items; calls = 0; faults = 0 } }
+    {
+        FaultyLink {
+            link,
+            failing,
+            calls: 0,
+            faults: 0,
+        }
+    }
+
+    /// The link in memory, which tells what was exchanged.
+    pub fn link(&self) -> &MemoryLink
+        ensures { result.now ≡ self.now.link }
+    {
+        &self.link
+    }
+}
+
+impl Link for FaultyLink {
+    ghost exchanges = { λ l. Some l.link.exchanges };
+
+    ghost faults = { λ l. l.faults };
+
+    fn exchange(
+        &mut self,
+        alloc: Global,
+        to: &Text,
+        asked: &[u8],
+        most: usize,
+    ) -> Result<Blob, LinkNo>
+        ensures told { Some self.new.link.exchanges ≡ after_exchange (Some self.old.link.exchanges) to.now asked.now result }
+        ensures bound { IfOk result (λ back. length back ≤ most) }
+        ensures later { self.old.faults ≤ self.new.faults }
+        ensures failed { result ≡ Err LinkNo.Failed → Rose self.old.faults self.new.faults }
+        ensures answer { IfOk result (λ back. back ≡ take most (next_answer self.old.link.answers)) }
+        ensures answers { OnOk result (self.new.link.answers ≡ drop 1 self.old.link.answers) }
+        ensures kept { OnErr result (self.new.link.answers ≡ self.old.link.answers) }
+        ensures quiet { result ≢ Err LinkNo.Failed → self.new.faults ≡ self.old.faults }
+        ensures risen { result ≡ Err LinkNo.Failed → self.new.faults ≡ min (self.old.faults + 1) (2 ^ 64 - 1) }
+        ensures counted { self.new.calls ≡ min (self.old.calls + 1) (2 ^ 64 - 1) }
+        ensures same { self.new.failing ≡ self.old.failing }
+        ensures fails { list_any (λ call. call == self.new.calls) self.old.failing ≡ true → IsErr result }
+        ensures gives { list_any (λ call. call == self.new.calls) self.old.failing ≡ false → result ≢ Err LinkNo.Failed }
+    {
+        self.calls = self.calls.saturating_add(1);
+        let calls = self.calls;
+        if self.failing.contains(&calls) {
+            self.link.keep(alloc, to, asked, None)?;
+            self.faults = self.faults.saturating_add(1);
+            return Err(LinkNo::Failed);
+        }
+        self.link.exchange(alloc, to, asked, most)
+    }
+}

@@ -1,0 +1,14 @@
+pub mod Making
+pub mod MemoryLine
+pub mod Calls
+pub mod Printed
+pub mod Doing
+pub mod Rounds
+pub mod Asking
+pub mod Telling
+pub mod Stopping
+pub mod Histories
+pub mod Workers
+pub mod Dealing
+pub mod Seatings
+pub mod Summing

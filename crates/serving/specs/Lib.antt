@@ -1,0 +1,10 @@
+pub mod Told
+pub mod Writing
+pub mod LinkCalls
+pub mod Steps
+pub mod Work
+pub mod Manner
+pub mod Serving
+pub mod Working
+pub mod Summaries
+pub mod Seating

@@ -1,0 +1,38 @@
+-- What a connection is told in place of a reply of a core, and how its serving ends then.
+use Rattle.std.specs.Prelude.{ℕ, List, codes, Option, Some, Result, Ok, Err}
+use Rattle.http_reply.specs.Replies.{plain}
+use Rattle.sso_http.specs.Replies.{reply_bytes}
+use Rattle.sso_http.specs.Refusals.{refusal_bytes}
+use Rattle.serving.specs.declared.ends.ServedEnd.{ServedEnd}
+use Rattle.serving.specs.declared.ends.ServedEnd.TheVariants as end
+use Rattle.serving.specs.declared.no_reply.NoReply.{NoReply}
+use Rattle.serving.specs.declared.no_reply.NoReply.TheVariants.{NoMemory, Http, Link, Peer, Full}
+
+abbrev pub end_without : NoReply → ServedEnd
+end_without NoMemory = end.NoMemory
+end_without (Http why) = end.Http why
+end_without Link = end.Link
+end_without Peer = end.Peer
+end_without Full = end.Full
+
+-- what says that memory ran out
+unfoldable pub memory_bytes : List ℕ
+memory_bytes = reply_bytes (plain 503 (codes "memory"))
+
+-- one line of text with a status; where the request's source failed or ended, nobody is there to read one
+unfoldable pub bytes_without : NoReply → Option (List ℕ)
+bytes_without NoMemory = Some memory_bytes
+bytes_without (Http why) = refusal_bytes why
+bytes_without Link = Some (reply_bytes (plain 502 (codes "link")))
+bytes_without Peer = Some (reply_bytes (plain 502 (codes "peer")))
+bytes_without Full = Some (reply_bytes (plain 503 (codes "journal")))
+
+-- the serving ends with the reply or without one
+abbrev pub end_of : {R : Type 0} → Result R NoReply → ServedEnd
+end_of (Ok reply) = end.Written
+end_of (Err why) = end_without why
+
+-- what is written at the end: the bytes of the reply, or what stands in its place
+abbrev pub bytes_of : {R : Type 0} → (R → List ℕ) → Result R NoReply → Option (List ℕ)
+bytes_of bytes (Ok reply) = Some (bytes reply)
+bytes_of bytes (Err why) = bytes_without why

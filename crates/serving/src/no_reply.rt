@@ -1,0 +1,77 @@
+// Why a connection gets no reply of a core, and what it is told then.
+
+ghost use Rattle.std.specs.Prelude.{◌≡◌, ◌≢◌, ℕ, List, IfOk, IsErr};
+ghost use Rattle.http_reply.specs.Replies.{plain};
+ghost use Rattle.sso_http.specs.Replies.{reply_bytes};
+ghost use Rattle.serving.specs.Told as spec;
+
+use crate::ends::ServedEnd;
+use http_reply::plain;
+use sso_base::{Blob, NoMemory};
+use sso_http::{HttpNo, print_http_no, print_reply};
+use std::alloc::Global;
+
+/// Why a connection gets no reply of a core.
+#[derive(Clone, Copy, Debug, PartialEq, Eq)]
+pub enum NoReply {
+    /// Memory ran out.
+    NoMemory,
+    /// The request was refused.
+    Http(HttpNo),
+    /// The link to another server failed.
+    Link,
+    /// What another server answered is no HTTP.
+    Peer,
+    /// The core refused a step for the weight of its history.
+    Full,
+}
+
+impl From<NoMemory> for NoReply {
+    ghost use Rattle.std.specs.Prelude.{◌≡◌};
+    ghost use Rattle.serving.specs.declared.no_reply.NoReply.TheVariants as no;
+
+    ghost from_gives = { λ _ e. e ≡ no.NoMemory };
+
+    fn from(_error: NoMemory) -> NoReply {
+        NoReply::NoMemory
+    }
+}
+
+impl NoReply {
+    /// How the serving of the connection ends, once this was told.
+    pub fn end(&self) -> ServedEnd
+        ensures { result ≡ spec.end_without self.now }
+    {
+        match self {
+            NoReply::NoMemory => ServedEnd::NoMemory,
+            NoReply::Http(why) => ServedEnd::Http(*why),
+            NoReply::Link => ServedEnd::Link,
+            NoReply::Peer => ServedEnd::Peer,
+            NoReply::Full => ServedEnd::Full,
+        }
+    }
+}
+
+// A line of text with this status.
+fn line(alloc: Global, status: u16, word: &str) -> Result<Blob, NoMemory>
+    ensures { IfOk result (λ b. b ≡ reply_bytes (plain status word.now)) }
+{
+    let reply = plain(alloc, status, word)?;
+    print_reply(alloc, &reply)
+}
+
+/// What the connection is told. None where nobody is there to read it. Where memory ran out this takes none, and finds none.
+#[tactic(auto, unfolding(crate::specs::Told::bytes_without))]
+pub fn told(alloc: Global, no: &NoReply) -> Result<Option<Blob>, NoMemory>
+    requires { no.now ≢ NoReply.Http HttpNo.NoMemory }
+    ensures told { IfOk result (λ o. o ≡ spec.bytes_without no.now) }
+    ensures memory { no.now ≡ NoReply.NoMemory → IsErr result }
+{
+    match no {
+        NoReply::NoMemory => Err(NoMemory),
+        NoReply::Http(why) => print_http_no(alloc, why),
+        NoReply::Link => Ok(Some(line(alloc, 502, "link")?)),
+        NoReply::Peer => Ok(Some(line(alloc, 502, "peer")?)),
+        NoReply::Full => Ok(Some(line(alloc, 503, "journal")?)),
+    }
+}

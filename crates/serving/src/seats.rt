@@ -1,0 +1,220 @@
+// Desks with their passes, at which workers serve beside each other.
+
+ghost use Rattle.std.specs.Prelude.{◌≡◌, ◌≢◌, ◌⊎◌, ◌+◌, ◌^◌, ◌≤◌, ◌<◌, ℕ, List, [], ◌∷◌, ◌++◌, map, length, slice_index_or, true, false, Ok, Err, IfOk, OnErr, vec_len, vec_capacity};
+ghost use Rattle.std.specs.List.{All, AllByRecursion, sum_by, list_any};
+ghost use Rattle.server_desk.specs.Doors.{started, shared};
+ghost use Rattle.serving.specs.Seating.{seated, is_left, OpenedSo, AllOpened, Opened, SeatServed, SeatsServed, OpenedAndServed};
+ghost use Rattle.sso_base.specs.Faults.{Rose};
+ghost use Rattle.turn_store.specs.Passes.{IsPassOf, number_of, front_of};
+ghost use Rattle.serving.specs.Work.{MadeAll};
+ghost use Rattle.serving.specs.Working as spec;
+
+use crate::role::Role;
+use crate::work::{WorkEnd, Worked, serve_desk};
+use server_desk::{Clock, Desk, Door, Draw, Link};
+use sso_base::{Core, Text};
+use std::alloc::Global;
+use std::sync::Wait;
+use std::thread::{Threads, for_each_mut};
+use turn_store::{Pass, Turn};
+
+/// A desk with its pass.
+#[derive(Drop)]
+pub struct Seat<O: Core, D: Drop, L: Drop, C: Drop, W: Drop> {
+    pub desk: Desk<D, L, C, W>,
+    pub pass: Pass<O>,
+    /// Whether its door listens.
+    pub listens: bool,
+    /// What its worker did.
+    pub worked: Worked,
+}
+
+/// Where workers serve at the seats: they were dealt to these desks and passes, and nobody served yet.
+pub fn sit<O: Core, D: Door, L: Link, C: Clock, W: Draw>(
+    desks: &mut Vec<Desk<D, L, C, W>>,
+    passes: &mut Vec<Pass<O>>,
+    seats: &mut Vec<Seat<O, D, L, C, W>>,
+)
+    requires empty { seats.old.items ≡ [] }
+    requires same { length desks.old.items ≡ length passes.old.items }
+    requires room { length desks.old.items ≤ vec_capacity seats.old }
+    ensures seats { seats.new.items ≡ seated desks.old.items passes.old.items }
+    ensures desks { (desks.new.items ≡ []) × (length desks.old.items ≤ vec_capacity desks.new) }
+    ensures passes { (passes.new.items ≡ []) × (length passes.old.items ≤ vec_capacity passes.new) }
+{
+    for _ in 0..desks.len() {
+        let desk = desks.remove(0);
+        let pass = passes.remove(0);
+        seats.push_reserved(Seat {
+            desk,
+            pass,
+            listens: false,
+            worked: Worked {
+                served: 0,
+                end: WorkEnd::DoorFault,
+            },
+        });
+    }
+}
+
+// Whether its door listens now, at the place.
+fn open_seat<O: Core, D: Door, L: Link, C: Clock, W: Draw>(
+    seat: &mut Seat<O, D, L, C, W>,
+    place: &Text,
+)
+    ensures { OpenedSo D.state D.closings D.faults (λ door. started door place.now) seat.old seat.new }
+{
+    seat.listens = seat.desk.door.start(place).is_ok();
+}
+
+// Whether its door listens now, where the first does.
+fn share_seat<O: Core, D: Door, L: Link, C: Clock, W: Draw>(
+    seat: &mut Seat<O, D, L, C, W>,
+    first: &D,
+)
+    ensures { OpenedSo D.state D.closings D.faults (λ door. shared door (D.state first.now)) seat.old seat.new }
+{
+    seat.listens = seat.desk.door.share(first).is_ok();
+}
+
+// The doors of these seats listen where the first does.
+fn share_seats<O: Core, D: Door, L: Link, C: Clock, W: Draw>(
+    seats: &mut [Seat<O, D, L, C, W>],
+    first: &D,
+)
+    ensures { AllOpened D.state D.closings D.faults (λ door. shared door (D.state first.now)) seats.old seats.new }
+{
+    for seat in seats {
+        share_seat(seat, first);
+    }
+}
+
+/// The first door listens at the place, and the others where it does. A seat is open where its door listens.
+pub fn open_doors<O: Core, D: Door, L: Link, C: Clock, W: Draw>(
+    seats: &mut [Seat<O, D, L, C, W>],
+    place: &Text,
+)
+    requires some { 0 < length seats.old }
+    ensures { Opened D.state D.closings D.faults place.now seats.old seats.new }
+{
+    let Some((first, others)) = seats.split_first_mut() else {
+        return;
+    };
+    open_seat(first, place);
+    if first.listens {
+        share_seats(others, &first.desk.door);
+    }
+}
+
+// Serves at one seat, where it is open.
+fn serve_seat<R: Wait, X: Role, D: Door, L: Link, C: Clock, W: Draw>(
+    rt: &R,
+    alloc: Global,
+    role: &X,
+    store: &Turn<X::Core>,
+    seat: &mut Seat<X::Core, D, L, C, W>,
+)
+    requires ready { X.ready role.now }
+    requires pass { IsPassOf X.Core.setup X.Core.is_legal store.now seat.old.pass }
+    requires given { (D.state seat.old.desk.door).given < 2 ^ 63 }
+    requires turns { seat.old.desk.turns ≤ 2 ^ 56 }
+    requires idle { seat.old.worked.served ≡ 0 }
+    ensures pass { IsPassOf X.Core.setup X.Core.is_legal store.now seat.new.pass }
+    ensures served { SeatServed (record { state = D.state; closings = D.closings; door_faults = D.faults; exchanges = L.exchanges; moments = C.ahead; words = W.ahead; left = D.Source.left; read_faults = D.Source.faults; taken = D.Sink.taken; write_faults = D.Sink.faults }) (X.manner role.now) seat.old seat.new }
+{
+    if seat.listens {
+        seat.worked = serve_desk(rt, alloc, role, store, &mut seat.pass, &mut seat.desk);
+    }
+}
+
+/// Serves at all open seats beside each other, one thread a seat; where no thread can be made, its starter serves there.
+pub fn serve_seats<R: Threads + Wait + Sync, X: Role, D: Door, L: Link, C: Clock, W: Draw>(
+    rt: &R,
+    alloc: Global,
+    role: &X,
+    store: &Turn<X::Core>,
+    seats: &mut [Seat<X::Core, D, L, C, W>],
+)
+where
+    <X::Core as Core>::Ask: Send,
+    <X::Core as Core>::Reply: Send,
+    requires ready { X.ready role.now }
+    requires some { 0 < length seats.old }
+    requires seats { All (λ seat. IsPassOf X.Core.setup X.Core.is_legal store.now seat.pass × ((D.state seat.desk.door).given < 2 ^ 63) × (seat.desk.turns ≤ 2 ^ 56) × (seat.worked.served ≡ 0)) seats.old }
+    ensures passes { All (λ seat. IsPassOf X.Core.setup X.Core.is_legal store.now seat.pass) seats.new }
+    ensures served { SeatsServed (record { state = D.state; closings = D.closings; door_faults = D.faults; exchanges = L.exchanges; moments = C.ahead; words = W.ahead; left = D.Source.left; read_faults = D.Source.faults; taken = D.Sink.taken; write_faults = D.Sink.faults }) (X.manner role.now) seats.old seats.new }
+{
+    let count = seats.len();
+    for_each_mut(
+        rt,
+        seats,
+        count,
+        &|_, seat: &mut Seat<X::Core, D, L, C, W>|
+            requires { X.ready role.now × IsPassOf X.Core.setup X.Core.is_legal store.now seat.now.pass × ((D.state seat.now.desk.door).given < 2 ^ 63) × (seat.now.desk.turns ≤ 2 ^ 56) × (seat.now.worked.served ≡ 0) }
+            ensures { IsPassOf X.Core.setup X.Core.is_legal store.entry.now seat.exit.now.pass × SeatServed (record { state = D.state; closings = D.closings; door_faults = D.faults; exchanges = L.exchanges; moments = C.ahead; words = W.ahead; left = D.Source.left; read_faults = D.Source.faults; taken = D.Sink.taken; write_faults = D.Sink.faults }) (X.manner role.entry.now) seat.entry.now seat.exit.now }
+        { serve_seat(rt, alloc, role, store, seat) },
+    );
+}
+
+/// Opens the doors, the first at the place and the others where it listens, and then serves at all open seats.
+pub fn open_and_serve<R: Threads + Wait + Sync, X: Role, D: Door, L: Link, C: Clock, W: Draw>(
+    rt: &R,
+    alloc: Global,
+    role: &X,
+    store: &Turn<X::Core>,
+    seats: &mut [Seat<X::Core, D, L, C, W>],
+    place: &Text,
+)
+where
+    <X::Core as Core>::Ask: Send,
+    <X::Core as Core>::Reply: Send,
+    requires ready { X.ready role.now }
+    requires some { 0 < length seats.old }
+    requires seats { All (λ seat. IsPassOf X.Core.setup X.Core.is_legal store.now seat.pass × ((D.state seat.desk.door).given < 2 ^ 63) × (seat.desk.turns ≤ 2 ^ 56) × (seat.worked.served ≡ 0)) seats.old }
+    ensures passes { All (λ seat. IsPassOf X.Core.setup X.Core.is_legal store.now seat.pass) seats.new }
+    ensures served { OpenedAndServed (record { state = D.state; closings = D.closings; door_faults = D.faults; exchanges = L.exchanges; moments = C.ahead; words = W.ahead; left = D.Source.left; read_faults = D.Source.faults; taken = D.Sink.taken; write_faults = D.Sink.faults }) (X.manner role.now) place.now seats.old seats.new }
+{
+    open_doors(seats, place);
+    serve_seats(rt, alloc, role, store, seats);
+}
+
+/// How many connections were served at all seats, and whether one was left because its door failed.
+#[derive(Clone, Copy)]
+pub struct Count {
+    pub served: u64,
+    pub fault: bool,
+}
+
+/// Gives desks and passes back, in their order, and counts.
+pub fn rise<O: Core, D: Door, L: Link, C: Clock, W: Draw>(
+    seats: &mut Vec<Seat<O, D, L, C, W>>,
+    desks: &mut Vec<Desk<D, L, C, W>>,
+    passes: &mut Vec<Pass<O>>,
+) -> Count
+    requires empty { (desks.old.items ≡ []) × (passes.old.items ≡ []) }
+    requires few { length seats.old.items ≤ 64 }
+    requires served { All (λ seat. seat.worked.served ≤ 2 ^ 56) seats.old.items }
+    requires room { (length seats.old.items ≤ vec_capacity desks.old) × (length seats.old.items ≤ vec_capacity passes.old) }
+    ensures desks { desks.new.items ≡ map (λ seat. seat.desk) seats.old.items }
+    ensures passes { passes.new.items ≡ map (λ seat. seat.pass) seats.old.items }
+    ensures served { result.served ≡ sum_by (λ seat. seat.worked.served) seats.old.items }
+    ensures fault { result.fault ≡ list_any is_left seats.old.items }
+{
+    let mut count = Count {
+        served: 0,
+        fault: false,
+    };
+    for _ in 0..seats.len() {
+        let Seat {
+            desk,
+            pass,
+            worked,
+            ..
+        } = seats.remove(0);
+        count.served += worked.served;
+        count.fault = count.fault || worked.end == WorkEnd::DoorFault;
+        desks.push_reserved(desk);
+        passes.push_reserved(pass);
+    }
+    count
+}

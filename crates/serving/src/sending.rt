@@ -1,0 +1,61 @@
+// Messages are sent over a link.
+
+ghost use Rattle.std.specs.Prelude.{◌≡◌, ◌≤◌, ℕ, List, [], ◌∷◌, map, length, IfOk};
+ghost use Rattle.server_desk.specs.Links.{after_exchange};
+ghost use Rattle.serving.specs.LinkCalls.{LinkCall, sending_of, after_calls, sent_by};
+
+use server_desk::{Link, LinkNo};
+use sso_base::{Blob, Message, Messages, NoMemory, Text};
+use sso_http::{message_place, print_message};
+use std::alloc::Global;
+
+/// The most bytes that are taken of an answer (own).
+const MOST_ANSWER: usize = 65_536;
+
+/// A message as it is sent.
+#[derive(Drop)]
+pub struct Sending {
+    /// `HOST:PORT`
+    pub to: Text,
+    /// Its bytes.
+    pub bytes: Blob,
+}
+
+/// A message, printed.
+pub fn printed(alloc: Global, message: &Message) -> Result<Sending, NoMemory>
+    ensures { IfOk result (λ s. s ≡ sending_of message.now) }
+{
+    Ok(Sending {
+        to: message_place(alloc, message)?,
+        bytes: print_message(alloc, message)?,
+    })
+}
+
+/// Messages, printed, in their order.
+pub fn printed_all(alloc: Global, messages: &Messages) -> Result<Vec<Sending>, NoMemory>
+    ensures { IfOk result (λ v. v.items ≡ map sending_of messages.now) }
+{
+    let mut all = Vec::new(alloc);
+    for i in 0..messages.count() {
+        all.push(printed(alloc, messages.at(i))?)?;
+    }
+    Ok(all)
+}
+
+/// Sends a message, and answers what comes back, at most 65,536 bytes of it.
+pub fn send<L: Link>(alloc: Global, link: &mut L, sending: &Sending) -> Result<Blob, LinkNo>
+    ensures told { L.exchanges link.new ≡ after_exchange (L.exchanges link.old) sending.now.to sending.now.bytes result }
+    ensures later { L.faults link.old ≤ L.faults link.new }
+{
+    link.exchange(alloc, &sending.to, sending.bytes.as_bytes(), MOST_ANSWER)
+}
+
+/// Sends each message once, in their order. What comes back is of no interest, nor whether anything does.
+pub fn send_all<L: Link>(alloc: Global, link: &mut L, all: &[Sending])
+    ensures sent { (calls : List LinkCall) × (sent_by calls ≡ all.now) × (L.exchanges link.new ≡ after_calls (L.exchanges link.old) calls) }
+    ensures later { L.faults link.old ≤ L.faults link.new }
+{
+    for sending in all {
+        let _ = send(alloc, link, sending);
+    }
+}

@@ -1,0 +1,265 @@
+// One connection is served.
+
+ghost use Rattle.std.specs.Prelude.{◌≡◌, ◌≢◌, ◌⊎◌, ◌+◌, ◌≤◌, ◌<◌, ◌++◌, ◌∷◌, ℕ, List, [], map, length, Ok, Err, Some, None, IfOk, IfErr, IfSome, OnErr};
+ghost use Rattle.server_desk.specs.Ahead.{MovedOn};
+ghost use Rattle.server_desk.specs.Links.{after_exchange};
+ghost use Rattle.turn_store.specs.Passes.{IsPassOf, number_of, front_of};
+ghost use Rattle.serving.specs.LinkCalls.{LinkCall, sending_of, after_calls, sent_by};
+ghost use Rattle.serving.specs.Manner.{Manner, bytes_by};
+ghost use Rattle.serving.specs.Serving as spec;
+ghost use Rattle.serving.specs.Told.{bytes_of, end_of};
+ghost use Rattle.serving.specs.Work.{Work, Did};
+ghost use Rattle.serving.specs.Writing.{Wrote};
+
+use crate::ends::{Served, ServedEnd};
+use crate::no_reply::NoReply;
+use crate::role::Role;
+use crate::sending::{Sending, printed, printed_all, send, send_all};
+use crate::step::step;
+use crate::writing::{write_end, write_without};
+use server_desk::{Clock, Connection, Draw, Link, LinkNo, Source};
+use sso_base::{Answered, Blob, Core, Message, NoMemory, Sink};
+use sso_http::{HttpNo, print_reply, read_ask, read_peer};
+use std::alloc::Global;
+use std::sync::Wait;
+use turn_store::{Pass, Turn};
+
+// What the request of a connection asks.
+fn asked<X: Role, S: Source>(
+    alloc: Global,
+    role: &X,
+    source: &mut S,
+) -> Result<<X::Core as Core>::Ask, NoReply>
+    requires { X.ready role.now }
+    ensures ok { IfOk result (spec.IsAsked (X.manner role.now) (S.left source.old) (S.left source.new)) }
+    ensures err { IfErr result (spec.IsUnread (X.manner role.now) (S.left source.old) (S.left source.new) (S.faults source.old) (S.faults source.new)) }
+{
+    let (first, second) = role.cookies(alloc)?;
+    match read_ask(alloc, source, &first, &second) {
+        Ok(request) => Ok(role.prepare(alloc, &request)?),
+        Err(HttpNo::NoMemory) => Err(NoReply::NoMemory),
+        Err(why) => Err(NoReply::Http(why)),
+    }
+}
+
+// The answer of another server, by what came back over the link.
+fn peer_answer(alloc: Global, back: Result<Blob, LinkNo>) -> Result<Answered, NoReply>
+    ensures { spec.IsPeerAnswer back result }
+{
+    match back {
+        Ok(bytes) => match read_peer(alloc, bytes.as_bytes())? {
+            Some(answer) => Ok(answer),
+            None => Err(NoReply::Peer),
+        },
+        Err(LinkNo::NoMemory) => Err(NoReply::NoMemory),
+        Err(LinkNo::Failed) => Err(NoReply::Link),
+    }
+}
+
+// Sends a question, and reads its answer.
+fn answer_to<L: Link>(alloc: Global, link: &mut L, question: &Message) -> Result<Answered, NoReply>
+    ensures { spec.AskedPeer (L.exchanges link.old) (L.exchanges link.new) question.now result }
+{
+    let sending = printed(alloc, question)?;
+    let back = send(alloc, link, &sending);
+    peer_answer(alloc, back)
+}
+
+// What the answer to the question of a reply asks.
+fn asked_back<X: Role, L: Link>(
+    alloc: Global,
+    role: &X,
+    link: &mut L,
+    reply: &<X::Core as Core>::Reply,
+    question: &Message,
+) -> Result<<X::Core as Core>::Ask, NoReply>
+    requires ready { X.ready role.now }
+    requires question { (X.manner role.now).question reply.now ≡ Some question.now }
+    ensures { (calls : List LinkCall) × (L.exchanges link.new ≡ after_calls (L.exchanges link.old) calls) × spec.IsAnswered (X.manner role.now) reply.now calls result }
+{
+    let answer = answer_to(alloc, link, question)?;
+    Ok(role.prepare_answer(alloc, reply, &answer)?)
+}
+
+// The reply after the question of a reply was answered, or that reply where it puts none.
+fn follow<R: Wait, X: Role, L: Link, C: Clock, W: Draw>(
+    rt: &R,
+    alloc: Global,
+    role: &X,
+    store: &Turn<X::Core>,
+    pass: &mut Pass<X::Core>,
+    link: &mut L,
+    clock: &mut C,
+    draw: &mut W,
+    places: &mut u64,
+    reply: <X::Core as Core>::Reply,
+) -> Result<<X::Core as Core>::Reply, NoReply>
+    requires ready { X.ready role.now }
+    requires pass { IsPassOf X.Core.setup X.Core.is_legal store.now pass.old }
+    requires places { places.old ≤ 2 }
+    ensures pass { IsPassOf X.Core.setup X.Core.is_legal store.now pass.new }
+    ensures number { number_of pass.new ≡ number_of pass.old }
+    ensures followed { (w : Work X.Core.Ask X.Core.Reply) × Did pass.old pass.new (L.exchanges link.old) (L.exchanges link.new) (C.ahead clock.old) (C.ahead clock.new) (W.ahead draw.old) (W.ahead draw.new) w × spec.Round (X.manner role.now) X.rounds (front_of pass.new) reply w result × (places.new ≡ places.old + length w.steps) }
+{
+    let ask = match role.question(&reply) {
+        None => return Ok(reply),
+        Some(question) => asked_back(alloc, role, link, &reply, question)?,
+    };
+    drop(reply);
+    let next = step(rt, alloc, store, pass, clock, draw, ask)?;
+    *places += 1;
+    Ok(next)
+}
+
+// The last reply, from a first one on: at most two questions are put.
+fn last_reply<R: Wait, X: Role, L: Link, C: Clock, W: Draw>(
+    rt: &R,
+    alloc: Global,
+    role: &X,
+    store: &Turn<X::Core>,
+    pass: &mut Pass<X::Core>,
+    link: &mut L,
+    clock: &mut C,
+    draw: &mut W,
+    places: &mut u64,
+    reply: <X::Core as Core>::Reply,
+) -> Result<<X::Core as Core>::Reply, NoReply>
+    requires ready { X.ready role.now }
+    requires pass { IsPassOf X.Core.setup X.Core.is_legal store.now pass.old }
+    requires places { places.old ≡ 1 }
+    ensures pass { IsPassOf X.Core.setup X.Core.is_legal store.now pass.new }
+    ensures number { number_of pass.new ≡ number_of pass.old }
+    ensures places { places.new ≤ 3 }
+    ensures followed { (w : Work X.Core.Ask X.Core.Reply) × Did pass.old pass.new (L.exchanges link.old) (L.exchanges link.new) (C.ahead clock.old) (C.ahead clock.new) (W.ahead draw.old) (W.ahead draw.new) w × spec.Rest (X.manner role.now) (front_of pass.new) reply w.steps w.calls result × (places.new ≡ places.old + length w.steps) }
+{
+    let second = follow(
+        rt, alloc, role, store, pass, link, clock, draw, places, reply,
+    )?;
+    follow(
+        rt, alloc, role, store, pass, link, clock, draw, places, second,
+    )
+}
+
+// The reply to the request of a connection, after all questions, or why there is none.
+fn reply_to<R: Wait, X: Role, S: Source, L: Link, C: Clock, W: Draw>(
+    rt: &R,
+    alloc: Global,
+    role: &X,
+    store: &Turn<X::Core>,
+    pass: &mut Pass<X::Core>,
+    source: &mut S,
+    link: &mut L,
+    clock: &mut C,
+    draw: &mut W,
+    places: &mut u64,
+) -> Result<<X::Core as Core>::Reply, NoReply>
+    requires ready { X.ready role.now }
+    requires pass { IsPassOf X.Core.setup X.Core.is_legal store.now pass.old }
+    requires places { places.old ≡ 0 }
+    ensures pass { IsPassOf X.Core.setup X.Core.is_legal store.now pass.new }
+    ensures number { number_of pass.new ≡ number_of pass.old }
+    ensures places { places.new ≤ 3 }
+    ensures memory { result ≢ Err (NoReply.Http HttpNo.NoMemory) }
+    ensures replied { (w : Work X.Core.Ask X.Core.Reply) × Did pass.old pass.new (L.exchanges link.old) (L.exchanges link.new) (C.ahead clock.old) (C.ahead clock.new) (W.ahead draw.old) (W.ahead draw.new) w × spec.IsRun (X.manner role.now) (S.left source.old) (S.left source.new) w.steps w.calls × spec.Cause (X.manner role.now) (S.left source.old) (S.left source.new) (S.faults source.old) (S.faults source.new) (front_of pass.new) w.steps w.calls result × (places.new ≡ length w.steps) }
+{
+    let ask = asked(alloc, role, source)?;
+    let first = step(rt, alloc, store, pass, clock, draw, ask)?;
+    *places += 1;
+    last_reply(
+        rt, alloc, role, store, pass, link, clock, draw, places, first,
+    )
+}
+
+// What is written at the end: a reply as it goes out, and its notices.
+#[derive(Drop)]
+struct Page {
+    notices: Vec<Sending>,
+    bytes: Blob,
+}
+
+fn printed_page<X: Role>(
+    alloc: Global,
+    role: &X,
+    reply: &<X::Core as Core>::Reply,
+) -> Result<Page, NoMemory>
+    requires { X.ready role.now }
+    ensures notices { IfOk result (λ page. page.notices.items ≡ map sending_of ((X.manner role.now).notices reply.now)) }
+    ensures bytes { IfOk result (λ page. page.bytes ≡ bytes_by (X.manner role.now) reply.now) }
+{
+    let notices = match role.notices(reply) {
+        Some(notices) => printed_all(alloc, notices)?,
+        None => Vec::new(alloc),
+    };
+    let http = role.http(alloc, reply)?;
+    Ok(Page {
+        notices,
+        bytes: print_reply(alloc, &http)?,
+    })
+}
+
+// Sends the notices of the last reply, each once and in their order, and writes the reply.
+fn tell<X: Role, K: Sink, L: Link>(
+    alloc: Global,
+    role: &X,
+    sink: &mut K,
+    link: &mut L,
+    reply: &<X::Core as Core>::Reply,
+) -> ServedEnd
+    requires { X.ready role.now }
+    ensures { spec.Tells (X.manner role.now) (L.exchanges link.old) (L.exchanges link.new) K.taken K.faults sink.old sink.new reply.now result }
+{
+    match printed_page(alloc, role, reply) {
+        Ok(page) => {
+            send_all(alloc, link, &page.notices);
+            write_end(sink, page.bytes.as_bytes(), ServedEnd::Written)
+        }
+        Err(_) => write_without(alloc, sink, NoReply::NoMemory),
+    }
+}
+
+/// Serves one connection: it reads one request, steps the core, puts its questions to other servers, sends its notices, and writes
+/// the reply, or what stands in its place.
+pub fn serve_connection<
+    R: Wait,
+    X: Role,
+    S: Source + Drop,
+    K: Sink + Drop,
+    L: Link,
+    C: Clock,
+    W: Draw,
+>(
+    rt: &R,
+    alloc: Global,
+    role: &X,
+    store: &Turn<X::Core>,
+    pass: &mut Pass<X::Core>,
+    connection: &mut Connection<S, K>,
+    link: &mut L,
+    clock: &mut C,
+    draw: &mut W,
+) -> Served
+    requires ready { X.ready role.now }
+    requires pass { IsPassOf X.Core.setup X.Core.is_legal store.now pass.old }
+    ensures pass { IsPassOf X.Core.setup X.Core.is_legal store.now pass.new }
+    ensures number { number_of pass.new ≡ number_of pass.old }
+    ensures served { (w : Work X.Core.Ask X.Core.Reply) × Did pass.old pass.new (L.exchanges link.old) (L.exchanges link.new) (C.ahead clock.old) (C.ahead clock.new) (W.ahead draw.old) (W.ahead draw.new) w × spec.Serves (X.manner role.now) S.left S.faults K.taken K.faults (front_of pass.new) connection.old connection.new w result }
+{
+    let mut places = 0;
+    let outcome = reply_to(
+        rt,
+        alloc,
+        role,
+        store,
+        pass,
+        &mut connection.source,
+        link,
+        clock,
+        draw,
+        &mut places,
+    );
+    let end = match outcome {
+        Ok(reply) => tell(alloc, role, &mut connection.sink, link, &reply),
+        Err(why) => write_without(alloc, &mut connection.sink, why),
+    };
+    Served { places, end }
+}

@@ -1,0 +1,94 @@
+// A server: one worker a desk, over one store.
+
+ghost use Rattle.std.specs.Prelude.{◌≡◌, ◌^◌, ◌≤◌, ◌<◌, [], length, map, IfOk, OnErr, vec_capacity};
+ghost use Rattle.std.specs.List.{All};
+ghost use Rattle.turn_store.specs.Passes.{IsPassOf, HasDoneNothing, number_of, passes_of, setup_of};
+ghost use Rattle.turn_store.specs.Places.{numbers_from};
+ghost use Rattle.serving.specs.Summaries.{Summarises};
+
+use crate::role::Role;
+use crate::seats::{Seat, open_and_serve, rise, sit};
+use crate::summary::Summary;
+use server_desk::{Clock, Desk, Door, Draw, Link};
+use sso_base::{Core, NoMemory, Text};
+use std::alloc::Global;
+use std::sync::Wait;
+use std::thread::Threads;
+use turn_store::{Pass, Turn};
+
+// Serves at desks of which there is one at least. It takes no memory.
+fn serve_desks<R: Threads + Wait + Sync, X: Role, D: Door, L: Link, C: Clock, W: Draw>(
+    rt: &R,
+    alloc: Global,
+    role: &X,
+    store: Turn<X::Core>,
+    mut passes: Vec<Pass<X::Core>>,
+    mut seats: Vec<Seat<X::Core, D, L, C, W>>,
+    place: &Text,
+    desks: &mut Vec<Desk<D, L, C, W>>,
+) -> Summary<X::Core>
+where
+    <X::Core as Core>::Ask: Send,
+    <X::Core as Core>::Reply: Send,
+    requires ready { X.ready role.now }
+    requires passes { All (IsPassOf X.Core.setup X.Core.is_legal store) passes.items }
+    requires fresh { All HasDoneNothing passes.items }
+    requires order { map number_of passes.items ≡ numbers_from 0 (passes_of store) }
+    requires same { length passes.items ≡ length desks.old.items }
+    requires some { 0 < length desks.old.items }
+    requires few { length desks.old.items ≤ 64 }
+    requires seats { (seats.items ≡ []) × (length desks.old.items ≤ vec_capacity seats) }
+    requires desks { All (λ desk. (desk.turns ≤ 2 ^ 56) × ((D.state desk.door).given < 2 ^ 63)) desks.old.items }
+    ensures { Summarises (record { state = D.state; closings = D.closings; door_faults = D.faults; exchanges = L.exchanges; moments = C.ahead; words = W.ahead; left = D.Source.left; read_faults = D.Source.faults; taken = D.Sink.taken; write_faults = D.Sink.faults }) (X.manner role.now) X.Core.setup X.Core.history X.Core.is_legal (setup_of X.Core.setup store) place.now desks.old.items desks.new.items result }
+{
+    sit(desks, &mut passes, &mut seats);
+    open_and_serve(rt, alloc, role, &store, seats.as_mut_slice(), place);
+    let count = rise(&mut seats, desks, &mut passes);
+    let closed = store.close(passes);
+    Summary {
+        served: count.served,
+        entries: closed.core.count(),
+        fault: count.fault,
+        closed: Some(closed),
+    }
+}
+
+/// Serves at these desks beside each other, one worker each, with this core, which was asked nothing yet. The first door listens at
+/// the place, and the others where it does. With no desk nothing is done.
+///
+/// There are at most 64 desks, each of at most 2^56 turns, whose doors gave fewer than 2^63 connections.
+///
+/// # Errors
+///
+/// `NoMemory` where memory ran out, before the first door was started: the desks are as they were, and the core is gone.
+pub fn serve<R: Threads + Wait + Sync, X: Role, D: Door, L: Link, C: Clock, W: Draw>(
+    rt: &R,
+    alloc: Global,
+    role: &X,
+    core: X::Core,
+    place: &Text,
+    desks: &mut Vec<Desk<D, L, C, W>>,
+) -> Result<Summary<X::Core>, NoMemory>
+where
+    <X::Core as Core>::Ask: Send,
+    <X::Core as Core>::Reply: Send,
+    requires ready { X.ready role.now }
+    requires empty { X.Core.history core ≡ [] }
+    requires few { length desks.old.items ≤ 64 }
+    requires desks { All (λ desk. (desk.turns ≤ 2 ^ 56) × ((D.state desk.door).given < 2 ^ 63)) desks.old.items }
+    ensures summary { IfOk result (Summarises (record { state = D.state; closings = D.closings; door_faults = D.faults; exchanges = L.exchanges; moments = C.ahead; words = W.ahead; left = D.Source.left; read_faults = D.Source.faults; taken = D.Sink.taken; write_faults = D.Sink.faults }) (X.manner role.now) X.Core.setup X.Core.history X.Core.is_legal (X.Core.setup core) place.now desks.old.items desks.new.items) }
+    ensures memory { OnErr result (desks.new.items ≡ desks.old.items) }
+{
+    let count = desks.len();
+    if count == 0 {
+        return Ok(Summary {
+            served: 0,
+            entries: 0,
+            fault: false,
+            closed: None,
+        });
+    }
+    let (store, passes) = Turn::new(alloc, core, count as u32)?;
+    let seats = Vec::with_capacity(alloc, count)?;
+    Ok(serve_desks(rt, alloc, role, store, passes, seats, place, desks))
+}

@@ -1,0 +1,134 @@
+// A worker serves the connections of its door, one after another.
+
+ghost use Rattle.std.specs.Prelude.{◌≡◌, ◌≢◌, ◌⊎◌, ◌+◌, ◌^◌, ◌≤◌, ◌<◌, ℕ, List, [], ◌∷◌, length, Ok, Err, IfOk, OnErr};
+ghost use Rattle.sso_base.specs.Faults.{Rose};
+ghost use Rattle.turn_store.specs.Passes.{IsPassOf, number_of, front_of};
+ghost use Rattle.serving.specs.Work.{MadeAll};
+ghost use Rattle.serving.specs.Working as spec;
+
+use crate::role::Role;
+use crate::serve_one::serve_connection;
+use server_desk::{Clock, Desk, Door, DoorFault, Draw, Link};
+use std::alloc::Global;
+use std::sync::Wait;
+use turn_store::{Pass, Turn};
+
+/// Why a worker ended.
+#[derive(Clone, Copy, Debug, PartialEq, Eq)]
+pub enum WorkEnd {
+    /// It served as many connections as its desk has turns.
+    Turns,
+    /// Its door said that it is closed.
+    DoorClosed,
+    /// Its door failed.
+    DoorFault,
+}
+
+/// What a worker did.
+#[derive(Clone, Copy, Debug, PartialEq, Eq)]
+pub struct Worked {
+    /// How many connections it served.
+    pub served: u64,
+    /// Why it ended.
+    pub end: WorkEnd,
+}
+
+// What came of waiting for one connection.
+#[derive(Clone, Copy, PartialEq, Eq)]
+enum Next {
+    Served,
+    Closed,
+    Fault,
+}
+
+// Waits for the next connection, and serves it.
+fn serve_next<R: Wait, X: Role, D: Door, L: Link, C: Clock, W: Draw>(
+    rt: &R,
+    alloc: Global,
+    role: &X,
+    store: &Turn<X::Core>,
+    pass: &mut Pass<X::Core>,
+    desk: &mut Desk<D, L, C, W>,
+) -> Next
+    requires ready { X.ready role.now }
+    requires pass { IsPassOf X.Core.setup X.Core.is_legal store.now pass.old }
+    requires given { (D.state desk.old.door).given + 1 < 2 ^ 64 }
+    ensures pass { IsPassOf X.Core.setup X.Core.is_legal store.now pass.new }
+    ensures number { number_of pass.new ≡ number_of pass.old }
+    ensures turns { desk.new.turns ≡ desk.old.turns }
+    ensures place { (D.state desk.new.door).place ≡ (D.state desk.old.door).place }
+    ensures closings { D.closings desk.old.door ≤ D.closings desk.new.door }
+    ensures faults { D.faults desk.old.door ≤ D.faults desk.new.door }
+    ensures closed { result ≡ Next.Closed → Rose (D.closings desk.old.door) (D.closings desk.new.door) }
+    ensures fault { result ≡ Next.Fault → Rose (D.faults desk.old.door) (D.faults desk.new.door) }
+    ensures worked { (services : List (spec.Service D.Source D.Sink X.Core.Ask X.Core.Reply)) × MadeAll pass.old pass.new (spec.steps_in services) × spec.AtDesk (X.manner role.now) D.Source.left D.Source.faults D.Sink.taken D.Sink.faults (front_of pass.new) (D.state desk.old.door) (D.state desk.new.door) (L.exchanges desk.old.link) (L.exchanges desk.new.link) (C.ahead desk.old.clock) (C.ahead desk.new.clock) (W.ahead desk.old.draw) (W.ahead desk.new.draw) services × spec.IsNumber result (length services) }
+{
+    match desk.door.next() {
+        Ok(Some(mut connection)) => {
+            serve_connection(
+                rt,
+                alloc,
+                role,
+                store,
+                pass,
+                &mut connection,
+                &mut desk.link,
+                &mut desk.clock,
+                &mut desk.draw,
+            );
+            desk.door.done(connection);
+            Next::Served
+        }
+        Ok(None) => Next::Closed,
+        Err(DoorFault) => Next::Fault,
+    }
+}
+
+/// Serves connections of the desk's door, one after another, until it served as many as the desk has turns, or the door says that it
+/// is closed, or fails. Each connection is given back to the door once it was served.
+pub fn serve_desk<R: Wait, X: Role, D: Door, L: Link, C: Clock, W: Draw>(
+    rt: &R,
+    alloc: Global,
+    role: &X,
+    store: &Turn<X::Core>,
+    pass: &mut Pass<X::Core>,
+    desk: &mut Desk<D, L, C, W>,
+) -> Worked
+    requires ready { X.ready role.now }
+    requires pass { IsPassOf X.Core.setup X.Core.is_legal store.now pass.old }
+    requires given { (D.state desk.old.door).given < 2 ^ 63 }
+    requires turns { desk.old.turns ≤ 2 ^ 56 }
+    ensures pass { IsPassOf X.Core.setup X.Core.is_legal store.now pass.new }
+    ensures number { number_of pass.new ≡ number_of pass.old }
+    ensures turns { desk.new.turns ≡ desk.old.turns }
+    ensures place { (D.state desk.new.door).place ≡ (D.state desk.old.door).place }
+    ensures closings { D.closings desk.old.door ≤ D.closings desk.new.door }
+    ensures faults { D.faults desk.old.door ≤ D.faults desk.new.door }
+    ensures bound { result.served ≤ desk.old.turns }
+    ensures used { (result.end ≡ WorkEnd.Turns → result.served ≡ desk.old.turns) × (result.served ≡ desk.old.turns → result.end ≡ WorkEnd.Turns) }
+    ensures closed { result.end ≡ WorkEnd.DoorClosed → Rose (D.closings desk.old.door) (D.closings desk.new.door) }
+    ensures fault { result.end ≡ WorkEnd.DoorFault → Rose (D.faults desk.old.door) (D.faults desk.new.door) }
+    ensures worked { (services : List (spec.Service D.Source D.Sink X.Core.Ask X.Core.Reply)) × MadeAll pass.old pass.new (spec.steps_in services) × spec.AtDesk (X.manner role.now) D.Source.left D.Source.faults D.Sink.taken D.Sink.faults (front_of pass.new) (D.state desk.old.door) (D.state desk.new.door) (L.exchanges desk.old.link) (L.exchanges desk.new.link) (C.ahead desk.old.clock) (C.ahead desk.new.clock) (W.ahead desk.old.draw) (W.ahead desk.new.draw) services × (result.served ≡ length services) }
+{
+    for served in 0..desk.turns {
+        match serve_next(rt, alloc, role, store, pass, desk) {
+            Next::Served => {}
+            Next::Closed => {
+                return Worked {
+                    served,
+                    end: WorkEnd::DoorClosed,
+                };
+            }
+            Next::Fault => {
+                return Worked {
+                    served,
+                    end: WorkEnd::DoorFault,
+                };
+            }
+        }
+    }
+    Worked {
+        served: desk.turns,
+        end: WorkEnd::Turns,
+    }
+}

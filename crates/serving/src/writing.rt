@@ -1,0 +1,49 @@
+// What a connection is told is written.
+
+ghost use Rattle.std.specs.Prelude.{◌≡◌, ◌≢◌, ◌⊎◌, ◌≤◌, ℕ, List, Err, Some};
+ghost use Rattle.serving.specs.Told as spec;
+ghost use Rattle.serving.specs.Writing.{Wrote, WroteWithout};
+
+use crate::ends::ServedEnd;
+use crate::no_reply::{NoReply, told};
+use sso_base::{Sink, write_whole};
+use sso_http::HttpNo;
+use std::alloc::Global;
+
+/// What is told where memory ran out: it takes none.
+const MEMORY: &[u8] =
+    b"HTTP/1.1 503 Service Unavailable\r\nCache-Control: no-store\r\nContent-Type: text/plain; charset=utf-8\r\nContent-Length: 7\r\nConnection: close\r\n\r\nmemory\n";
+
+/// Writes the bytes, and answers this end, or that the sink failed.
+pub fn write_end<K: Sink>(sink: &mut K, bytes: &[u8], end: ServedEnd) -> ServedEnd
+    ensures wrote { Wrote K.taken K.faults sink.old sink.new (Some bytes.now) end result }
+    ensures later { K.faults sink.old ≤ K.faults sink.new }
+{
+    match write_whole(sink, bytes) {
+        Ok(()) => end,
+        Err(_) => ServedEnd::WriteFault,
+    }
+}
+
+// Says that memory ran out.
+#[tactic(auto, unfolding(crate::specs::Told::memory_bytes))]
+fn write_memory<K: Sink>(sink: &mut K) -> ServedEnd
+    ensures wrote { Wrote K.taken K.faults sink.old sink.new (spec.bytes_without NoReply.NoMemory) ServedEnd.NoMemory result }
+    ensures later { K.faults sink.old ≤ K.faults sink.new }
+{
+    write_end(sink, MEMORY, ServedEnd::NoMemory)
+}
+
+/// Writes what the connection is told in place of a reply, and answers how its serving ended. Where there is no memory to print
+/// it, that is told.
+pub fn write_without<K: Sink>(alloc: Global, sink: &mut K, no: NoReply) -> ServedEnd
+    requires { no ≢ NoReply.Http HttpNo.NoMemory }
+    ensures wrote { WroteWithout K.taken K.faults sink.old sink.new no result }
+    ensures later { K.faults sink.old ≤ K.faults sink.new }
+{
+    match told(alloc, &no) {
+        Ok(Some(bytes)) => write_end(sink, bytes.as_bytes(), no.end()),
+        Ok(None) => no.end(),
+        Err(_) => write_memory(sink),
+    }
+}

@@ -1,0 +1,84 @@
+-- What the two servers speak for.
+use Rattle.std.specs.Prelude.{ℕ, List, [], Option, Some, None}
+use Rattle.sso_base.specs.declared.message.Message.{Message}
+use Rattle.sso_base.specs.declared.message.Answered.{Answered}
+use Rattle.client_registry.specs.Configuration.{Configuration}
+use Rattle.client_registry.specs.Numbers.{party_row}
+use Rattle.op_exchange.specs.declared.ask.OpAsk.{OpAsk}
+use Rattle.op_exchange.specs.declared.ask.OpAsk.TheVariants as op_ask
+use Rattle.op_exchange.specs.declared.reply.OpReply.{OpReply}
+use Rattle.op_exchange.specs.declared.reply.OpReply.TheVariants.{SignedOut}
+use Rattle.op_exchange.specs.Weight as op_weight
+use Rattle.op_request.specs.Prepared as op_request
+use Rattle.op_response.specs.Cookies as op_cookies
+use Rattle.op_response.specs.Telling as op_telling
+use Rattle.op_answer.specs.Past.{OpPair}
+use Rattle.op_core.specs.Providing.{Providing}
+use Rattle.rp_exchange.specs.declared.ask.RpAsk.{RpAsk}
+use Rattle.rp_exchange.specs.declared.ask.RpAsk.TheVariants as rp_ask
+use Rattle.rp_exchange.specs.declared.reply.RpReply.{RpReply}
+use Rattle.rp_exchange.specs.declared.reply.RpReply.TheVariants.{Exchange, Fetch}
+use Rattle.rp_exchange.specs.Weight as rp_weight
+use Rattle.rp_request.specs.Prepared.{prepared, tokens_prepared, info_prepared}
+use Rattle.rp_response.specs.Cookies as rp_cookies
+use Rattle.rp_response.specs.Telling as rp_telling
+use Rattle.serving.specs.Manner.{Manner}
+
+-- ---- the provider
+
+-- a sign-out is told to the clients of the session (OpenID Connect Back-Channel Logout 1.0, 2.5)
+abbrev pub op_notices : OpReply → List Message
+op_notices (SignedOut messages) = messages
+op_notices reply = []
+
+-- it puts no questions
+abbrev pub op_manner : Configuration → Manner OpAsk OpReply
+op_manner c = record {
+  first = op_cookies.browser_cookie;
+  second = op_cookies.session_cookie;
+  prepared = op_request.prepared c;
+  question = λ reply. None;
+  answered = λ reply answer. op_ask.NotHere;
+  notices = op_notices;
+  http = op_telling.http_of c;
+  weighs = op_weight.ask_weight;
+}
+
+-- what the provider was set up with, and its history
+abbrev pub op_registry : Providing → Configuration
+op_registry p = p.registry
+
+abbrev pub op_history : Providing → List OpPair
+op_history p = p.history
+
+-- ---- the relying party of a number
+
+-- a token request and a UserInfo request are questions to the provider (OpenID Connect Core 1.0, 3.1.3.1 and 5.3.1)
+abbrev pub rp_question : RpReply → Option Message
+rp_question (Exchange pending message) = Some message
+rp_question (Fetch pending message) = Some message
+rp_question reply = None
+
+-- what the provider's answer asks
+abbrev pub rp_answered : Configuration → ℕ → RpReply → Answered → RpAsk
+rp_answered c n (Exchange pending message) answer = tokens_prepared c n pending answer
+rp_answered c n (Fetch pending message) answer = info_prepared pending answer
+rp_answered c n reply answer = rp_ask.NotHere
+
+-- after a token request a UserInfo request may follow, and after that one nothing
+abbrev pub rp_rounds : RpReply → ℕ
+rp_rounds (Exchange pending message) = 2
+rp_rounds (Fetch pending message) = 1
+rp_rounds reply = 0
+
+abbrev pub rp_manner : Configuration → ℕ → Manner RpAsk RpReply
+rp_manner c n = record {
+  first = rp_cookies.browser_cookie (party_row c n).name;
+  second = rp_cookies.session_cookie (party_row c n).name;
+  prepared = prepared c n;
+  question = rp_question;
+  answered = rp_answered c n;
+  notices = λ reply. [];
+  http = rp_telling.http_of c n;
+  weighs = rp_weight.ask_weight;
+}
