@@ -3,11 +3,13 @@
 ghost use Rattle.std.specs.Prelude.{◌≡◌, ◌≤◌, length, Option, None, IfSome};
 
 use crate::limit::Limit;
-use crate::read_ahead::{AHEAD, ReadAhead};
-use crate::wire::{receive, send};
+use crate::read_ahead::ReadAhead;
+use crate::wire::send;
 use server_desk::{Connection, Source, SourceFault};
 use sso_base::{Sink, SinkFault};
+use std::alloc::Global;
 use std::net::{Shutdown, TcpStream};
+use std::sync::Arc;
 use std::time::Clock;
 
 /// How many seconds the reply may take to be written, from its first byte on.
@@ -23,7 +25,7 @@ const DRAINED: usize = 1 << 20;
 #[derive(Drop)]
 pub struct TcpSource<'a, R: Clock> {
     clock: &'a R,
-    stream: TcpStream,
+    stream: Arc<TcpStream, Global>,
     ahead: ReadAhead,
     /// In how much time all has to come; none where the clock failed.
     limit: Option<Limit>,
@@ -36,17 +38,19 @@ pub struct TcpSource<'a, R: Clock> {
 #[derive(Drop)]
 pub struct TcpSink<'a, R: Clock> {
     clock: &'a R,
-    stream: TcpStream,
+    stream: Arc<TcpStream, Global>,
     /// In how much time all has to go; none before the first write.
     limit: Option<Limit>,
     faults: u64,
 }
 
 /// A stream as a connection: all of it is read within the first limit, no byte in so many seconds is a fault, and all is
-/// written within the second limit, or in 10 seconds from the first byte on. None where the stream fails.
-pub fn connection_over<'a, R: Clock>(
-    clock: &'a R,
+/// written within the second limit, or in 10 seconds from the first byte on. It reads ahead into this room, or into new
+/// room where there is none. None where the stream fails or memory runs out.
+pub fn connection_over<'a, R: Clock + AllocGlobal>(
+    rt: &'a R,
     stream: TcpStream,
+    room: Option<Vec<u8>>,
     reading: Option<Limit>,
     silence: u64,
     writing: Option<Limit>,
@@ -55,17 +59,19 @@ pub fn connection_over<'a, R: Clock>(
     ensures sink { IfSome result (λ c. ⟦<TcpSink<'a, R> as Sink>⟧.faults c.sink ≡ 0) }
 {
     stream.set_nodelay(true).ok()?;
-    let other = stream.try_clone().ok()?;
+    let ahead = ReadAhead::new(rt.alloc(), room).ok()?;
+    let stream = Arc::new(rt.alloc(), stream).ok()?;
+    let other = Arc::try_clone(&stream).ok()?;
     let source = TcpSource {
-        clock,
+        clock: rt,
         stream,
-        ahead: ReadAhead::new([0; AHEAD], 0),
+        ahead,
         limit: reading,
         silence,
         faults: 0,
     };
     let sink = TcpSink {
-        clock,
+        clock: rt,
         stream: other,
         limit: writing,
         faults: 0,
@@ -74,31 +80,21 @@ pub fn connection_over<'a, R: Clock>(
 }
 
 impl<'a, R: Clock> TcpSource<'a, R> {
-    // Reads ahead. None is a fault.
-    fn fill(&mut self) -> Option<()>
+    // Reads ahead, and answers how many bytes came. None is a fault.
+    fn fill(&mut self) -> Option<usize>
         ensures { self.new.faults ≡ self.old.faults }
     {
         let limit = self.limit?;
-        let mut bytes = [0u8; AHEAD];
-        let count = receive(
-            self.clock,
-            &mut self.stream,
-            &mut bytes,
-            &limit,
-            self.silence,
-        )?;
-        self.ahead = ReadAhead::new(bytes, count);
-        Some(())
+        self.ahead
+            .fill(self.clock, &self.stream, &limit, self.silence)
     }
 
-    // Whether bytes lie there that were not read. It does not wait.
+    // Whether bytes lie there that were not read. It does not wait. Where none lie there, later reads do not wait either.
     fn is_behind(&self) -> bool {
         let mut byte = [0u8; 1];
-        if self.stream.set_nonblocking(true).is_err() {
-            return false;
-        }
-        let peeked = self.stream.peek(&mut byte);
-        self.stream.set_nonblocking(false).is_ok() && matches!(peeked, Ok(1))
+        self.stream.set_nonblocking(true).is_ok()
+            && matches!(self.stream.peek(&mut byte), Ok(1))
+            && self.stream.set_nonblocking(false).is_ok()
     }
 
     // Takes in what still comes, for a moment.
@@ -106,11 +102,10 @@ impl<'a, R: Clock> TcpSource<'a, R> {
         let Some(limit) = Limit::start(self.clock, DRAINING) else {
             return;
         };
-        let mut bytes = [0u8; AHEAD];
         let mut drained = 0usize;
         while drained < DRAINED {
-            match receive(self.clock, &mut self.stream, &mut bytes, &limit, DRAINING) {
-                Some(count) if 0 < count => drained += count,
+            match self.ahead.fill(self.clock, &self.stream, &limit, DRAINING) {
+                Some(count) if 0 < count => drained = drained.saturating_add(count),
                 _ => return,
             }
         }
@@ -141,7 +136,7 @@ impl<'a, R: Clock> TcpSink<'a, R> {
             self.limit = Limit::start(self.clock, WRITING);
         }
         let limit = self.limit?;
-        send(self.clock, &mut self.stream, piece, &limit)
+        send(self.clock, &self.stream, piece, &limit)
     }
 }
 
@@ -162,11 +157,13 @@ impl<'a, R: Clock> Sink for TcpSink<'a, R> {
 }
 
 /// Ends a connection. Where bytes lie there that were not read, as of a request that was refused before its end, it first
-/// takes in what still comes, since the system would else reset the connection, and the reply might be lost.
-pub fn finish<R: Clock>(connection: Connection<TcpSource<'_, R>, TcpSink<'_, R>>) {
+/// takes in what still comes, since the system would else reset the connection, and the reply might be lost. It answers
+/// the room into which bytes were read ahead, for another connection.
+pub fn finish<R: Clock>(connection: Connection<TcpSource<'_, R>, TcpSink<'_, R>>) -> Vec<u8> {
     let Connection { mut source, sink } = connection;
     let _ = sink.stream.shutdown(Shutdown::Write);
     if source.is_behind() {
         source.drain();
     }
+    source.ahead.into_room()
 }

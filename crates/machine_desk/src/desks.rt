@@ -18,9 +18,11 @@ const TURNS: u64 = 1 << 56;
 
 /// A desk over this machine's network, clock and random bytes. Its door does not listen yet. It fails where the machine
 /// gives no random bytes.
-pub fn desk<'a, R: Net<Listener = TcpListener, Stream = TcpStream> + Clock + RandomSource + Sync>(
+pub fn desk<'a, R>(
     rt: &'a R,
 ) -> io::Result<Desk<TcpDoor<'a, R>, TcpLink<'a, R>, SystemClock<'a, R>, RandomDraw>>
+where
+    R: Net<Listener = TcpListener, Stream = TcpStream> + Clock + RandomSource + Sync + AllocGlobal,
     ensures turns { IfOk result (λ desk. desk.turns ≡ 2 ^ 56) }
     ensures door { IfOk result (λ desk. ⟦<TcpDoor<'a, R> as Door>⟧.state desk.door ≡ counted 0 0) }
     ensures door_faults { IfOk result (λ desk. ⟦<TcpDoor<'a, R> as Door>⟧.faults desk.door ≡ 0) }

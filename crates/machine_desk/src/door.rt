@@ -30,12 +30,17 @@ const SILENCE: u64 = 10;
 pub struct TcpDoor<'a, R: Net<Listener = TcpListener, Stream = TcpStream> + Clock> {
     rt: &'a R,
     listener: Option<TcpListener>,
+    /// Where the next connection reads ahead: the room of the last one that was given back.
+    room: Option<Vec<u8>>,
     given: u64,
     out: u64,
     faults: u64,
 }
 
-impl<'a, R: Net<Listener = TcpListener, Stream = TcpStream> + Clock + Sync> TcpDoor<'a, R> {
+impl<'a, R> TcpDoor<'a, R>
+where
+    R: Net<Listener = TcpListener, Stream = TcpStream> + Clock + Sync + AllocGlobal,
+{
     /// A door that does not listen yet and never failed.
     pub fn new(rt: &'a R) -> TcpDoor<'a, R>
         ensures state { ⟦<TcpDoor<'a, R> as Door>⟧.state result ≡ counted 0 0 }
@@ -44,6 +49,7 @@ impl<'a, R: Net<Listener = TcpListener, Stream = TcpStream> + Clock + Sync> TcpD
         TcpDoor {
             rt,
             listener: None,
+            room: None,
             given: 0,
             out: 0,
             faults: 0,
@@ -84,16 +90,18 @@ fn not_taken(error: &io::Error) -> NotTaken {
 }
 
 // The next connection. None where the listener is broken.
-fn next_of<'a, R: Clock>(
+fn next_of<'a, R: Clock + AllocGlobal>(
     rt: &'a R,
     listener: &TcpListener,
+    room: &mut Option<Vec<u8>>,
 ) -> Option<Connection<TcpSource<'a, R>, TcpSink<'a, R>>> {
     for _ in 0..TRIES {
         match listener.accept() {
             Ok((stream, _)) => {
                 let limit = Limit::start(rt, READING);
-                if let Some(connection) = connection_over(rt, stream, limit, SILENCE, None) {
-                    return Some(connection);
+                let connection = connection_over(rt, stream, room.take(), limit, SILENCE, None);
+                if connection.is_some() {
+                    return connection;
                 }
             }
             Err(error) => match not_taken(&error) {
@@ -106,7 +114,7 @@ fn next_of<'a, R: Clock>(
     None
 }
 
-impl<'a, R: Net<Listener = TcpListener, Stream = TcpStream> + Clock + Sync> Door
+impl<'a, R: Net<Listener = TcpListener, Stream = TcpStream> + Clock + Sync + AllocGlobal> Door
     for TcpDoor<'a, R> {
     type Source = TcpSource<'a, R>;
 
@@ -144,7 +152,7 @@ impl<'a, R: Net<Listener = TcpListener, Stream = TcpStream> + Clock + Sync> Door
 
     fn next(&mut self) -> Result<Option<Connection<TcpSource<'a, R>, TcpSink<'a, R>>>, DoorFault> {
         if let Some(listener) = &self.listener
-            && let Some(connection) = next_of(self.rt, listener)
+            && let Some(connection) = next_of(self.rt, listener, &mut self.room)
         {
             self.given = self.given.saturating_add(1);
             self.out = self.out.saturating_add(1);
@@ -162,6 +170,6 @@ impl<'a, R: Net<Listener = TcpListener, Stream = TcpStream> + Clock + Sync> Door
         ensures faults { self.old.faults ≤ self.new.faults }
     {
         self.out = self.out.saturating_sub(1);
-        finish(connection);
+        self.room = Some(finish(connection));
     }
 }

@@ -20,7 +20,7 @@ pub struct TcpLink<'a, R: Net<Stream = TcpStream> + Clock> {
     faults: u64,
 }
 
-impl<'a, R: Net<Stream = TcpStream> + Clock + Sync> TcpLink<'a, R> {
+impl<'a, R: Net<Stream = TcpStream> + Clock + Sync + AllocGlobal> TcpLink<'a, R> {
     /// A link that never failed.
     pub fn new(rt: &'a R) -> TcpLink<'a, R>
         ensures { ⟦<TcpLink<'a, R> as Link>⟧.faults result ≡ 0 }
@@ -52,7 +52,7 @@ fn connect<R: Net<Stream = TcpStream> + Clock>(
 }
 
 // Sends the bytes, writes what comes back to the front of the room, and answers how many bytes these are. None is a fault.
-fn exchange_within<R: Net<Stream = TcpStream> + Clock>(
+fn exchange_within<R: Net<Stream = TcpStream> + Clock + AllocGlobal>(
     rt: &R,
     to: &str,
     asked: &[u8],
@@ -63,12 +63,12 @@ fn exchange_within<R: Net<Stream = TcpStream> + Clock>(
 {
     let limit = Limit::start(rt, EXCHANGE)?;
     let stream = connect(rt, to, &limit)?;
-    let mut connection = connection_over(rt, stream, Some(limit), EXCHANGE, Some(limit))?;
+    let mut connection = connection_over(rt, stream, None, Some(limit), EXCHANGE, Some(limit))?;
     write_whole(&mut connection.sink, asked).ok()?;
     read_whole(&mut connection.source, room).ok()
 }
 
-impl<'a, R: Net<Stream = TcpStream> + Clock + Sync> Link for TcpLink<'a, R> {
+impl<'a, R: Net<Stream = TcpStream> + Clock + Sync + AllocGlobal> Link for TcpLink<'a, R> {
     ghost exchanges = { λ _. None };
 
     ghost faults = { λ l. l.faults };

@@ -1,41 +1,71 @@
 //! Bytes that were read before they were asked for.
 
-ghost use Rattle.std.specs.Prelude.{◌≡◌, nat_eq, ◌+◌, ◌-◌, ◌++◌, ◌≤◌, min, length, take, drop};
+ghost use Rattle.std.specs.Prelude.{◌≡◌, [], nat_eq, ◌+◌, ◌-◌, ◌++◌, ◌≤◌, min, length, take, drop, IfSome, IfOk};
 
+use crate::limit::Limit;
+use crate::wire::receive;
+use std::alloc::{AllocError, Global};
 use std::marker::Model;
+use std::net::TcpStream;
+use std::time::Clock;
 
 /// How many bytes are read ahead at most.
-pub const AHEAD: usize = 4096;
+const AHEAD: usize = 4096;
 
 /// Bytes that were read and not given yet, seen as the list of them.
 #[derive(Drop)]
 pub struct ReadAhead {
-    bytes: [u8; AHEAD],
     place: usize,
     end: usize,
+    room: Vec<u8>,
 }
 
 impl Model for ReadAhead {
-    ghost use Rattle.std.specs.Prelude.{List, ℕ, ◌≤◌, take, drop};
+    ghost use Rattle.std.specs.Prelude.{List, ℕ, ◌≤◌, length, take, drop};
 
     ghost Value = { List ℕ };
 
-    ghost view = { λ s. drop s.place (take s.end s.bytes) };
+    ghost view = { λ s. drop s.place (take s.end s.room.items) };
 
-    ghost invariant = { λ s. (s.place ≤ s.end) × (s.end ≤ 4096) };
+    ghost invariant = { λ s. (s.place ≤ s.end) × (s.end ≤ length s.room.items) };
 }
 
 impl ReadAhead {
-    /// The first `count` of these bytes.
-    pub fn new(bytes: [u8; AHEAD], count: usize) -> ReadAhead
-        requires { count ≤ 4096 }
-        ensures { result ≡ take count bytes }
+    /// None yet, and room for them: this, whatever lies in it, or new room. It fails where memory runs out.
+    pub fn new(alloc: Global, room: Option<Vec<u8>>) -> Result<ReadAhead, AllocError>
+        ensures { IfOk result (λ ahead. ahead ≡ []) }
     {
-        ReadAhead {
-            bytes,
+        let room = match room {
+            Some(room) => room,
+            None => vec![in alloc; 0u8; AHEAD]?,
+        };
+        Ok(ReadAhead {
             place: 0,
-            end: count,
-        }
+            end: 0,
+            room,
+        })
+    }
+
+    /// The room, whatever lies in it.
+    pub fn into_room(self) -> Vec<u8> {
+        self.room
+    }
+
+    /// Reads once, in place of what was left, and answers how many bytes came. It waits within the limit, and no longer
+    /// than so many seconds. None where the stream fails or time is up.
+    pub fn fill<C: Clock>(
+        &mut self,
+        clock: &C,
+        stream: &TcpStream,
+        limit: &Limit,
+        seconds: u64,
+    ) -> Option<usize>
+        ensures { IfSome result (λ count. count ≡ length self.new) }
+    {
+        let count = receive(clock, stream, self.room.as_mut_slice(), limit, seconds)?;
+        self.place = 0;
+        self.end = count;
+        Some(count)
     }
 
     /// Whether none is left.
@@ -50,7 +80,7 @@ impl ReadAhead {
         ensures whole { result ≡ min (length self.old) (length room.new) }
         ensures given { self.old ≡ take result room.new ++ self.new }
     {
-        let count = copy_behind(&self.bytes[..self.end], self.place, room);
+        let count = copy_behind(&self.room[..self.end], self.place, room);
         self.place += count;
         count
     }

@@ -14,7 +14,7 @@ const PATIENCE: u64 = 4_294_967_296;
 /// where the stream fails or time is up.
 pub fn receive<C: Clock>(
     clock: &C,
-    stream: &mut TcpStream,
+    mut stream: &TcpStream,
     room: &mut [u8],
     limit: &Limit,
     seconds: u64,
@@ -38,7 +38,7 @@ pub fn receive<C: Clock>(
 /// up.
 pub fn send<C: Clock>(
     clock: &C,
-    stream: &mut TcpStream,
+    mut stream: &TcpStream,
     piece: &[u8],
     limit: &Limit,
 ) -> Option<usize>

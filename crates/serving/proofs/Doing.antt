@@ -66,7 +66,7 @@ module _ {A R : Type 0} where
 
   module _ {C : Type 0} where
     pub none_made : (pass pass' : Pass C A R) → Begins (front_of pass) (front_of pass') → calls_of pass' ≡ calls_of pass → MadeAll pass pass' []
-    none_made pass pass' later calls = record { later = later; lie = tt; calls = calls ∙ sym (append-nil (calls_of pass)) }
+    none_made pass pass' later calls = record { later = later; lie = later; calls = calls ∙ sym (append-nil (calls_of pass)) }
 
     -- the link was called, and nothing else was done
     pub did_calls : (pass : Pass C A R) (link link' : Option (List Exchange)) (moments : ℕ → Option ℕ) (words : ℕ → Option Word) (calls : List LinkCall)
@@ -75,6 +75,7 @@ module _ {A R : Type 0} where
       made = none_made pass pass (begins_same (front_of pass)) refl;
       sent = sent;
       drawn = tt;
+      read = omega arith;
       clock = moved_none moments;
       draw = moved_none words;
     }
@@ -87,6 +88,7 @@ module _ {A R : Type 0} where
       made = none_made pass pass' later refused;
       sent = sent;
       drawn = tt;
+      read = omega arith;
       clock = clock;
       draw = draw;
     }
@@ -100,11 +102,12 @@ module _ {A R : Type 0} where
         record {
           made = record {
             later = begins_on (front_of pass) s.before (front_of pass') made.later (begins_on s.before (history_after s) (front_of pass') (_, refl) whole);
-            lie = (whole, tt);
+            lie = (made.later, whole);
             calls = made.calls;
           };
           sent = sent;
           drawn = (drawn, tt);
+          read = omega arith;
           clock = clock;
           draw = draw;
         }
@@ -116,6 +119,7 @@ module _ {A R : Type 0} where
       made = did.made;
       sent = sent ∙ ap (λ (l : Option (List Exchange)). after_calls l calls) did.sent ∙ sym (after_both link w.calls calls);
       drawn = did.drawn;
+      read = did.read;
       clock = did.clock;
       draw = did.draw;
     }
@@ -126,11 +130,14 @@ module _ {A R : Type 0} where
         → Did p r link link'' moments moments'' words words'' (with_work v w)
     did_both p q r link link' link'' moments moments' moments'' words words' words'' v w first read second =
         let four : 4 * v.readings + 4 * w.readings ≡ 4 * (v.readings + w.readings) = omega arith in
+        let both : length (v.steps ++ w.steps) ≡ length v.steps + length w.steps = length-append v.steps w.steps in
+        let reads = second.read in
         let from : v.readings + 0 ≡ length v.steps + 0 = ap (λ (n : ℕ). n + 0) read in
         record {
           made = made_both p q r v.steps w.steps first.made second.made;
           sent = second.sent ∙ ap (λ (l : Option (List Exchange)). after_calls l w.calls) first.sent ∙ sym (after_both link v.calls w.calls);
           drawn = drawn_both moments words 0 v.steps w.steps first.drawn (subst (λ (i : ℕ). DrawnFrom moments words i w.steps) from (drawn_later moments moments' words words' v.readings 0 w.steps first.clock first.draw second.drawn));
+          read = omega arith;
           clock = moved_both moments moments' moments'' v.readings w.readings first.clock second.clock;
           draw = subst (λ (n : ℕ). MovedOn words words'' n) four (moved_both words words' words'' (4 * v.readings) (4 * w.readings) first.draw second.draw);
         }

@@ -1,5 +1,5 @@
 -- What lies in a history lies in each that it begins.
-use Rattle.std.proofs.Common.{ℕ, List, [], ◌∷◌, ◌++◌, map, Option, Result, Ok, Err, ap, sym, ◌∙◌}
+use Rattle.std.proofs.Common.{ℕ, List, [], ◌∷◌, ◌++◌, map, Option, Result, Ok, Err, refl, ap, sym, ◌∙◌}
 use Rattle.std.proofs.lemmas.List.{append_assoc, map-append}
 use Rattle.sso_base.specs.declared.history.Pair.{Pair}
 use Rattle.server_desk.specs.declared.connection.Connection.{Connection}
@@ -14,22 +14,29 @@ use Rattle.serving.specs.LinkCalls.{LinkCall}
 use Rattle.serving.specs.Manner.{Manner}
 use Rattle.serving.specs.Serving.{Cause, Serves}
 use Rattle.serving.specs.Steps.{Stepped, history_after, called_of}
-use Rattle.serving.specs.Work.{Work, LieIn, MadeAll}
+use Rattle.serving.specs.Work.{Work, LieBehind, MadeAll}
 
 module _ {A R : Type 0} where
-  pub lie_on : (h k : List (Pair A R)) → Begins h k → (steps : List (Stepped A R)) → LieIn h steps → LieIn k steps
-  lie_on h k b [] lie = tt
-  lie_on h k b (s ∷ steps) lie = (begins_on (history_after s) h k lie.0 b, lie_on h k b steps lie.1)
+  pub lie_on : (f h k : List (Pair A R)) → Begins h k → (steps : List (Stepped A R)) → LieBehind f h steps → LieBehind f k steps
+  lie_on f h k b [] lie = begins_on f h k lie b
+  lie_on f h k b (s ∷ steps) lie = (lie.0, lie_on (history_after s) h k b steps lie.1)
 
-  pub lie_both : (h : List (Pair A R)) (xs ys : List (Stepped A R)) → LieIn h xs → LieIn h ys → LieIn h (xs ++ ys)
-  lie_both h [] ys a b = b
-  lie_both h (x ∷ xs) ys a b = (a.0, lie_both h xs ys a.1 b)
+  lie_from : (e f h : List (Pair A R)) → Begins e f → (steps : List (Stepped A R)) → LieBehind f h steps → LieBehind e h steps
+  lie_from e f h b [] lie = begins_on e f h b lie
+  lie_from e f h b (s ∷ steps) lie = (begins_on e f s.before b lie.0, lie.1)
+
+  pub lie_at_all : (f h : List (Pair A R)) (steps : List (Stepped A R)) → LieBehind f h steps → LieBehind [] h steps
+  lie_at_all f h steps lie = lie_from [] f h (f, refl) steps lie
+
+  lie_both : (f g h : List (Pair A R)) (xs ys : List (Stepped A R)) → LieBehind f g xs → LieBehind g h ys → LieBehind f h (xs ++ ys)
+  lie_both f g h [] ys a b = lie_from f g h a ys b
+  lie_both f g h (x ∷ xs) ys a b = (a.0, lie_both (history_after x) g h xs ys a.1 b)
 
   -- first these steps were made, and then those
   pub made_both : {C : Type 0} (p q r : Pass C A R) (xs ys : List (Stepped A R)) → MadeAll p q xs → MadeAll q r ys → MadeAll p r (xs ++ ys)
   made_both p q r xs ys a b = record {
     later = begins_on (front_of p) (front_of q) (front_of r) a.later b.later;
-    lie = lie_both (front_of r) xs ys (lie_on (front_of q) (front_of r) b.later xs a.lie) b.lie;
+    lie = lie_both (front_of p) (front_of q) (front_of r) xs ys a.lie b.lie;
     calls = b.calls ∙ ap (λ l. l ++ map called_of ys) a.calls ∙ append_assoc (calls_of p) (map called_of xs) (map called_of ys) ∙ sym (ap (λ l. calls_of p ++ l) (map-append called_of xs ys));
   }
 
@@ -55,6 +62,7 @@ module _ {A R : Type 0} where
       run = s.run;
       cause = cause_on (left came.source) (left went.source) (read_faults came.source) (read_faults went.source) h k b w.steps s.questions s.outcome s.cause;
       wrote = s.wrote;
+      lie = lie_on [] h k b w.steps s.lie;
       places = s.places;
       few = s.few;
     }

@@ -12,3 +12,5 @@ pub mod Workers
 pub mod Dealing
 pub mod Seatings
 pub mod Summing
+mod Samples
+mod ServerSamples

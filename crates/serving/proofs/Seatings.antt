@@ -19,6 +19,7 @@ use Rattle.serving.specs.Steps.{called_of}
 use Rattle.serving.specs.Summaries.{Telling, ServedAt, Failed, EndedWell, DeskServed, places_in}
 use Rattle.serving.specs.Seating.{new_seat, is_fault, is_left, OpenedSo, SeatServed, SeatsServed}
 use Rattle.serving.specs.Working.{Service, steps_in, calls_in, readings_in, DrawnIn}
+use Rattle.serving.proofs.Histories.{lie_on, lie_at_all}
 use Rattle.serving.proofs.Workers.{at_desk_none, made_none, serves_all_on}
 
 -- ---- counts
@@ -190,6 +191,7 @@ module _ {O A R D L C W S K : Type 0} (t : Telling D L C W S K) where
       pub desk_served : (history : List (Pair A R)) → Begins (front_of new.pass) history → DeskServed t m history listening at desk new.desk s.services
       desk_served history b = record {
         served = served_as history b;
+        order = lie_on [] (front_of new.pass) history b (steps_in s.services) (lie_at_all (front_of mid.pass) (front_of new.pass) (steps_in s.services) s.made.lie);
         turns = s.turns ∙ o.turns;
         ended = λ on. ended_as (o.opened on);
         idle = λ off. (s.idle (o.shut off)).1;

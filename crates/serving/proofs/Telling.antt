@@ -13,7 +13,7 @@ use Rattle.serving.specs.LinkCalls.{LinkCall, sending_of, sent_by}
 use Rattle.serving.specs.Manner.{Manner, bytes_by}
 use Rattle.serving.specs.Serving.{IsRun, Cause, notices_of, Tells, Serves}
 use Rattle.serving.specs.Told.{bytes_of, end_of}
-use Rattle.serving.specs.Work.{Work}
+use Rattle.serving.specs.Work.{Work, LieBehind}
 use Rattle.serving.specs.Writing.{Wrote, WroteWithout}
 use Rattle.serving.proofs.Calls.{SentSo}
 use Rattle.serving.proofs.Doing.{with_calls}
@@ -45,11 +45,11 @@ module _ {A R S K : Type 0} (m : Manner A R) (left : S → Option (List ℕ)) (r
   told_cause history came went w reply outcome (inl is) cause = subst (λ (o : Result R NoReply). CauseOf history came went w o) (sym is) cause
   told_cause history came went w reply outcome (inr is) cause = subst (λ (o : Result R NoReply). CauseOf history came went w o) (sym is) tt
 
-  serves : (history : List (Pair A R)) (came went : Connection S K) (w : Work A R) (served : Served) (outcome : Result R NoReply) (notices : List LinkCall)
+  serves : (history : List (Pair A R)) (came went : Connection S K) (w : Work A R) (served : Served) (outcome : Result R NoReply) (notices : List LinkCall) → LieBehind [] history w.steps
       → sent_by notices ≡ map sending_of (notices_of m outcome) → IsRun m (left came.source) (left went.source) w.steps w.calls → CauseOf history came went w outcome
       → Wrote taken write_faults came.sink went.sink (bytes_of (bytes_by m) outcome) (end_of outcome) served.end → served.places ≡ length w.steps → served.places ≤ 3
       → Serves m left read_faults taken write_faults history came went (with_calls w notices) served
-  serves history came went w served outcome notices sent run cause wrote places few = record {
+  serves history came went w served outcome notices lie sent run cause wrote places few = record {
     outcome = outcome;
     questions = w.calls;
     notices = notices;
@@ -58,20 +58,21 @@ module _ {A R S K : Type 0} (m : Manner A R) (left : S → Option (List ℕ)) (r
     run = run;
     cause = cause;
     wrote = wrote;
+    lie = lie;
     places = places;
     few = few;
   }
 
-  pub serves_reply : (history : List (Pair A R)) (came went : Connection S K) (link link' : Option (List Exchange)) (w : Work A R) (served : Served) (reply : R)
+  pub serves_reply : (history : List (Pair A R)) (came went : Connection S K) (link link' : Option (List Exchange)) (w : Work A R) (served : Served) (reply : R) → LieBehind [] history w.steps
       → (told : Tells m link link' taken write_faults came.sink went.sink reply served.end)
       → IsRun m (left came.source) (left went.source) w.steps w.calls → CauseOf history came went w (Ok reply) → served.places ≡ length w.steps → served.places ≤ 3
       → Serves m left read_faults taken write_faults history came went (with_calls w told.1) served
-  serves_reply history came went link link' w served reply told run cause places few =
-      serves history came went w served told.0 told.1 told.3 run (told_cause history came went w reply told.0 told.4 cause) told.5 places few
+  serves_reply history came went link link' w served reply lie told run cause places few =
+      serves history came went w served told.0 told.1 lie told.3 run (told_cause history came went w reply told.0 told.4 cause) told.5 places few
 
-  pub serves_without : (history : List (Pair A R)) (came went : Connection S K) (w : Work A R) (served : Served) (why : NoReply)
+  pub serves_without : (history : List (Pair A R)) (came went : Connection S K) (w : Work A R) (served : Served) (why : NoReply) → LieBehind [] history w.steps
       → WroteWithout taken write_faults came.sink went.sink why served.end
       → IsRun m (left came.source) (left went.source) w.steps w.calls → CauseOf history came went w (Err why) → served.places ≡ length w.steps → served.places ≤ 3
       → Serves m left read_faults taken write_faults history came went (with_calls w []) served
-  serves_without history came went w served why (inl wrote) run cause places few = serves history came went w served (Err why) [] refl run cause wrote places few
-  serves_without history came went w served why (inr wrote) run cause places few = serves history came went w served (Err NoMemory) [] refl run tt wrote places few
+  serves_without history came went w served why lie (inl wrote) run cause places few = serves history came went w served (Err why) [] lie refl run cause wrote places few
+  serves_without history came went w served why lie (inr wrote) run cause places few = serves history came went w served (Err NoMemory) [] lie refl run tt wrote places few

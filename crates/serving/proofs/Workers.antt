@@ -51,14 +51,15 @@ module _ {S K A R : Type 0} where
   drawn_in_later moments moments' words words' n r a b (y ∷ ys) d =
       let next : n + (r + y.work.readings) ≡ (n + r) + y.work.readings = omega arith in (
         drawn_later moments moments' words words' n r y.work.steps a b d.0,
-        subst (λ (t : ℕ). DrawnIn moments words t ys) next (drawn_in_later moments moments' words words' n (r + y.work.readings) a b ys d.1),
+        d.1,
+        subst (λ (t : ℕ). DrawnIn moments words t ys) next (drawn_in_later moments moments' words words' n (r + y.work.readings) a b ys d.2),
       )
 
   drawn_both : (moments : ℕ → Option ℕ) (words : ℕ → Option Word) (r : ℕ) (xs ys : List (Service S K A R)) → DrawnIn moments words r xs → DrawnIn moments words (r + readings_in xs) ys → DrawnIn moments words r (xs ++ ys)
   drawn_both moments words r [] ys d e = let same : r + 0 ≡ r = omega arith in subst (λ (t : ℕ). DrawnIn moments words t ys) same e
   drawn_both moments words r (x ∷ xs) ys d e =
       let same : r + (x.work.readings + readings_in xs) ≡ (r + x.work.readings) + readings_in xs = omega arith in
-      (d.0, drawn_both moments words (r + x.work.readings) xs ys d.1 (subst (λ (t : ℕ). DrawnIn moments words t ys) same e))
+      (d.0, d.1, drawn_both moments words (r + x.work.readings) xs ys d.2 (subst (λ (t : ℕ). DrawnIn moments words t ys) same e))
 
   passed_none : (door : DoorState S K) → Passed {A = A} {R = R} door door []
   passed_none door = record {
@@ -114,7 +115,7 @@ module _ {S K A R : Type 0} where
           record {
             passed = passed_one door mid door' s small gave back;
             sent = did.sent ∙ ap (λ calls. after_calls link calls) (sym (append-nil w.calls));
-            drawn = (did.drawn, tt);
+            drawn = (did.drawn, did.read, tt);
             clock = subst (λ (n : ℕ). MovedOn moments moments' n) (sym all) did.clock;
             draw = subst (λ (n : ℕ). MovedOn words words' (4 * n)) (sym all) did.draw;
             served = (serves, tt);

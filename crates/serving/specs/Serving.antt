@@ -24,7 +24,7 @@ use Rattle.serving.specs.LinkCalls.{LinkCall, sending_of, after_calls, sent_by}
 use Rattle.serving.specs.Manner.{Manner, bytes_by}
 use Rattle.serving.specs.Steps.{Stepped, IsFull}
 use Rattle.serving.specs.Told.{end_of, bytes_of}
-use Rattle.serving.specs.Work.{Work}
+use Rattle.serving.specs.Work.{Work, LieBehind}
 use Rattle.serving.specs.Writing.{Wrote}
 
 -- the answer to a question, or why there is none, by what the link answered
@@ -173,7 +173,7 @@ module _ {A R : Type 0} (m : Manner A R) where
       × Wrote taken faults sink sink' (bytes_of (bytes_by m) outcome) (end_of outcome) end
 
   module _ {S K : Type 0} (left : S → Option (List ℕ)) (read_faults : S → ℕ) (taken : K → Option (List ℕ)) (write_faults : K → ℕ) where
-    -- The connection came as the first and went as the second, and its steps lie in this history.
+    -- The connection came as the first and went as the second, and its steps lie in this history, in their order.
     pub record Serves (history : List (Pair A R)) (came went : Connection S K) (w : Work A R) (served : Served) : Type 0 where
       pub outcome : Result R NoReply
       pub questions : List LinkCall
@@ -183,5 +183,6 @@ module _ {A R : Type 0} (m : Manner A R) where
       pub run : IsRun (left came.source) (left went.source) w.steps questions
       pub cause : Cause (left came.source) (left went.source) (read_faults came.source) (read_faults went.source) history w.steps questions outcome
       pub wrote : Wrote taken write_faults came.sink went.sink (bytes_of (bytes_by m) outcome) (end_of outcome) served.end
+      pub lie : LieBehind [] history w.steps
       pub places : served.places ≡ length w.steps
       pub few : served.places ≤ 3

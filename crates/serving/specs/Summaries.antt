@@ -12,6 +12,7 @@ use Rattle.turn_store.specs.Places.{IsEachOnce, places_of}
 use Rattle.serving.specs.declared.summary.Summary.{Summary}
 use Rattle.serving.specs.Manner.{Manner}
 use Rattle.serving.specs.Steps.{called_of}
+use Rattle.serving.specs.Work.{LieBehind}
 use Rattle.serving.specs.Working.{Service, AtDesk, steps_in}
 
 -- what the parts of a desk tell
@@ -45,9 +46,10 @@ module _ {D L C W S K : Type 0} (t : Telling D L C W S K) where
         AtDesk m t.left t.read_faults t.taken t.write_faults history (t.state old.door) (t.state new.door) (t.exchanges old.link) (t.exchanges new.link) (t.moments old.clock) (t.moments new.clock) (t.words old.draw) (t.words new.draw) services
 
     -- One desk: it ended well or its door failed, unless the first door could not listen, and then it served nobody. A door that did
-    -- not fail listens where it should.
+    -- not fail listens where it should. Its steps lie in the history, in their order.
     pub record DeskServed (history : List (Pair A R)) (listening : Bool) (at : Option Text → Option Text) (old new : Desk D L C W) (services : List (Service S K A R)) : Type 0 where
       pub served : ServedAt history old new services
+      pub order : LieBehind [] history (steps_in services)
       pub turns : new.turns ≡ old.turns
       pub ended : listening ≡ true → EndedWell old new ⊎ Failed old new
       pub idle : listening ≡ false → services ≡ []

@@ -1,7 +1,6 @@
 -- What was done for one connection, beside reading from it and writing to it: the steps that the core made, the calls of the
 -- link, and how often the clock was read.
-use Rattle.std.specs.Prelude.{◌≡◌, ℕ, suc, ◌*◌, List, [], ◌∷◌, ◌++◌, map, Option}
-use Rattle.std.specs.List.{AllByRecursion}
+use Rattle.std.specs.Prelude.{◌≡◌, ◌≤◌, ℕ, suc, ◌*◌, List, [], ◌∷◌, ◌++◌, map, length, Option}
 use Rattle.sso_base.specs.Words.{Word}
 use Rattle.sso_base.specs.declared.history.Pair.{Pair}
 use Rattle.server_desk.specs.Ahead.{MovedOn}
@@ -18,9 +17,10 @@ pub record Work (A R : Type 0) : Type 0 where
   pub readings : ℕ
 
 module _ {A R : Type 0} where
-  -- the steps lie in this history
-  abbrev pub LieIn : List (Pair A R) → List (Stepped A R) → Type 0
-  LieIn history steps = AllByRecursion (λ (s : Stepped A R). Begins (history_after s) history) steps
+  -- the steps lie in this history, the first behind this beginning of it, and each of the others behind the one before it
+  abbrev pub LieBehind : List (Pair A R) → List (Pair A R) → List (Stepped A R) → Type 0
+  LieBehind front history [] = Begins front history
+  LieBehind front history (s ∷ steps) = Begins front s.before × LieBehind (history_after s) history steps
 
   -- each step was called with the next reading of the clock and the four words that were drawn then, from this reading on
   abbrev pub DrawnFrom : (ℕ → Option ℕ) → (ℕ → Option Word) → ℕ → List (Stepped A R) → Type 0
@@ -30,13 +30,14 @@ module _ {A R : Type 0} where
   -- the pass made these steps and no others
   pub record MadeAll {C : Type 0} (old new : Pass C A R) (steps : List (Stepped A R)) : Type 0 where
     pub later : Begins (front_of old) (front_of new)
-    pub lie : LieIn (front_of new) steps
+    pub lie : LieBehind (front_of old) (front_of new) steps
     pub calls : calls_of new ≡ calls_of old ++ map called_of steps
 
-  -- that is all that was done with the pass, the link, the clock and the draw
+  -- that is all that was done with the pass, the link, the clock and the draw; each step had a reading of its own
   pub record Did {C : Type 0} (pass pass' : Pass C A R) (link link' : Option (List Exchange)) (moments moments' : ℕ → Option ℕ) (words words' : ℕ → Option Word) (w : Work A R) : Type 0 where
     pub made : MadeAll pass pass' w.steps
     pub sent : link' ≡ after_calls link w.calls
     pub drawn : DrawnFrom moments words 0 w.steps
+    pub read : length w.steps ≤ w.readings
     pub clock : MovedOn moments moments' w.readings
     pub draw : MovedOn words words' (4 * w.readings)

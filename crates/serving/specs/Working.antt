@@ -1,5 +1,5 @@
 -- What a worker does: it serves the connections of a door, one after another.
-use Rattle.std.specs.Prelude.{◌≡◌, ℕ, ◌+◌, ◌*◌, List, [], ◌∷◌, ◌++◌, map, length, Option, option_map}
+use Rattle.std.specs.Prelude.{◌≡◌, ◌≤◌, ℕ, ◌+◌, ◌*◌, List, [], ◌∷◌, ◌++◌, map, length, Option, option_map}
 use Rattle.std.specs.List.{AllByRecursion, flat_map}
 use Rattle.sso_base.specs.Words.{Word}
 use Rattle.sso_base.specs.declared.history.Pair.{Pair}
@@ -37,10 +37,10 @@ module _ {S K A R : Type 0} where
   readings_in [] = 0
   readings_in (s ∷ services) = s.work.readings + readings_in services
 
-  -- each step was called with the moment and the words of its reading
+  -- each step was called with the moment and the words of a reading of its own
   abbrev pub DrawnIn : (ℕ → Option ℕ) → (ℕ → Option Word) → ℕ → List (Service S K A R) → Type 0
   DrawnIn moments words reading [] = Unit {0}
-  DrawnIn moments words reading (s ∷ services) = DrawnFrom moments words reading s.work.steps × DrawnIn moments words (reading + s.work.readings) services
+  DrawnIn moments words reading (s ∷ services) = DrawnFrom moments words reading s.work.steps × (length s.work.steps ≤ s.work.readings) × DrawnIn moments words (reading + s.work.readings) services
 
   -- these connections were taken from the door and given back to it, in their order, and no others
   pub record Passed (door door' : DoorState S K) (services : List (Service S K A R)) : Type 0 where
@@ -49,7 +49,7 @@ module _ {S K A R : Type 0} where
     pub given : door'.given ≡ door.given + length services
 
   module _ (m : Manner A R) (left : S → Option (List ℕ)) (read_faults : S → ℕ) (taken : K → Option (List ℕ)) (write_faults : K → ℕ) where
-    -- each connection was served, and its steps lie in this history
+    -- each connection was served, and its steps lie in this history, in their order
     abbrev pub ServesAll : List (Pair A R) → List (Service S K A R) → Type 0
     ServesAll history services = AllByRecursion (λ (s : Service S K A R). Serves m left read_faults taken write_faults history s.came s.went s.work s.served) services
 

@@ -10,6 +10,7 @@ ghost use Rattle.serving.specs.Work.{MadeAll};
 ghost use Rattle.serving.specs.Working as spec;
 
 use crate::role::Role;
+use crate::tells::Tells;
 use crate::work::{WorkEnd, Worked, serve_desk};
 use server_desk::{Clock, Desk, Door, Draw, Link};
 use sso_base::{Core, Text};
@@ -120,7 +121,7 @@ fn serve_seat<R: Wait, X: Role, D: Door, L: Link, C: Clock, W: Draw>(
     requires turns { seat.old.desk.turns ≤ 2 ^ 56 }
     requires idle { seat.old.worked.served ≡ 0 }
     ensures pass { IsPassOf X.Core.setup X.Core.is_legal store.now seat.new.pass }
-    ensures served { SeatServed (record { state = D.state; closings = D.closings; door_faults = D.faults; exchanges = L.exchanges; moments = C.ahead; words = W.ahead; left = D.Source.left; read_faults = D.Source.faults; taken = D.Sink.taken; write_faults = D.Sink.faults }) (X.manner role.now) seat.old seat.new }
+    ensures served { SeatServed ⟦<Desk<D, L, C, W> as Tells>⟧.telling (X.manner role.now) seat.old seat.new }
 {
     if seat.listens {
         seat.worked = serve_desk(rt, alloc, role, store, &mut seat.pass, &mut seat.desk);
@@ -142,7 +143,7 @@ where
     requires some { 0 < length seats.old }
     requires seats { All (λ seat. IsPassOf X.Core.setup X.Core.is_legal store.now seat.pass × ((D.state seat.desk.door).given < 2 ^ 63) × (seat.desk.turns ≤ 2 ^ 56) × (seat.worked.served ≡ 0)) seats.old }
     ensures passes { All (λ seat. IsPassOf X.Core.setup X.Core.is_legal store.now seat.pass) seats.new }
-    ensures served { SeatsServed (record { state = D.state; closings = D.closings; door_faults = D.faults; exchanges = L.exchanges; moments = C.ahead; words = W.ahead; left = D.Source.left; read_faults = D.Source.faults; taken = D.Sink.taken; write_faults = D.Sink.faults }) (X.manner role.now) seats.old seats.new }
+    ensures served { SeatsServed ⟦<Desk<D, L, C, W> as Tells>⟧.telling (X.manner role.now) seats.old seats.new }
 {
     let count = seats.len();
     for_each_mut(
@@ -172,7 +173,7 @@ where
     requires some { 0 < length seats.old }
     requires seats { All (λ seat. IsPassOf X.Core.setup X.Core.is_legal store.now seat.pass × ((D.state seat.desk.door).given < 2 ^ 63) × (seat.desk.turns ≤ 2 ^ 56) × (seat.worked.served ≡ 0)) seats.old }
     ensures passes { All (λ seat. IsPassOf X.Core.setup X.Core.is_legal store.now seat.pass) seats.new }
-    ensures served { OpenedAndServed (record { state = D.state; closings = D.closings; door_faults = D.faults; exchanges = L.exchanges; moments = C.ahead; words = W.ahead; left = D.Source.left; read_faults = D.Source.faults; taken = D.Sink.taken; write_faults = D.Sink.faults }) (X.manner role.now) place.now seats.old seats.new }
+    ensures served { OpenedAndServed ⟦<Desk<D, L, C, W> as Tells>⟧.telling (X.manner role.now) place.now seats.old seats.new }
 {
     open_doors(seats, place);
     serve_seats(rt, alloc, role, store, seats);

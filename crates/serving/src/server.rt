@@ -9,6 +9,7 @@ ghost use Rattle.serving.specs.Summaries.{Summarises};
 use crate::role::Role;
 use crate::seats::{Seat, open_and_serve, rise, sit};
 use crate::summary::Summary;
+use crate::tells::Tells;
 use server_desk::{Clock, Desk, Door, Draw, Link};
 use sso_base::{Core, NoMemory, Text};
 use std::alloc::Global;
@@ -39,7 +40,7 @@ where
     requires few { length desks.old.items ≤ 64 }
     requires seats { (seats.items ≡ []) × (length desks.old.items ≤ vec_capacity seats) }
     requires desks { All (λ desk. (desk.turns ≤ 2 ^ 56) × ((D.state desk.door).given < 2 ^ 63)) desks.old.items }
-    ensures { Summarises (record { state = D.state; closings = D.closings; door_faults = D.faults; exchanges = L.exchanges; moments = C.ahead; words = W.ahead; left = D.Source.left; read_faults = D.Source.faults; taken = D.Sink.taken; write_faults = D.Sink.faults }) (X.manner role.now) X.Core.setup X.Core.history X.Core.is_legal (setup_of X.Core.setup store) place.now desks.old.items desks.new.items result }
+    ensures { Summarises ⟦<Desk<D, L, C, W> as Tells>⟧.telling (X.manner role.now) X.Core.setup X.Core.history X.Core.is_legal (setup_of X.Core.setup store) place.now desks.old.items desks.new.items result }
 {
     sit(desks, &mut passes, &mut seats);
     open_and_serve(rt, alloc, role, &store, seats.as_mut_slice(), place);
@@ -76,7 +77,7 @@ where
     requires empty { X.Core.history core ≡ [] }
     requires few { length desks.old.items ≤ 64 }
     requires desks { All (λ desk. (desk.turns ≤ 2 ^ 56) × ((D.state desk.door).given < 2 ^ 63)) desks.old.items }
-    ensures summary { IfOk result (Summarises (record { state = D.state; closings = D.closings; door_faults = D.faults; exchanges = L.exchanges; moments = C.ahead; words = W.ahead; left = D.Source.left; read_faults = D.Source.faults; taken = D.Sink.taken; write_faults = D.Sink.faults }) (X.manner role.now) X.Core.setup X.Core.history X.Core.is_legal (X.Core.setup core) place.now desks.old.items desks.new.items) }
+    ensures summary { IfOk result (Summarises ⟦<Desk<D, L, C, W> as Tells>⟧.telling (X.manner role.now) X.Core.setup X.Core.history X.Core.is_legal (X.Core.setup core) place.now desks.old.items desks.new.items) }
     ensures memory { OnErr result (desks.new.items ≡ desks.old.items) }
 {
     let count = desks.len();

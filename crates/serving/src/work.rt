@@ -2,13 +2,14 @@
 
 ghost use Rattle.std.specs.Prelude.{◌≡◌, ◌≢◌, ◌⊎◌, ◌+◌, ◌^◌, ◌≤◌, ◌<◌, ℕ, List, [], ◌∷◌, length, Ok, Err, IfOk, OnErr};
 ghost use Rattle.sso_base.specs.Faults.{Rose};
+ghost use Rattle.server_desk.specs.Doors.{with_served};
 ghost use Rattle.turn_store.specs.Passes.{IsPassOf, number_of, front_of};
 ghost use Rattle.serving.specs.Work.{MadeAll};
 ghost use Rattle.serving.specs.Working as spec;
 
 use crate::role::Role;
 use crate::serve_one::serve_connection;
-use server_desk::{Clock, Desk, Door, DoorFault, Draw, Link};
+use server_desk::{Clock, Connection, Desk, Door, DoorFault, Draw, Link};
 use std::alloc::Global;
 use std::sync::Wait;
 use turn_store::{Pass, Turn};
@@ -41,7 +42,17 @@ enum Next {
     Fault,
 }
 
-// Waits for the next connection, and serves it.
+// Gives a served connection back to its door.
+fn give_back<D: Door>(door: &mut D, connection: Connection<D::Source, D::Sink>)
+    requires out { 0 < (D.state door.old).out }
+    ensures served { D.state door.new ≡ with_served (D.state door.old) connection }
+    ensures later { D.closings door.old ≤ D.closings door.new }
+    ensures faults { D.faults door.old ≤ D.faults door.new }
+{
+    door.done(connection);
+}
+
+// Waits for the next connection, serves it, and gives it back.
 fn serve_next<R: Wait, X: Role, D: Door, L: Link, C: Clock, W: Draw>(
     rt: &R,
     alloc: Global,
@@ -76,7 +87,7 @@ fn serve_next<R: Wait, X: Role, D: Door, L: Link, C: Clock, W: Draw>(
                 &mut desk.clock,
                 &mut desk.draw,
             );
-            desk.door.done(connection);
+            give_back(&mut desk.door, connection);
             Next::Served
         }
         Ok(None) => Next::Closed,

@@ -1,11 +1,7 @@
 -- How a call ends, from what was answered and how that was written.
-use Rattle.std.proofs.Common.{◌≡◌, ◌⊎◌, ℕ, MatchBool, Bool, true, false, ◌==◌, cond, List, length, codes, Option, Some, None, Result, Ok, Err, inl, inr, refl, ap, ◌∙◌, sym, subst}
-use Rattle.std.proofs.lemmas.Bool.{or_from, or_left, or_right, and_parts, and_right}
+use Rattle.std.proofs.Common.{◌≡◌, ◌⊎◌, ℕ, Bool, true, false, nat_le, cond, List, length, codes, Option, Some, None, is_some, option_map, Result, Ok, Err, inl, inr, refl, ap, ◌∙◌, sym, subst}
 use Rattle.std.proofs.lemmas.Option.{same_Some}
 use Rattle.std.specs.Str.{bytes_eq}
-use Rattle.configuration_rows.specs.declared.no.RegNo.{RegNo}
-use Rattle.client_registry.specs.Configuration.{Configuration}
-use Rattle.client_registry.specs.Reading.{registry_read}
 use Rattle.sso_base.specs.Words.{Text}
 use Rattle.sso_base.specs.Faults.{Rose}
 use Rattle.sso_base.specs.Outside.{Content, content_of, Takes}
@@ -14,81 +10,35 @@ use Rattle.jws_compact.specs.declared.no.JwsNo.{JwsNo}
 use Rattle.jws_compact.specs.declared.unsealing.Unsealed.{Unsealed}
 use Rattle.jws_compact.specs.Jws.{verdict}
 use Rattle.jws_compact.specs.Names.{jws_name}
+use Rattle.configuration_rows.specs.declared.no.RegNo.{RegNo}
+use Rattle.client_registry.specs.declared.records.Provider.{Provider}
+use Rattle.client_registry.specs.Configuration.{Configuration}
+use Rattle.client_registry.specs.Reading.{registry_read}
+use Rattle.client_registry.specs.Rules.{party_place}
+use Rattle.discovery_doc.specs.declared.no.DiscNo.{DiscNo}
+use Rattle.discovery_doc.specs.Reading.{discovery_read}
+use Rattle.rp_accept.specs.Serving.{setup_of}
+use Rattle.rp_answer.specs.Setup.{PartySetup}
+use Rattle.command_line.specs.declared.command.Command.{Command}
+use Rattle.command_line.specs.declared.command.Command.TheVariants.{Replay, Op, Rp, Token}
+use Rattle.command_line.specs.Commands.{command_of, is_command}
 use Rattle.oidc_replay.specs.declared.trace.TraceNo.{TraceNo}
 use Rattle.oidc_replay.specs.Trace.{Told, trace_of}
-use Rattle.sso.specs.Answer.{Answer, word_at, is_replay, is_token, is_command, config_name, trace_name, secret_name, token_name, registry_name, configuration_refusal, configuration_no, not_taken, unless_refused, trace_answer, answer_to, without_feed, is_secret, token_refusal, verdict_answer, token_answer}
-use Rattle.sso.specs.Ends.{IsContent, IsConfigurationNo, IsTokenNo, IsTextOf, status_of_both, status_for}
-use Rattle.sso.specs.Outcomes.{PlaysWell, AnswersReplay, AnswersToken, MayReplay, MayOpen, MayAnswer, IsWritten, usage_answer, shelf_answer}
-use Rattle.sso.proofs.Endings.{Call, Ending, IsAnswered, usage_ends, shelf_ends, configuration_ends, trace_ends, token_ends, replay_ends, opening_ends, sink_ends}
+use Rattle.sso.specs.Answer.{Answer, registry_name, configuration_refusal, configuration_no, not_taken, unless_refused, trace_answer, answer_to, without_feed, is_secret, token_refusal, verdict_answer, token_answer}
+use Rattle.sso.specs.Asked.{provider_asked, op_asked, metadata_refusal, metadata_name, provider_read, described, trusted, setup_asked, number_asked, party_asked, rp_asked, server_answer}
+use Rattle.sso.specs.Ends.{IsConfigurationNo, IsTokenNo, IsMetadataNo, status_of_both, status_of_asked, op_status, content_if, rp_status, status_for, IsStatus, IsStatusOf, is_serving}
+use Rattle.sso.specs.Outcomes.{IsContent, IsContentIf, PlaysWell, FailsAtShelf, AnswersReplay, AnswersToken, AnswersOp, AnswersRp, ServedOp, ServedRp, MayReplay, MayOpen, MayServeOp, MayServeRp, MayAnswer, IsWritten, usage_answer, shelf_answer}
+use Rattle.sso.specs.Statuses.{Call, Ended}
+use Rattle.sso.proofs.Endings.{runs_end, usage_ends, configuration_ends, trace_ends, shelf_ends, sink_ends, door_ends, refusal_ends}
 
--- ---- The two commands
+-- ---- A configuration
 
--- words of one command are not of the other
-not_token : (words : List Text) → is_replay words ≡ true → is_token words ≡ false
-not_token words is_so =
-    let same : word_at words 0 ≡ codes "replay" = bytes_same (word_at words 0) (codes "replay") (and_parts (length words == 3) (bytes_eq (word_at words 0) (codes "replay")) is_so).1 in
-    and_right (length words == 3) (bytes_eq (word_at words 0) (codes "token")) (ap (λ (v : List ℕ). bytes_eq v (codes "token")) same)
-
--- ---- Statuses by the contents
-
--- what the contents are answered, by the two tests of the words
-abbrev status_by : List ℕ → List Content → List Text → Bool → Bool → ℕ
-status_by small held words replay token =
-    cond replay (status_of_both (answer_to small) (content_of held (config_name words)) (content_of held (trace_name words)))
-    (cond token (status_of_both token_answer (content_of held (secret_name words)) (content_of held (token_name words))) 2)
-
-status_is : (small : List ℕ) (held : List Content) (words : List Text) (replay token : Bool) → is_replay words ≡ replay → is_token words ≡ token
-    → status_for small held words ≡ status_by small held words replay token
-unfolding status_for
-status_is small held words replay token r t =
-    ap (λ (b : Bool). status_by small held words b (is_token words)) r ∙ ap (λ (b : Bool). status_by small held words replay b) t
-
-both_there : (answer : List ℕ → List ℕ → Answer) (held : List Content) (first_at second_at : Text) (first second : List ℕ)
-    → content_of held first_at ≡ Some first → content_of held second_at ≡ Some second
-    → status_of_both answer (content_of held first_at) (content_of held second_at) ≡ (answer first second).status
-both_there answer held first_at second_at first second first_there second_there =
-    ap (λ (o : Option (List ℕ)). status_of_both answer o (content_of held second_at)) first_there
-    ∙ ap (λ (o : Option (List ℕ)). status_of_both answer (Some first) o) second_there
-
--- the same, where the shelf tells
-both_told : (answer : List ℕ → List ℕ → Answer) (contents : Option (List Content)) (held : List Content) (first_at second_at : Text) (first second : List ℕ)
-    → IsContent contents first_at first → IsContent contents second_at second → contents ≡ Some held
-    → status_of_both answer (content_of held first_at) (content_of held second_at) ≡ (answer first second).status
-both_told answer contents held first_at second_at first second first_there second_there is =
-    let F : Option (List Content) → Type 0 = λ v. IsContent v first_at first in
-    let S : Option (List Content) → Type 0 = λ v. IsContent v second_at second in
-    both_there answer held first_at second_at first second (subst F is first_there) (subst S is second_there)
-
-replay_answered : (call : Call) (answer : Answer) (status : ℕ) → is_replay call.words ≡ true
-    → AnswersReplay call.small call.contents (config_name call.words) (trace_name call.words) answer → answer.status ≡ status → IsAnswered call status
-replay_answered call answer status is_so a status_is_so =
-    record {
-      command = or_left (is_replay call.words) (is_token call.words) is_so;
-      held = λ held is.
-          sym status_is_so ∙ ap (λ (v : Answer). v.status) a.answers
-          ∙ sym (both_told (answer_to call.small) call.contents held (config_name call.words) (trace_name call.words) a.config a.trace a.config_there a.trace_there is)
-          ∙ sym (status_is call.small held call.words true (is_token call.words) is_so refl);
-    }
-
-token_answered : (call : Call) (answer : Answer) (status : ℕ) → is_replay call.words ≡ false → is_token call.words ≡ true
-    → AnswersToken call.contents (secret_name call.words) (token_name call.words) answer → answer.status ≡ status → IsAnswered call status
-token_answered call answer status is_not is_so a status_is_so =
-    record {
-      command = or_right (is_replay call.words) (is_token call.words) is_so;
-      held = λ held is.
-          sym status_is_so ∙ ap (λ (v : Answer). v.status) a.answers
-          ∙ sym (both_told token_answer call.contents held (secret_name call.words) (token_name call.words) a.secret a.token a.secret_there a.token_there is)
-          ∙ sym (status_is call.small held call.words false true is_not is_so);
-    }
-
--- ---- The answer to a configuration and a trace, which was written
-
--- why a configuration is not taken
-no_of : (small config : List ℕ) (read : Result Configuration RegNo) (same : Bool) → registry_read config ≡ read → bytes_eq config small ≡ same
-    → (name : Text) → not_taken read same ≡ Some name → IsConfigurationNo small config name
-no_of small config (Err why) same is e name h = inl (why, is, sym (same_Some (registry_name why) name h))
-no_of small config (Ok configuration) true is e name h = absurd (cc)
-no_of small config (Ok configuration) false is e name h = inr (configuration, is, e, sym (same_Some (codes "NotYet") name h))
+-- why a configuration is not taken for a replay
+no_of : (small config : List ℕ) (config_at trace_at : Text) (read : Result Configuration RegNo) (same : Bool) → registry_read config ≡ read → bytes_eq config small ≡ same
+    → (name : Text) → not_taken read same ≡ Some name → IsConfigurationNo small (Replay config_at trace_at) config name
+no_of small config config_at trace_at (Err why) same is e name h = inl (why, is, sym (same_Some (registry_name why) name h))
+no_of small config config_at trace_at (Ok configuration) true is e name h = absurd (cc)
+no_of small config config_at trace_at (Ok configuration) false is e name h = inr (configuration, is, (e, sym (same_Some (codes "NotYet") name h)))
 
 -- that it is taken
 taken_of : (small config : List ℕ) (read : Result Configuration RegNo) (same : Bool) → registry_read config ≡ read → bytes_eq config small ≡ same
@@ -97,221 +47,468 @@ taken_of small config (Err why) same is e h = absurd (cc)
 taken_of small config (Ok configuration) true is e h = (e, (configuration, is))
 taken_of small config (Ok configuration) false is e h = absurd (cc)
 
-refused_configuration : (small config : List ℕ) (name : Text) → configuration_no small config ≡ Some name → IsConfigurationNo small config name
+refused_configuration : (small config : List ℕ) (config_at trace_at name : Text) → configuration_no small config ≡ Some name
+    → IsConfigurationNo small (Replay config_at trace_at) config name
 unfolding configuration_no
-refused_configuration small config name h = no_of small config (registry_read config) (bytes_eq config small) refl refl name h
+refused_configuration small config config_at trace_at name h = no_of small config config_at trace_at (registry_read config) (bytes_eq config small) refl refl name h
 
 taken_configuration : (small config : List ℕ) → configuration_no small config ≡ None → (bytes_eq config small ≡ true) × ((configuration : Configuration) × (registry_read config ≡ Ok configuration))
 unfolding configuration_no
 taken_configuration small config h = taken_of small config (registry_read config) (bytes_eq config small) refl refl h
 
--- the configuration is not taken
-other_ends : (call : Call) (new : Option (List ℕ)) (answer : Answer) → is_replay call.words ≡ true
-    → (a : AnswersReplay call.small call.contents (config_name call.words) (trace_name call.words) answer) → (name : Text)
-    → IsConfigurationNo call.small a.config name → answer ≡ configuration_refusal name → Takes call.old new answer.text → Ending call new answer.status
-other_ends call new answer is_so a name why is wrote =
-    let status_is_3 : answer.status ≡ 3 = ap (λ (v : Answer). v.status) is in
-    let W : Answer → Type 0 = λ v. Takes call.old new v.text in
-    let E : ℕ → Type 0 = λ n. Ending call new n in
-    subst E (sym status_is_3)
-    (configuration_ends call new (replay_answered call answer 3 is_so a status_is_3)
-    (record { words_are = is_so; config = a.config; there = a.config_there; name = name; why = why; wrote = subst W is wrote }))
+module _ {D L C W S K : Type 0} (call : Call D L C W S K) where
+  -- an answer that was written whole
+  abbrev Whole : Answer → Type 0
+  Whole answer = Takes call.old call.new answer.text
 
--- the configuration is taken
-traced_ends : (call : Call) (new : Option (List ℕ)) (answer : Answer) → is_replay call.words ≡ true
-    → (a : AnswersReplay call.small call.contents (config_name call.words) (trace_name call.words) answer)
-    → IsContent call.contents (config_name call.words) call.small → (configuration : Configuration) → registry_read call.small ≡ Ok configuration → Takes call.old new answer.text
-    → (told : Result Told TraceNo) → trace_of a.trace ≡ told → answer ≡ trace_answer told → Ending call new answer.status
-unfolding PlaysWell
-traced_ends call new answer is_so a config_there configuration read wrote (Ok told) accepted is =
-    let status_is_0 : answer.status ≡ 0 = ap (λ (v : Answer). v.status) is in
-    let W : Answer → Type 0 = λ v. Takes call.old new v.text in
-    let E : ℕ → Type 0 = λ n. Ending call new n in
-    let well = a.well status_is_0 told accepted in
-    subst E (sym status_is_0)
-    (replay_ends call new (replay_answered call answer 0 is_so a status_is_0) (not_token call.words is_so)
-    (record {
-      words_are = is_so;
-      config_there = config_there;
-      configuration = configuration;
-      read = read;
-      trace = a.trace;
-      trace_there = a.trace_there;
-      told = told;
-      accepted = accepted;
-      wrote = subst W is wrote;
-      premises = well.0;
-      signs = well.1;
-    }))
-traced_ends call new answer is_so a config_there configuration read wrote (Err why) refused is =
-    let status_is_4 : answer.status ≡ 4 = ap (λ (v : Answer). v.status) is in
-    let W : Answer → Type 0 = λ v. Takes call.old new v.text in
-    let E : ℕ → Type 0 = λ n. Ending call new n in
-    subst E (sym status_is_4)
-    (trace_ends call new (replay_answered call answer 4 is_so a status_is_4)
-    (record {
-      words_are = is_so;
-      config_there = config_there;
-      configuration = configuration;
-      read = read;
-      trace = a.trace;
-      trace_there = a.trace_there;
-      why = why;
-      refused = refused;
-      wrote = subst W is wrote;
-    }))
+  whole_as : (answer other : Answer) → Whole answer → answer ≡ other → Whole other
+  whole_as answer other wrote is = (let W : Answer → Type 0 = λ v. Whole v in subst W is wrote)
 
-replay_by : (call : Call) (new : Option (List ℕ)) (answer : Answer) → is_replay call.words ≡ true
-    → (a : AnswersReplay call.small call.contents (config_name call.words) (trace_name call.words) answer) → Takes call.old new answer.text
-    → (why : Option Text) → configuration_no call.small a.config ≡ why → answer ≡ unless_refused why (trace_answer (trace_of a.trace)) → Ending call new answer.status
-replay_by call new answer is_so a wrote (Some name) found is = other_ends call new answer is_so a name (refused_configuration call.small a.config name found) is wrote
-replay_by call new answer is_so a wrote None found is =
-    let taken = taken_configuration call.small a.config found in
-    let same : a.config ≡ call.small = bytes_same a.config call.small taken.0 in
-    let C : List ℕ → Type 0 = λ v. IsContent call.contents (config_name call.words) v in
-    let R : List ℕ → Type 0 = λ v. registry_read v ≡ Ok taken.1.0 in
-    traced_ends call new answer is_so a (subst C same a.config_there) taken.1.0 (subst R same taken.1.1) wrote (trace_of a.trace) refl is
+  ended_as : (answer other : Answer) → answer ≡ other → Ended call other.status → Ended call answer.status
+  ended_as answer other is ended = (let E : Answer → Type 0 = λ v. Ended call v.status in subst E (sym is) ended)
 
-replay_text_ends : (call : Call) (new : Option (List ℕ)) (answer : Answer) → is_replay call.words ≡ true
-    → AnswersReplay call.small call.contents (config_name call.words) (trace_name call.words) answer
-    → Takes call.old new answer.text → Ending call new answer.status
-unfolding answer_to
-replay_text_ends call new answer is_so a wrote = replay_by call new answer is_so a wrote (configuration_no call.small a.config) refl a.answers
+  shelf_failed : (command : Command) (answer : Answer) → command_of call.words ≡ Some command → call.news ≡ call.olds
+      → FailsAtShelf call.shelf_before call.shelf_after answer → Whole answer → Ended call answer.status
+  unfolding shelf_answer
+  shelf_failed command answer words_are idle failed wrote =
+      ended_as answer shelf_answer failed.0
+      (shelf_ends call idle (record { words_are = ap is_some words_are; rose = failed.1; wrote = whole_as answer shelf_answer wrote failed.0 }))
 
--- ---- The answer to a secret and a token, which was written
+  -- ---- `replay`
 
--- the two commands' tests, where the words are `token`
-abbrev IsTokenCall : Call → Type 0
-IsTokenCall call = (is_replay call.words ≡ false) × (is_token call.words ≡ true)
+  -- the configuration is not taken
+  other_ends : (config_at trace_at : Text) (answer : Answer) → command_of call.words ≡ Some (Replay config_at trace_at) → call.news ≡ call.olds
+      → (a : AnswersReplay call.small call.contents config_at trace_at answer) → (name : Text)
+      → IsConfigurationNo call.small (Replay config_at trace_at) a.config name → answer ≡ configuration_refusal name → Whole answer → Ended call answer.status
+  other_ends config_at trace_at answer words_are idle a name why is wrote =
+      ended_as answer (configuration_refusal name) is
+      (configuration_ends call idle
+      (record {
+        command = Replay config_at trace_at;
+        words_are = words_are;
+        config_at = config_at;
+        at = refl;
+        config = a.config;
+        there = a.config_there;
+        name = name;
+        why = why;
+        wrote = whole_as answer (configuration_refusal name) wrote is;
+      }))
 
-refusal_ends : (call : Call) (new : Option (List ℕ)) (answer : Answer) → IsTokenCall call
-    → (a : AnswersToken call.contents (secret_name call.words) (token_name call.words) answer) → (name : Text)
-    → IsTokenNo (without_feed a.secret) (without_feed a.token) name → answer ≡ token_refusal name → Takes call.old new answer.text → Ending call new answer.status
-refusal_ends call new answer is_so a name why is wrote =
-    let status_is_10 : answer.status ≡ 10 = ap (λ (v : Answer). v.status) is in
-    let W : Answer → Type 0 = λ v. Takes call.old new v.text in
-    let E : ℕ → Type 0 = λ n. Ending call new n in
-    subst E (sym status_is_10)
-    (token_ends call new (token_answered call answer 10 is_so.0 is_so.1 a status_is_10)
-    (record {
-      words_are = is_so.1;
-      secret = a.secret;
-      secret_there = a.secret_there;
-      token = a.token;
-      token_there = a.token_there;
-      name = name;
-      why = why;
-      wrote = subst W is wrote;
-    }))
+  -- the configuration is taken
+  traced_ends : (config_at trace_at : Text) (answer : Answer) → command_of call.words ≡ Some (Replay config_at trace_at) → call.news ≡ call.olds
+      → (a : AnswersReplay call.small call.contents config_at trace_at answer)
+      → IsContent call.contents config_at call.small → (configuration : Configuration) → registry_read call.small ≡ Ok configuration → Whole answer
+      → (told : Result Told TraceNo) → trace_of a.trace ≡ told → answer ≡ trace_answer told → Ended call answer.status
+  unfolding PlaysWell
+  traced_ends config_at trace_at answer words_are idle a config_there configuration read wrote (Ok told) accepted is =
+      let well = a.well (ap (λ (v : Answer). v.status) is) told accepted in
+      ended_as answer (trace_answer (Ok told)) is
+      (runs_end call (inl
+      (record {
+        config_at = config_at;
+        trace_at = trace_at;
+        words_are = words_are;
+        config_there = config_there;
+        configuration = configuration;
+        read = read;
+        trace = a.trace;
+        trace_there = a.trace_there;
+        told = told;
+        accepted = accepted;
+        wrote = whole_as answer (trace_answer (Ok told)) wrote is;
+        premises = well.0;
+        signs = well.1;
+      })))
+  traced_ends config_at trace_at answer words_are idle a config_there configuration read wrote (Err why) refused is =
+      ended_as answer (trace_answer (Err why)) is
+      (trace_ends call idle
+      (record {
+        config_at = config_at;
+        trace_at = trace_at;
+        words_are = words_are;
+        config_there = config_there;
+        configuration = configuration;
+        read = read;
+        trace = a.trace;
+        trace_there = a.trace_there;
+        why = why;
+        refused = refused;
+        wrote = whole_as answer (trace_answer (Err why)) wrote is;
+      }))
 
--- the secret has 1 to 128 bytes
-verdict_ends : (call : Call) (new : Option (List ℕ)) (answer : Answer) → IsTokenCall call
-    → (a : AnswersToken call.contents (secret_name call.words) (token_name call.words) answer) → is_secret (without_feed a.secret) ≡ true
-    → Takes call.old new answer.text → (found : Result Unsealed JwsNo) → verdict (without_feed a.secret) (without_feed a.token) ≡ found
-    → answer ≡ verdict_answer found → Ending call new answer.status
-verdict_ends call new answer is_so a fits wrote (Ok unsealed) opened is =
-    let status_is_0 : answer.status ≡ 0 = ap (λ (v : Answer). v.status) is in
-    let W : Answer → Type 0 = λ v. Takes call.old new v.text in
-    let E : ℕ → Type 0 = λ n. Ending call new n in
-    subst E (sym status_is_0)
-    (opening_ends call new (token_answered call answer 0 is_so.0 is_so.1 a status_is_0) is_so.0
-    (record {
-      words_are = is_so.1;
-      secret = a.secret;
-      secret_there = a.secret_there;
-      secret_fits = fits;
-      token = a.token;
-      token_there = a.token_there;
-      unsealed = unsealed;
-      opened = opened;
-      wrote = subst W is wrote;
-    }))
-verdict_ends call new answer is_so a fits wrote (Err why) refused is =
-    refusal_ends call new answer is_so a (jws_name why) (inr (fits, (why, refused, refl))) is wrote
+  replay_by : (config_at trace_at : Text) (answer : Answer) → command_of call.words ≡ Some (Replay config_at trace_at) → call.news ≡ call.olds
+      → (a : AnswersReplay call.small call.contents config_at trace_at answer) → Whole answer
+      → (why : Option Text) → configuration_no call.small a.config ≡ why → answer ≡ unless_refused why (trace_answer (trace_of a.trace)) → Ended call answer.status
+  replay_by config_at trace_at answer words_are idle a wrote (Some name) found is =
+      other_ends config_at trace_at answer words_are idle a name (refused_configuration call.small a.config config_at trace_at name found) is wrote
+  replay_by config_at trace_at answer words_are idle a wrote None found is =
+      let taken = taken_configuration call.small a.config found in
+      let same : a.config ≡ call.small = bytes_same a.config call.small taken.0 in
+      let C : List ℕ → Type 0 = λ v. IsContent call.contents config_at v in
+      let R : List ℕ → Type 0 = λ v. registry_read v ≡ Ok taken.1.0 in
+      traced_ends config_at trace_at answer words_are idle a (subst C same a.config_there) taken.1.0 (subst R same taken.1.1) wrote (trace_of a.trace) refl is
 
-token_text_ends : (call : Call) (new : Option (List ℕ)) (answer : Answer) → IsTokenCall call
-    → AnswersToken call.contents (secret_name call.words) (token_name call.words) answer
-    → Takes call.old new answer.text → Ending call new answer.status
-unfolding token_answer
-token_text_ends call new answer is_so a wrote =
-    let found = verdict (without_feed a.secret) (without_feed a.token) in
-    let A : Bool → Answer = λ b. cond b (verdict_answer found) (token_refusal (codes "Secret")) in
-    elim (bool_cases (is_secret (without_feed a.secret))) [
-      | inl fits ↦ verdict_ends call new answer is_so a fits wrote found refl (a.answers ∙ ap A fits)
-      | inr other ↦ refusal_ends call new answer is_so a (codes "Secret") (inl (other, refl)) (a.answers ∙ ap A other) wrote
-    ]
+  replay_ends : (config_at trace_at : Text) (answer : Answer) → command_of call.words ≡ Some (Replay config_at trace_at) → call.news ≡ call.olds
+      → MayReplay call.small call.contents call.shelf_before call.shelf_after config_at trace_at answer → Whole answer → Ended call answer.status
+  unfolding answer_to
+  replay_ends config_at trace_at answer words_are idle (inl failed) wrote = shelf_failed (Replay config_at trace_at) answer words_are idle failed wrote
+  replay_ends config_at trace_at answer words_are idle (inr a) wrote =
+      replay_by config_at trace_at answer words_are idle a wrote (configuration_no call.small a.config) refl a.answers
 
--- ---- Every answer
+  -- ---- `token`
 
--- what may be answered, by its cases
-abbrev Cases : Call → Answer → Type 0
-Cases call answer =
-    ((is_replay call.words ≡ false) × (is_token call.words ≡ false) × (answer ≡ usage_answer))
-    ⊎ ((is_command call.words ≡ true) × (answer ≡ shelf_answer) × Rose call.shelf_before call.shelf_after)
-    ⊎ ((is_replay call.words ≡ true) × AnswersReplay call.small call.contents (config_name call.words) (trace_name call.words) answer)
-    ⊎ (IsTokenCall call × AnswersToken call.contents (secret_name call.words) (token_name call.words) answer)
+  token_refused : (secret_at token_at : Text) (answer : Answer) → command_of call.words ≡ Some (Token secret_at token_at) → call.news ≡ call.olds
+      → (a : AnswersToken call.contents secret_at token_at answer) → (name : Text)
+      → IsTokenNo (without_feed a.secret) (without_feed a.token) name → answer ≡ token_refusal name → Whole answer → Ended call answer.status
+  token_refused secret_at token_at answer words_are idle a name why is wrote =
+      ended_as answer (token_refusal name) is
+      (refusal_ends call idle (inl
+      (record {
+        secret_at = secret_at;
+        token_at = token_at;
+        words_are = words_are;
+        secret = a.secret;
+        secret_there = a.secret_there;
+        token = a.token;
+        token_there = a.token_there;
+        name = name;
+        why = why;
+        wrote = whole_as answer (token_refusal name) wrote is;
+      })))
 
-replay_cases : (call : Call) (answer : Answer) → is_replay call.words ≡ true
-    → MayReplay call.small call.contents call.shelf_before call.shelf_after (config_name call.words) (trace_name call.words) answer → Cases call answer
-replay_cases call answer is_so (inl failed) = inr (inl (or_left (is_replay call.words) (is_token call.words) is_so, failed.0, failed.1))
-replay_cases call answer is_so (inr a) = inr (inr (inl (is_so, a)))
+  -- the secret has 1 to 128 bytes
+  verdict_ends : (secret_at token_at : Text) (answer : Answer) → command_of call.words ≡ Some (Token secret_at token_at) → call.news ≡ call.olds
+      → (a : AnswersToken call.contents secret_at token_at answer) → is_secret (without_feed a.secret) ≡ true → Whole answer
+      → (found : Result Unsealed JwsNo) → verdict (without_feed a.secret) (without_feed a.token) ≡ found → answer ≡ verdict_answer found → Ended call answer.status
+  verdict_ends secret_at token_at answer words_are idle a fits wrote (Ok unsealed) opened is =
+      ended_as answer (verdict_answer (Ok unsealed)) is
+      (runs_end call (inr (inl
+      (record {
+        secret_at = secret_at;
+        token_at = token_at;
+        words_are = words_are;
+        secret = a.secret;
+        secret_there = a.secret_there;
+        secret_fits = fits;
+        token = a.token;
+        token_there = a.token_there;
+        unsealed = unsealed;
+        opened = opened;
+        wrote = whole_as answer (verdict_answer (Ok unsealed)) wrote is;
+      }))))
+  verdict_ends secret_at token_at answer words_are idle a fits wrote (Err why) refused is =
+      token_refused secret_at token_at answer words_are idle a (jws_name why) (inr (fits, (why, refused, refl))) is wrote
 
-token_cases : (call : Call) (answer : Answer) → IsTokenCall call
-    → MayOpen call.contents call.shelf_before call.shelf_after (secret_name call.words) (token_name call.words) answer → Cases call answer
-token_cases call answer is_so (inl failed) = inr (inl (or_right (is_replay call.words) (is_token call.words) is_so.1, failed.0, failed.1))
-token_cases call answer is_so (inr a) = inr (inr (inr (is_so, a)))
+  token_ends : (secret_at token_at : Text) (answer : Answer) → command_of call.words ≡ Some (Token secret_at token_at) → call.news ≡ call.olds
+      → MayOpen call.contents call.shelf_before call.shelf_after secret_at token_at answer → Whole answer → Ended call answer.status
+  unfolding token_answer
+  token_ends secret_at token_at answer words_are idle (inl failed) wrote = shelf_failed (Token secret_at token_at) answer words_are idle failed wrote
+  token_ends secret_at token_at answer words_are idle (inr a) wrote =
+      let found = verdict (without_feed a.secret) (without_feed a.token) in
+      let A : Bool → Answer = λ b. cond b (verdict_answer found) (token_refusal (codes "Secret")) in
+      elim (bool_cases (is_secret (without_feed a.secret))) [
+        | inl fits ↦ verdict_ends secret_at token_at answer words_are idle a fits wrote found refl (a.answers ∙ ap A fits)
+        | inr other ↦ token_refused secret_at token_at answer words_are idle a (codes "Secret") (inl (other, refl)) (a.answers ∙ ap A other) wrote
+      ]
 
-cases_of : (call : Call) (answer : Answer) → MayAnswer call.small call.contents call.shelf_before call.shelf_after call.words answer → Cases call answer
-cases_of call answer may =
-    let R : Type 0 = MayReplay call.small call.contents call.shelf_before call.shelf_after (config_name call.words) (trace_name call.words) answer in
-    let T : Type 0 = MayOpen call.contents call.shelf_before call.shelf_after (secret_name call.words) (token_name call.words) answer in
-    let N : Bool → Type 0 = λ b. MatchBool b T (answer ≡ usage_answer) in
-    let M : Bool → Type 0 = λ b. MatchBool b R (N (is_token call.words)) in
-    elim (bool_cases (is_replay call.words)) [
-      | inl is_so ↦ replay_cases call answer is_so (subst M is_so may)
-      | inr is_not ↦
-          elim (bool_cases (is_token call.words)) [
-            | inl is_so ↦ token_cases call answer (is_not, is_so) (subst N is_so (subst M is_not may))
-            | inr neither ↦ inl (is_not, neither, subst N neither (subst M is_not may))
-          ]
-    ]
+  -- ---- `op`
 
-text_of_case : (call : Call) (answer : Answer) → Cases call answer → IsTextOf call.small call.contents call.shelf_before call.shelf_after call.words answer.text
-unfolding usage_answer shelf_answer
-text_of_case call answer (inl usage) = inl (or_from (is_replay call.words) (is_token call.words) usage.0 usage.1, ap (λ (v : Answer). v.text) usage.2)
-text_of_case call answer (inr (inl failed)) = inr (inl (failed.0, failed.2, ap (λ (v : Answer). v.text) failed.1))
-text_of_case call answer (inr (inr (inl a))) =
-    inr (inr (inl (a.0, (a.1.config, a.1.trace, a.1.config_there, a.1.trace_there, ap (λ (v : Answer). v.text) a.1.answers))))
-text_of_case call answer (inr (inr (inr a))) =
-    inr (inr (inr (a.0.1, (a.1.secret, a.1.token, a.1.secret_there, a.1.token_there, ap (λ (v : Answer). v.text) a.1.answers))))
+  op_by : (config_at : Text) (answer : Answer) → command_of call.words ≡ Some (Op config_at)
+      → (config : List ℕ) → IsContent call.contents config_at config
+      → (read : Result Configuration RegNo) → registry_read config ≡ read
+      → ServedOp call.tells call.olds call.news (provider_asked read) answer → Whole answer → Ended call answer.status
+  op_by config_at answer words_are config there (Err why) read (is, idle) wrote =
+      ended_as answer (configuration_refusal (registry_name why)) is
+      (configuration_ends call idle
+      (record {
+        command = Op config_at;
+        words_are = words_are;
+        config_at = config_at;
+        at = refl;
+        config = config;
+        there = there;
+        name = registry_name why;
+        why = inl (why, read, refl);
+        wrote = whole_as answer (configuration_refusal (registry_name why)) wrote is;
+      }))
+  op_by config_at answer words_are config there (Ok c) read (s, serves, is) wrote =
+      elim (bool_cases s.fault) [
+        | inl failed ↦
+            let so : answer ≡ server_answer true s.served s.entries = is ∙ ap (λ (b : Bool). server_answer b s.served s.entries) failed in
+            ended_as answer (server_answer true s.served s.entries) so
+            (door_ends call (inl
+            (record { config_at = config_at; words_are = words_are; config = config; there = there; configuration = c; read = read; summary = s; served = serves; ended = failed; wrote = whole_as answer (server_answer true s.served s.entries) wrote so })))
+        | inr well ↦
+            let so : answer ≡ server_answer false s.served s.entries = is ∙ ap (λ (b : Bool). server_answer b s.served s.entries) well in
+            ended_as answer (server_answer false s.served s.entries) so
+            (runs_end call (inr (inr (inl
+            (record { config_at = config_at; words_are = words_are; config = config; there = there; configuration = c; read = read; summary = s; served = serves; ended = well; wrote = whole_as answer (server_answer false s.served s.entries) wrote so })))))
+      ]
 
-whole_ends : (call : Call) (new : Option (List ℕ)) (answer : Answer) → Cases call answer → Takes call.old new answer.text → Ending call new answer.status
-unfolding usage_answer shelf_answer
-whole_ends call new answer (inl usage) wrote =
-    let W : Answer → Type 0 = λ v. Takes call.old new v.text in
-    let E : Answer → Type 0 = λ v. Ending call new v.status in
-    subst E (sym usage.2)
-    (usage_ends call new (or_from (is_replay call.words) (is_token call.words) usage.0 usage.1)
-    (λ held. status_is call.small held call.words false false usage.0 usage.1) (subst W usage.2 wrote))
-whole_ends call new answer (inr (inl failed)) wrote =
-    let W : Answer → Type 0 = λ v. Takes call.old new v.text in
-    let E : Answer → Type 0 = λ v. Ending call new v.status in
-    subst E (sym failed.1) (shelf_ends call new failed.0 failed.2 (subst W failed.1 wrote))
-whole_ends call new answer (inr (inr (inl a))) wrote = replay_text_ends call new answer a.0 a.1 wrote
-whole_ends call new answer (inr (inr (inr a))) wrote = token_text_ends call new answer a.0 a.1 wrote
+  op_ends : (config_at : Text) (answer : Answer) → command_of call.words ≡ Some (Op config_at)
+      → MayServeOp call.tells call.olds call.news call.contents call.shelf_before call.shelf_after config_at answer → Whole answer → Ended call answer.status
+  unfolding op_asked
+  op_ends config_at answer words_are (inl failed) wrote = shelf_failed (Op config_at) answer words_are failed.1 failed.0 wrote
+  op_ends config_at answer words_are (inr a) wrote =
+      op_by config_at answer words_are a.config a.config_there (registry_read a.config) refl a.served wrote
 
-written_ends : (call : Call) (new : Option (List ℕ)) (answer : Answer) (status : ℕ) → Cases call answer
-    → IsWritten call.old new call.before call.after answer status → Ending call new status
-written_ends call new answer status answered (inl whole) =
-    let E : ℕ → Type 0 = λ n. Ending call new n in
-    subst E (sym whole.0) (whole_ends call new answer answered whole.1)
-written_ends call new answer status answered (inr front) =
-    let E : ℕ → Type 0 = λ n. Ending call new n in
-    subst E (sym front.0)
-    (sink_ends call new (record { rose = front.2; text = answer.text; of = text_of_case call answer answered; wrote = front.1 }))
+  -- ---- `rp`
 
--- Whatever may be answered, and however it is written, the clauses hold.
-pub call_ends : (call : Call) (new : Option (List ℕ)) (answer : Answer) (status : ℕ)
-    → MayAnswer call.small call.contents call.shelf_before call.shelf_after call.words answer
-    → IsWritten call.old new call.before call.after answer status → Ending call new status
-call_ends call new answer status may written = written_ends call new answer status (cases_of call answer may) written
+  -- the words and the contents of a call of `rp`
+  record Party (config_at party : Text) (metadata_at : Option Text) (config : List ℕ) (metadata : Option (List ℕ)) : Type 0 where
+    words_are : command_of call.words ≡ Some (Rp config_at party metadata_at)
+    config_there : IsContent call.contents config_at config
+    metadata_there : IsContentIf call.contents metadata_at metadata
+
+  party_refused : (config_at party : Text) (metadata_at : Option Text) (config : List ℕ) (metadata : Option (List ℕ)) (answer : Answer)
+      → Party config_at party metadata_at config metadata → call.news ≡ call.olds → (name : Text)
+      → IsConfigurationNo call.small (Rp config_at party metadata_at) config name → answer ≡ configuration_refusal name → Whole answer → Ended call answer.status
+  party_refused config_at party metadata_at config metadata answer given idle name why is wrote =
+      ended_as answer (configuration_refusal name) is
+      (configuration_ends call idle
+      (record {
+        command = Rp config_at party metadata_at;
+        words_are = given.words_are;
+        config_at = config_at;
+        at = refl;
+        config = config;
+        there = given.config_there;
+        name = name;
+        why = why;
+        wrote = whole_as answer (configuration_refusal name) wrote is;
+      }))
+
+  -- the metadata are refused
+  metadata_ends : (config_at party metadata_at : Text) (config metadata : List ℕ) (answer : Answer)
+      → Party config_at party (Some metadata_at) config (Some metadata) → call.news ≡ call.olds
+      → (c : Configuration) → registry_read config ≡ Ok c → (number : ℕ) → party_place party c.parties ≡ Some number
+      → (name : Text) → IsMetadataNo c metadata name → answer ≡ metadata_refusal name → Whole answer → Ended call answer.status
+  metadata_ends config_at party metadata_at config metadata answer given idle c read number known name why is wrote =
+      ended_as answer (metadata_refusal name) is
+      (refusal_ends call idle (inr
+      (record {
+        config_at = config_at;
+        party = party;
+        metadata_at = metadata_at;
+        words_are = given.words_are;
+        config = config;
+        config_there = given.config_there;
+        configuration = c;
+        read = read;
+        number = number;
+        known = known;
+        metadata = metadata;
+        metadata_there = given.metadata_there;
+        name = name;
+        why = why;
+        wrote = whole_as answer (metadata_refusal name) wrote is;
+      })))
+
+  -- the party is served
+  party_ends : (config_at party : Text) (metadata_at : Option Text) (config : List ℕ) (metadata : Option (List ℕ)) (answer : Answer)
+      → Party config_at party metadata_at config metadata
+      → (c : Configuration) → registry_read config ≡ Ok c → (number : ℕ) → party_place party c.parties ≡ Some number
+      → (provider : Provider) → trusted c metadata ≡ Ok provider
+      → ServedRp call.tells call.olds call.news (Ok (setup_of c number provider)) answer → Whole answer → Ended call answer.status
+  party_ends config_at party metadata_at config metadata answer given c read number known provider trusts (s, serves, is) wrote =
+      elim (bool_cases s.fault) [
+        | inl failed ↦
+            let so : answer ≡ server_answer true s.served s.entries = is ∙ ap (λ (b : Bool). server_answer b s.served s.entries) failed in
+            ended_as answer (server_answer true s.served s.entries) so
+            (door_ends call (inr
+            (record { config_at = config_at; party = party; metadata_at = metadata_at; words_are = given.words_are; config = config; config_there = given.config_there; metadata = metadata; metadata_there = given.metadata_there; configuration = c; read = read; number = number; known = known; provider = provider; trusts = trusts; summary = s; served = serves; ended = failed; wrote = whole_as answer (server_answer true s.served s.entries) wrote so })))
+        | inr well ↦
+            let so : answer ≡ server_answer false s.served s.entries = is ∙ ap (λ (b : Bool). server_answer b s.served s.entries) well in
+            ended_as answer (server_answer false s.served s.entries) so
+            (runs_end call (inr (inr (inr
+            (record { config_at = config_at; party = party; metadata_at = metadata_at; words_are = given.words_are; config = config; config_there = given.config_there; metadata = metadata; metadata_there = given.metadata_there; configuration = c; read = read; number = number; known = known; provider = provider; trusts = trusts; summary = s; served = serves; ended = well; wrote = whole_as answer (server_answer false s.served s.entries) wrote so })))))
+      ]
+
+  -- the document was read
+  document_by : (config_at party metadata_at : Text) (config metadata : List ℕ) (answer : Answer)
+      → Party config_at party (Some metadata_at) config (Some metadata)
+      → (c : Configuration) → registry_read config ≡ Ok c → (number : ℕ) → party_place party c.parties ≡ Some number
+      → nat_le (length metadata) 65536 ≡ true → described c metadata ≡ provider_read (discovery_read c.provider.issuer metadata)
+      → (read : Result Provider DiscNo) → discovery_read c.provider.issuer metadata ≡ read
+      → ServedRp call.tells call.olds call.news (setup_asked c number (provider_read read)) answer → Whole answer → Ended call answer.status
+  document_by config_at party metadata_at config metadata answer given c read number known fits so (Err why) found (is, idle) wrote =
+      metadata_ends config_at party metadata_at config metadata answer given idle c read number known (metadata_name why) (inr (fits, (why, found, refl))) is wrote
+  document_by config_at party metadata_at config metadata answer given c read number known fits so (Ok provider) found served wrote =
+      party_ends config_at party (Some metadata_at) config (Some metadata) answer given c read number known provider (so ∙ ap provider_read found) served wrote
+
+  described_by : (config_at party metadata_at : Text) (config metadata : List ℕ) (answer : Answer)
+      → Party config_at party (Some metadata_at) config (Some metadata)
+      → (c : Configuration) → registry_read config ≡ Ok c → (number : ℕ) → party_place party c.parties ≡ Some number
+      → ServedRp call.tells call.olds call.news (setup_asked c number (described c metadata)) answer → Whole answer → Ended call answer.status
+  unfolding described
+  described_by config_at party metadata_at config metadata answer given c read number known served wrote =
+      let P : Bool → Result Provider Answer = λ b. cond b (provider_read (discovery_read c.provider.issuer metadata)) (Err (metadata_refusal (codes "Size"))) in
+      let V : Bool → Type 0 = λ b. ServedRp call.tells call.olds call.news (setup_asked c number (P b)) answer in
+      elim (bool_cases (nat_le (length metadata) 65536)) [
+        | inl fits ↦
+            document_by config_at party metadata_at config metadata answer given c read number known fits (ap P fits) (discovery_read c.provider.issuer metadata) refl (subst V fits served) wrote
+        | inr long ↦
+            let refused : (answer ≡ metadata_refusal (codes "Size")) × (call.news ≡ call.olds) = subst V long served in
+            metadata_ends config_at party metadata_at config metadata answer given refused.1 c read number known (codes "Size") (inl (long, refl)) refused.0 wrote
+      ]
+
+  -- the configuration has the party
+  known_by : (config_at party : Text) (metadata_at : Option Text) (config : List ℕ) (metadata : Option (List ℕ)) (answer : Answer)
+      → Party config_at party metadata_at config metadata
+      → (c : Configuration) → registry_read config ≡ Ok c → (number : ℕ) → party_place party c.parties ≡ Some number
+      → ServedRp call.tells call.olds call.news (setup_asked c number (trusted c metadata)) answer → Whole answer → Ended call answer.status
+  known_by config_at party (Some metadata_at) config (Some metadata) answer given c read number known served wrote =
+      described_by config_at party metadata_at config metadata answer given c read number known served wrote
+  known_by config_at party None config None answer given c read number known served wrote =
+      party_ends config_at party None config None answer given c read number known c.provider refl served wrote
+  known_by config_at party (Some metadata_at) config None answer given c read number known served wrote = absurd (given.metadata_there)
+  known_by config_at party None config (Some metadata) answer given c read number known served wrote = absurd (given.metadata_there)
+
+  numbered_by : (config_at party : Text) (metadata_at : Option Text) (config : List ℕ) (metadata : Option (List ℕ)) (answer : Answer)
+      → Party config_at party metadata_at config metadata
+      → (c : Configuration) → registry_read config ≡ Ok c → (number : Option ℕ) → party_place party c.parties ≡ number
+      → ServedRp call.tells call.olds call.news (number_asked c number metadata) answer → Whole answer → Ended call answer.status
+  numbered_by config_at party metadata_at config metadata answer given c read (Some number) known served wrote =
+      known_by config_at party metadata_at config metadata answer given c read number known served wrote
+  numbered_by config_at party metadata_at config metadata answer given c read None unknown (is, idle) wrote =
+      party_refused config_at party metadata_at config metadata answer given idle (codes "NoParty") (inr (c, read, (unknown, refl))) is wrote
+
+  rp_by : (config_at party : Text) (metadata_at : Option Text) (config : List ℕ) (metadata : Option (List ℕ)) (answer : Answer)
+      → Party config_at party metadata_at config metadata
+      → (read : Result Configuration RegNo) → registry_read config ≡ read
+      → ServedRp call.tells call.olds call.news (party_asked read party metadata) answer → Whole answer → Ended call answer.status
+  rp_by config_at party metadata_at config metadata answer given (Ok c) read served wrote =
+      numbered_by config_at party metadata_at config metadata answer given c read (party_place party c.parties) refl served wrote
+  rp_by config_at party metadata_at config metadata answer given (Err why) read (is, idle) wrote =
+      party_refused config_at party metadata_at config metadata answer given idle (registry_name why) (inl (why, read, refl)) is wrote
+
+  rp_ends : (config_at party : Text) (metadata_at : Option Text) (answer : Answer) → command_of call.words ≡ Some (Rp config_at party metadata_at)
+      → MayServeRp call.tells call.olds call.news call.contents call.shelf_before call.shelf_after config_at party metadata_at answer → Whole answer → Ended call answer.status
+  unfolding rp_asked
+  rp_ends config_at party metadata_at answer words_are (inl failed) wrote = shelf_failed (Rp config_at party metadata_at) answer words_are failed.1 failed.0 wrote
+  rp_ends config_at party metadata_at answer words_are (inr a) wrote =
+      rp_by config_at party metadata_at a.config a.metadata answer
+      (record { words_are = words_are; config_there = a.config_there; metadata_there = a.metadata_there }) (registry_read a.config) refl a.served wrote
+
+  -- ---- Every answer
+
+  -- what may be answered to a command
+  abbrev May : Option Command → Answer → Type 0
+  May command answer = MayAnswer call.tells call.olds call.news call.small call.contents call.shelf_before call.shelf_after command answer
+
+  -- where nothing is served the desks are as they were
+  abbrev Idle : Option Command → Type 0
+  Idle command = is_serving command ≡ false → call.news ≡ call.olds
+
+  whole_ends : (command : Option Command) (answer : Answer) → command_of call.words ≡ command → Idle command → May command answer → Whole answer → Ended call answer.status
+  unfolding usage_answer
+  whole_ends None answer words_are idle is wrote =
+      ended_as answer usage_answer is (usage_ends call (idle refl) (record { words_are_none = words_are; wrote = whole_as answer usage_answer wrote is }))
+  whole_ends (Some (Replay config trace)) answer words_are idle may wrote = replay_ends config trace answer words_are (idle refl) may wrote
+  whole_ends (Some (Token secret token)) answer words_are idle may wrote = token_ends secret token answer words_are (idle refl) may wrote
+  whole_ends (Some (Op config)) answer words_are idle may wrote = op_ends config answer words_are may wrote
+  whole_ends (Some (Rp config party metadata)) answer words_are idle may wrote = rp_ends config party metadata answer words_are may wrote
+
+  abbrev Written : Answer → ℕ → Type 0
+  Written answer status = IsWritten call.old call.new call.before call.after answer status
+
+  -- Whatever may be answered, and however it is written, the call ends so.
+  pub call_ends : (answer : Answer) (status : ℕ) → Idle (command_of call.words) → May (command_of call.words) answer → Written answer status → Ended call status
+  call_ends answer status idle may (inl whole) =
+      let E : ℕ → Type 0 = λ n. Ended call n in
+      subst E (sym whole.0) (whole_ends (command_of call.words) answer refl idle may whole.1)
+  call_ends answer status idle may (inr front) =
+      let E : ℕ → Type 0 = λ n. Ended call n in
+      subst E (sym front.0) (sink_ends call (record { rose = front.2; answer = answer; may = may; wrote = front.1 }))
+
+  -- ---- Statuses by the words
+
+  by_words : (command : Option Command) (answer : Answer) (status : ℕ) → is_some command ≡ false → May command answer → Written answer status → IsStatus 2 status
+  unfolding usage_answer
+  by_words None answer status is_not is (inl whole) = inl (whole.0 ∙ ap (λ (v : Answer). v.status) is)
+  by_words None answer status is_not is (inr front) = inr (inr front.0)
+  by_words (Some command) answer status is_not may written = absurd (cc)
+
+  pub words_tell : (answer : Answer) (status : ℕ) → May (command_of call.words) answer → Written answer status → is_command call.words ≡ false → IsStatus 2 status
+  words_tell answer status may written is_not = by_words (command_of call.words) answer status is_not may written
+
+  -- ---- Statuses by the contents
+
+  -- the shelf tells these contents
+  abbrev Tells : List Content → Type 0
+  Tells held = call.contents ≡ Some held
+
+  told_at : (held : List Content) (name : Text) (content : List ℕ) → Tells held → IsContent call.contents name content → content_of held name ≡ Some content
+  told_at held name content is there = (let C : Option (List Content) → Type 0 = λ v. IsContent v name content in subst C is there)
+
+  both_told : (answer : List ℕ → List ℕ → Answer) (held : List Content) (first_at second_at : Text) (first second : List ℕ)
+      → content_of held first_at ≡ Some first → content_of held second_at ≡ Some second
+      → status_of_both answer (content_of held first_at) (content_of held second_at) ≡ (answer first second).status
+  both_told answer held first_at second_at first second first_there second_there =
+      ap (λ (o : Option (List ℕ)). status_of_both answer o (content_of held second_at)) first_there
+      ∙ ap (λ (o : Option (List ℕ)). status_of_both answer (Some first) o) second_there
+
+  -- a failed shelf
+  failed_told : (wanted : Option ℕ) (answer : Answer) → answer ≡ shelf_answer → IsStatusOf wanted answer.status
+  unfolding shelf_answer
+  failed_told (Some wanted) answer is = inr (inr (inl (ap (λ (v : Answer). v.status) is)))
+  failed_told None answer is = inr (inr (inr (inl (ap (λ (v : Answer). v.status) is))))
+
+  -- what was to be served was refused, or was served
+  op_told : (asked : Result Configuration Answer) (answer : Answer) → ServedOp call.tells call.olds call.news asked answer → IsStatusOf (status_of_asked asked) answer.status
+  op_told (Err refusal) answer (is, idle) = inl (ap (λ (v : Answer). v.status) is)
+  op_told (Ok c) answer (s, serves, is) =
+      elim (bool_cases s.fault) [
+        | inl failed ↦ inr (inl (ap (λ (v : Answer). v.status) is ∙ ap (λ (b : Bool). (server_answer b s.served s.entries).status) failed))
+        | inr well ↦ inl (ap (λ (v : Answer). v.status) is ∙ ap (λ (b : Bool). (server_answer b s.served s.entries).status) well)
+      ]
+
+  rp_told : (asked : Result PartySetup Answer) (answer : Answer) → ServedRp call.tells call.olds call.news asked answer → IsStatusOf (status_of_asked asked) answer.status
+  rp_told (Err refusal) answer (is, idle) = inl (ap (λ (v : Answer). v.status) is)
+  rp_told (Ok p) answer (s, serves, is) =
+      elim (bool_cases s.fault) [
+        | inl failed ↦ inr (inl (ap (λ (v : Answer). v.status) is ∙ ap (λ (b : Bool). (server_answer b s.served s.entries).status) failed))
+        | inr well ↦ inl (ap (λ (v : Answer). v.status) is ∙ ap (λ (b : Bool). (server_answer b s.served s.entries).status) well)
+      ]
+
+  metadata_told : (held : List Content) (name : Option Text) (content : Option (List ℕ)) → Tells held → IsContentIf call.contents name content → content_if held name ≡ Some content
+  metadata_told held (Some name) (Some content) is there = ap (option_map Some) (told_at held name content is there)
+  metadata_told held None None is there = refl
+  metadata_told held (Some name) None is there = absurd (there)
+  metadata_told held None (Some content) is there = absurd (there)
+
+  -- the status of an answer that was written whole
+  whole_told : (held : List Content) → Tells held → (command : Option Command) (answer : Answer) → May command answer
+      → IsStatusOf (status_for call.small held command) answer.status
+  unfolding usage_answer
+  whole_told held is None answer usage = inl (ap (λ (v : Answer). v.status) usage)
+  whole_told held is (Some (Replay config trace)) answer (inl failed) = failed_told (status_for call.small held (Some (Replay config trace))) answer failed.0
+  whole_told held is (Some (Replay config trace)) answer (inr a) =
+      inl (ap (λ (v : Answer). v.status) a.answers
+      ∙ sym (both_told (answer_to call.small) held config trace a.config a.trace (told_at held config a.config is a.config_there) (told_at held trace a.trace is a.trace_there)))
+  whole_told held is (Some (Token secret token)) answer (inl failed) = failed_told (status_for call.small held (Some (Token secret token))) answer failed.0
+  whole_told held is (Some (Token secret token)) answer (inr a) =
+      inl (ap (λ (v : Answer). v.status) a.answers
+      ∙ sym (both_told token_answer held secret token a.secret a.token (told_at held secret a.secret is a.secret_there) (told_at held token a.token is a.token_there)))
+  whole_told held is (Some (Op config)) answer (inl failed) = failed_told (status_for call.small held (Some (Op config))) answer failed.0.0
+  whole_told held is (Some (Op config)) answer (inr a) =
+      let S : Option (List ℕ) → Type 0 = λ o. IsStatusOf (op_status o) answer.status in
+      subst S (sym (told_at held config a.config is a.config_there)) (op_told (op_asked a.config) answer a.served)
+  whole_told held is (Some (Rp config party metadata)) answer (inl failed) = failed_told (status_for call.small held (Some (Rp config party metadata))) answer failed.0.0
+  whole_told held is (Some (Rp config party metadata)) answer (inr a) =
+      let S : Option (List ℕ) → Type 0 = λ o. IsStatusOf (rp_status party o (content_if held metadata)) answer.status in
+      let M : Option (Option (List ℕ)) → Type 0 = λ o. IsStatusOf (rp_status party (Some a.config) o) answer.status in
+      subst S (sym (told_at held config a.config is a.config_there))
+      (subst M (sym (metadata_told held metadata a.metadata is a.metadata_there)) (rp_told (rp_asked a.config party a.metadata) answer a.served))
+
+  cut_told : (wanted : Option ℕ) (status : ℕ) → status ≡ 6 → IsStatusOf wanted status
+  cut_told (Some wanted) status is = inr (inr (inr is))
+  cut_told None status is = inr (inr (inr (inr is)))
+
+  pub contents_tell : (answer : Answer) (status : ℕ) → May (command_of call.words) answer → Written answer status
+      → (held : List Content) → call.contents ≡ Some held → IsStatusOf (status_for call.small held (command_of call.words)) status
+  contents_tell answer status may (inl whole) held is =
+      let S : ℕ → Type 0 = λ n. IsStatusOf (status_for call.small held (command_of call.words)) n in
+      subst S (sym whole.0) (whole_told held is (command_of call.words) answer may)
+  contents_tell answer status may (inr front) held is = cut_told (status_for call.small held (command_of call.words)) status front.0

@@ -1,213 +1,122 @@
--- How a call ends: the clauses of the top call that speak of the status, and one lemma for each status.
-use Rattle.std.proofs.Common.{◌≡◌, ◌⊎◌, ℕ, ◌≤◌, Bool, true, false, List, Option, Some, inl, inr, arith, refl, sym}
-use Rattle.sso_base.specs.Words.{Text}
-use Rattle.sso_base.specs.Faults.{Rose}
-use Rattle.sso_base.specs.Outside.{Content, Takes}
-use Rattle.sso.specs.Answer.{is_replay, is_token, is_command, usage_text, shelf_text}
-use Rattle.sso.specs.Ends.{ShowsUsage, ReportsShelf, RefusesConfiguration, RefusesTrace, RefusesToken, OpensToken, StopsWriting, status_for, IsStatus, IsStatusOf}
+-- How a call ends: one lemma for each status, and the clauses of the top call, which are read off.
+use Rattle.std.proofs.Common.{◌≡◌, ℕ, Bool, true, false, Option, is_some, inl, inr, arith, refl, ap, sym, ◌∙◌, subst}
+use Rattle.command_line.specs.declared.command.Command.{Command}
+use Rattle.command_line.specs.Commands.{command_of, is_command, asks_replay, asks_op, asks_rp, asks_token}
+use Rattle.sso.specs.Ends.{ShowsUsage, ReportsShelf, RefusesConfiguration, RefusesTrace, OpensToken, RunsProvider, RunsParty}
 use Rattle.sso.specs.SignOn.{Replays}
+use Rattle.sso.specs.Statuses.{Call, Runs, FailsAtDoor, Refuses, Stops, At, Ended}
 
--- what is given to a call, and the counts of faults after it
-pub record Call : Type 0 where
-  pub small : List ℕ
-  pub contents : Option (List Content)
-  pub shelf_before : ℕ
-  pub shelf_after : ℕ
-  pub words : List Text
-  pub before : ℕ
-  pub after : ℕ
-  pub old : Option (List ℕ)
+module _ {D L C W S K : Type 0} (call : Call D L C W S K) where
+  -- ---- the statuses
 
--- the clauses of the top call that speak of the status
-pub record Ending (call : Call) (new : Option (List ℕ)) (status : ℕ) : Type 0 where
-  pub replayed : status ≡ 0 → is_replay call.words ≡ true → Replays call.small call.contents call.words call.old new
-  pub opened : status ≡ 0 → is_token call.words ≡ true → OpensToken call.contents call.words call.old new
-  pub command : status ≡ 0 → is_command call.words ≡ true
-  pub memory : status ≡ 1 → new ≡ call.old
-  pub usage : status ≡ 2 → ShowsUsage call.words call.old new
-  pub configuration : status ≡ 3 → RefusesConfiguration call.small call.contents call.words call.old new
-  pub trace : status ≡ 4 → RefusesTrace call.small call.contents call.words call.old new
-  pub shelf : status ≡ 5 → ReportsShelf call.shelf_before call.shelf_after call.words call.old new
-  pub sink : status ≡ 6 → StopsWriting call.small call.contents call.shelf_before call.shelf_after call.words call.before call.after call.old new
-  pub refused_token : status ≡ 10 → RefusesToken call.contents call.words call.old new
-  pub range : (status ≤ 6) ⊎ (status ≡ 10)
-  pub by_words : is_command call.words ≡ false → IsStatus 2 status
-  pub by_contents : (held : List Content) → call.contents ≡ Some held → IsStatusOf (status_for call.small held call.words) status
+  pub runs_end : Runs call → Ended call 0
+  runs_end runs = record { at = runs; range = inl (omega arith); unserved = λ never. absurd (cc) }
 
--- The words are a command, whose answer to the contents has this status.
-pub record IsAnswered (call : Call) (status : ℕ) : Type 0 where
-  pub command : is_command call.words ≡ true
-  pub held : (held : List Content) → call.contents ≡ Some held → status ≡ status_for call.small held call.words
+  pub no_memory_ends : call.new ≡ call.old → Ended call 1
+  no_memory_ends same = record { at = same; range = inl (omega arith); unserved = λ never. absurd (cc) }
 
-not_both : {X : Type 0} (b : Bool) → b ≡ true → b ≡ false → X
-not_both b is_so is_not = cc
+  pub usage_ends : call.news ≡ call.olds → ShowsUsage call.words call.old call.new → Ended call 2
+  usage_ends idle shows = record { at = shows; range = inl (omega arith); unserved = λ _. idle }
 
-pub no_memory : (call : Call) (new : Option (List ℕ)) → new ≡ call.old → Ending call new 1
-no_memory call new same =
-    record {
-      replayed = λ z _. absurd (omega arith);
-      opened = λ z _. absurd (omega arith);
-      command = λ z. absurd (omega arith);
-      memory = λ _. same;
-      usage = λ z. absurd (omega arith);
-      configuration = λ z. absurd (omega arith);
-      trace = λ z. absurd (omega arith);
-      shelf = λ z. absurd (omega arith);
-      sink = λ z. absurd (omega arith);
-      refused_token = λ z. absurd (omega arith);
-      range = inl (omega arith);
-      by_words = λ is_not. inr (inl refl);
-      by_contents = λ held is. inr (inl refl);
-    }
+  pub configuration_ends : call.news ≡ call.olds → RefusesConfiguration call.small call.contents call.words call.old call.new → Ended call 3
+  configuration_ends idle refuses = record { at = refuses; range = inl (omega arith); unserved = λ _. idle }
 
-pub usage_ends : (call : Call) (new : Option (List ℕ)) → is_command call.words ≡ false
-    → ((held : List Content) → status_for call.small held call.words ≡ 2) → Takes call.old new usage_text → Ending call new 2
-usage_ends call new is_not by_contents wrote =
-    record {
-      replayed = λ z _. absurd (omega arith);
-      opened = λ z _. absurd (omega arith);
-      command = λ z. absurd (omega arith);
-      memory = λ z. absurd (omega arith);
-      usage = λ _. record { words_are_none = is_not; wrote = wrote };
-      configuration = λ z. absurd (omega arith);
-      trace = λ z. absurd (omega arith);
-      shelf = λ z. absurd (omega arith);
-      sink = λ z. absurd (omega arith);
-      refused_token = λ z. absurd (omega arith);
-      range = inl (omega arith);
-      by_words = λ _. inl refl;
-      by_contents = λ held is. inl (sym (by_contents held));
-    }
+  pub trace_ends : call.news ≡ call.olds → RefusesTrace call.small call.contents call.words call.old call.new → Ended call 4
+  trace_ends idle refuses = record { at = refuses; range = inl (omega arith); unserved = λ _. idle }
 
-pub shelf_ends : (call : Call) (new : Option (List ℕ)) → is_command call.words ≡ true → Rose call.shelf_before call.shelf_after
-    → Takes call.old new shelf_text → Ending call new 5
-shelf_ends call new is_so rose wrote =
-    record {
-      replayed = λ z _. absurd (omega arith);
-      opened = λ z _. absurd (omega arith);
-      command = λ z. absurd (omega arith);
-      memory = λ z. absurd (omega arith);
-      usage = λ z. absurd (omega arith);
-      configuration = λ z. absurd (omega arith);
-      trace = λ z. absurd (omega arith);
-      shelf = λ _. record { words_are = is_so; rose = rose; wrote = wrote };
-      sink = λ z. absurd (omega arith);
-      refused_token = λ z. absurd (omega arith);
-      range = inl (omega arith);
-      by_words = λ is_not. not_both (is_command call.words) is_so is_not;
-      by_contents = λ held is. inr (inr (inl refl));
-    }
+  pub shelf_ends : call.news ≡ call.olds → ReportsShelf call.shelf_before call.shelf_after call.words call.old call.new → Ended call 5
+  shelf_ends idle reports = record { at = reports; range = inl (omega arith); unserved = λ _. idle }
 
-pub configuration_ends : (call : Call) (new : Option (List ℕ)) → IsAnswered call 3
-    → RefusesConfiguration call.small call.contents call.words call.old new → Ending call new 3
-configuration_ends call new a refuses =
-    record {
-      replayed = λ z _. absurd (omega arith);
-      opened = λ z _. absurd (omega arith);
-      command = λ z. absurd (omega arith);
-      memory = λ z. absurd (omega arith);
-      usage = λ z. absurd (omega arith);
-      configuration = λ _. refuses;
-      trace = λ z. absurd (omega arith);
-      shelf = λ z. absurd (omega arith);
-      sink = λ z. absurd (omega arith);
-      refused_token = λ z. absurd (omega arith);
-      range = inl (omega arith);
-      by_words = λ is_not. not_both (is_command call.words) a.command is_not;
-      by_contents = λ held is. inl (a.held held is);
-    }
+  pub sink_ends : Stops call → Ended call 6
+  sink_ends stops = record { at = stops; range = inl (omega arith); unserved = λ never. absurd (cc) }
 
-pub trace_ends : (call : Call) (new : Option (List ℕ)) → IsAnswered call 4
-    → RefusesTrace call.small call.contents call.words call.old new → Ending call new 4
-trace_ends call new a refuses =
-    record {
-      replayed = λ z _. absurd (omega arith);
-      opened = λ z _. absurd (omega arith);
-      command = λ z. absurd (omega arith);
-      memory = λ z. absurd (omega arith);
-      usage = λ z. absurd (omega arith);
-      configuration = λ z. absurd (omega arith);
-      trace = λ _. refuses;
-      shelf = λ z. absurd (omega arith);
-      sink = λ z. absurd (omega arith);
-      refused_token = λ z. absurd (omega arith);
-      range = inl (omega arith);
-      by_words = λ is_not. not_both (is_command call.words) a.command is_not;
-      by_contents = λ held is. inl (a.held held is);
-    }
+  pub door_ends : FailsAtDoor call → Ended call 9
+  door_ends fails = record { at = fails; range = inr (inl refl); unserved = λ never. absurd (cc) }
 
-pub token_ends : (call : Call) (new : Option (List ℕ)) → IsAnswered call 10
-    → RefusesToken call.contents call.words call.old new → Ending call new 10
-token_ends call new a refuses =
-    record {
-      replayed = λ z _. absurd (omega arith);
-      opened = λ z _. absurd (omega arith);
-      command = λ z. absurd (omega arith);
-      memory = λ z. absurd (omega arith);
-      usage = λ z. absurd (omega arith);
-      configuration = λ z. absurd (omega arith);
-      trace = λ z. absurd (omega arith);
-      shelf = λ z. absurd (omega arith);
-      sink = λ z. absurd (omega arith);
-      refused_token = λ _. refuses;
-      range = inr refl;
-      by_words = λ is_not. not_both (is_command call.words) a.command is_not;
-      by_contents = λ held is. inl (a.held held is);
-    }
+  pub refusal_ends : call.news ≡ call.olds → Refuses call → Ended call 10
+  refusal_ends idle refuses = record { at = refuses; range = inr (inr refl); unserved = λ _. idle }
 
-pub replay_ends : (call : Call) (new : Option (List ℕ)) → IsAnswered call 0
-    → is_token call.words ≡ false → Replays call.small call.contents call.words call.old new → Ending call new 0
-replay_ends call new a is_not replays =
-    record {
-      replayed = λ _ _. replays;
-      opened = λ _ is_so. not_both (is_token call.words) is_so is_not;
-      command = λ _. a.command;
-      memory = λ z. absurd (omega arith);
-      usage = λ z. absurd (omega arith);
-      configuration = λ z. absurd (omega arith);
-      trace = λ z. absurd (omega arith);
-      shelf = λ z. absurd (omega arith);
-      sink = λ z. absurd (omega arith);
-      refused_token = λ z. absurd (omega arith);
-      range = inl (omega arith);
-      by_words = λ is_not. not_both (is_command call.words) a.command is_not;
-      by_contents = λ held is. inl (a.held held is);
-    }
+  -- ---- the clauses
 
-pub opening_ends : (call : Call) (new : Option (List ℕ)) → IsAnswered call 0
-    → is_replay call.words ≡ false → OpensToken call.contents call.words call.old new → Ending call new 0
-opening_ends call new a is_not opens =
-    record {
-      replayed = λ _ is_so. not_both (is_replay call.words) is_so is_not;
-      opened = λ _ _. opens;
-      command = λ _. a.command;
-      memory = λ z. absurd (omega arith);
-      usage = λ z. absurd (omega arith);
-      configuration = λ z. absurd (omega arith);
-      trace = λ z. absurd (omega arith);
-      shelf = λ z. absurd (omega arith);
-      sink = λ z. absurd (omega arith);
-      refused_token = λ z. absurd (omega arith);
-      range = inl (omega arith);
-      by_words = λ is_not. not_both (is_command call.words) a.command is_not;
-      by_contents = λ held is. inl (a.held held is);
-    }
+  -- what is so at the status that came
+  at_status : (status wanted : ℕ) → Ended call status → status ≡ wanted → At call wanted
+  at_status status wanted ended is = (let A : ℕ → Type 0 = λ n. At call n in subst A is ended.at)
 
-pub sink_ends : (call : Call) (new : Option (List ℕ))
-    → StopsWriting call.small call.contents call.shelf_before call.shelf_after call.words call.before call.after call.old new → Ending call new 6
-sink_ends call new stops =
-    record {
-      replayed = λ z _. absurd (omega arith);
-      opened = λ z _. absurd (omega arith);
-      command = λ z. absurd (omega arith);
-      memory = λ z. absurd (omega arith);
-      usage = λ z. absurd (omega arith);
-      configuration = λ z. absurd (omega arith);
-      trace = λ z. absurd (omega arith);
-      shelf = λ z. absurd (omega arith);
-      sink = λ _. stops;
-      refused_token = λ z. absurd (omega arith);
-      range = inl (omega arith);
-      by_words = λ is_not. inr (inr refl);
-      by_contents = λ held is. inr (inr (inr refl));
-    }
+  -- words are of one command
+  not_both : {X : Type 0} (asks : Option Command → Bool) (command : Option Command) → asks (command_of call.words) ≡ true
+      → command_of call.words ≡ command → asks command ≡ false → X
+  not_both asks command is_so words_are is_not =
+      (let never : ◌≡◌ {A = Bool} true false = sym is_so ∙ ap asks words_are ∙ is_not in cc)
+
+  replayed_of : Runs call → asks_replay (command_of call.words) ≡ true → Replays call.small call.contents call.words call.old call.new
+  replayed_of (inl replays) is_so = replays
+  replayed_of (inr (inl opens)) is_so = not_both asks_replay _ is_so opens.words_are refl
+  replayed_of (inr (inr (inl serves))) is_so = not_both asks_replay _ is_so serves.words_are refl
+  replayed_of (inr (inr (inr serves))) is_so = not_both asks_replay _ is_so serves.words_are refl
+
+  opened_of : Runs call → asks_token (command_of call.words) ≡ true → OpensToken call.contents call.words call.old call.new
+  opened_of (inl replays) is_so = not_both asks_token _ is_so replays.words_are refl
+  opened_of (inr (inl opens)) is_so = opens
+  opened_of (inr (inr (inl serves))) is_so = not_both asks_token _ is_so serves.words_are refl
+  opened_of (inr (inr (inr serves))) is_so = not_both asks_token _ is_so serves.words_are refl
+
+  provider_of : Runs call → asks_op (command_of call.words) ≡ true
+      → RunsProvider call.tells call.olds call.news call.contents call.words false call.old call.new
+  provider_of (inl replays) is_so = not_both asks_op _ is_so replays.words_are refl
+  provider_of (inr (inl opens)) is_so = not_both asks_op _ is_so opens.words_are refl
+  provider_of (inr (inr (inl serves))) is_so = serves
+  provider_of (inr (inr (inr serves))) is_so = not_both asks_op _ is_so serves.words_are refl
+
+  party_of : Runs call → asks_rp (command_of call.words) ≡ true
+      → RunsParty call.tells call.olds call.news call.contents call.words false call.old call.new
+  party_of (inl replays) is_so = not_both asks_rp _ is_so replays.words_are refl
+  party_of (inr (inl opens)) is_so = not_both asks_rp _ is_so opens.words_are refl
+  party_of (inr (inr (inl serves))) is_so = not_both asks_rp _ is_so serves.words_are refl
+  party_of (inr (inr (inr serves))) is_so = serves
+
+  command_in : Runs call → is_command call.words ≡ true
+  command_in (inl replays) = ap is_some replays.words_are
+  command_in (inr (inl opens)) = ap is_some opens.words_are
+  command_in (inr (inr (inl serves))) = ap is_some serves.words_are
+  command_in (inr (inr (inr serves))) = ap is_some serves.words_are
+
+  pub replayed : (status : ℕ) → Ended call status → status ≡ 0 → asks_replay (command_of call.words) ≡ true → Replays call.small call.contents call.words call.old call.new
+  replayed status ended is = replayed_of (at_status status 0 ended is)
+
+  pub opened : (status : ℕ) → Ended call status → status ≡ 0 → asks_token (command_of call.words) ≡ true → OpensToken call.contents call.words call.old call.new
+  opened status ended is = opened_of (at_status status 0 ended is)
+
+  pub provider : (status : ℕ) → Ended call status → status ≡ 0 → asks_op (command_of call.words) ≡ true
+      → RunsProvider call.tells call.olds call.news call.contents call.words false call.old call.new
+  provider status ended is = provider_of (at_status status 0 ended is)
+
+  pub party : (status : ℕ) → Ended call status → status ≡ 0 → asks_rp (command_of call.words) ≡ true
+      → RunsParty call.tells call.olds call.news call.contents call.words false call.old call.new
+  party status ended is = party_of (at_status status 0 ended is)
+
+  pub command : (status : ℕ) → Ended call status → status ≡ 0 → is_command call.words ≡ true
+  command status ended is = command_in (at_status status 0 ended is)
+
+  pub memory : (status : ℕ) → Ended call status → status ≡ 1 → call.new ≡ call.old
+  memory status ended is = at_status status 1 ended is
+
+  pub usage : (status : ℕ) → Ended call status → status ≡ 2 → ShowsUsage call.words call.old call.new
+  usage status ended is = at_status status 2 ended is
+
+  pub configuration : (status : ℕ) → Ended call status → status ≡ 3 → RefusesConfiguration call.small call.contents call.words call.old call.new
+  configuration status ended is = at_status status 3 ended is
+
+  pub trace : (status : ℕ) → Ended call status → status ≡ 4 → RefusesTrace call.small call.contents call.words call.old call.new
+  trace status ended is = at_status status 4 ended is
+
+  pub shelf : (status : ℕ) → Ended call status → status ≡ 5 → ReportsShelf call.shelf_before call.shelf_after call.words call.old call.new
+  shelf status ended is = at_status status 5 ended is
+
+  pub sink : (status : ℕ) → Ended call status → status ≡ 6 → Stops call
+  sink status ended is = at_status status 6 ended is
+
+  pub door : (status : ℕ) → Ended call status → status ≡ 9 → FailsAtDoor call
+  door status ended is = at_status status 9 ended is
+
+  pub refused : (status : ℕ) → Ended call status → status ≡ 10 → Refuses call
+  refused status ended is = at_status status 10 ended is

@@ -1,5 +1,5 @@
 -- What is fetched of contents answers as the whole contents do.
-use Rattle.std.proofs.Common.{◌≡◌, ℕ, ◌<◌, ◌≤◌, ◌+◌, ◌-◌, nat_lt, nat_le, Bool, true, false, cond, List, length, take, drop, codes, Option, Some, None, Result, Ok, Err, inl, inr, arith, ap, ◌∙◌, sym, subst}
+use Rattle.std.proofs.Common.{◌≡◌, ℕ, ◌<◌, ◌≤◌, ◌+◌, ◌-◌, nat_lt, nat_le, Bool, true, false, cond, List, length, take, drop, codes, Option, Some, None, option_map, Result, Ok, Err, inl, inr, arith, refl, ap, ◌∙◌, sym, subst}
 use Rattle.std.proofs.lemmas.List.{take_all, length-take-le}
 use Rattle.std.proofs.lemmas.Bool.{and_right}
 use Rattle.std.proofs.lemmas.Bool.Decides.{leb_tells}
@@ -10,14 +10,21 @@ use Rattle.sso_base.specs.Outside.{Content}
 use Rattle.sso_base.proofs.RowLaws.{bool_cases}
 use Rattle.jws_compact.specs.declared.no.JwsNo.TheVariants.{TooLong}
 use Rattle.jws_compact.specs.Jws.{verdict}
+use Rattle.configuration_rows.specs.declared.no.RegNo.{RegNo}
 use Rattle.configuration_rows.specs.declared.no.RegNo.TheVariants as reg
+use Rattle.client_registry.specs.Configuration.{Configuration}
 use Rattle.client_registry.specs.Reading.{registry_read, document_read, document_in}
+use Rattle.client_registry.specs.Rules.{party_place}
+use Rattle.discovery_doc.specs.Reading.{discovery_read}
+use Rattle.rp_answer.specs.Setup.{PartySetup}
 use Rattle.std.proofs.lemmas.Grind.{common_steps}
 use Rattle.oidc_replay.specs.declared.trace.TraceNo.TheVariants as no
 use Rattle.oidc_replay.specs.Trace.{trace_of, told_of, lines_of}
 use Rattle.sso.specs.Answer.{Answer, answer_to, trace_answer, registry_name, not_taken, configuration_no, unless_refused, without_feed, is_secret, token_refusal, verdict_answer, token_answer}
-use Rattle.sso.specs.Ends.{IsContent}
-use Rattle.sso.specs.Outcomes.{IsFetched, AnswersReplay, AnswersToken, PlaysWell}
+use Rattle.server_desk.specs.declared.desk.Desk.{Desk}
+use Rattle.serving.specs.Summaries.{Telling}
+use Rattle.sso.specs.Asked.{op_asked, provider_asked, metadata_refusal, provider_read, described, trusted, rp_asked, party_asked, number_asked, setup_asked}
+use Rattle.sso.specs.Outcomes.{IsContent, IsContentIf, IsFetched, IsFetchedIf, AnswersReplay, AnswersToken, ServedOp, AnswersOp, ServedRp, AnswersRp, PlaysWell}
 
 -- ---- One content
 
@@ -32,6 +39,16 @@ is_longer most n above = grind (arith, common_steps)
 
 too_long_configuration : (config : List ℕ) → nat_lt 1048576 (length config) ≡ true → registry_read config ≡ Err reg.TooLong
 too_long_configuration config long = ap (λ (b : Bool). cond b (Err reg.TooLong) (document_read (document_in config))) long
+
+registry_cut : (config : List ℕ) → registry_read (take 1048577 config) ≡ registry_read config
+registry_cut config =
+    elim (leb_tells (length config) 1048577) [
+      | inl p ↦ ap registry_read (take_all 1048577 config p.1)
+      | inr p ↦
+          let e : length (take 1048577 config) ≡ 1048577 = length-take-le 1048577 config (omega arith) in
+          too_long_configuration (take 1048577 config) (is_longer 1048576 (length (take 1048577 config)) (omega arith))
+          ∙ sym (too_long_configuration config (is_longer 1048576 (length config) (omega arith)))
+    ]
 
 not_taken_long : (small config : List ℕ) → nat_lt 1048576 (length config) ≡ true → configuration_no small config ≡ Some (registry_name reg.TooLong)
 unfolding configuration_no
@@ -162,6 +179,79 @@ token_fetched contents secret_at token_at secret token answer secret_from token_
       token_there = t.1;
       answers = e ∙ ap (λ (v : List ℕ). token_answer v token) s.2 ∙ ap (λ (v : List ℕ). token_answer (take 130 s.0) v) t.2 ∙ secret_cut s.0 (take 8194 t.0) ∙ token_cut s.0 t.0;
     }
+
+-- ---- The configuration and the metadata
+
+described_long : (c : Configuration) (metadata : List ℕ) → nat_le (length metadata) 65536 ≡ false → described c metadata ≡ Err (metadata_refusal (codes "Size"))
+unfolding described
+described_long c metadata long = ap (λ (b : Bool). cond b (provider_read (discovery_read c.provider.issuer metadata)) (Err (metadata_refusal (codes "Size")))) long
+
+described_cut : (c : Configuration) (metadata : List ℕ) → described c (take 65537 metadata) ≡ described c metadata
+described_cut c metadata =
+    elim (leb_tells (length metadata) 65537) [
+      | inl p ↦ ap (described c) (take_all 65537 metadata p.1)
+      | inr p ↦
+          let e : length (take 65537 metadata) ≡ 65537 = length-take-le 65537 metadata (omega arith) in
+          described_long c (take 65537 metadata) (is_above 65536 (length (take 65537 metadata)) (omega arith))
+          ∙ sym (described_long c metadata (is_above 65536 (length metadata) (omega arith)))
+    ]
+
+-- the bytes that were fetched, where something was
+abbrev front_of : Option (List ℕ) → Option (List ℕ)
+front_of metadata = option_map (take 65537) metadata
+
+trusted_cut : (c : Configuration) (metadata : Option (List ℕ)) → trusted c (front_of metadata) ≡ trusted c metadata
+trusted_cut c (Some metadata) = described_cut c metadata
+trusted_cut c None = refl
+
+number_cut : (c : Configuration) (number : Option ℕ) (metadata : Option (List ℕ)) → number_asked c number (front_of metadata) ≡ number_asked c number metadata
+number_cut c (Some number) metadata = ap (setup_asked c number) (trusted_cut c metadata)
+number_cut c None metadata = refl
+
+party_cut : (read : Result Configuration RegNo) (party : Text) (metadata : Option (List ℕ)) → party_asked read party (front_of metadata) ≡ party_asked read party metadata
+party_cut (Ok c) party metadata = number_cut c (party_place party c.parties) metadata
+party_cut (Err why) party metadata = refl
+
+rp_cut : (config : List ℕ) (party : Text) (metadata : Option (List ℕ)) → rp_asked (take 1048577 config) party (front_of metadata) ≡ rp_asked config party metadata
+unfolding rp_asked
+rp_cut config party metadata =
+    ap (λ (read : Result Configuration RegNo). party_asked read party (front_of metadata)) (registry_cut config) ∙ party_cut (registry_read config) party metadata
+
+op_cut : (config : List ℕ) → op_asked (take 1048577 config) ≡ op_asked config
+unfolding op_asked
+op_cut config = ap provider_asked (registry_cut config)
+
+from_fetch_if : (contents : Option (List Content)) (name : Option Text) (bytes : Option (List ℕ)) → IsFetchedIf contents name 65537 bytes
+    → (content : Option (List ℕ)) × IsContentIf contents name content × (bytes ≡ front_of content)
+from_fetch_if contents (Some name) (Some bytes) fetched =
+    let f = from_fetch contents name 65537 bytes fetched in
+    (Some f.0, f.1, ap Some f.2)
+from_fetch_if contents None None fetched = (None, tt, refl)
+from_fetch_if contents (Some name) None fetched = absurd (fetched)
+from_fetch_if contents None (Some bytes) fetched = absurd (fetched)
+
+module _ {D L C W S K : Type 0} (t : Telling D L C W S K) (olds news : List (Desk D L C W)) where
+  pub op_fetched : (contents : Option (List Content)) (config_at : Text) (bytes config : List ℕ) (answer : Answer)
+      → bytes ≡ config → IsFetched contents config_at 1048577 config → ServedOp t olds news (op_asked bytes) answer → AnswersOp t olds news contents config_at answer
+  op_fetched contents config_at bytes config answer same config_from served =
+      let c = from_fetch contents config_at 1048577 config config_from in
+      let V : Result Configuration Answer → Type 0 = λ asked. ServedOp t olds news asked answer in
+      record { config = c.0; config_there = c.1; served = subst V (ap op_asked (same ∙ c.2) ∙ op_cut c.0) served }
+
+  pub rp_fetched : (contents : Option (List Content)) (config_at party : Text) (metadata_at : Option Text) (bytes config : List ℕ) (metadata : Option (List ℕ)) (answer : Answer)
+      → bytes ≡ config → IsFetched contents config_at 1048577 config → IsFetchedIf contents metadata_at 65537 metadata
+      → ServedRp t olds news (rp_asked bytes party metadata) answer → AnswersRp t olds news contents config_at party metadata_at answer
+  rp_fetched contents config_at party metadata_at bytes config metadata answer same config_from metadata_from served =
+      let c = from_fetch contents config_at 1048577 config config_from in
+      let m = from_fetch_if contents metadata_at metadata metadata_from in
+      let V : Result PartySetup Answer → Type 0 = λ asked. ServedRp t olds news asked answer in
+      record {
+        config = c.0;
+        metadata = m.0;
+        config_there = c.1;
+        metadata_there = m.1;
+        served = subst V (ap (λ v. rp_asked v party metadata) (same ∙ c.2) ∙ ap (rp_asked (take 1048577 c.0) party) m.2 ∙ rp_cut c.0 party m.0) served;
+      }
 
 -- ---- Two clauses at once
 

@@ -1,5 +1,5 @@
 -- How calls end, computed over the definitions on small contents: for each status a call that ends so, and one that does not.
-use Rattle.std.proofs.Common.{◌≡◌, ℕ, Bool, true, false, List, [], ◌∷◌, ◌++◌, codes, Option, Some, None, Result, Ok, Err, inl, inr, refl, ap, sym, ◌∙◌, subst, arith}
+use Rattle.std.proofs.Common.{◌≡◌, ℕ, Bool, true, false, nat_le, List, [], ◌∷◌, ◌++◌, length, codes, Option, Some, None, Result, Ok, Err, inl, inr, refl, ap, sym, ◌∙◌, subst, arith}
 use Rattle.std.proofs.lemmas.Option.{same_Some}
 use Rattle.std.specs.Fmt.{digits}
 use Rattle.std.specs.Str.{bytes_eq}
@@ -13,10 +13,11 @@ use Rattle.configuration_rows.specs.declared.no.RegNo.{RegNo}
 use Rattle.configuration_rows.specs.declared.no.RegNo.TheVariants as reg
 use Rattle.configuration_rows.specs.Version1.{rows_refusals}
 use Rattle.client_registry.specs.Rules.{records_refusals, subjects_refusals}
+use Rattle.client_registry.specs.declared.records.Provider.{Provider}
 use Rattle.client_registry.specs.Configuration.{Configuration, configuration_of}
 use Rattle.client_registry.specs.Reading.{document_in, version1_read, records_read, subjects_read, registry_read}
 use Rattle.sso_base.specs.Words.{Text}
-use Rattle.sso_base.specs.Outside.{Content}
+use Rattle.sso_base.specs.Outside.{Content, content_of}
 use Rattle.jws_compact.specs.declared.no.JwsNo.{JwsNo}
 use Rattle.jws_compact.specs.declared.no.JwsNo.TheVariants.{NotThreeParts}
 use Rattle.jws_compact.specs.declared.unsealing.Unsealed.{Unsealed}
@@ -28,8 +29,24 @@ use Rattle.oidc_replay.specs.Trace.{Told, trace_of}
 use Rattle.oidc_replay.specs.Replay.{play_of, text_of}
 use Rattle.oidc_replay.proofs.Order.{told_read}
 use Rattle.oidc_replay.proofs.Plays.{play_meets, play_signs}
-use Rattle.sso.specs.Answer.{answer_to, not_taken, unless_refused, trace_answer, registry_name, configuration_no, configuration_text, usage_text, refused_text, without_feed, token_text, token_answer}
-use Rattle.sso.specs.Ends.{ShowsUsage, ReportsShelf, IsConfigurationNo, RefusesConfiguration, RefusesTrace, RefusesToken, OpensToken, IsTokenNo, status_for}
+use Rattle.client_registry.specs.Rules.{party_place}
+use Rattle.discovery_doc.specs.Reading.{discovery_read}
+use Rattle.op_exchange.specs.declared.ask.OpAsk.{OpAsk}
+use Rattle.op_exchange.specs.declared.reply.OpReply.{OpReply}
+use Rattle.op_core.specs.Providing.{Providing}
+use Rattle.rp_exchange.specs.declared.ask.RpAsk.{RpAsk}
+use Rattle.rp_exchange.specs.declared.reply.RpReply.{RpReply}
+use Rattle.rp_core.specs.Relying.{Relying}
+use Rattle.command_line.specs.declared.command.Command.{Command}
+use Rattle.command_line.specs.declared.command.Command.TheVariants.{Replay, Op, Rp, Token}
+use Rattle.command_line.specs.Commands.{command_of}
+use Rattle.server_desk.specs.declared.desk.Desk.{Desk}
+use Rattle.serving.specs.declared.summary.Summary.{Summary}
+use Rattle.serving.specs.Summaries.{Telling}
+use Rattle.sso_serve.specs.Servers.{ServesOp}
+use Rattle.sso.specs.Answer.{Answer, configuration_refusal, answer_to, not_taken, unless_refused, trace_answer, registry_name, configuration_no, configuration_text, usage_text, refused_text, without_feed, token_text, token_answer}
+use Rattle.sso.specs.Asked.{provider_asked, op_asked, metadata_refusal, metadata_text, described, party_asked, rp_asked, door_text, served_text}
+use Rattle.sso.specs.Ends.{config_in, ShowsUsage, ReportsShelf, IsConfigurationNo, RefusesConfiguration, RefusesTrace, RefusesToken, RefusesMetadata, OpensToken, RunsProvider, RunsParty, IsTokenNo, op_status, rp_status, status_of_asked, status_for}
 use Rattle.sso.specs.SignOn.{Replays}
 
 -- a configuration that stands for the small one, and what is read of it
@@ -123,80 +140,101 @@ feed-not_before_the_end = refl
 feed-none_in_nothing : without_feed [] ≡ []
 feed-none_in_nothing = refl
 
+-- ---- Commands
+
+abbrev replaying : Option Command
+replaying = Some (Replay (codes "config") (codes "trace"))
+
+words_read : command_of words ≡ replaying
+unfolding command_of
+words_read = refl
+
+abbrev opening : Option Command
+opening = Some (Token (codes "secret") (codes "token"))
+
+token_words_read : command_of token_words ≡ opening
+unfolding command_of
+token_words_read = refl
+
 -- ---- Statuses by the contents
 
-accepted-is_0 : status_for small (with small header) words ≡ 0
-unfolding status_for answer_to trace_of decode_pairs
-accepted-is_0 = ap (λ (o : Option Text). (unless_refused o (trace_answer (trace_of header))).status) taken-the_small_one
+accepted-is_0 : status_for small (with small header) replaying ≡ Some 0
+unfolding answer_to trace_of decode_pairs
+accepted-is_0 = ap (λ (o : Option Text). Some (unless_refused o (trace_answer (trace_of header))).status) taken-the_small_one
 
-other_words-are_2 : status_for small (with small header) (codes "replay" ∷ codes "config" ∷ []) ≡ 2
-unfolding status_for
+other_words-are_2 : status_for small (with small header) None ≡ Some 2
 other_words-are_2 = refl
 
-other_configuration-is_3 : status_for small (with longer header) words ≡ 3
-unfolding status_for answer_to
-other_configuration-is_3 = ap (λ (o : Option Text). (unless_refused o (trace_answer (trace_of header))).status) not_taken-another
+other_configuration-is_3 : status_for small (with longer header) replaying ≡ Some 3
+unfolding answer_to
+other_configuration-is_3 = ap (λ (o : Option Text). Some (unless_refused o (trace_answer (trace_of header))).status) not_taken-another
 
-refused_configuration-is_3 : status_for small (with (codes "version") header) words ≡ 3
-unfolding status_for answer_to
-refused_configuration-is_3 = ap (λ (o : Option Text). (unless_refused o (trace_answer (trace_of header))).status) not_taken-no_toml
+refused_configuration-is_3 : status_for small (with (codes "version") header) replaying ≡ Some 3
+unfolding answer_to
+refused_configuration-is_3 = ap (λ (o : Option Text). Some (unless_refused o (trace_answer (trace_of header))).status) not_taken-no_toml
 
-refused-is_4 : status_for small (with small (codes "hello\n")) words ≡ 4
-unfolding status_for answer_to trace_of
-refused-is_4 = ap (λ (o : Option Text). (unless_refused o (trace_answer (trace_of (codes "hello\n")))).status) taken-the_small_one
+refused-is_4 : status_for small (with small (codes "hello\n")) replaying ≡ Some 4
+unfolding answer_to trace_of
+refused-is_4 = ap (λ (o : Option Text). Some (unless_refused o (trace_answer (trace_of (codes "hello\n")))).status) taken-the_small_one
 
-absent-is_5 : status_for small ((codes "config", small) ∷ []) words ≡ 5
-unfolding status_for
+absent-is_5 : status_for small ((codes "config", small) ∷ []) replaying ≡ Some 5
 absent-is_5 = refl
 
-opened-is_0 : status_for small (holding (codes "key\n") (sealed ++ 10 ∷ [])) token_words ≡ 0
-unfolding status_for token_answer jws_on_literals
+opened-is_0 : status_for small (holding (codes "key\n") (sealed ++ 10 ∷ [])) opening ≡ Some 0
+unfolding token_answer jws_on_literals
 opened-is_0 = refl
 
-no_secret-is_10 : status_for small (holding (codes "\n") sealed) token_words ≡ 10
-unfolding status_for token_answer
+no_secret-is_10 : status_for small (holding (codes "\n") sealed) opening ≡ Some 10
+unfolding token_answer
 no_secret-is_10 = refl
 
-other_secret-is_10 : status_for small (holding (codes "kez") sealed) token_words ≡ 10
-unfolding status_for token_answer jws_on_literals
+other_secret-is_10 : status_for small (holding (codes "kez") sealed) opening ≡ Some 10
+unfolding token_answer jws_on_literals
 other_secret-is_10 = refl
 
-absent_token-is_5 : status_for small ((codes "secret", key) ∷ []) token_words ≡ 5
-unfolding status_for
+absent_token-is_5 : status_for small ((codes "secret", key) ∷ []) opening ≡ Some 5
 absent_token-is_5 = refl
 
 -- ---- Ends
 
 usage_shown : ShowsUsage (codes "--help" ∷ []) (Some []) (Some usage_text)
+unfolding command_of
 usage_shown = record { words_are_none = refl; wrote = refl }
 
 usage_not_shown : ShowsUsage words (Some []) (Some usage_text) → ⊥
-usage_not_shown shows = (let never : ◌≡◌ {A = Bool} true false = shows.words_are_none in cc)
+usage_not_shown shows = (let never : ◌≡◌ {A = Option Command} replaying None = sym words_read ∙ shows.words_are_none in cc)
 
 shelf_not_reported : ReportsShelf 3 3 words None None → ⊥
 shelf_not_reported reports = (let rose = reports.rose in absurd (omega arith))
 
 configuration_refused : RefusesConfiguration small (Some (with (codes "version") header)) words (Some []) (Some (codes "configuration NotToml\n"))
 unfolding configuration_text registry_name
-configuration_refused = record { words_are = refl; config = codes "version"; there = refl; name = codes "NotToml"; why = inl (reg.NotToml, other_refused, refl); wrote = refl }
+configuration_refused = record { command = Replay (codes "config") (codes "trace"); words_are = words_read; config_at = codes "config"; at = refl; config = codes "version"; there = refl; name = codes "NotToml"; why = inl (reg.NotToml, other_refused, refl); wrote = refl }
 
 another_refused : RefusesConfiguration small (Some (with longer header)) words (Some []) (Some (codes "configuration NotYet\n"))
 unfolding configuration_text
-another_refused = record { words_are = refl; config = longer; there = refl; name = codes "NotYet"; why = inr (configuration, longer_read, refl, refl); wrote = refl }
+another_refused = record { command = Replay (codes "config") (codes "trace"); words_are = words_read; config_at = codes "config"; at = refl; config = longer; there = refl; name = codes "NotYet"; why = inr (configuration, longer_read, (refl, refl)); wrote = refl }
 
-small_is_taken : (name : Text) → IsConfigurationNo small small name → ⊥
+small_is_taken : (name : Text) → IsConfigurationNo small (Replay (codes "config") (codes "trace")) small name → ⊥
 small_is_taken name (inl refused) = (let never : ◌≡◌ {A = Result Configuration RegNo} (Ok configuration) (Err refused.0) = sym small_read ∙ refused.1 in cc)
-small_is_taken name (inr other) = (let never : ◌≡◌ {A = Bool} true false = other.2 in cc)
+small_is_taken name (inr other) = (let never : ◌≡◌ {A = Bool} true false = other.2.0 in cc)
 
+-- the command and the name of its configuration are those of the words
 configuration_not_refused : RefusesConfiguration small (Some (with small header)) words None None → ⊥
 configuration_not_refused refuses =
-    let Refused : List ℕ → Type 0 = λ config. IsConfigurationNo small config refuses.name in
-    small_is_taken refuses.name (subst Refused (sym (same_Some small refuses.config refuses.there)) refuses.why)
+    let same : Replay (codes "config") (codes "trace") ≡ refuses.command = same_Some (Replay (codes "config") (codes "trace")) refuses.command (sym words_read ∙ refuses.words_are) in
+    let At : Command → Type 0 = λ command. config_in command ≡ Some refuses.config_at in
+    let config_is : codes "config" ≡ refuses.config_at = same_Some (codes "config") refuses.config_at (subst At (sym same) refuses.at) in
+    let There : Text → Type 0 = λ name. content_of (with small header) name ≡ Some refuses.config in
+    let small_is : small ≡ refuses.config = same_Some small refuses.config (subst There (sym config_is) refuses.there) in
+    let Refused : Command → Type 0 = λ command. IsConfigurationNo small command refuses.config refuses.name in
+    let Small : List ℕ → Type 0 = λ config. IsConfigurationNo small (Replay (codes "config") (codes "trace")) config refuses.name in
+    small_is_taken refuses.name (subst Small (sym small_is) (subst Refused (sym same) refuses.why))
 
 trace_refused : RefusesTrace small (Some (with small (codes "hello\n"))) words (Some []) (Some (codes "trace NotYet 1\n"))
 unfolding trace_of refused_text digits
 trace_refused =
-    record { words_are = refl; config_there = refl; configuration = configuration; read = small_read; trace = codes "hello\n"; trace_there = refl; why = no.NotYet 1; refused = refl; wrote = refl }
+    record { config_at = codes "config"; trace_at = codes "trace"; words_are = words_read; config_there = refl; configuration = configuration; read = small_read; trace = codes "hello\n"; trace_there = refl; why = no.NotYet 1; refused = refl; wrote = refl }
 
 -- the header alone is a trace of no line
 abbrev nothing_told : Told
@@ -210,7 +248,9 @@ replayed : Replays small (Some (with small header)) words (Some []) (Some (codes
 unfolding text_of play_of
 replayed =
     record {
-      words_are = refl;
+      config_at = codes "config";
+      trace_at = codes "trace";
+      words_are = words_read;
       config_there = refl;
       configuration = configuration;
       read = small_read;
@@ -227,7 +267,9 @@ token_opened : OpensToken (Some (holding (codes "key\n") sealed)) token_words (S
 unfolding jws_on_literals
 token_opened =
     record {
-      words_are = refl;
+      secret_at = codes "secret";
+      token_at = codes "token";
+      words_are = token_words_read;
       secret = codes "key\n";
       secret_there = refl;
       secret_fits = refl;
@@ -241,13 +283,15 @@ token_opened =
 secret_refused : RefusesToken (Some (holding (codes "\n") sealed)) token_words (Some []) (Some (codes "token Secret\n"))
 unfolding token_text
 secret_refused =
-    record { words_are = refl; secret = codes "\n"; secret_there = refl; token = sealed; token_there = refl; name = codes "Secret"; why = inl (refl, refl); wrote = refl }
+    record { secret_at = codes "secret"; token_at = codes "token"; words_are = token_words_read; secret = codes "\n"; secret_there = refl; token = sealed; token_there = refl; name = codes "Secret"; why = inl (refl, refl); wrote = refl }
 
 token_refused : RefusesToken (Some (holding key (codes "e30.e30"))) token_words (Some []) (Some (codes "token NotThreeParts\n"))
 unfolding jws_on_literals jws_name token_text
 token_refused =
     record {
-      words_are = refl;
+      secret_at = codes "secret";
+      token_at = codes "token";
+      words_are = token_words_read;
       secret = key;
       secret_there = refl;
       token = codes "e30.e30";
@@ -267,8 +311,79 @@ sealed_is_no_refusal name (inr refused) = (let never : ◌≡◌ {A = Result Uns
 
 token_not_refused : RefusesToken (Some (holding key sealed)) token_words None None → ⊥
 token_not_refused refuses =
+    let same : Token (codes "secret") (codes "token") ≡ Token refuses.secret_at refuses.token_at = same_Some (Token (codes "secret") (codes "token")) (Token refuses.secret_at refuses.token_at) (sym token_words_read ∙ refuses.words_are) in
+    let secret_is : codes "secret" ≡ refuses.secret_at = cc in
+    let token_is : codes "token" ≡ refuses.token_at = cc in
+    let SecretAt : Text → Type 0 = λ name. content_of (holding key sealed) name ≡ Some refuses.secret in
+    let TokenAt : Text → Type 0 = λ name. content_of (holding key sealed) name ≡ Some refuses.token in
     let OfSecret : List ℕ → Type 0 = λ v. IsTokenNo (without_feed v) (without_feed refuses.token) refuses.name in
     let OfToken : List ℕ → Type 0 = λ v. IsTokenNo key (without_feed v) refuses.name in
     sealed_is_no_refusal refuses.name
-    (subst OfToken (sym (same_Some sealed refuses.token refuses.token_there))
-    (subst OfSecret (sym (same_Some key refuses.secret refuses.secret_there)) refuses.why))
+    (subst OfToken (sym (same_Some sealed refuses.token (subst TokenAt (sym token_is) refuses.token_there)))
+    (subst OfSecret (sym (same_Some key refuses.secret (subst SecretAt (sym secret_is) refuses.secret_there))) refuses.why))
+
+-- ---- What is to be served
+
+served-the_provider : op_asked small ≡ Ok configuration
+unfolding op_asked
+served-the_provider = ap provider_asked small_read
+
+provider-is_for_the_doors : op_status (Some small) ≡ None
+provider-is_for_the_doors = ap status_of_asked served-the_provider
+
+not_served-no_toml : op_asked (codes "version") ≡ Err (configuration_refusal (codes "NotToml"))
+unfolding op_asked registry_name
+not_served-no_toml = ap provider_asked other_refused
+
+refused_provider-is_3 : op_status (Some (codes "version")) ≡ Some 3
+refused_provider-is_3 = ap status_of_asked not_served-no_toml
+
+absent_provider-is_5 : op_status None ≡ Some 5
+absent_provider-is_5 = refl
+
+not_served-no_party : rp_asked small (codes "shop") None ≡ Err (configuration_refusal (codes "NoParty"))
+unfolding rp_asked
+not_served-no_party = ap (λ r. party_asked r (codes "shop") None) small_read
+
+no_party-is_3 : rp_status (codes "shop") (Some small) (Some None) ≡ Some 3
+no_party-is_3 = ap status_of_asked not_served-no_party
+
+absent_metadata-is_5 : rp_status (codes "shop") (Some small) None ≡ Some 5
+absent_metadata-is_5 = refl
+
+described-by_what_is_read : (metadata : List ℕ) (p : Provider) → nat_le (length metadata) 65536 ≡ true → discovery_read (codes "https://a.b") metadata ≡ Ok p → described configuration metadata ≡ Ok p
+unfolding described
+described-by_what_is_read metadata p fits read = rw (fits, read) refl
+
+not_described-too_long : (metadata : List ℕ) → nat_le (length metadata) 65536 ≡ false → described configuration metadata ≡ Err (metadata_refusal (codes "Size"))
+unfolding described
+not_described-too_long metadata long = rw (long) refl
+
+abbrev party_words : List Text
+party_words = codes "rp" ∷ codes "config" ∷ codes "shop" ∷ []
+
+no_party_refused : RefusesConfiguration small (Some (with small header)) party_words (Some []) (Some (codes "configuration NoParty\n"))
+unfolding configuration_text command_of
+no_party_refused =
+    record { command = Rp (codes "config") (codes "shop") None; words_are = refl; config_at = codes "config"; at = refl; config = small; there = refl; name = codes "NoParty"; why = inr (configuration, small_read, (refl, refl)); wrote = refl }
+
+-- ---- Servers without desks
+
+module _ {D L C W S K : Type 0} (t : Telling D L C W S K) where
+  abbrev op_words : List Text
+  op_words = codes "op" ∷ codes "config" ∷ []
+
+  abbrev nothing : Summary Providing OpAsk OpReply
+  nothing = record { served = 0; entries = 0; fault = false; closed = None }
+
+  nothing_served : ServesOp t [] [] configuration nothing
+  nothing_served = record { none = λ _. (refl, refl, refl, refl, refl); some = λ few. absurd (omega arith); failed = λ never. absurd (cc); well = λ _. tt }
+
+  provider_run : RunsProvider t [] [] (Some (with small header)) op_words false (Some []) (Some (codes "served 0 entries 0\n"))
+  unfolding command_of served_text digits
+  provider_run =
+      record { config_at = codes "config"; words_are = refl; config = small; there = refl; configuration = configuration; read = small_read; summary = nothing; served = nothing_served; ended = refl; wrote = refl }
+
+  -- no door failed
+  provider_not_run : RunsProvider t [] [] (Some (with small header)) op_words true (Some []) (Some (codes "door\n")) → ⊥
+  provider_not_run runs = runs.served.failed runs.ended

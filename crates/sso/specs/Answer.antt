@@ -1,5 +1,6 @@
--- What the program answers to its words and to the contents that it fetched: a status and a text.
-use Rattle.std.specs.Prelude.{ℕ, ◌-◌, Bool, true, false, Option, Some, None, ◌&&◌, ◌||◌, ◌==◌, nat_lt, nat_le, List, [], ◌∷◌, ◌++◌, length, take, drop, slice_index_or, codes, Result, Ok, Err, if◌then◌else◌}
+-- What the program answers to words that are no command, and to the contents that it fetched for `replay` and `token`: a status and
+-- a text.
+use Rattle.std.specs.Prelude.{ℕ, ◌-◌, Bool, true, false, Option, Some, None, ◌&&◌, nat_lt, nat_le, List, [], ◌∷◌, ◌++◌, length, take, drop, codes, Result, Ok, Err, if◌then◌else◌}
 use Rattle.std.specs.Fmt.{decimal}
 use Rattle.std.specs.Str.{bytes_eq}
 use Rattle.sso_base.specs.Words.{Text}
@@ -19,33 +20,6 @@ use Rattle.oidc_replay.specs.Replay.{text_of}
 pub record Answer : Type 0 where
   pub status : ℕ
   pub text : Text
-
--- the word of this place, from 0
-abbrev pub word_at : List Text → ℕ → Text
-word_at words place = slice_index_or words place []
-
--- the words are `replay CONFIG TRACE`
-abbrev pub is_replay : List Text → Bool
-is_replay words = length words == 3 && bytes_eq (word_at words 0) (codes "replay")
-
--- the words are `token SECRETFILE TOKENFILE`
-abbrev pub is_token : List Text → Bool
-is_token words = length words == 3 && bytes_eq (word_at words 0) (codes "token")
-
-abbrev pub is_command : List Text → Bool
-is_command words = is_replay words || is_token words
-
-abbrev pub config_name : List Text → Text
-config_name words = word_at words 1
-
-abbrev pub trace_name : List Text → Text
-trace_name words = word_at words 2
-
-abbrev pub secret_name : List Text → Text
-secret_name words = word_at words 1
-
-abbrev pub token_name : List Text → Text
-token_name words = word_at words 2
 
 unfoldable pub usage_text : Text
 usage_text = codes "usage: sso replay CONFIG TRACE, op CONFIG, rp CONFIG NAME [DISCOVERY], storm NUMBER COUNT, token SECRETFILE TOKENFILE\n"

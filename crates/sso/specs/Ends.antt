@@ -1,6 +1,6 @@
 -- How a call of the program ends: for each status, what is then so. What a shelf holds and what a sink took is an option,
 -- since real files and a real output tell nothing.
-use Rattle.std.specs.Prelude.{◌≡◌, ◌⊎◌, ℕ, true, false, List, [], ◌∷◌, ◌++◌, Option, Some, None, Ok, Err, codes, if◌then◌else◌}
+use Rattle.std.specs.Prelude.{◌≡◌, ◌⊎◌, ℕ, Bool, true, false, ◌||◌, ◌==◌, nat_le, List, [], ◌∷◌, ◌++◌, length, Option, Some, None, is_some, option_map, Result, Ok, Err, codes}
 use Rattle.std.specs.Str.{bytes_eq}
 use Rattle.sso_base.specs.Words.{Text}
 use Rattle.sso_base.specs.Faults.{Rose}
@@ -10,20 +10,37 @@ use Rattle.jws_compact.specs.declared.unsealing.Unsealed.{Unsealed}
 use Rattle.jws_compact.specs.Jws.{verdict}
 use Rattle.jws_compact.specs.Names.{jws_name}
 use Rattle.configuration_rows.specs.declared.no.RegNo.{RegNo}
+use Rattle.client_registry.specs.declared.records.Provider.{Provider}
 use Rattle.client_registry.specs.Configuration.{Configuration}
 use Rattle.client_registry.specs.Reading.{registry_read}
+use Rattle.client_registry.specs.Rules.{party_place}
+use Rattle.discovery_doc.specs.declared.no.DiscNo.{DiscNo}
+use Rattle.discovery_doc.specs.Reading.{discovery_read}
+use Rattle.op_exchange.specs.declared.ask.OpAsk.{OpAsk}
+use Rattle.op_exchange.specs.declared.reply.OpReply.{OpReply}
+use Rattle.op_core.specs.Providing.{Providing}
+use Rattle.rp_exchange.specs.declared.ask.RpAsk.{RpAsk}
+use Rattle.rp_exchange.specs.declared.reply.RpReply.{RpReply}
+use Rattle.rp_accept.specs.Serving.{setup_of}
+use Rattle.rp_core.specs.Relying.{Relying}
+use Rattle.command_line.specs.declared.command.Command.{Command}
+use Rattle.command_line.specs.declared.command.Command.TheVariants.{Replay, Op, Rp, Token}
+use Rattle.command_line.specs.Commands.{command_of, is_command}
+use Rattle.server_desk.specs.declared.desk.Desk.{Desk}
+use Rattle.serving.specs.declared.summary.Summary.{Summary}
+use Rattle.serving.specs.Summaries.{Telling}
+use Rattle.sso_serve.specs.Servers.{ServesOp, ServesRp}
 use Rattle.oidc_replay.specs.declared.trace.TraceNo.{TraceNo}
 use Rattle.oidc_replay.specs.Trace.{trace_of}
-use Rattle.sso.specs.Answer.{Answer, is_replay, is_token, is_command, config_name, trace_name, secret_name, token_name, usage_text, shelf_text, registry_name, configuration_text, refused_text, answer_to, without_feed, is_secret, token_text, token_answer}
+use Rattle.sso.specs.Answer.{Answer, usage_text, shelf_text, registry_name, configuration_text, refused_text, answer_to, without_feed, is_secret, token_text, token_answer}
+use Rattle.sso.specs.Asked.{metadata_name, metadata_text, trusted, op_asked, rp_asked, server_answer}
+use Rattle.sso.specs.Outcomes.{IsContent, IsContentIf, MayAnswer}
 
--- this content stands under this name, where the shelf tells
-abbrev pub IsContent : Option (List Content) → Text → List ℕ → Type 0
-IsContent None name content = Unit {0}
-IsContent (Some contents) name content = content_of contents name ≡ Some content
+-- ---- no command, and no content
 
 -- The words are no command, and the usage was written.
 pub record ShowsUsage (words : List Text) (old new : Option (List ℕ)) : Type 0 where
-  pub words_are_none : is_command words ≡ false
+  pub words_are_none : command_of words ≡ None
   pub wrote : Takes old new usage_text
 
 -- The shelf failed in this call, and that was written.
@@ -32,42 +49,68 @@ pub record ReportsShelf (before after : ℕ) (words : List Text) (old new : Opti
   pub rose : Rose before after
   pub wrote : Takes old new shelf_text
 
--- why a configuration is not taken, by the reason's name: it is refused, or else it is not the small one
-abbrev pub IsConfigurationNo : List ℕ → List ℕ → Text → Type 0
-IsConfigurationNo small config name =
-    ((why : RegNo) × (registry_read config ≡ Err why) × (name ≡ registry_name why))
-    ⊎ ((configuration : Configuration) × (registry_read config ≡ Ok configuration) × (bytes_eq config small ≡ false) × (name ≡ codes "NotYet"))
+-- ---- a configuration
 
--- The configuration is refused or is not the small one, and why was written.
+-- the name of the configuration that a command has
+abbrev pub config_in : Command → Option Text
+config_in (Replay config trace) = Some config
+config_in (Op config) = Some config
+config_in (Rp config name metadata) = Some config
+config_in (Token secret token) = None
+
+-- why a configuration that is no refused one is not taken by a command, by the reason's name: a trace is to be replayed over another
+-- than the small one, or it has no party of the name
+abbrev pub IsFurtherNo : List ℕ → Command → List ℕ → Configuration → Text → Type 0
+IsFurtherNo small (Replay config_at trace_at) config c name = (bytes_eq config small ≡ false) × (name ≡ codes "NotYet")
+IsFurtherNo small (Rp config_at party metadata_at) config c name = (party_place party c.parties ≡ None) × (name ≡ codes "NoParty")
+IsFurtherNo small command config c name = ⊥
+
+abbrev pub IsConfigurationNo : List ℕ → Command → List ℕ → Text → Type 0
+IsConfigurationNo small command config name =
+    ((why : RegNo) × (registry_read config ≡ Err why) × (name ≡ registry_name why))
+    ⊎ ((c : Configuration) × (registry_read config ≡ Ok c) × IsFurtherNo small command config c name)
+
+-- The configuration is not taken, and why was written.
 pub record RefusesConfiguration (small : List ℕ) (contents : Option (List Content)) (words : List Text) (old new : Option (List ℕ)) : Type 0 where
-  pub words_are : is_replay words ≡ true
+  pub command : Command
+  pub words_are : command_of words ≡ Some command
+  pub config_at : Text
+  pub at : config_in command ≡ Some config_at
   pub config : List ℕ
-  pub there : IsContent contents (config_name words) config
+  pub there : IsContent contents config_at config
   pub name : Text
-  pub why : IsConfigurationNo small config name
+  pub why : IsConfigurationNo small command config name
   pub wrote : Takes old new (configuration_text name)
+
+-- ---- `replay`
 
 -- The configuration is taken, the trace is not accepted, and why was written.
 pub record RefusesTrace (small : List ℕ) (contents : Option (List Content)) (words : List Text) (old new : Option (List ℕ)) : Type 0 where
-  pub words_are : is_replay words ≡ true
-  pub config_there : IsContent contents (config_name words) small
+  pub config_at : Text
+  pub trace_at : Text
+  pub words_are : command_of words ≡ Some (Replay config_at trace_at)
+  pub config_there : IsContent contents config_at small
   pub configuration : Configuration
   pub read : registry_read small ≡ Ok configuration
   pub trace : List ℕ
-  pub trace_there : IsContent contents (trace_name words) trace
+  pub trace_there : IsContent contents trace_at trace
   pub why : TraceNo
   pub refused : trace_of trace ≡ Err why
   pub wrote : Takes old new (refused_text why)
 
+-- ---- `token`
+
 -- The secret has 1 to 128 bytes and the token is sealed under it, each without a line feed at its end, and the payload was
 -- written.
 pub record OpensToken (contents : Option (List Content)) (words : List Text) (old new : Option (List ℕ)) : Type 0 where
-  pub words_are : is_token words ≡ true
+  pub secret_at : Text
+  pub token_at : Text
+  pub words_are : command_of words ≡ Some (Token secret_at token_at)
   pub secret : List ℕ
-  pub secret_there : IsContent contents (secret_name words) secret
+  pub secret_there : IsContent contents secret_at secret
   pub secret_fits : is_secret (without_feed secret) ≡ true
   pub token : List ℕ
-  pub token_there : IsContent contents (token_name words) token
+  pub token_there : IsContent contents token_at token
   pub unsealed : Unsealed
   pub opened : verdict (without_feed secret) (without_feed token) ≡ Ok unsealed
   pub wrote : Takes old new (unsealed.payload ++ 10 ∷ [])
@@ -80,29 +123,91 @@ IsTokenNo secret token name =
 
 -- The secret has another length or the token is not sealed under it, and why was written.
 pub record RefusesToken (contents : Option (List Content)) (words : List Text) (old new : Option (List ℕ)) : Type 0 where
-  pub words_are : is_token words ≡ true
+  pub secret_at : Text
+  pub token_at : Text
+  pub words_are : command_of words ≡ Some (Token secret_at token_at)
   pub secret : List ℕ
-  pub secret_there : IsContent contents (secret_name words) secret
+  pub secret_there : IsContent contents secret_at secret
   pub token : List ℕ
-  pub token_there : IsContent contents (token_name words) token
+  pub token_there : IsContent contents token_at token
   pub name : Text
   pub why : IsTokenNo (without_feed secret) (without_feed token) name
   pub wrote : Takes old new (token_text name)
 
--- a text that a call may be writing: the usage, the shelf's failure, or the answer to contents under the given names
-abbrev pub IsTextOf : List ℕ → Option (List Content) → ℕ → ℕ → List Text → Text → Type 0
-IsTextOf small contents before after words text =
-    ((is_command words ≡ false) × (text ≡ usage_text))
-    ⊎ ((is_command words ≡ true) × Rose before after × (text ≡ shelf_text))
-    ⊎ ((is_replay words ≡ true) × ((config : List ℕ) × (trace : List ℕ) × IsContent contents (config_name words) config × IsContent contents (trace_name words) trace × (text ≡ (answer_to small config trace).text)))
-    ⊎ ((is_token words ≡ true) × ((secret : List ℕ) × (token : List ℕ) × IsContent contents (secret_name words) secret × IsContent contents (token_name words) token × (text ≡ (token_answer secret token).text)))
+-- ---- `rp` with metadata
 
--- The sink failed in this call, and a front of the text was written.
-pub record StopsWriting (small : List ℕ) (contents : Option (List Content)) (shelf_before shelf_after : ℕ) (words : List Text) (before after : ℕ) (old new : Option (List ℕ)) : Type 0 where
-  pub rose : Rose before after
-  pub text : Text
-  pub of : IsTextOf small contents shelf_before shelf_after words text
-  pub wrote : TakesFront old new text
+-- why metadata are refused, by the reason's name: their size comes first
+abbrev pub IsMetadataNo : Configuration → List ℕ → Text → Type 0
+IsMetadataNo c metadata name =
+    ((nat_le (length metadata) 65536 ≡ false) × (name ≡ codes "Size"))
+    ⊎ ((nat_le (length metadata) 65536 ≡ true) × ((why : DiscNo) × (discovery_read c.provider.issuer metadata ≡ Err why) × (name ≡ metadata_name why)))
+
+-- The configuration has the party, the metadata of the provider are refused, and why was written.
+pub record RefusesMetadata (contents : Option (List Content)) (words : List Text) (old new : Option (List ℕ)) : Type 0 where
+  pub config_at : Text
+  pub party : Text
+  pub metadata_at : Text
+  pub words_are : command_of words ≡ Some (Rp config_at party (Some metadata_at))
+  pub config : List ℕ
+  pub config_there : IsContent contents config_at config
+  pub configuration : Configuration
+  pub read : registry_read config ≡ Ok configuration
+  pub number : ℕ
+  pub known : party_place party configuration.parties ≡ Some number
+  pub metadata : List ℕ
+  pub metadata_there : IsContent contents metadata_at metadata
+  pub name : Text
+  pub why : IsMetadataNo configuration metadata name
+  pub wrote : Takes old new (metadata_text name)
+
+module _ {D L C W S K : Type 0} (t : Telling D L C W S K) (olds news : List (Desk D L C W)) where
+  -- ---- `op` and `rp`: the desks served
+
+  -- The configuration is accepted, the desks served its provider, and what is told of that was written: whether a door failed, or how
+  -- much was served.
+  pub record RunsProvider (contents : Option (List Content)) (words : List Text) (failed : Bool) (old new : Option (List ℕ)) : Type 0 where
+    pub config_at : Text
+    pub words_are : command_of words ≡ Some (Op config_at)
+    pub config : List ℕ
+    pub there : IsContent contents config_at config
+    pub configuration : Configuration
+    pub read : registry_read config ≡ Ok configuration
+    pub summary : Summary Providing OpAsk OpReply
+    pub served : ServesOp t olds news configuration summary
+    pub ended : summary.fault ≡ failed
+    pub wrote : Takes old new (server_answer failed summary.served summary.entries).text
+
+  -- The same of a party of the configuration, which trusts the configuration's provider, or the one of the metadata.
+  pub record RunsParty (contents : Option (List Content)) (words : List Text) (failed : Bool) (old new : Option (List ℕ)) : Type 0 where
+    pub config_at : Text
+    pub party : Text
+    pub metadata_at : Option Text
+    pub words_are : command_of words ≡ Some (Rp config_at party metadata_at)
+    pub config : List ℕ
+    pub config_there : IsContent contents config_at config
+    pub metadata : Option (List ℕ)
+    pub metadata_there : IsContentIf contents metadata_at metadata
+    pub configuration : Configuration
+    pub read : registry_read config ≡ Ok configuration
+    pub number : ℕ
+    pub known : party_place party configuration.parties ≡ Some number
+    pub provider : Provider
+    pub trusts : trusted configuration metadata ≡ Ok provider
+    pub summary : Summary Relying RpAsk RpReply
+    pub served : ServesRp t olds news (setup_of configuration number provider) summary
+    pub ended : summary.fault ≡ failed
+    pub wrote : Takes old new (server_answer failed summary.served summary.entries).text
+
+  -- ---- any answer, cut
+
+  -- The sink failed in this call, and a front of what may be answered was written.
+  pub record StopsWriting (small : List ℕ) (contents : Option (List Content)) (shelf_before shelf_after : ℕ) (words : List Text) (before after : ℕ) (old new : Option (List ℕ)) : Type 0 where
+    pub rose : Rose before after
+    pub answer : Answer
+    pub may : MayAnswer t olds news small contents shelf_before shelf_after (command_of words) answer
+    pub wrote : TakesFront old new answer.text
+
+-- ---- which status comes
 
 -- the status of the answer to two contents, where both are there
 abbrev pub status_of_both : (List ℕ → List ℕ → Answer) → Option (List ℕ) → Option (List ℕ) → ℕ
@@ -110,19 +215,48 @@ status_of_both answer None second = 5
 status_of_both answer (Some first) None = 5
 status_of_both answer (Some first) (Some second) = (answer first second).status
 
--- the status by the words and by the contents of a shelf that tells them
-unfoldable pub status_for : List ℕ → List Content → List Text → ℕ
-status_for small contents words =
-    if is_replay words
-    then status_of_both (answer_to small) (content_of contents (config_name words)) (content_of contents (trace_name words))
-    else if is_token words
-    then status_of_both token_answer (content_of contents (secret_name words)) (content_of contents (token_name words))
-    else 2
+-- the status where what is to be served is refused, and none where it is served, since the doors decide then
+abbrev pub status_of_asked : {X : Type 0} → Result X Answer → Option ℕ
+status_of_asked (Err refusal) = Some refusal.status
+status_of_asked (Ok asked) = None
+
+abbrev pub op_status : Option (List ℕ) → Option ℕ
+op_status None = Some 5
+op_status (Some config) = status_of_asked (op_asked config)
+
+-- the content of a name, where there is one; the inner option is whether it is there
+abbrev pub content_if : List Content → Option Text → Option (Option (List ℕ))
+content_if contents None = Some None
+content_if contents (Some name) = option_map Some (content_of contents name)
+
+abbrev pub rp_status : Text → Option (List ℕ) → Option (Option (List ℕ)) → Option ℕ
+rp_status party None metadata = Some 5
+rp_status party (Some config) None = Some 5
+rp_status party (Some config) (Some metadata) = status_of_asked (rp_asked config party metadata)
+
+-- the status by the command of the words and by the contents of a shelf that tells them; none where something is served
+abbrev pub status_for : List ℕ → List Content → Option Command → Option ℕ
+status_for small contents None = Some 2
+status_for small contents (Some (Replay config trace)) = Some (status_of_both (answer_to small) (content_of contents config) (content_of contents trace))
+status_for small contents (Some (Token secret token)) = Some (status_of_both token_answer (content_of contents secret) (content_of contents token))
+status_for small contents (Some (Op config)) = op_status (content_of contents config)
+status_for small contents (Some (Rp config party metadata)) = rp_status party (content_of contents config) (content_if contents metadata)
 
 -- The status is this one, unless memory was wanting or the sink failed.
 abbrev pub IsStatus : ℕ → ℕ → Type 0
 IsStatus wanted status = (status ≡ wanted) ⊎ (status ≡ 1) ⊎ (status ≡ 6)
 
--- The status is this one, unless memory was wanting, or the shelf or the sink failed.
-abbrev pub IsStatusOf : ℕ → ℕ → Type 0
-IsStatusOf wanted status = (status ≡ wanted) ⊎ (status ≡ 1) ⊎ (status ≡ 5) ⊎ (status ≡ 6)
+-- The status is this one, or one of a server that ended, unless memory was wanting, or the shelf or the sink failed.
+abbrev pub IsStatusOf : Option ℕ → ℕ → Type 0
+IsStatusOf (Some wanted) status = (status ≡ wanted) ⊎ (status ≡ 1) ⊎ (status ≡ 5) ⊎ (status ≡ 6)
+IsStatusOf None status = (status ≡ 0) ⊎ (status ≡ 9) ⊎ (status ≡ 1) ⊎ (status ≡ 5) ⊎ (status ≡ 6)
+
+-- the status is one of those where nothing is served: for the words, for the shelf, or by a refusal
+abbrev pub is_refusal : ℕ → Bool
+is_refusal status = status == 2 || status == 3 || status == 4 || status == 5 || status == 10
+
+-- the command serves
+abbrev pub is_serving : Option Command → Bool
+is_serving (Some (Op config)) = true
+is_serving (Some (Rp config party metadata)) = true
+is_serving command = false

@@ -1,4 +1,6 @@
 pub mod Answer
+pub mod Asked
 pub mod Ends
 pub mod Outcomes
 pub mod SignOn
+pub mod Statuses

@@ -1,14 +1,50 @@
--- What the parts of the program promise to each other: what may be answered, and how an answer is written.
-use Rattle.std.specs.Prelude.{◌≡◌, ◌⊎◌, ℕ, ◌≤◌, MatchBool, List, length, Option, Ok}
+-- What may be answered to a command, and how an answer is written. What a shelf holds and what a sink took is an option, since real
+-- files and a real output tell nothing.
+use Rattle.std.specs.Prelude.{◌≡◌, ◌⊎◌, ℕ, ◌≤◌, List, length, Option, Some, None, Result, Ok, Err}
 use Rattle.sso_base.specs.Words.{Text}
 use Rattle.sso_base.specs.Faults.{Rose}
-use Rattle.sso_base.specs.Outside.{Content, Fetches, Takes, TakesFront}
+use Rattle.sso_base.specs.Outside.{Content, content_of, Fetches, Takes, TakesFront}
+use Rattle.client_registry.specs.Configuration.{Configuration}
+use Rattle.op_exchange.specs.declared.ask.OpAsk.{OpAsk}
+use Rattle.op_exchange.specs.declared.reply.OpReply.{OpReply}
+use Rattle.op_core.specs.Providing.{Providing}
+use Rattle.rp_exchange.specs.declared.ask.RpAsk.{RpAsk}
+use Rattle.rp_exchange.specs.declared.reply.RpReply.{RpReply}
+use Rattle.rp_answer.specs.Setup.{PartySetup}
+use Rattle.rp_core.specs.Relying.{Relying}
+use Rattle.command_line.specs.declared.command.Command.{Command}
+use Rattle.command_line.specs.declared.command.Command.TheVariants.{Replay, Op, Rp, Token}
+use Rattle.server_desk.specs.declared.desk.Desk.{Desk}
+use Rattle.serving.specs.declared.summary.Summary.{Summary}
+use Rattle.serving.specs.Summaries.{Telling}
+use Rattle.sso_serve.specs.Servers.{ServesOp, ServesRp}
 use Rattle.oidc_replay.specs.Trace.{Told, trace_of}
 use Rattle.oidc_replay.specs.Replay.{play_of}
 use Rattle.sso_world.specs.Premises.{MeetsPremises}
 use Rattle.sso_world.specs.Agreement.{SignsOn}
-use Rattle.sso.specs.Answer.{Answer, is_replay, is_token, config_name, trace_name, secret_name, token_name, usage_text, shelf_text, answer_to, token_answer}
-use Rattle.sso.specs.Ends.{IsContent}
+use Rattle.sso.specs.Answer.{Answer, usage_text, shelf_text, answer_to, token_answer}
+use Rattle.sso.specs.Asked.{op_asked, rp_asked, server_answer}
+
+-- this content stands under this name, where the shelf tells
+abbrev pub IsContent : Option (List Content) → Text → List ℕ → Type 0
+IsContent None name content = Unit {0}
+IsContent (Some contents) name content = content_of contents name ≡ Some content
+
+-- the same of a name that may be absent, and there is a content exactly where there is a name
+abbrev pub IsContentIf : Option (List Content) → Option Text → Option (List ℕ) → Type 0
+IsContentIf contents (Some name) (Some content) = IsContent contents name content
+IsContentIf contents None None = Unit {0}
+IsContentIf contents name content = ⊥
+
+-- these bytes are what is fetched under this name: at most so many
+abbrev pub IsFetched : Option (List Content) → Text → ℕ → List ℕ → Type 0
+IsFetched contents name most bytes = Fetches contents name most bytes × (length bytes ≤ most)
+
+-- the same of a name that may be absent
+abbrev pub IsFetchedIf : Option (List Content) → Option Text → ℕ → Option (List ℕ) → Type 0
+IsFetchedIf contents (Some name) most (Some bytes) = IsFetched contents name most bytes
+IsFetchedIf contents None most None = Unit {0}
+IsFetchedIf contents name most bytes = ⊥
 
 unfoldable pub usage_answer : Answer
 usage_answer = record { status = 2; text = usage_text }
@@ -16,13 +52,15 @@ usage_answer = record { status = 2; text = usage_text }
 unfoldable pub shelf_answer : Answer
 shelf_answer = record { status = 5; text = shelf_text }
 
+-- ---- `replay` and `token`
+
 -- the sign-on theorem for the play of these bytes, where they are an accepted trace
 unfoldable pub PlaysWell : List ℕ → Type 0
 PlaysWell trace = (told : Told) → trace_of trace ≡ Ok told → MeetsPremises (play_of told) × SignsOn (play_of told)
 
--- these bytes are what is fetched under this name: at most so many
-abbrev pub IsFetched : Option (List Content) → Text → ℕ → List ℕ → Type 0
-IsFetched contents name most bytes = Fetches contents name most bytes × (length bytes ≤ most)
+-- the shelf failed in this call
+abbrev pub FailsAtShelf : ℕ → ℕ → Answer → Type 0
+FailsAtShelf before after answer = (answer ≡ shelf_answer) × Rose before after
 
 -- The answer is that to a configuration and a trace which stand under these names.
 pub record AnswersReplay (small : List ℕ) (contents : Option (List Content)) (config_at trace_at : Text) (answer : Answer) : Type 0 where
@@ -36,7 +74,7 @@ pub record AnswersReplay (small : List ℕ) (contents : Option (List Content)) (
 -- what may be answered to `replay`: that the shelf failed, only where it did
 abbrev pub MayReplay : List ℕ → Option (List Content) → ℕ → ℕ → Text → Text → Answer → Type 0
 MayReplay small contents before after config_at trace_at answer =
-    ((answer ≡ shelf_answer) × Rose before after) ⊎ AnswersReplay small contents config_at trace_at answer
+    FailsAtShelf before after answer ⊎ AnswersReplay small contents config_at trace_at answer
 
 -- The answer is that to a secret and a token which stand under these names.
 pub record AnswersToken (contents : Option (List Content)) (secret_at token_at : Text) (answer : Answer) : Type 0 where
@@ -46,16 +84,56 @@ pub record AnswersToken (contents : Option (List Content)) (secret_at token_at :
   pub token_there : IsContent contents token_at token
   pub answers : answer ≡ token_answer secret token
 
--- what may be answered to `token`: that the shelf failed, only where it did
+-- what may be answered to `token`
 abbrev pub MayOpen : Option (List Content) → ℕ → ℕ → Text → Text → Answer → Type 0
 MayOpen contents before after secret_at token_at answer =
-    ((answer ≡ shelf_answer) × Rose before after) ⊎ AnswersToken contents secret_at token_at answer
+    FailsAtShelf before after answer ⊎ AnswersToken contents secret_at token_at answer
 
--- what may be answered to these words
-abbrev pub MayAnswer : List ℕ → Option (List Content) → ℕ → ℕ → List Text → Answer → Type 0
-MayAnswer small contents before after words answer =
-    MatchBool (is_replay words) (MayReplay small contents before after (config_name words) (trace_name words) answer)
-    (MatchBool (is_token words) (MayOpen contents before after (secret_name words) (token_name words) answer) (answer ≡ usage_answer))
+-- ---- `op` and `rp`
+
+module _ {D L C W S K : Type 0} (t : Telling D L C W S K) (olds news : List (Desk D L C W)) where
+  -- what may be answered by what is to be served: where that is refused the desks are as they were, and else they served it
+  abbrev pub ServedOp : Result Configuration Answer → Answer → Type 0
+  ServedOp (Err refusal) answer = (answer ≡ refusal) × (news ≡ olds)
+  ServedOp (Ok c) answer = (s : Summary Providing OpAsk OpReply) × ServesOp t olds news c s × (answer ≡ server_answer s.fault s.served s.entries)
+
+  abbrev pub ServedRp : Result PartySetup Answer → Answer → Type 0
+  ServedRp (Err refusal) answer = (answer ≡ refusal) × (news ≡ olds)
+  ServedRp (Ok p) answer = (s : Summary Relying RpAsk RpReply) × ServesRp t olds news p s × (answer ≡ server_answer s.fault s.served s.entries)
+
+  -- The answer is that to a configuration which stands under this name.
+  pub record AnswersOp (contents : Option (List Content)) (config_at : Text) (answer : Answer) : Type 0 where
+    pub config : List ℕ
+    pub config_there : IsContent contents config_at config
+    pub served : ServedOp (op_asked config) answer
+
+  -- what may be answered to `op`
+  abbrev pub MayServeOp : Option (List Content) → ℕ → ℕ → Text → Answer → Type 0
+  MayServeOp contents before after config_at answer =
+      (FailsAtShelf before after answer × (news ≡ olds)) ⊎ AnswersOp contents config_at answer
+
+  -- The answer is that to a configuration, and to metadata where they are named, which stand under these names.
+  pub record AnswersRp (contents : Option (List Content)) (config_at name : Text) (metadata_at : Option Text) (answer : Answer) : Type 0 where
+    pub config : List ℕ
+    pub metadata : Option (List ℕ)
+    pub config_there : IsContent contents config_at config
+    pub metadata_there : IsContentIf contents metadata_at metadata
+    pub served : ServedRp (rp_asked config name metadata) answer
+
+  -- what may be answered to `rp`
+  abbrev pub MayServeRp : Option (List Content) → ℕ → ℕ → Text → Text → Option Text → Answer → Type 0
+  MayServeRp contents before after config_at name metadata_at answer =
+      (FailsAtShelf before after answer × (news ≡ olds)) ⊎ AnswersRp contents config_at name metadata_at answer
+
+  -- ---- any words
+
+  -- what may be answered to the words of a command, or of none
+  abbrev pub MayAnswer : List ℕ → Option (List Content) → ℕ → ℕ → Option Command → Answer → Type 0
+  MayAnswer small contents before after None answer = answer ≡ usage_answer
+  MayAnswer small contents before after (Some (Replay config trace)) answer = MayReplay small contents before after config trace answer
+  MayAnswer small contents before after (Some (Token secret token)) answer = MayOpen contents before after secret token answer
+  MayAnswer small contents before after (Some (Op config)) answer = MayServeOp contents before after config answer
+  MayAnswer small contents before after (Some (Rp config name metadata)) answer = MayServeRp contents before after config name metadata answer
 
 -- how an answer is written: all of it, and the status is its own; or a front of it, where the sink failed
 abbrev pub IsWritten : Option (List ℕ) → Option (List ℕ) → ℕ → ℕ → Answer → ℕ → Type 0

@@ -1,20 +1,32 @@
 //! What the words ask for, with contents fetched from the shelf.
 
-ghost use Rattle.std.specs.Prelude.{◌≡◌, ◌≤◌, Err, IfOk};
+ghost use Rattle.std.specs.Prelude.{◌≡◌, ◌^◌, ◌≤◌, ◌<◌, false, length, Err, IfOk};
+ghost use Rattle.std.specs.List.{All};
 ghost use Rattle.sso_base.specs.Faults.{Rose};
-ghost use Rattle.sso.specs.Outcomes.{IsFetched, MayReplay, MayOpen, MayAnswer};
+ghost use Rattle.command_line.specs.Commands.{command_of};
+ghost use Rattle.sso.specs.Ends.{is_serving};
+ghost use Rattle.sso.specs.Outcomes.{IsFetched, IsFetchedIf, MayReplay, MayOpen, MayServeOp, MayServeRp, MayAnswer};
 
 use crate::mini::MINI;
 use crate::outcome::{Outcome, answer_contents, answer_shelf, answer_usage};
+use crate::servers::{answer_op, answer_rp};
 use crate::token::answer_token;
+use command_line::{Command, read_command};
+use server_desk::{Clock, Desk, Door, Draw, Link};
+use serving::Tells;
 use sso_base::{Blob, NoMemory, Shelf, ShelfNo, Text};
 use std::alloc::Global;
+use std::sync::Wait;
+use std::thread::Threads;
 
 /// The most bytes that are fetched of a configuration: one more than its limit, so that a longer one is seen.
 const MOST_CONFIG: usize = 1_048_577;
 
 /// The same of a trace.
 const MOST_TRACE: usize = 65_537;
+
+/// The same of a provider's metadata.
+const MOST_METADATA: usize = 65_537;
 
 /// The same of a secret with a line feed at its end.
 const MOST_SECRET_FILE: usize = 130;
@@ -40,6 +52,26 @@ fn fetch_both<H: Shelf>(
     let first = shelf.fetch(alloc, first, most_first)?;
     let second = shelf.fetch(alloc, second, most_second)?;
     Ok((first, second))
+}
+
+/// Fetches a configuration, and a provider's metadata if they are named. The first that fails ends it.
+fn fetch_party<H: Shelf>(
+    alloc: Global,
+    shelf: &mut H,
+    config: &Text,
+    metadata: &Option<Text>,
+) -> Result<(Blob, Option<Blob>), ShelfNo>
+    ensures config { IfOk result (λ both. IsFetched (H.contents shelf.old) config.now 1048577 both.0) }
+    ensures metadata { IfOk result (λ both. IsFetchedIf (H.contents shelf.old) metadata.now 65537 both.1) }
+    ensures failed { result ≡ Err ShelfNo.Failed → Rose (H.faults shelf.old) (H.faults shelf.new) }
+    ensures kept { H.contents shelf.new ≡ H.contents shelf.old }
+    ensures later { H.faults shelf.old ≤ H.faults shelf.new }
+{
+    let config = shelf.fetch(alloc, config, MOST_CONFIG)?;
+    match metadata {
+        Some(name) => Ok((config, Some(shelf.fetch(alloc, name, MOST_METADATA)?))),
+        None => Ok((config, None)),
+    }
 }
 
 /// The answer to the contents of a configuration and a trace.
@@ -85,21 +117,78 @@ fn token_words<H: Shelf>(
     }
 }
 
-/// The answer to the words after the program's name.
-pub fn answer_words<H: Shelf>(
+/// Serves the provider of the configuration of this name.
+fn op_words<R: Threads + Wait + Sync, H: Shelf, D: Door, L: Link, C: Clock, W: Draw>(
+    rt: &R,
     alloc: Global,
-    words: &[Text],
     shelf: &mut H,
+    config: &Text,
+    desks: &mut Vec<Desk<D, L, C, W>>,
 ) -> Result<Outcome, NoMemory>
-    ensures may { IfOk result (λ outcome. MayAnswer MINI.now (H.contents shelf.old) (H.faults shelf.old) (H.faults shelf.new) words.now outcome) }
+    requires few { length desks.old.items ≤ 64 }
+    requires desks { All (λ desk. (desk.turns ≤ 2 ^ 56) × ((D.state desk.door).given < 2 ^ 63)) desks.old.items }
+    ensures may { IfOk result (λ outcome. MayServeOp ⟦<Desk<D, L, C, W> as Tells>⟧.telling desks.old.items desks.new.items (H.contents shelf.old) (H.faults shelf.old) (H.faults shelf.new) config.now outcome) }
     ensures kept { H.contents shelf.new ≡ H.contents shelf.old }
     ensures later { H.faults shelf.old ≤ H.faults shelf.new }
 {
-    if words.len() == 3 && words[0].as_str() == "replay" {
-        replay_words(alloc, shelf, &words[1], &words[2])
-    } else if words.len() == 3 && words[0].as_str() == "token" {
-        token_words(alloc, shelf, &words[1], &words[2])
-    } else {
-        answer_usage(alloc)
+    match shelf.fetch(alloc, config, MOST_CONFIG) {
+        Ok(config) => answer_op(rt, alloc, config.as_bytes(), desks),
+        Err(ShelfNo::NoMemory) => Err(NoMemory),
+        Err(ShelfNo::Failed) => answer_shelf(alloc),
+    }
+}
+
+/// Serves the party of this name in the configuration of that name, which trusts the provider of the metadata, if these are named.
+fn rp_words<R: Threads + Wait + Sync, H: Shelf, D: Door, L: Link, C: Clock, W: Draw>(
+    rt: &R,
+    alloc: Global,
+    shelf: &mut H,
+    config: &Text,
+    name: &Text,
+    metadata: &Option<Text>,
+    desks: &mut Vec<Desk<D, L, C, W>>,
+) -> Result<Outcome, NoMemory>
+    requires few { length desks.old.items ≤ 64 }
+    requires desks { All (λ desk. (desk.turns ≤ 2 ^ 56) × ((D.state desk.door).given < 2 ^ 63)) desks.old.items }
+    ensures may { IfOk result (λ outcome. MayServeRp ⟦<Desk<D, L, C, W> as Tells>⟧.telling desks.old.items desks.new.items (H.contents shelf.old) (H.faults shelf.old) (H.faults shelf.new) config.now name.now metadata.now outcome) }
+    ensures kept { H.contents shelf.new ≡ H.contents shelf.old }
+    ensures later { H.faults shelf.old ≤ H.faults shelf.new }
+{
+    match fetch_party(alloc, shelf, config, metadata) {
+        Ok((config, metadata)) => {
+            answer_rp(rt, alloc, config.as_bytes(), name, &metadata, desks)
+        }
+        Err(ShelfNo::NoMemory) => Err(NoMemory),
+        Err(ShelfNo::Failed) => answer_shelf(alloc),
+    }
+}
+
+/// The answer to the words after the program's name.
+pub fn answer_words<R: Threads + Wait + Sync, H: Shelf, D: Door, L: Link, C: Clock, W: Draw>(
+    rt: &R,
+    alloc: Global,
+    words: &[Text],
+    shelf: &mut H,
+    desks: &mut Vec<Desk<D, L, C, W>>,
+) -> Result<Outcome, NoMemory>
+    requires few { length desks.old.items ≤ 64 }
+    requires desks { All (λ desk. (desk.turns ≤ 2 ^ 56) × ((D.state desk.door).given < 2 ^ 63)) desks.old.items }
+    ensures may { IfOk result (λ outcome. MayAnswer ⟦<Desk<D, L, C, W> as Tells>⟧.telling desks.old.items desks.new.items MINI.now (H.contents shelf.old) (H.faults shelf.old) (H.faults shelf.new) (command_of words.now) outcome) }
+    ensures idle { is_serving (command_of words.now) ≡ false → desks.new.items ≡ desks.old.items }
+    ensures kept { H.contents shelf.new ≡ H.contents shelf.old }
+    ensures later { H.faults shelf.old ≤ H.faults shelf.new }
+{
+    match read_command(alloc, words)? {
+        None => answer_usage(alloc),
+        Some(Command::Replay { config, trace }) => replay_words(alloc, shelf, &config, &trace),
+        Some(Command::Token { secret, token }) => token_words(alloc, shelf, &secret, &token),
+        Some(Command::Op { config }) => op_words(rt, alloc, shelf, &config, desks),
+        Some(
+            Command::Rp {
+                config,
+                name,
+                discovery,
+            },
+        ) => rp_words(rt, alloc, shelf, &config, &name, &discovery, desks),
     }
 }

@@ -37,7 +37,7 @@ fn subject_clash(
 
 /// The name of a refusal and its values, as they are printed.
 #[tactic(auto, unfolding(crate::specs::Answer::registry_name))]
-fn name_of(alloc: Global, why: &RegNo) -> Result<String, NoMemory>
+pub fn name_of(alloc: Global, why: &RegNo) -> Result<String, NoMemory>
     ensures { IfOk result (λ text. string_bytes text ≡ registry_name why.now) }
 {
     match why {
@@ -84,9 +84,9 @@ fn why_not(alloc: Global, config: &[u8]) -> Result<Option<String>, NoMemory>
     why_of(alloc, &read, config == MINI.as_bytes())
 }
 
-/// The answer to a configuration that is not taken.
+/// The answer to a configuration that is not taken, by the reason's name and its values.
 #[tactic(auto, unfolding(crate::specs::Answer::configuration_text))]
-fn refusal(alloc: Global, name: &str) -> Result<Outcome, NoMemory>
+pub fn refuse_configuration(alloc: Global, name: &str) -> Result<Outcome, NoMemory>
     ensures { IfOk result (λ outcome. outcome ≡ configuration_refusal name.now) }
 {
     let text = format!(in alloc; "configuration {name}\n")?;
@@ -96,12 +96,12 @@ fn refusal(alloc: Global, name: &str) -> Result<Outcome, NoMemory>
     })
 }
 
-/// The answer to a configuration that is not taken, and none to one that is.
+/// The answer to a configuration over which no trace is replayed, and none to one that is taken.
 pub fn answer_configuration(alloc: Global, config: &[u8]) -> Result<Option<Outcome>, NoMemory>
     ensures { IfOk result (λ answer. answer ≡ option_map configuration_refusal (configuration_no MINI.now config.now)) }
 {
     match why_not(alloc, config)? {
-        Some(name) => Ok(Some(refusal(alloc, name.as_str())?)),
+        Some(name) => Ok(Some(refuse_configuration(alloc, name.as_str())?)),
         None => Ok(None),
     }
 }

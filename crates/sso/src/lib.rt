@@ -1,11 +1,12 @@
-//! The top call: what the words of the program ask for, over any shelf of files and any sink for the text. The sign-on theorem is
-//! a clause of it.
+//! The top call: what the words of the program ask for, over any shelf of files, any sink for the text, and any desks at which
+//! connections are served. The sign-on theorem is a clause of it.
 //!
 //! | Module | What it has | Its definitions, in `specs/` |
 //! |---|---|---|
-//! | `top` | [`sso`], over any shelf and sink | `Ends`, `SignOn` |
+//! | `top` | [`sso`], over any shelf, sink and desks | `Ends`, `SignOn` |
 //! | `command` | what the words ask for, with contents fetched for it | `Outcomes` |
 //! | `outcome` | the answers of `replay`, and those of no command | `Answer`, `Outcomes` |
+//! | `servers` | the answers of `op` and `rp` | `Asked`, `Outcomes` |
 //! | `configuration` | the answers to a configuration that is not taken | `Answer` |
 //! | `token` | the answers of `token` | `Answer` |
 //! | `mini` | [`MINI`], the small configuration | |
@@ -15,6 +16,7 @@ mod command;
 mod configuration;
 mod mini;
 mod outcome;
+mod servers;
 mod token;
 mod top;
 

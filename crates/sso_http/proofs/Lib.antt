@@ -11,4 +11,4 @@ pub mod PresentedCookies
 pub mod ReadBodies
 pub mod SentReplies
 pub mod WholeRequests
-mod Samples
+pub mod Samples

@@ -175,7 +175,7 @@ asked_with_a_query = refl
 
 -- ---- requests
 
-abbrev get_text : List ℕ
+abbrev pub get_text : List ℕ
 get_text = codes "GET / HTTP/1.1\r\n\r\n"
 
 abbrev get_head : RequestHead
@@ -197,7 +197,7 @@ a_head_of_the_grammar = (
   omega arith,
 )
 
-a_request : IsRequest (codes "op_b") (codes "op_s") get_text [] (record { method = Get; path = codes "/"; query = []; body = None; first = None; second = None; auth = None })
+pub a_request : IsRequest (codes "op_b") (codes "op_s") get_text [] (record { method = Get; path = codes "/"; query = []; body = None; first = None; second = None; auth = None })
 unfolding judgement_of
 a_request = record {
   short = record {

@@ -1,2 +1,3 @@
 pub mod Roles
 pub mod Rounds
+pub mod Servers

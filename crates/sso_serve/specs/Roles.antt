@@ -14,6 +14,9 @@ use Rattle.op_response.specs.Cookies as op_cookies
 use Rattle.op_response.specs.Telling as op_telling
 use Rattle.op_answer.specs.Past.{OpPair}
 use Rattle.op_core.specs.Providing.{Providing}
+use Rattle.rp_answer.specs.Past.{RpPair}
+use Rattle.rp_answer.specs.Setup.{PartySetup}
+use Rattle.rp_core.specs.Relying.{Relying}
 use Rattle.rp_exchange.specs.declared.ask.RpAsk.{RpAsk}
 use Rattle.rp_exchange.specs.declared.ask.RpAsk.TheVariants as rp_ask
 use Rattle.rp_exchange.specs.declared.reply.RpReply.{RpReply}
@@ -82,3 +85,10 @@ rp_manner c n = record {
   http = rp_telling.http_of c n;
   weighs = rp_weight.ask_weight;
 }
+
+-- what a relying party was set up with, and its history
+abbrev pub rp_setup : Relying → PartySetup
+rp_setup r = r.setup
+
+abbrev pub rp_history : Relying → List RpPair
+rp_history r = r.history

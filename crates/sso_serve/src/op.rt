@@ -2,15 +2,13 @@
 
 ghost use Rattle.std.specs.Prelude.{◌≡◌, ◌^◌, ◌≤◌, ◌<◌, length, IfOk, OnErr};
 ghost use Rattle.std.specs.List.{All};
-ghost use Rattle.op_answer.specs.Legal.{IsLegalHistory};
-ghost use Rattle.serving.specs.Summaries.{Summarises};
-ghost use Rattle.sso_serve.specs.Roles.{op_manner, op_registry, op_history};
+ghost use Rattle.sso_serve.specs.Servers.{ServesOp};
 
 use crate::op_role::OpRole;
 use client_registry::Registry;
 use op_core::OpCore;
 use server_desk::{Clock, Desk, Door, Draw, Link};
-use serving::{Summary, serve};
+use serving::{Summary, Tells, serve};
 use sso_base::NoMemory;
 use std::alloc::Global;
 use std::sync::Wait;
@@ -31,7 +29,7 @@ pub fn serve_op<R: Threads + Wait + Sync, D: Door, L: Link, C: Clock, W: Draw>(
 ) -> Result<Summary<OpCore>, NoMemory>
     requires few { length desks.old.items ≤ 64 }
     requires desks { All (λ desk. (desk.turns ≤ 2 ^ 56) × ((D.state desk.door).given < 2 ^ 63)) desks.old.items }
-    ensures summary { IfOk result (Summarises (record { state = D.state; closings = D.closings; door_faults = D.faults; exchanges = L.exchanges; moments = C.ahead; words = W.ahead; left = D.Source.left; read_faults = D.Source.faults; taken = D.Sink.taken; write_faults = D.Sink.faults }) (op_manner registry.now) op_registry op_history IsLegalHistory registry.now registry.now.listen desks.old.items desks.new.items) }
+    ensures summary { IfOk result (ServesOp ⟦<Desk<D, L, C, W> as Tells>⟧.telling desks.old.items desks.new.items registry.now) }
     ensures memory { OnErr result (desks.new.items ≡ desks.old.items) }
 {
     let core = OpCore::new(alloc, registry.copy(alloc)?)?;

@@ -1,42 +1,47 @@
-use Rattle.sso.specs.declared.mini.TheConstants.{MINI}
-use Rattle.sso.proofs.Answering.{call_ends}
+use Rattle.sso.proofs.Endings as ending
 use Rattle.sso.proofs.top.sso.Goals as goal
 
-pub returns-in-Ok-clause-replayed : goal.returns-in-Ok-clause-replayed
-returns-in-Ok-clause-replayed g c = (call_ends (record { small = MINI.now; contents = g.H.Shelf.contents c.args.shelf.now; shelf_before = g.H.Shelf.faults c.args.shelf.now; shelf_after = g.H.Shelf.faults c.answer_words.new.shelf; words = c.args.words.now; before = g.K.Sink.faults c.args.out.now; after = g.K.Sink.faults c.write_outcome.new.out; old = g.K.Sink.taken c.args.out.now }) (g.K.Sink.taken c.write_outcome.new.out) c.in-Ok.outcome c.write_outcome.result c.in-Ok.ensures.may c.write_outcome.ensures.written).replayed
+pub returns-clause-replayed : goal.returns-clause-replayed
+returns-clause-replayed g c = ending.replayed _ _ c.run.ensures.ended
 
-pub returns-in-Ok-clause-memory : goal.returns-in-Ok-clause-memory
-returns-in-Ok-clause-memory g c = (call_ends (record { small = MINI.now; contents = g.H.Shelf.contents c.args.shelf.now; shelf_before = g.H.Shelf.faults c.args.shelf.now; shelf_after = g.H.Shelf.faults c.answer_words.new.shelf; words = c.args.words.now; before = g.K.Sink.faults c.args.out.now; after = g.K.Sink.faults c.write_outcome.new.out; old = g.K.Sink.taken c.args.out.now }) (g.K.Sink.taken c.write_outcome.new.out) c.in-Ok.outcome c.write_outcome.result c.in-Ok.ensures.may c.write_outcome.ensures.written).memory
+pub returns-clause-opened : goal.returns-clause-opened
+returns-clause-opened g c = ending.opened _ _ c.run.ensures.ended
 
-pub returns-in-Ok-clause-usage : goal.returns-in-Ok-clause-usage
-returns-in-Ok-clause-usage g c = (call_ends (record { small = MINI.now; contents = g.H.Shelf.contents c.args.shelf.now; shelf_before = g.H.Shelf.faults c.args.shelf.now; shelf_after = g.H.Shelf.faults c.answer_words.new.shelf; words = c.args.words.now; before = g.K.Sink.faults c.args.out.now; after = g.K.Sink.faults c.write_outcome.new.out; old = g.K.Sink.taken c.args.out.now }) (g.K.Sink.taken c.write_outcome.new.out) c.in-Ok.outcome c.write_outcome.result c.in-Ok.ensures.may c.write_outcome.ensures.written).usage
+pub returns-clause-provider : goal.returns-clause-provider
+returns-clause-provider g c = ending.provider _ _ c.run.ensures.ended
 
-pub returns-in-Ok-clause-configuration : goal.returns-in-Ok-clause-configuration
-returns-in-Ok-clause-configuration g c = (call_ends (record { small = MINI.now; contents = g.H.Shelf.contents c.args.shelf.now; shelf_before = g.H.Shelf.faults c.args.shelf.now; shelf_after = g.H.Shelf.faults c.answer_words.new.shelf; words = c.args.words.now; before = g.K.Sink.faults c.args.out.now; after = g.K.Sink.faults c.write_outcome.new.out; old = g.K.Sink.taken c.args.out.now }) (g.K.Sink.taken c.write_outcome.new.out) c.in-Ok.outcome c.write_outcome.result c.in-Ok.ensures.may c.write_outcome.ensures.written).configuration
+pub returns-clause-party : goal.returns-clause-party
+returns-clause-party g c = ending.party _ _ c.run.ensures.ended
 
-pub returns-in-Ok-clause-trace : goal.returns-in-Ok-clause-trace
-returns-in-Ok-clause-trace g c = (call_ends (record { small = MINI.now; contents = g.H.Shelf.contents c.args.shelf.now; shelf_before = g.H.Shelf.faults c.args.shelf.now; shelf_after = g.H.Shelf.faults c.answer_words.new.shelf; words = c.args.words.now; before = g.K.Sink.faults c.args.out.now; after = g.K.Sink.faults c.write_outcome.new.out; old = g.K.Sink.taken c.args.out.now }) (g.K.Sink.taken c.write_outcome.new.out) c.in-Ok.outcome c.write_outcome.result c.in-Ok.ensures.may c.write_outcome.ensures.written).trace
+pub returns-clause-command : goal.returns-clause-command
+returns-clause-command g c = ending.command _ _ c.run.ensures.ended
 
-pub returns-in-Ok-clause-shelf : goal.returns-in-Ok-clause-shelf
-returns-in-Ok-clause-shelf g c = (call_ends (record { small = MINI.now; contents = g.H.Shelf.contents c.args.shelf.now; shelf_before = g.H.Shelf.faults c.args.shelf.now; shelf_after = g.H.Shelf.faults c.answer_words.new.shelf; words = c.args.words.now; before = g.K.Sink.faults c.args.out.now; after = g.K.Sink.faults c.write_outcome.new.out; old = g.K.Sink.taken c.args.out.now }) (g.K.Sink.taken c.write_outcome.new.out) c.in-Ok.outcome c.write_outcome.result c.in-Ok.ensures.may c.write_outcome.ensures.written).shelf
+pub returns-clause-memory : goal.returns-clause-memory
+returns-clause-memory g c = ending.memory _ _ c.run.ensures.ended
 
-pub returns-in-Ok-clause-sink : goal.returns-in-Ok-clause-sink
-returns-in-Ok-clause-sink g c = (call_ends (record { small = MINI.now; contents = g.H.Shelf.contents c.args.shelf.now; shelf_before = g.H.Shelf.faults c.args.shelf.now; shelf_after = g.H.Shelf.faults c.answer_words.new.shelf; words = c.args.words.now; before = g.K.Sink.faults c.args.out.now; after = g.K.Sink.faults c.write_outcome.new.out; old = g.K.Sink.taken c.args.out.now }) (g.K.Sink.taken c.write_outcome.new.out) c.in-Ok.outcome c.write_outcome.result c.in-Ok.ensures.may c.write_outcome.ensures.written).sink
+pub returns-clause-usage : goal.returns-clause-usage
+returns-clause-usage g c = ending.usage _ _ c.run.ensures.ended
 
-pub returns-in-Ok-clause-range : goal.returns-in-Ok-clause-range
-returns-in-Ok-clause-range g c = (call_ends (record { small = MINI.now; contents = g.H.Shelf.contents c.args.shelf.now; shelf_before = g.H.Shelf.faults c.args.shelf.now; shelf_after = g.H.Shelf.faults c.answer_words.new.shelf; words = c.args.words.now; before = g.K.Sink.faults c.args.out.now; after = g.K.Sink.faults c.write_outcome.new.out; old = g.K.Sink.taken c.args.out.now }) (g.K.Sink.taken c.write_outcome.new.out) c.in-Ok.outcome c.write_outcome.result c.in-Ok.ensures.may c.write_outcome.ensures.written).range
+pub returns-clause-configuration : goal.returns-clause-configuration
+returns-clause-configuration g c = ending.configuration _ _ c.run.ensures.ended
 
-pub returns-in-Ok-clause-words : goal.returns-in-Ok-clause-words
-returns-in-Ok-clause-words g c = (call_ends (record { small = MINI.now; contents = g.H.Shelf.contents c.args.shelf.now; shelf_before = g.H.Shelf.faults c.args.shelf.now; shelf_after = g.H.Shelf.faults c.answer_words.new.shelf; words = c.args.words.now; before = g.K.Sink.faults c.args.out.now; after = g.K.Sink.faults c.write_outcome.new.out; old = g.K.Sink.taken c.args.out.now }) (g.K.Sink.taken c.write_outcome.new.out) c.in-Ok.outcome c.write_outcome.result c.in-Ok.ensures.may c.write_outcome.ensures.written).by_words
+pub returns-clause-trace : goal.returns-clause-trace
+returns-clause-trace g c = ending.trace _ _ c.run.ensures.ended
 
-pub returns-in-Ok-clause-contents : goal.returns-in-Ok-clause-contents
-returns-in-Ok-clause-contents g c = (call_ends (record { small = MINI.now; contents = g.H.Shelf.contents c.args.shelf.now; shelf_before = g.H.Shelf.faults c.args.shelf.now; shelf_after = g.H.Shelf.faults c.answer_words.new.shelf; words = c.args.words.now; before = g.K.Sink.faults c.args.out.now; after = g.K.Sink.faults c.write_outcome.new.out; old = g.K.Sink.taken c.args.out.now }) (g.K.Sink.taken c.write_outcome.new.out) c.in-Ok.outcome c.write_outcome.result c.in-Ok.ensures.may c.write_outcome.ensures.written).by_contents
+pub returns-clause-shelf : goal.returns-clause-shelf
+returns-clause-shelf g c = ending.shelf _ _ c.run.ensures.ended
 
-pub returns-in-Ok-clause-opened : goal.returns-in-Ok-clause-opened
-returns-in-Ok-clause-opened g c = (call_ends (record { small = MINI.now; contents = g.H.Shelf.contents c.args.shelf.now; shelf_before = g.H.Shelf.faults c.args.shelf.now; shelf_after = g.H.Shelf.faults c.answer_words.new.shelf; words = c.args.words.now; before = g.K.Sink.faults c.args.out.now; after = g.K.Sink.faults c.write_outcome.new.out; old = g.K.Sink.taken c.args.out.now }) (g.K.Sink.taken c.write_outcome.new.out) c.in-Ok.outcome c.write_outcome.result c.in-Ok.ensures.may c.write_outcome.ensures.written).opened
+pub returns-clause-sink : goal.returns-clause-sink
+returns-clause-sink g c = ending.sink _ _ c.run.ensures.ended
 
-pub returns-in-Ok-clause-command : goal.returns-in-Ok-clause-command
-returns-in-Ok-clause-command g c = (call_ends (record { small = MINI.now; contents = g.H.Shelf.contents c.args.shelf.now; shelf_before = g.H.Shelf.faults c.args.shelf.now; shelf_after = g.H.Shelf.faults c.answer_words.new.shelf; words = c.args.words.now; before = g.K.Sink.faults c.args.out.now; after = g.K.Sink.faults c.write_outcome.new.out; old = g.K.Sink.taken c.args.out.now }) (g.K.Sink.taken c.write_outcome.new.out) c.in-Ok.outcome c.write_outcome.result c.in-Ok.ensures.may c.write_outcome.ensures.written).command
+pub returns-clause-door : goal.returns-clause-door
+returns-clause-door g c = ending.door _ _ c.run.ensures.ended
 
-pub returns-in-Ok-clause-refused_token : goal.returns-in-Ok-clause-refused_token
-returns-in-Ok-clause-refused_token g c = (call_ends (record { small = MINI.now; contents = g.H.Shelf.contents c.args.shelf.now; shelf_before = g.H.Shelf.faults c.args.shelf.now; shelf_after = g.H.Shelf.faults c.answer_words.new.shelf; words = c.args.words.now; before = g.K.Sink.faults c.args.out.now; after = g.K.Sink.faults c.write_outcome.new.out; old = g.K.Sink.taken c.args.out.now }) (g.K.Sink.taken c.write_outcome.new.out) c.in-Ok.outcome c.write_outcome.result c.in-Ok.ensures.may c.write_outcome.ensures.written).refused_token
+pub returns-clause-refused : goal.returns-clause-refused
+returns-clause-refused g c = ending.refused _ _ c.run.ensures.ended
+
+pub returns-clause-range : goal.returns-clause-range
+returns-clause-range g c = c.run.ensures.ended.range
+
+pub returns-clause-unserved : goal.returns-clause-unserved
+returns-clause-unserved g c = c.run.ensures.ended.unserved

@@ -1,0 +1,26 @@
+-- What is told of a server that ended is what it did.
+use Rattle.std.proofs.Common.{◌≡◌, Result, Ok, ap, ◌∙◌}
+use Rattle.std.proofs.lemmas.Result.{IfOk-weaker}
+use Rattle.std.specs.Result.{IfOk}
+use Rattle.std.specs.Prelude.{List}
+use Rattle.client_registry.specs.Configuration.{Configuration}
+use Rattle.rp_answer.specs.Setup.{PartySetup}
+use Rattle.server_desk.specs.declared.desk.Desk.{Desk}
+use Rattle.serving.specs.Summaries.{Telling}
+use Rattle.sso_serve.specs.declared.ran.Ran.{Ran}
+use Rattle.sso_serve.specs.Servers.{RanOp, RanRp}
+use Rattle.sso.specs.Answer.{Answer}
+use Rattle.sso.specs.Asked.{server_answer}
+use Rattle.sso.specs.Outcomes.{ServedOp, ServedRp}
+
+abbrev answer_of : Ran → Answer
+answer_of ran = server_answer ran.fault ran.served ran.entries
+
+module _ {D L C W S K : Type 0} (t : Telling D L C W S K) (olds news : List (Desk D L C W)) where
+  pub op_told : {E : Type 0} (c : Configuration) (ran : Ran) (result : Result Answer E) → RanOp t olds news c ran
+      → IfOk result (λ answer. answer ≡ answer_of ran) → IfOk result (ServedOp t olds news (Ok c))
+  op_told c ran result (s, serves, same) told = IfOk-weaker result _ _ (λ answer is. (s, serves, is ∙ ap answer_of same)) told
+
+  pub rp_told : {E : Type 0} (p : PartySetup) (ran : Ran) (result : Result Answer E) → RanRp t olds news p ran
+      → IfOk result (λ answer. answer ≡ answer_of ran) → IfOk result (ServedRp t olds news (Ok p))
+  rp_told p ran result (s, serves, same) told = IfOk-weaker result _ _ (λ answer is. (s, serves, is ∙ ap answer_of same)) told

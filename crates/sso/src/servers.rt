@@ -1,0 +1,217 @@
+//! What is answered to a configuration whose provider, or one of whose parties, is to be served.
+
+ghost use Rattle.std.specs.Prelude.{◌≡◌, ◌^◌, ◌≤◌, ◌<◌, false, length, Ok, IfOk};
+ghost use Rattle.std.specs.List.{All};
+ghost use Rattle.client_registry.specs.Rules.{party_place};
+ghost use Rattle.rp_accept.specs.Serving.{setup_of};
+ghost use Rattle.sso.specs.Answer.{registry_name, configuration_refusal};
+ghost use Rattle.sso.specs.Asked as spec;
+ghost use Rattle.sso.specs.Asked.{metadata_refusal, server_answer, op_asked, rp_asked, number_asked};
+ghost use Rattle.sso.specs.Outcomes.{ServedOp, ServedRp};
+
+use crate::configuration::{name_of, refuse_configuration};
+use crate::outcome::Outcome;
+use client_registry::{Provider, RegNo, Registry, read_registry};
+use discovery_doc::{DiscNo, read_discovery};
+use server_desk::{Clock, Desk, Door, Draw, Link};
+use serving::Tells;
+use sso_base::{Blob, NoMemory, Text};
+use sso_serve::{run_op, run_rp};
+use std::alloc::Global;
+use std::sync::Wait;
+use std::thread::Threads;
+
+/// The most bytes of a provider's metadata.
+const MOST_METADATA: usize = 65_536;
+
+/// What is told of a server none of whose doors failed.
+#[tactic(auto, unfolding(crate::specs::Asked::served_text))]
+fn answer_served(alloc: Global, served: u64, entries: u64) -> Result<Outcome, NoMemory>
+    ensures { IfOk result (λ outcome. outcome ≡ server_answer false served entries) }
+{
+    let text = format!(in alloc; "served {served} entries {entries}\n")?;
+    Ok(Outcome {
+        status: 0,
+        text: Blob::new(alloc, text.as_bytes())?,
+    })
+}
+
+/// What is told of a server that ended.
+#[tactic(auto, unfolding(crate::specs::Asked::door_text))]
+fn answer_server(alloc: Global, fault: bool, served: u64, entries: u64) -> Result<Outcome, NoMemory>
+    ensures { IfOk result (λ outcome. outcome ≡ server_answer fault served entries) }
+{
+    if fault {
+        Ok(Outcome {
+            status: 9,
+            text: Blob::new(alloc, b"door\n")?,
+        })
+    } else {
+        answer_served(alloc, served, entries)
+    }
+}
+
+/// What is answered where a configuration is refused.
+fn refuse_registry(alloc: Global, why: &RegNo) -> Result<Outcome, NoMemory>
+    ensures { IfOk result (λ outcome. outcome ≡ configuration_refusal (registry_name why.now)) }
+{
+    let name = name_of(alloc, why)?;
+    refuse_configuration(alloc, name.as_str())
+}
+
+/// Serves the provider of a registry.
+fn serve_provider<R: Threads + Wait + Sync, D: Door, L: Link, C: Clock, W: Draw>(
+    rt: &R,
+    alloc: Global,
+    registry: &Registry,
+    desks: &mut Vec<Desk<D, L, C, W>>,
+) -> Result<Outcome, NoMemory>
+    requires few { length desks.old.items ≤ 64 }
+    requires desks { All (λ desk. (desk.turns ≤ 2 ^ 56) × ((D.state desk.door).given < 2 ^ 63)) desks.old.items }
+    ensures { IfOk result (ServedOp ⟦<Desk<D, L, C, W> as Tells>⟧.telling desks.old.items desks.new.items (Ok registry.now)) }
+{
+    let ran = run_op(rt, alloc, registry, desks)?;
+    answer_server(alloc, ran.fault, ran.served, ran.entries)
+}
+
+/// Serves the provider of a configuration, and answers how that ended, or why the configuration is refused.
+#[tactic(auto, unfolding(crate::specs::Asked::op_asked))]
+pub fn answer_op<R: Threads + Wait + Sync, D: Door, L: Link, C: Clock, W: Draw>(
+    rt: &R,
+    alloc: Global,
+    config: &[u8],
+    desks: &mut Vec<Desk<D, L, C, W>>,
+) -> Result<Outcome, NoMemory>
+    requires few { length desks.old.items ≤ 64 }
+    requires desks { All (λ desk. (desk.turns ≤ 2 ^ 56) × ((D.state desk.door).given < 2 ^ 63)) desks.old.items }
+    ensures { IfOk result (ServedOp ⟦<Desk<D, L, C, W> as Tells>⟧.telling desks.old.items desks.new.items (op_asked config.now)) }
+{
+    match read_registry(alloc, config) {
+        Ok(registry) => serve_provider(rt, alloc, &registry, desks),
+        Err(RegNo::NoMemory) => Err(NoMemory),
+        Err(why) => refuse_registry(alloc, &why),
+    }
+}
+
+/// The name of a refusal of metadata, as it is printed.
+#[tactic(auto, unfolding(crate::specs::Asked::metadata_name))]
+fn metadata_name(why: &DiscNo) -> &'static str
+    ensures { result.now ≡ spec.metadata_name why.now }
+{
+    match why {
+        DiscNo::NoMemory => "",
+        DiscNo::NotObject => "NotObject",
+        DiscNo::Missing(_) => "Missing",
+        DiscNo::IssuerDiffers => "IssuerDiffers",
+        DiscNo::NoHs256 => "NoHs256",
+        DiscNo::BadUrl(_) => "BadUrl",
+    }
+}
+
+/// The answer to metadata that are refused, by the reason's name.
+#[tactic(auto, unfolding(crate::specs::Asked::metadata_text))]
+fn refuse_metadata(alloc: Global, name: &str) -> Result<Outcome, NoMemory>
+    ensures { IfOk result (λ outcome. outcome ≡ metadata_refusal name.now) }
+{
+    let text = format!(in alloc; "discovery {name}\n")?;
+    Ok(Outcome {
+        status: 10,
+        text: Blob::new(alloc, text.as_bytes())?,
+    })
+}
+
+/// The provider of metadata, or the answer where they are refused.
+#[tactic(auto, unfolding(crate::specs::Asked::described))]
+fn described(
+    alloc: Global,
+    registry: &Registry,
+    metadata: &[u8],
+) -> Result<Result<Provider, Outcome>, NoMemory>
+    ensures { IfOk result (λ provider. provider ≡ spec.described registry.now metadata.now) }
+{
+    if metadata.len() > MOST_METADATA {
+        return Ok(Err(refuse_metadata(alloc, "Size")?));
+    }
+    match read_discovery(alloc, &registry.provider().issuer, metadata) {
+        Ok(provider) => Ok(Ok(provider)),
+        Err(DiscNo::NoMemory) => Err(NoMemory),
+        Err(why) => Ok(Err(refuse_metadata(alloc, metadata_name(&why))?)),
+    }
+}
+
+/// The provider that a party trusts, or the answer where its metadata are refused.
+fn trusted(
+    alloc: Global,
+    registry: &Registry,
+    metadata: &Option<Blob>,
+) -> Result<Result<Provider, Outcome>, NoMemory>
+    ensures { IfOk result (λ provider. provider ≡ spec.trusted registry.now metadata.now) }
+{
+    match metadata {
+        Some(metadata) => described(alloc, registry, metadata.as_bytes()),
+        None => Ok(Ok(registry.provider().copy(alloc)?)),
+    }
+}
+
+/// Serves the party of this number, which trusts this provider.
+fn serve_trusting<R: Threads + Wait + Sync, D: Door, L: Link, C: Clock, W: Draw>(
+    rt: &R,
+    alloc: Global,
+    registry: &Registry,
+    party: u32,
+    provider: Provider,
+    desks: &mut Vec<Desk<D, L, C, W>>,
+) -> Result<Outcome, NoMemory>
+    requires party { party < length registry.now.parties }
+    requires issuer { provider.issuer ≡ registry.now.provider.issuer }
+    requires few { length desks.old.items ≤ 64 }
+    requires desks { All (λ desk. (desk.turns ≤ 2 ^ 56) × ((D.state desk.door).given < 2 ^ 63)) desks.old.items }
+    ensures { IfOk result (ServedRp ⟦<Desk<D, L, C, W> as Tells>⟧.telling desks.old.items desks.new.items (Ok (setup_of registry.now party provider))) }
+{
+    let ran = run_rp(rt, alloc, registry, party, provider, desks)?;
+    answer_server(alloc, ran.fault, ran.served, ran.entries)
+}
+
+/// Serves the party of this name.
+fn serve_party<R: Threads + Wait + Sync, D: Door, L: Link, C: Clock, W: Draw>(
+    rt: &R,
+    alloc: Global,
+    registry: &Registry,
+    name: &Text,
+    metadata: &Option<Blob>,
+    desks: &mut Vec<Desk<D, L, C, W>>,
+) -> Result<Outcome, NoMemory>
+    requires few { length desks.old.items ≤ 64 }
+    requires desks { All (λ desk. (desk.turns ≤ 2 ^ 56) × ((D.state desk.door).given < 2 ^ 63)) desks.old.items }
+    ensures { IfOk result (ServedRp ⟦<Desk<D, L, C, W> as Tells>⟧.telling desks.old.items desks.new.items (number_asked registry.now (party_place name.now registry.now.parties) metadata.now)) }
+{
+    let Some(party) = registry.find_party(name.as_str().as_bytes()) else {
+        return refuse_configuration(alloc, "NoParty");
+    };
+    match trusted(alloc, registry, metadata)? {
+        Ok(provider) => serve_trusting(rt, alloc, registry, party, provider, desks),
+        Err(refusal) => Ok(refusal),
+    }
+}
+
+/// Serves the party of this name in a configuration, which trusts the provider of these metadata, or else the configuration's, and
+/// answers how that ended, or why nothing was served.
+#[tactic(auto, unfolding(crate::specs::Asked::rp_asked))]
+pub fn answer_rp<R: Threads + Wait + Sync, D: Door, L: Link, C: Clock, W: Draw>(
+    rt: &R,
+    alloc: Global,
+    config: &[u8],
+    name: &Text,
+    metadata: &Option<Blob>,
+    desks: &mut Vec<Desk<D, L, C, W>>,
+) -> Result<Outcome, NoMemory>
+    requires few { length desks.old.items ≤ 64 }
+    requires desks { All (λ desk. (desk.turns ≤ 2 ^ 56) × ((D.state desk.door).given < 2 ^ 63)) desks.old.items }
+    ensures { IfOk result (ServedRp ⟦<Desk<D, L, C, W> as Tells>⟧.telling desks.old.items desks.new.items (rp_asked config.now name.now metadata.now)) }
+{
+    match read_registry(alloc, config) {
+        Ok(registry) => serve_party(rt, alloc, &registry, name, metadata, desks),
+        Err(RegNo::NoMemory) => Err(NoMemory),
+        Err(why) => refuse_registry(alloc, &why),
+    }
+}

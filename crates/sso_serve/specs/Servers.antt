@@ -1,0 +1,37 @@
+-- What the two servers did with their desks.
+use Rattle.std.specs.Prelude.{◌≡◌, List}
+use Rattle.client_registry.specs.Configuration.{Configuration}
+use Rattle.op_exchange.specs.declared.ask.OpAsk.{OpAsk}
+use Rattle.op_exchange.specs.declared.reply.OpReply.{OpReply}
+use Rattle.op_answer.specs.Legal as op
+use Rattle.op_core.specs.Providing.{Providing}
+use Rattle.rp_exchange.specs.declared.ask.RpAsk.{RpAsk}
+use Rattle.rp_exchange.specs.declared.reply.RpReply.{RpReply}
+use Rattle.rp_answer.specs.Legal as rp
+use Rattle.rp_answer.specs.Setup.{PartySetup, party_of}
+use Rattle.rp_core.specs.Relying.{Relying}
+use Rattle.server_desk.specs.declared.desk.Desk.{Desk}
+use Rattle.serving.specs.declared.summary.Summary.{Summary}
+use Rattle.serving.specs.Summaries.{Telling, Summarises}
+use Rattle.sso_serve.specs.declared.ran.Ran.{Ran}
+use Rattle.sso_serve.specs.Roles.{op_manner, op_registry, op_history, rp_manner, rp_setup, rp_history}
+
+-- what is told of a server that did this
+abbrev pub ran_of : {O A R : Type 0} → Summary O A R → Ran
+ran_of s = record { fault = s.fault; served = s.served; entries = s.entries }
+
+module _ {D L C W S K : Type 0} (t : Telling D L C W S K) (olds news : List (Desk D L C W)) where
+  -- the provider of a configuration was served, at its `listen`
+  abbrev pub ServesOp : Configuration → Summary Providing OpAsk OpReply → Type 0
+  ServesOp c s = Summarises t (op_manner c) op_registry op_history op.IsLegalHistory c c.listen olds news s
+
+  -- the relying party of a setup was served, at its `listen`
+  abbrev pub ServesRp : PartySetup → Summary Relying RpAsk RpReply → Type 0
+  ServesRp p s = Summarises t (rp_manner p.configuration p.number) rp_setup rp_history rp.IsLegalHistory p (party_of p).listen olds news s
+
+  -- the same, where this is told of it
+  abbrev pub RanOp : Configuration → Ran → Type 0
+  RanOp c ran = (s : Summary Providing OpAsk OpReply) × ServesOp c s × (ran ≡ ran_of s)
+
+  abbrev pub RanRp : PartySetup → Ran → Type 0
+  RanRp p ran = (s : Summary Relying RpAsk RpReply) × ServesRp p s × (ran ≡ ran_of s)

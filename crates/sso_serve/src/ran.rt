@@ -1,0 +1,79 @@
+// What is told of a server that ended.
+
+ghost use Rattle.std.specs.Prelude.{◌≡◌, ◌^◌, ◌≤◌, ◌<◌, length, IfOk, OnErr};
+ghost use Rattle.std.specs.List.{All};
+ghost use Rattle.rp_accept.specs.Serving.{setup_of};
+ghost use Rattle.sso_serve.specs.Servers.{RanOp, RanRp};
+
+use crate::op::serve_op;
+use crate::rp::serve_rp;
+use client_registry::{Provider, Registry};
+use server_desk::{Clock, Desk, Door, Draw, Link};
+use serving::Tells;
+use sso_base::NoMemory;
+use std::alloc::Global;
+use std::sync::Wait;
+use std::thread::Threads;
+
+/// What is told of a server that ended. Its core is gone.
+#[derive(Clone, Copy)]
+pub struct Ran {
+    /// Whether a door failed.
+    pub fault: bool,
+    /// How many connections its desks served.
+    pub served: u64,
+    /// How many entries the history of its core has.
+    pub entries: u64,
+}
+
+/// Serves as [`serve_op`], and tells how that ended.
+///
+/// # Errors
+///
+/// Those of [`serve_op`].
+pub fn run_op<R: Threads + Wait + Sync, D: Door, L: Link, C: Clock, W: Draw>(
+    rt: &R,
+    alloc: Global,
+    registry: &Registry,
+    desks: &mut Vec<Desk<D, L, C, W>>,
+) -> Result<Ran, NoMemory>
+    requires few { length desks.old.items ≤ 64 }
+    requires desks { All (λ desk. (desk.turns ≤ 2 ^ 56) × ((D.state desk.door).given < 2 ^ 63)) desks.old.items }
+    ensures ran { IfOk result (RanOp ⟦<Desk<D, L, C, W> as Tells>⟧.telling desks.old.items desks.new.items registry.now) }
+    ensures memory { OnErr result (desks.new.items ≡ desks.old.items) }
+{
+    let summary = serve_op(rt, alloc, registry, desks)?;
+    Ok(Ran {
+        fault: summary.fault,
+        served: summary.served,
+        entries: summary.entries,
+    })
+}
+
+/// Serves as [`serve_rp`], and tells how that ended.
+///
+/// # Errors
+///
+/// Those of [`serve_rp`].
+pub fn run_rp<R: Threads + Wait + Sync, D: Door, L: Link, C: Clock, W: Draw>(
+    rt: &R,
+    alloc: Global,
+    registry: &Registry,
+    party: u32,
+    provider: Provider,
+    desks: &mut Vec<Desk<D, L, C, W>>,
+) -> Result<Ran, NoMemory>
+    requires party { party < length registry.now.parties }
+    requires issuer { provider.issuer ≡ registry.now.provider.issuer }
+    requires few { length desks.old.items ≤ 64 }
+    requires desks { All (λ desk. (desk.turns ≤ 2 ^ 56) × ((D.state desk.door).given < 2 ^ 63)) desks.old.items }
+    ensures ran { IfOk result (RanRp ⟦<Desk<D, L, C, W> as Tells>⟧.telling desks.old.items desks.new.items (setup_of registry.now party provider)) }
+    ensures memory { OnErr result (desks.new.items ≡ desks.old.items) }
+{
+    let summary = serve_rp(rt, alloc, registry, party, provider, desks)?;
+    Ok(Ran {
+        fault: summary.fault,
+        served: summary.served,
+        entries: summary.entries,
+    })
+}
