@@ -1,11 +1,10 @@
-//! The adapters over the real network, clock and random bytes, and the top call over them.
+//! The adapters over the real network, clock and random bytes.
 
 ghost use Rattle.std.specs.Prelude.{◌<◌};
 
-use machine_desk::{RandomDraw, SystemClock, TcpDoor, TcpLink, desk};
+use machine_desk::{RandomDraw, SystemClock, TcpDoor, TcpLink};
 use server_desk::{Clock, Door, Draw, Link, LinkNo, Source, read_whole};
-use sso::{MINI, sso};
-use sso_base::{Blob, File, MemoryShelf, MemorySink, Text, write_whole};
+use sso_base::{Text, write_whole};
 use std::alloc::Global;
 use std::io::{Read, Write};
 use std::net::{Net, TcpStream};
@@ -167,73 +166,5 @@ fn the_clock_and_the_draw_are_the_machines(rt: HostRuntime) -> Result<(), Fail> 
     assert!(rt; SystemClock::new(&rt).now().seconds() >= 1_609_459_200);
     let mut draw = RandomDraw::new(&rt)?;
     assert!(rt; draw.word() != draw.word());
-    Ok(())
-}
-
-// What is answered to a request for the provider's keys.
-const KEYS: &[u8] =
-    b"HTTP/1.1 200 OK\r\nCache-Control: no-store\r\nContent-Type: application/json\r\nContent-Length: 11\r\nConnection: close\r\n\r\n{\"keys\":[]}";
-
-// A shelf with the small configuration, whose provider listens at this place.
-fn shelf_of(alloc: Global, place: &Text) -> Result<MemoryShelf, Fail> {
-    let listen = format!(in alloc; "listen = \"{}\"", place.as_str())?;
-    let config = MINI.replace(alloc, "listen = \"127.0.0.1:8080\"", listen.as_str())?;
-    let mut files = Vec::new(alloc);
-    files.push(File {
-        name: Text::new(alloc, "config")?,
-        content: Blob::new(alloc, config.as_bytes())?,
-    })?;
-    Ok(MemoryShelf::new(files))
-}
-
-// Asks for the keys, as soon as somebody listens.
-fn ask_keys<R: Net<Stream = TcpStream> + time::Clock>(
-    rt: &R,
-    alloc: Global,
-    place: &Text,
-) -> Option<Vec<u8>> {
-    for _ in 0..500 {
-        if let Some(back) = ask(
-            rt,
-            alloc,
-            place,
-            b"GET /jwks HTTP/1.1\r\nHost: a",
-            b"\r\n\r\n",
-        ) {
-            return Some(back);
-        }
-        thread::sleep(rt, Duration::from_millis(BETWEEN / 10));
-    }
-    None
-}
-
-#[test]
-fn the_provider_serves_its_keys(rt: HostRuntime) -> Result<(), Fail> {
-    let alloc = rt.alloc();
-    let mut door = TcpDoor::new(&rt);
-    let place = listen(alloc, &mut door)?;
-    drop(door);
-    let words = vec![in alloc; Text::new(alloc, "op")?, Text::new(alloc, "config")?]?;
-    let mut shelf = shelf_of(alloc, &place)?;
-    let mut out = MemorySink::new(alloc);
-    let mut one = desk(&rt)?;
-    one.turns = 1;
-    let mut desks = vec![in alloc; one]?;
-    let (status, back) = thread::join(
-        &rt,
-        || {
-            sso(
-                &rt,
-                alloc,
-                words.as_slice(),
-                &mut shelf,
-                &mut out,
-                &mut desks,
-            )
-        },
-        || ask_keys(&rt, alloc, &place),
-    );
-    assert!(rt; came(&back, KEYS));
-    assert!(rt; status == 0 && out.bytes() == b"served 1 entries 1\n".as_slice());
     Ok(())
 }
