@@ -3,7 +3,7 @@
 //!
 //! An empty line, and one that begins with `#`, is printed as it is. In every other line `|` stands between the fields. `$n$`
 //! stands for the text of the word of number n, which ends with n in four bytes and else has zeros. `$NAME$` stands for a text that the program
-//! gives a name to, and `no text of this name` for one that has none. No call here has a contract: what the programs print is
+//! gives a name to, and `no text of this name` for one that has none. No call here ensures anything: what the programs print is
 //! compared, and nothing else stands on it.
 //!
 //! Where memory runs out at a line, it is printed with `no memory`, and is asked once more: a step that finds no memory changes
@@ -87,8 +87,8 @@ fn push_text<C: Cases>(
     }
 }
 
-// The line with the texts that its names stand for.
-fn written_out<C: Cases>(alloc: Global, cases: &C, line: &str) -> Result<String, NoMemory> {
+/// The line with the texts that its names stand for.
+pub fn written_out<C: Cases>(alloc: Global, cases: &C, line: &str) -> Result<String, NoMemory> {
     let mut whole = String::new(alloc);
     let mut is_name = false;
     for piece in line.split('$') {
@@ -109,12 +109,8 @@ fn answer_line<C: Cases>(alloc: Global, cases: &mut C, line: &str) -> Result<Str
 }
 
 // Prints the line with its answer. Whether there was memory for it.
-fn print_answer<R: Input + Print + AllocGlobal, C: Cases>(
-    rt: &R,
-    cases: &mut C,
-    line: &str,
-) -> io::Result<bool> {
-    match answer_line(rt.alloc(), cases, line) {
+fn print_told<R: Print>(rt: &R, line: &str, answer: Result<String, NoMemory>) -> io::Result<bool> {
+    match answer {
         Ok(text) => {
             println!(rt; "{line} => {text}")?;
             Ok(true)
@@ -126,16 +122,31 @@ fn print_answer<R: Input + Print + AllocGlobal, C: Cases>(
     }
 }
 
-fn print_line<R: Input + Print + AllocGlobal, C: Cases>(
+fn print_line<R: Print, F: FnMut(&str) -> Result<String, NoMemory>>(
     rt: &R,
-    cases: &mut C,
+    answer: &mut F,
     line: &str,
-) -> io::Result<()> {
+) -> io::Result<()>
+    requires answered { (f : _) (line : _) → F.pre f line }
+{
     if line.is_empty() || line.starts_with('#') {
         return println!(rt; "{line}");
     }
-    if !print_answer(rt, cases, line)? {
-        print_answer(rt, cases, line)?;
+    if !print_told(rt, line, answer(line))? {
+        print_told(rt, line, answer(line))?;
+    }
+    Ok(())
+}
+
+/// Reads the table line by line and prints each with what it is answered.
+pub fn print_lines<R: Input + Print + AllocGlobal, F: FnMut(&str) -> Result<String, NoMemory>>(
+    rt: &R,
+    mut answer: F,
+) -> io::Result<()>
+    requires answered { (f : _) (line : _) → F.pre f line }
+{
+    for line in rt.lines(rt.alloc()) {
+        print_line(rt, &mut answer, line?.as_str())?;
     }
     Ok(())
 }
@@ -145,8 +156,5 @@ pub fn print_cases<R: Input + Print + AllocGlobal, C: Cases>(
     rt: &R,
     cases: &mut C,
 ) -> io::Result<()> {
-    for line in rt.lines(rt.alloc()) {
-        print_line(rt, cases, line?.as_str())?;
-    }
-    Ok(())
+    print_lines(rt, |line| answer_line(rt.alloc(), cases, line))
 }
