@@ -1,14 +1,18 @@
-//! The adapters over the real network, clock and random bytes.
+//! The adapters over the real network, clock and random bytes, and the top call over them.
 
 ghost use Rattle.std.specs.Prelude.{◌<◌};
 
-use machine_desk::{RandomDraw, SystemClock, TcpDoor, TcpLink};
+use machine_desk::{RandomDraw, SystemClock, TcpDoor, TcpLink, desk};
 use server_desk::{Clock, Door, Draw, Link, LinkNo, Source, read_whole};
-use sso_base::{Text, write_whole};
-use std::alloc::Global;
+use sso::{MINI, sso};
+use sso_base::{Blob, File, MemoryShelf, MemorySink, Text, write_whole};
+use std::alloc::{AllocGlobal, Global};
 use std::io::{Read, Write};
-use std::net::{Net, TcpStream};
+use std::net::{Net, TcpListener, TcpStream};
+use std::random::RandomSource;
+use std::sync::Wait;
 use std::test::Fail;
+use std::thread::Threads;
 use std::time::Duration;
 use std::{thread, time};
 
@@ -166,5 +170,77 @@ fn the_clock_and_the_draw_are_the_machines(rt: HostRuntime) -> Result<(), Fail> 
     assert!(rt; SystemClock::new(&rt).now().seconds() >= 1_609_459_200);
     let mut draw = RandomDraw::new(&rt)?;
     assert!(rt; draw.word() != draw.word());
+    Ok(())
+}
+
+// A shelf with the small configuration, whose provider listens at this place.
+fn shelf_at(alloc: Global, place: &Text) -> Option<MemoryShelf> {
+    let listen = format!(in alloc; "listen = \"{}\"", place.as_str()).ok()?;
+    let config = MINI
+        .replace(alloc, "listen = \"127.0.0.1:8080\"", listen.as_str())
+        .ok()?;
+    let file = File {
+        name: Text::new(alloc, "config").ok()?,
+        content: Blob::new(alloc, config.as_bytes()).ok()?,
+    };
+    Some(MemoryShelf::new(vec![in alloc; file].ok()?))
+}
+
+// Runs the provider of the small configuration at this place, for one connection. Whether it ended as it should.
+fn run_provider<R>(rt: &R, alloc: Global, place: &Text) -> Option<bool>
+where
+    R: Threads
+        + Wait
+        + Net<Listener = TcpListener, Stream = TcpStream>
+        + time::Clock
+        + RandomSource
+        + Sync
+        + AllocGlobal,
+{
+    let words = [
+        Text::new(alloc, "op").ok()?,
+        Text::new(alloc, "config").ok()?,
+    ];
+    let mut shelf = shelf_at(alloc, place)?;
+    let mut out = MemorySink::new(alloc);
+    let mut one = desk(rt).ok()?;
+    one.turns = 1;
+    let mut desks = vec![in alloc; one].ok()?;
+    let status = sso(rt, alloc, &words, &mut shelf, &mut out, &mut desks);
+    Some(status == 0 && out.bytes() == b"served 1 entries 1\n".as_slice())
+}
+
+// Asks for the keys, as soon as somebody listens: 500 times at most.
+fn ask_keys<R: Net<Stream = TcpStream> + time::Clock>(
+    rt: &R,
+    alloc: Global,
+    place: &Text,
+) -> Option<Vec<u8>> {
+    let (first, second) = (b"GET /jwks HTTP/1.1\r\nHost: a", b"\r\n\r\n");
+    for _ in 0..500 {
+        if let Some(back) = ask(rt, alloc, place, first, second) {
+            return Some(back);
+        }
+        thread::sleep(rt, Duration::from_millis(BETWEEN / 10));
+    }
+    None
+}
+
+#[test]
+fn the_provider_serves_its_keys(rt: HostRuntime) -> Result<(), Fail> {
+    let alloc = rt.alloc();
+    let mut door = TcpDoor::new(&rt);
+    let place = listen(alloc, &mut door)?;
+    drop(door);
+    let (ended, back) = thread::join(
+        &rt,
+        || run_provider(&rt, alloc, &place),
+        || ask_keys(&rt, alloc, &place),
+    );
+    assert!(rt; ended == Some(true));
+    assert!(rt; came(
+        &back,
+        b"HTTP/1.1 200 OK\r\nCache-Control: no-store\r\nContent-Type: application/json\r\nContent-Length: 11\r\nConnection: close\r\n\r\n{\"keys\":[]}",
+    ));
     Ok(())
 }

@@ -1,0 +1,115 @@
+//! Cases of the servers and of the top call, each a line that a person can read: connections that are served at desks in memory, what
+//! is written to them, what is sent over the links, and how it ends.
+//!
+//! The file `stdin` has the cases, and `stdout` the same with their answers. `case_lines` says how a line is read, and the comments
+//! there where the expected answers come from. `desks` says how a desk is written, `$sample$` is a configuration with all roles,
+//! `$form$` the field of a request that has a form, `$header$` the first line of a trace, `$mini$` the small configuration, and
+//! `$provider$` and `$alice$` are rows of others.
+//!
+//! | Call | Answer |
+//! |---|---|
+//! | `file|NAME|BYTES`, `lines|NAME|LINES` | these bytes, or lines with `/` between them, stand under the name from now on |
+//! | `ends|DESK` | how each connection of one desk is served, by one worker |
+//! | `work|DESK` | how one worker ends at one desk |
+//! | `serve|DESK|..` | what the server tells, and each desk |
+//! | `sso|SHELF|SINK|WORDS|DESK|..` | the status of the words, the text, and each desk |
+//! | `sso|SHELF|SINK|WORDS|two logins` or `two keys` | the same for two desks that wait for each other |
+//!
+//! `ends`, `work` and `serve` are over a role of their own, whose core is full after one ask. The provider and the parties are served by
+//! the top call. SHELF and SINK are the numbers of the calls that fail, and 0 is none.
+//!
+//! | Module | What it has |
+//! |---|---|
+//! | `sample` | the configuration |
+//! | `sources` | sources that give few bytes at a call |
+//! | `desks` | desks in memory, read of a field, and what is told of them |
+//! | `tick`, `tally`, `tally_role` | the role whose core is full after one ask |
+//! | `passes`, `workers` | the calls `ends` and `work`: one worker over a store of its own |
+//! | `servers` | the call `serve` |
+//! | `files`, `top` | the calls `file`, `lines` and `sso` |
+//! | `meeting`, `login_door`, `two` | desks that wait for each other |
+#![tactic(auto)]
+
+mod desks;
+mod files;
+mod login_door;
+mod meeting;
+mod passes;
+mod sample;
+mod servers;
+mod sources;
+mod tally;
+mod tally_role;
+mod tick;
+mod top;
+mod two;
+mod workers;
+
+use case_lines::{Cases, print_lines, told, written_out};
+use sample_rows::{ALICE, PROVIDER};
+use sso::MINI;
+use sso_base::{File, NoMemory, Text};
+use std::alloc::Global;
+use std::io;
+use std::sync::Wait;
+use std::thread::Threads;
+
+#[derive(Drop)]
+struct ServeCases {
+    files: Vec<File>,
+}
+
+impl Cases for ServeCases {
+    fn answer(&mut self, alloc: Global, fields: &[&str]) -> Result<String, NoMemory> {
+        match fields {
+            ["file", name, bytes] => files::put_bytes(alloc, &mut self.files, name, bytes),
+            ["lines", name, lines] => files::put_lines(alloc, &mut self.files, name, lines),
+            _ => told(alloc, "no such call"),
+        }
+    }
+
+    fn text(&self, name: &str) -> Option<&str> {
+        match name {
+            "form" => Some("Content-Type: application/x-www-form-urlencoded"),
+            "header" => Some("sso-trace 1 000102030405060708090a0b0c0d0e0f1011121314151617"),
+            "mini" => Some(MINI),
+            "provider" => Some(PROVIDER),
+            "alice" => Some(ALICE),
+            _ => None,
+        }
+    }
+
+    fn made(&self, alloc: Global, name: &str) -> Result<Option<Text>, NoMemory> {
+        match name {
+            "sample" => Ok(Some(Text::from_string(sample::sample(alloc)?))),
+            _ => Ok(None),
+        }
+    }
+}
+
+// The answer to a line. The calls that start threads are answered here, and the others by the table.
+fn answer<R: Threads + Wait + Sync>(
+    rt: &R,
+    alloc: Global,
+    cases: &mut ServeCases,
+    line: &str,
+) -> Result<String, NoMemory> {
+    let whole = written_out(alloc, cases, line)?;
+    let fields: Vec<&str> = whole.as_str().split('|').collect(alloc)?;
+    match fields.as_slice() {
+        ["sso", shelf, sink, words, desks @ ..] => {
+            let call = top::Call { shelf, sink, words };
+            top::answer(rt, alloc, cases.files.as_slice(), &call, desks)
+        }
+        [call @ ("ends" | "work"), desk] => workers::answer(rt, alloc, call, desk),
+        ["serve", desks @ ..] => servers::answer(rt, alloc, desks),
+        fields => cases.answer(alloc, fields),
+    }
+}
+
+fn main(rt: HostRuntime) -> io::Result<()> {
+    let mut cases = ServeCases {
+        files: Vec::new(rt.alloc()),
+    };
+    print_lines(&rt, |line| answer(&rt, rt.alloc(), &mut cases, line))
+}

@@ -1,0 +1,27 @@
+// Sources that give few bytes at a call.
+
+ghost use Rattle.std.specs.Prelude.{Some};
+
+use server_desk::{MemorySource, Source, SourceFault};
+
+/// Gives at most so many bytes at a call, but one at least.
+#[derive(Drop)]
+pub struct SlowSource {
+    pub source: MemorySource,
+    pub most: usize,
+}
+
+impl Source for SlowSource {
+    ghost left = { λ s. Some s.source };
+
+    ghost faults = { λ _. 0 };
+
+    fn read_some(&mut self, room: &mut [u8]) -> Result<usize, SourceFault> {
+        let most = self.most.max(1);
+        if room.len() <= most {
+            self.source.read_some(room)
+        } else {
+            self.source.read_some(&mut room[..most])
+        }
+    }
+}

@@ -1,0 +1,122 @@
+// One worker at one desk, over a store of its own.
+
+ghost use Rattle.std.specs.Prelude.{◌≡◌, ◌^◌, ◌≤◌, ◌<◌, []};
+ghost use Rattle.turn_store.specs.Passes.{IsPassOf};
+
+use crate::desks::{CaseDesk, CaseDoor, desk_in, push_bytes, push_sent};
+use crate::passes::take_pass;
+use crate::tally::Tally;
+use crate::tally_role::TallyRole;
+use case_lines::push_part;
+use server_desk::Door;
+use serving::{Role, ServedEnd, serve_connection, serve_desk};
+use sso_base::{Core, NoMemory};
+use std::alloc::Global;
+use std::sync::Wait;
+use turn_store::{Pass, Turn};
+
+// Serves the next connection of the door, and adds how that ended, the number of steps, and what was written. False where none came.
+fn push_end<R: Wait, X: Role>(
+    rt: &R,
+    alloc: Global,
+    role: &X,
+    store: &Turn<X::Core>,
+    pass: &mut Pass<X::Core>,
+    desk: &mut CaseDesk,
+    out: &mut String,
+) -> Result<bool, NoMemory>
+    requires ready { X.ready role.now }
+    requires pass { IsPassOf X.Core.setup X.Core.is_legal store.now pass.old }
+    ensures { IsPassOf X.Core.setup X.Core.is_legal store.now pass.new }
+{
+    let Ok(Some(mut connection)) = desk.door.next() else {
+        return Ok(false);
+    };
+    let served = serve_connection(
+        rt,
+        alloc,
+        role,
+        store,
+        pass,
+        &mut connection,
+        &mut desk.link,
+        &mut desk.clock,
+        &mut desk.draw,
+    );
+    if served.end == ServedEnd::NoMemory {
+        return Err(NoMemory);
+    }
+    let end = format!(in alloc; "{:?} {}", served.end, served.places)?;
+    push_part(out, " / ", end.as_str())?;
+    push_bytes(alloc, out, "", connection.sink.bytes())?;
+    Ok(true)
+}
+
+// How each connection was served, and what was sent over the link.
+fn ends<R: Wait, X: Role>(
+    rt: &R,
+    alloc: Global,
+    role: &X,
+    store: &Turn<X::Core>,
+    pass: &mut Pass<X::Core>,
+    desk: &mut CaseDesk,
+) -> Result<String, NoMemory>
+    requires ready { X.ready role.now }
+    requires pass { IsPassOf X.Core.setup X.Core.is_legal store.now pass.old }
+{
+    let mut out = String::new(alloc);
+    for _ in 0..desk.turns {
+        if !push_end(rt, alloc, role, store, pass, desk, &mut out)? {
+            break;
+        }
+    }
+    push_sent(alloc, &mut out, desk)?;
+    Ok(out)
+}
+
+// Why the worker ended, and how many connections it served.
+fn work<R: Wait, X: Role>(
+    rt: &R,
+    alloc: Global,
+    role: &X,
+    store: &Turn<X::Core>,
+    pass: &mut Pass<X::Core>,
+    desk: &mut CaseDesk,
+) -> Result<String, NoMemory>
+    requires ready { X.ready role.now }
+    requires pass { IsPassOf X.Core.setup X.Core.is_legal store.now pass.old }
+    requires given { (⟦<CaseDoor as Door>⟧.state desk.old.door).given < 2 ^ 63 }
+    requires turns { desk.old.turns ≤ 2 ^ 56 }
+{
+    let worked = serve_desk(rt, alloc, role, store, pass, desk);
+    Ok(format!(in alloc; "{:?} {}", worked.end, worked.served)?)
+}
+
+// What the call `ends` or `work` answers for a role whose core is new.
+fn at_desk<R: Wait, X: Role>(
+    rt: &R,
+    alloc: Global,
+    call: &str,
+    role: &X,
+    core: X::Core,
+    desk: &mut CaseDesk,
+) -> Result<String, NoMemory>
+    requires ready { X.ready role.now }
+    requires empty { X.Core.history core ≡ [] }
+    requires given { (⟦<CaseDoor as Door>⟧.state desk.old.door).given < 2 ^ 63 }
+    requires turns { desk.old.turns ≤ 2 ^ 56 }
+{
+    let (store, mut passes) = Turn::new(alloc, core, 1)?;
+    let mut pass = take_pass(&store, &mut passes);
+    if call == "work" {
+        work(rt, alloc, role, &store, &mut pass, desk)
+    } else {
+        ends(rt, alloc, role, &store, &mut pass, desk)
+    }
+}
+
+/// `ends|DESK` or `work|DESK`.
+pub fn answer<R: Wait>(rt: &R, alloc: Global, call: &str, text: &str) -> Result<String, NoMemory> {
+    let mut desk = desk_in(alloc, text, 0)?;
+    at_desk(rt, alloc, call, &TallyRole, Tally::new(alloc), &mut desk)
+}
