@@ -238,9 +238,11 @@ fn the_provider_serves_its_keys(rt: HostRuntime) -> Result<(), Fail> {
         || ask_keys(&rt, alloc, &place),
     );
     assert!(rt; ended == Some(true));
-    assert!(rt; came(
-        &back,
-        b"HTTP/1.1 200 OK\r\nCache-Control: no-store\r\nContent-Type: application/json\r\nContent-Length: 11\r\nConnection: close\r\n\r\n{\"keys\":[]}",
-    ));
+    assert!(rt;
+        came(
+            &back,
+            b"HTTP/1.1 200 OK\r\nCache-Control: no-store\r\nContent-Type: application/json\r\nContent-Length: 11\r\nConnection: close\r\n\r\n{\"keys\":[]}",
+        )
+    );
     Ok(())
 }

@@ -1,0 +1,22 @@
+pub mod Agreeing
+pub mod AskKinds
+pub mod Bound
+pub mod Entering
+pub mod Founding
+pub mod Invariant
+pub mod Leaving
+pub mod Lists
+pub mod LiveRows
+pub mod Logouts
+pub mod OpOuts
+pub mod OpPlaces
+pub mod OpRows
+pub mod OpSessions
+pub mod OpSigns
+pub mod Pairs
+pub mod Registry
+pub mod RpPlaces
+mod Samples
+pub mod SameBrowser
+pub mod Shared
+pub mod Texts

@@ -1,0 +1,7 @@
+pub mod Clashes
+pub mod FirstBroken
+pub mod Lists
+pub mod Messages
+pub mod Numbers
+mod Samples
+pub mod Story

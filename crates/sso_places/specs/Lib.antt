@@ -1,0 +1,15 @@
+pub mod Agreement
+pub mod Binding
+pub mod Checked
+pub mod Cookies
+pub mod Each
+pub mod FirstBroken
+pub mod Legal
+pub mod Premises
+pub mod Reading
+pub mod SameBrowser
+pub mod Site
+pub mod Told
+pub mod Tokens
+pub mod World
+pub mod Written

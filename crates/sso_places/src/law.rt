@@ -1,0 +1,33 @@
+//! Laws of the definitions, as contracts of functions that do nothing.
+
+ghost use Rattle.std.specs.Prelude.{◌≡◌, ◌↔◌, ℕ, List, Some, None};
+ghost use Rattle.sso_base.specs.declared.history.Entry.{Entry};
+ghost use Rattle.sso_base.specs.declared.message.Message.{Message};
+ghost use Rattle.client_registry.specs.Configuration.{Configuration};
+ghost use Rattle.op_exchange.specs.declared.ask.OpAsk.{OpAsk};
+ghost use Rattle.op_exchange.specs.declared.reply.OpReply.TheVariants.{SignedOut};
+ghost use Rattle.op_answer.specs.Past.{OpPast};
+ghost use Rattle.op_answer.specs.Answering.{op_answer};
+ghost use Rattle.sso_places.specs.declared.types.Broken.TheVariants.{Forged, Leaked, HashClash};
+ghost use Rattle.sso_places.specs.Each.{Each};
+ghost use Rattle.sso_places.specs.FirstBroken.{first_broken, IsUnbroken, IsFirstForged, IsFirstLeaked, IsFirstClash};
+ghost use Rattle.sso_places.specs.Site.{Site};
+ghost use Rattle.sso_places.specs.Told.{Carries};
+ghost use Rattle.sso_places.specs.World.{World};
+ghost use Rattle.sso_places.specs.Written.{op_written};
+
+/// No premise that is tested at each place fails exactly where no text is forged, no cookie leaks and no half digests clash;
+/// else the answer names the first place at which one fails, and there `Forged` comes before `Leaked` before `HashClash`. Of the
+/// places that clash with it the earliest is named.
+pub fn first_broken_is_exact()
+    ensures none { (s : Site) (world : World) → (first_broken s world ≡ None) ↔ IsUnbroken s world }
+    ensures forged { (s : Site) (world : World) (number : ℕ) → (first_broken s world ≡ Some (Forged number)) ↔ IsFirstForged s world number }
+    ensures leaked { (s : Site) (world : World) (number : ℕ) → (first_broken s world ≡ Some (Leaked number)) ↔ IsFirstLeaked s world number }
+    ensures clash { (s : Site) (world : World) (other number : ℕ) → (first_broken s world ≡ Some (HashClash other number)) ↔ IsFirstClash s world other number }
+{}
+
+/// The messages of a sign-out carry, one by one and in order, the logout tokens that are written: each goes to the logout URI
+/// of the client of its token (OpenID Connect Back-Channel Logout 1.0, 2.5).
+pub fn messages_carry_the_written_tokens()
+    ensures { (c : Configuration) (past : OpPast) (e : Entry OpAsk) (messages : List Message) → op_answer c past e ≡ SignedOut messages → Each (Carries c) (op_written c past e e.ask (SignedOut messages)) messages }
+{}
