@@ -10,7 +10,7 @@ use Rattle.sso_base.specs.Values.{AreWords}
 use Rattle.sso_base.proofs.RowLaws.{bool_cases, option_cases, bytes_same, bytes_true}
 use Rattle.sso_model.specs.Lists.{Has}
 use Rattle.sso_model.specs.Rows.{Began, Signed, Answered, Sent, Entered, Live}
-use Rattle.sso_model.proofs.ListLaws.{all_weaker, all_has, has_append_left, has_append_right, distinct_tail, distinct_apart}
+use Rattle.sso_model.proofs.ListLaws.{all_weaker, has_append_left, has_append_right, distinct_tail, distinct_apart}
 use Rattle.op_answer.specs.Past.{OpPast}
 use Rattle.rp_answer.specs.Past.{RpPair, RpPast}
 use Rattle.rp_answer.specs.Legal.{IsLegalRp}
@@ -33,6 +33,7 @@ use Rattle.sso_places.specs.Agreement.{IsSameSession}
 use Rattle.client_registry.specs.Numbers.{client_secret}
 use Rattle.sso_places.proofs.Lists.{any_none, any_some, any_has}
 use Rattle.sso_places.proofs.Numbers.{place_at_before, place_at_low}
+use Rattle.sso_places.proofs.Objects.{drawn_word}
 use Rattle.sign_on.proofs.Lists.{each_weaker, index_has, index_other}
 use Rattle.sign_on.proofs.Invariant.{IsSetBy, IsDrawnText, IsDrawnNonce, IsSessionOwned, AnsweredBy, IsCodeAnswered, AnsweredAs, IsTokenAnswered, SentAs, IsTokenSent, IsSentRow, IsRedeemed, IsBegunAt, IsEnteredRow, IsEndedRow, Owns, HasReplied, IsTokenBound}
 
@@ -145,16 +146,13 @@ place_drawn (y ∷ world) x k (inl same) low whole =
 place_drawn (y ∷ world) x k (inr has) low whole = drawn_more y world (fresh_word (fresh_of x) k) (place_drawn world x k has low whole)
 
 -- the words of a place are words
-words_of : (fresh : List Word) (k : ℕ) → AreWords fresh → k < 4 → length fresh ≡ 4 → IsWord (fresh_word fresh k)
-words_of fresh k values low whole = all_has IsWord fresh (fresh_word fresh k) values (fresh_has fresh k low whole)
-
 pub place_words : (s : Site) (x : Place) (world : World) → IsLegalWorld s (x ∷ world) → AreWords (fresh_of x)
 place_words s (Provider from request p) world legal = legal.provider.1.words
 place_words s (Party n from request p) world legal = (party_legal s n from request p world legal).1.words
 place_words s Nothing world legal = tt
 
 pub fresh_is_word : (s : Site) (x : Place) (world : World) (k : ℕ) → IsLegalWorld s (x ∷ world) → k < 4 → length (fresh_of x) ≡ 4 → IsWord (fresh_word (fresh_of x) k)
-fresh_is_word s x world k legal low whole = words_of (fresh_of x) k (place_words s x world legal) low whole
+fresh_is_word s x world k legal low whole = drawn_word (fresh_of x) k (place_words s x world legal) (omega (arith, low, whole))
 
 -- so are those of each place of a legal world
 pub has_words : (s : Site) (world : World) (x : Place) (k : ℕ) → IsLegalWorld s world → Has world x → k < 4 → length (fresh_of x) ≡ 4 → IsWord (fresh_word (fresh_of x) k)

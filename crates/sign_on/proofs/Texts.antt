@@ -1,8 +1,7 @@
 -- Texts: which of those that are written read as an ID Token, and which as a logout token.
-use Rattle.std.proofs.Common.{◌≡◌, ℕ, ◌<◌, ◌≤◌, Bool, true, false, cond, List, [], ◌∷◌, length, Option, Some, None, Result, Ok, Err, is_some, codes, refl, sym, ap, ◌∙◌, subst}
+use Rattle.std.proofs.Common.{◌≡◌, ℕ, ◌<◌, Bool, true, false, cond, List, [], ◌∷◌, length, Option, Some, None, Result, Ok, Err, is_some, codes, refl, sym, ap, ◌∙◌, subst}
 use Rattle.std.specs.List.{AllByRecursion}
 use Rattle.std.specs.Result.{result_ok}
-use Rattle.std.specs.Str.{IsUtf8}
 use Rattle.sso_base.specs.Words.{Word, Text, IsWord, fresh_word, word_text}
 use Rattle.sso_model.specs.Rows.{Answered, Sent}
 use Rattle.sso_model.specs.Lists.{Has}
@@ -10,7 +9,6 @@ use Rattle.jws_compact.specs.Jws.{verdict as opened_as}
 use Rattle.jws_compact.specs.declared.unsealing.Unsealed.{Unsealed}
 use Rattle.jws_compact.specs.declared.no.JwsNo.{JwsNo}
 use Rattle.jws_compact.proofs.Opening.{same_payload}
-use Rattle.claim_set.proofs.PlainTexts.{IsUtf8-plain}
 use Rattle.client_registry.specs.Configuration.{Configuration, subject_at}
 use Rattle.client_registry.specs.Numbers.{client_secret, party_row, party_client}
 use Rattle.id_token.specs.declared.claims.IdClaims.{IdClaims}
@@ -37,13 +35,13 @@ use Rattle.op_issue.specs.Ending.{MayEnd}
 use Rattle.op_issue.specs.LogoutTokens.{logout_claims, issued_logout}
 use Rattle.op_issue.proofs.Sealable.{is_read_back}
 use Rattle.op_issue.proofs.LogoutSealable as logouts
-use Rattle.op_issue.proofs.RegistryRows.{issuer_is_plain}
 use Rattle.op_answer.proofs.TokensApart.{id_is_no_logout}
 use Rattle.rp_answer.proofs.ObjectsApart.{object_no_id, object_no_logout}
 use Rattle.sso_places.specs.Site.{Site, IsSite, client_of_party}
 use Rattle.sso_places.specs.World.{World}
 use Rattle.sso_places.specs.Tokens.{TokenText, token_if, is_sealed}
 use Rattle.sso_places.specs.Written.{object_written}
+use Rattle.sso_places.proofs.Objects.{may_ask}
 use Rattle.sign_on.proofs.Invariant.{IsTokenAnswered, IsTokenSent, IsTokenBound}
 
 -- ---- what is read is sealed
@@ -67,20 +65,6 @@ logout_is_sealed k t y read = logout_by k t y (opened_as k t) refl read
 all_if : (P : TokenText → Type 0) (b : Bool) (t : TokenText) → P t → AllByRecursion P (cond b (t ∷ []) [])
 all_if P true t says = (says, tt)
 all_if P false t says = tt
-
-pub may_ask : (s : Site) (n : ℕ) (state nonce : Word) → IsSite s → n < length s.configuration.parties → IsWord state → IsWord nonce → MayAsk s.configuration n (s.trusts n).issuer state nonce
-may_ask s n state nonce site known state_word nonce_word =
-    let c : Configuration = s.configuration in
-    let short : length c.provider.issuer ≤ 200 = site.registry.short_issuer in
-    let Short : Text → Type 0 = λ t. length t ≤ 200 in
-    record {
-      registry = site.registry;
-      party = known;
-      issuer_text = subst IsUtf8 (sym (site.one_issuer n)) (IsUtf8-plain c.provider.issuer (issuer_is_plain c site.registry).plain);
-      short_issuer = subst Short (sym (site.one_issuer n)) short;
-      state_word = state_word;
-      nonce_word = nonce_word;
-    }
 
 module _ (s : Site) (n : ℕ) (fresh : List Word) (site : IsSite s) (known : n < length s.configuration.parties) (state : IsWord (fresh_word fresh 1)) (nonce : IsWord (fresh_word fresh 2)) where
   abbrev c : Configuration

@@ -1,17 +1,24 @@
 -- The definitions, tried on one login and on what comes after it. What is sealed and spelled stays closed.
-use Rattle.std.proofs.Common.{◌≡◌, ℕ, true, false, [], ◌∷◌, length, Option, Some, None, Ok, codes, refl, sym, ◌∙◌, ap, arith}
+use Rattle.std.proofs.Common.{◌≡◌, ℕ, zero, suc, Bool, true, false, cond, [], ◌∷◌, length, Option, Some, None, is_some, option_and_then, Ok, codes, inl, inr, refl, sym, ◌∙◌, ap, arith}
 use Rattle.std.specs.Str.{bytes_eq}
 use Rattle.sso_base.specs.Words.{Word, Text, IsWord, word_text, word_of_text}
 use Rattle.sso_base.specs.Base64Url.{all_bytes}
 use Rattle.sso_base.proofs.RowLaws.{bytes_true}
 use Rattle.sso_base.proofs.Spelling.{IsBytes-from_all_bytes}
-use Rattle.sso_model.specs.Rows.{Live, Sent, Machine, enter, see, drop, lapse, end, out, close, unnamed}
+use Rattle.sso_model.specs.Machine.{IsRun}
+use Rattle.sso_model.specs.Rows.{Began, Live, Sent, Machine, enter, see, drop, lapse, end, out, close, unnamed}
 use Rattle.client_registry.specs.declared.records.Provider.{Provider as Trusted}
 use Rattle.client_registry.specs.ClientSets.{no_clients}
 use Rattle.client_registry.specs.Numbers.{client_secret}
+use Rattle.request_params.specs.declared.params.Params.{Params}
+use Rattle.id_token.specs.declared.claims.IdClaims.{IdClaims}
+use Rattle.token_endpoint.specs.Request.{token_message}
+use Rattle.userinfo.specs.declared.header.Bearer.TheVariants.{Given}
 use Rattle.op_exchange.specs.declared.ask.OpAsk.TheVariants as op_ask
 use Rattle.op_exchange.specs.declared.reply.OpReply.{OpReply}
-use Rattle.op_exchange.specs.declared.reply.OpReply.TheVariants.{Tokens as TokensReply, Keys, NotHere}
+use Rattle.op_exchange.specs.declared.reply.OpReply.TheVariants.{Tokens as TokensReply, Info as InfoReply, Keys, NotHere}
+use Rattle.op_exchange.proofs.Sample.{sample as op_sample, wish, callback_uri}
+use Rattle.op_issue.specs.IdTokens.{issued_id}
 use Rattle.op_issue.specs.LogoutTokens.{logout_id, issued_logout}
 use Rattle.op_issue.proofs.SmallRegistry.{small, small_registry}
 use Rattle.op_answer.specs.Answering.{op_answer}
@@ -19,24 +26,26 @@ use Rattle.op_answer.proofs.FirstLogin as op
 use Rattle.op_request.specs.Prepared.{prepared}
 use Rattle.op_answer.proofs.Sessions.{alice_out, message_to_shop}
 use Rattle.rp_exchange.specs.declared.ask.RpAsk.TheVariants as rp_ask
-use Rattle.rp_exchange.specs.declared.reply.RpReply.TheVariants.{Fetch, Entered}
-use Rattle.rp_answer.proofs.Sample.{word, pair_of, entry_at}
+use Rattle.rp_exchange.specs.declared.reply.RpReply.TheVariants.{Ask, Fetch, Entered}
+use Rattle.rp_answer.specs.Past.{RpPair}
+use Rattle.rp_answer.proofs.Sample.{word, words, op as provider, shop, shop_client, shop_uri, hybrid_setup, registered, pair_of, entry_at}
 use Rattle.rp_answer.proofs.FirstVisit as rp
 use Rattle.sso_places.specs.declared.types.WorldAsk.TheVariants.{Info}
 use Rattle.sso_places.specs.declared.types.Broken.TheVariants.{Forged, Leaked, HashClash}
-use Rattle.sso_places.specs.Site.{own_site, IsSite}
+use Rattle.sso_places.specs.Site.{Site, own_site, IsSite}
 use Rattle.sso_places.specs.World.{Place, Provider, Party, Nothing, World, place_at, from_of, op_place, entered_as}
 use Rattle.sso_places.specs.Told.{told_clients}
-use Rattle.sso_places.specs.Written.{written_at}
+use Rattle.sso_places.specs.Written.{rp_written, written_at}
 use Rattle.sso_places.specs.Tokens.{is_sealed}
-use Rattle.sso_places.specs.Checked.{checked}
+use Rattle.sso_places.specs.Checked.{object_in, checked}
 use Rattle.sso_places.specs.Premises.{IsJoined}
 use Rattle.sso_places.specs.Legal.{IsLegalWorld}
 use Rattle.sso_places.specs.FirstBroken.{do_clash, first_broken}
 use Rattle.sso_places.specs.Reading.{steps_at, machine_of}
-use Rattle.sso_places.specs.SameBrowser.{IsAskedOnlyFrom}
-use Rattle.sso_places.specs.Binding.{HasCodeBeside, HasAccessBeside}
-use Rattle.sso_places.proofs.Story.{configuration, site, shows, at_op, at_shop, authorized, consented, came, callback, exchanged, tokens_pair, entered, visit_at, leave, sign_out, signed_out, logout}
+use Rattle.sso_places.specs.Agreement.{IsSameSession, LiveRowsAgree}
+use Rattle.sso_places.specs.SameBrowser.{IsAskedOnlyFrom, IsAnsweredOnlyTo}
+use Rattle.sso_places.specs.Binding.{HasCodeBeside, HasAccessBeside, ExchangesCode, IsRedeemed, AsksForInfo, IsInformed}
+use Rattle.sso_places.proofs.Story.{configuration, site, shows, at_op, at_shop, authorized, consented, came, callback, exchanged, tokens_pair, entered, own_session, signed_on, visit_at, leave, sign_out, signed_out, logout}
 
 -- ---- the reading of a whole login
 
@@ -292,3 +301,166 @@ access_beside = (refl, refl)
 
 no_code_beside : HasCodeBeside (codes "id") (word_text (word 21)) (TokensReply (word 21) (codes "id")) → ⊥
 no_code_beside h = h
+
+-- ---- the login may enter, and not in another browser; then the machine's session is the party's
+
+abbrev founded : Live
+founded = record session { sid = word_text (word 10) }
+
+enters : (code : Text) → word_of_text code ≡ Some (word 15)
+    → IsRun (machine_of site (exchanged code)) (steps_at site (exchanged code) (machine_of site (exchanged code)) (at_shop came own_session))
+unfolding no_clients
+enters code spells =
+    rw spells (
+      (
+        inl refl,
+        record { answered = record { event = 4; browser = 1; nonce = Some (word_text (word 3)); client = 0; user = 0; sid = word_text (word 10) }; has = inl refl; nonce = refl; client = refl; user = refl; sid = refl },
+        λ never. never,
+      ),
+      tt,
+    )
+
+enters_elsewhere : (code : Text) → word_of_text code ≡ Some (word 15)
+    → IsRun (machine_of site (exchanged code)) (steps_at site (exchanged code) (machine_of site (exchanged code)) (Party 0 2 came own_session)) → ⊥
+unfolding no_clients
+enters_elsewhere code spells =
+    rw spells (λ run.
+    elim run.0.0 [ inl same ↦ let other : ◌≡◌ {A = ℕ} 1 2 = ap (λ (b : Began). b.browser) same in absurd (omega (arith, other)) | inr never ↦ never ])
+
+same_session : (code : Text) → IsSameSession site (signed_on code) 0 founded (record { word = word 26; sub = codes "alice"; sid = Some (word_text (word 10)); nonce = word 3; entered = 1000 })
+same_session code = record { request = came; pair = own_session; place = refl; reply = refl; moment = refl; nonce = refl; user = refl; sid = refl }
+
+rows_agree : (code : Text) → word_of_text code ≡ Some (word 15) → LiveRowsAgree site (signed_on code)
+unfolding no_clients
+rows_agree code spells zero low = rw spells (same_session code, tt)
+rows_agree code spells (suc zero) low = rw spells tt
+rows_agree code spells (suc (suc n)) low = absurd (omega (arith, low))
+
+-- the token names another session
+rows_differ : (code : Text) → word_of_text code ≡ Some (word 15) → bytes_eq (codes "sid") (word_text (word 10)) ≡ false
+    → IsSameSession site (signed_on code) 0 founded (record { word = word 26; sub = codes "alice"; sid = Some (codes "sid"); nonce = word 3; entered = 1000 }) → ⊥
+rows_differ code spells other same =
+    let given = same.sid in
+    let one : codes "sid" ≡ word_text (word 10) = cc in
+    let never : true ≡ false = sym (bytes_true (codes "sid") (word_text (word 10)) one) ∙ other in
+    absurd (cc)
+
+-- ---- who was answered, and what a party exchanges and asks for
+
+answered_to_one : (code : Text) → word_of_text code ≡ Some (word 15) → IsAnsweredOnlyTo (machine_of site (signed_on code)).answered 1 (Some (word_text (word 3)))
+unfolding no_clients
+answered_to_one code spells = rw spells (λ nonce. refl, tt)
+
+not_to_two : (code : Text) → word_of_text code ≡ Some (word 15) → IsAnsweredOnlyTo (machine_of site (signed_on code)).answered 2 (Some (word_text (word 3))) → ⊥
+unfolding no_clients
+not_to_two code spells = rw spells (λ only. let same : ◌≡◌ {A = ℕ} 1 2 = only.0 refl in absurd (omega (arith, same)))
+
+abbrev hybrid_site : Site
+hybrid_site = own_site (hybrid_setup.configuration)
+
+abbrev responded : RpPair
+responded =
+    pair_of (entry_at 1000 17 (rp_ask.Callback (Ok (record (rp.heard) { id = Some (codes "id") })) None (Some (word 1)))) rp.exchange
+
+exchanges : ExchangesCode hybrid_site 0 responded (codes "id") (codes "code")
+exchanges =
+    record {
+      has_code = refl;
+      has_id = refl;
+      heard = record (rp.heard) { id = Some (codes "id") };
+      read = None;
+      browser = Some (word 1);
+      asked = refl;
+      id_is = refl;
+      code_is = refl;
+      word = word 17;
+      message = token_message shop_client provider.token (codes "code") shop_uri;
+      replied = refl;
+    }
+
+-- a party of the type `code` has no ID Token beside its code
+exchanges_alone : ExchangesCode site 0 responded (codes "id") (codes "code") → ⊥
+exchanges_alone h = let never : false ≡ true = h.has_id in absurd (cc)
+
+redeems : IsRedeemed (exchanged (codes "code")) (codes "code")
+redeems =
+    record {
+      from = 1;
+      request = shows None None;
+      pair = op.pair_of (op.token_entry 1000 (codes "code")) (op.tokens_reply 1000);
+      has = inl refl;
+      grant = record { client = 0; code = codes "code"; redirect = callback_uri };
+      asked = refl;
+      code_is = refl;
+      access = word 21;
+      id = issued_id op_sample wish (op.signed_alice) 1000 (Some (word 21)) None;
+      replied = refl;
+    }
+
+abbrev hashed : IdClaims
+hashed = record (rp.claims (word_text (word 3))) { at_hash = Some (codes "half") }
+
+abbrev fetching : Option Text → RpPair
+fetching hash =
+    pair_of (entry_at 1000 25 (rp_ask.Tokens (word 17) (Ok (record { access = codes "access"; id = codes "id" })) (Some (Ok (record hashed { at_hash = hash })))))
+    (Fetch (word 17) message_to_shop)
+
+asks_for_info : AsksForInfo site 0 (fetching (Some (codes "half"))) (codes "id") (codes "access")
+asks_for_info =
+    record { came = (refl, refl); claims = hashed; judged = refl; hash = refl; word = word 17; message = message_to_shop; replied = refl }
+
+asks_without_hash : AsksForInfo site 0 (fetching None) (codes "id") (codes "access") → ⊥
+asks_without_hash h =
+    let H : Option IdClaims → Bool = λ o. cond (is_some o) (is_some (option_and_then (λ (x : IdClaims). x.at_hash) o)) true in
+    let never : false ≡ true = ap H h.judged ∙ h.hash in
+    absurd (cc)
+
+informs : IsInformed (at_op (shows None None) (op.pair_of (op.entry_at 1000 29 (op_ask.Info (Given (word 21)))) (InfoReply (codes "{}"))) ∷ []) (word_text (word 21))
+informs =
+    record {
+      from = 1;
+      request = shows None None;
+      pair = op.pair_of (op.entry_at 1000 29 (op_ask.Info (Given (word 21)))) (InfoReply (codes "{}"));
+      has = inl refl;
+      w = word 21;
+      asked = refl;
+      access_is = refl;
+      claims = codes "{}";
+      replied = refl;
+    }
+
+nobody_informed : IsInformed [] (codes "access") → ⊥
+nobody_informed h = h.has
+
+-- ---- the request object of an authorization request of a known client, and of an unknown one
+
+abbrev object_params : Text → Params
+object_params client =
+    record {
+      response_type = None;
+      client_id = Some client;
+      redirect_uri = None;
+      scope = None;
+      state = None;
+      nonce = None;
+      response_mode = None;
+      prompt = None;
+      max_age = None;
+      claims = None;
+      request = Some (codes "object");
+      request_uri = None;
+      registration = None;
+    }
+
+object_is_checked : object_in configuration (Ok (object_params (codes "news-client"))) ≡ (1, codes "object") ∷ []
+object_is_checked = refl
+
+object_of_nobody : object_in configuration (Ok (object_params (codes "nobody"))) ≡ []
+object_of_nobody = refl
+
+-- one that signs its requests writes a request object, and one that does not writes none
+signed_party_writes : (to : Text) (browser : Word) → length (rp_written (own_site (registered (record shop { signed = true } ∷ []))) 0 (words 1) (Ask to browser)) ≡ 1
+signed_party_writes to browser = refl
+
+unsigned_party_writes_none : (to : Text) (browser : Word) → rp_written site 0 (words 1) (Ask to browser) ≡ []
+unsigned_party_writes_none to browser = refl

@@ -1,6 +1,6 @@
 -- One login by code, and how it ends: the places that the samples are about. Alice signs in at the provider with browser 1, and
 -- comes to the shop.
-use Rattle.std.proofs.Common.{ℕ, true, [], ◌∷◌, Option, Some, None, codes}
+use Rattle.std.proofs.Common.{ℕ, true, [], ◌∷◌, Option, Some, None, Ok, codes}
 use Rattle.sso_base.specs.Words.{Word, Text, word_text}
 use Rattle.sso_base.specs.declared.http.Method.TheVariants.{Get}
 use Rattle.sso_base.specs.declared.http.Ask.{Ask}
@@ -14,9 +14,10 @@ use Rattle.op_answer.specs.Past.{OpPair}
 use Rattle.op_answer.proofs.FirstLogin as op
 use Rattle.op_answer.proofs.Sessions.{sign_out_entry, message_to_shop}
 use Rattle.logout_token.specs.declared.claims.LogoutClaims.{LogoutClaims}
+use Rattle.rp_exchange.specs.declared.ask.RpAsk.TheVariants as rp_ask
 use Rattle.rp_exchange.specs.declared.reply.RpReply.TheVariants.{User, Left, Ended}
 use Rattle.rp_answer.specs.Past.{RpPair}
-use Rattle.rp_answer.proofs.Sample.{word, sample, pair_of}
+use Rattle.rp_answer.proofs.Sample.{word, sample, entry_at, pair_of}
 use Rattle.rp_answer.proofs.FirstVisit as rp
 use Rattle.rp_answer.proofs.LoggedOut.{leave_entry, claims, logout_at}
 use Rattle.sso_places.specs.declared.types.WorldAsk.{WorldAsk}
@@ -71,6 +72,14 @@ tokens_pair = pair_of (rp.tokens_entry 1000 (word_text (word 3))) rp.entered
 
 abbrev pub entered : Text → World
 entered code = at_shop came tokens_pair ∷ exchanged code
+
+-- its ID Token names the session that the provider answered for
+abbrev pub own_session : RpPair
+own_session =
+    pair_of (entry_at 1000 25 (rp_ask.Tokens (word 17) (Ok (record { access = codes "access"; id = codes "id" })) (Some (Ok (record (rp.claims (word_text (word 3))) { sid = Some (word_text (word 10)) }))))) rp.entered
+
+abbrev pub signed_on : Text → World
+signed_on code = at_shop came own_session ∷ exchanged code
 
 -- ---- what comes after it
 

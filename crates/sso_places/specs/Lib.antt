@@ -5,6 +5,7 @@ pub mod Cookies
 pub mod Each
 pub mod FirstBroken
 pub mod Legal
+pub mod Merges
 pub mod Premises
 pub mod Reading
 pub mod SameBrowser

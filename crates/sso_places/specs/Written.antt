@@ -1,13 +1,11 @@
 -- The token texts that are written for a client, under its secret: the provider's ID Tokens (OpenID Connect Core 1.0, 2) and
 -- logout tokens (Back-Channel Logout 1.0, 2.4), and the request objects of the party that is the client (Core 6.1).
-use Rattle.std.specs.Prelude.{ℕ, List, [], ◌∷◌, ◌++◌, map, Option, Some, None, Ok, if◌then◌else◌}
-use Rattle.std.specs.List.{position_from}
+use Rattle.std.specs.Prelude.{◌≡◌, ℕ, List, [], ◌∷◌, ◌++◌, codes, map, Option, Some, None, Ok, if◌then◌else◌}
 use Rattle.sso_base.specs.Words.{Word, Text, fresh_word}
-use Rattle.sso_base.specs.Texts.{has_text}
 use Rattle.sso_base.specs.declared.history.Entry.{Entry}
-use Rattle.client_registry.specs.declared.records.Client.{Client}
 use Rattle.client_registry.specs.Configuration.{Configuration}
 use Rattle.client_registry.specs.Numbers.{party_row, party_client}
+use Rattle.client_registry.specs.Rules.{redirect_place}
 use Rattle.code_grant.specs.declared.rows.SessionRow.{SessionRow}
 use Rattle.login_request.specs.Request.{login_object}
 use Rattle.op_exchange.specs.declared.ask.OpAsk.{OpAsk}
@@ -28,7 +26,7 @@ use Rattle.sso_places.specs.Tokens.{TokenText, token_if}
 
 -- the client that has a redirection URI; no two clients have one
 abbrev pub client_of_uri : Configuration → Text → Option ℕ
-client_of_uri c uri = position_from (λ (k : Client). has_text uri k.redirects) 0 c.clients
+client_of_uri c uri = redirect_place uri c.clients
 
 -- the logout tokens of a sign-out, one in each of its messages
 abbrev pub logouts_written : Configuration → Entry OpAsk → Option SessionRow → List TokenText
@@ -58,6 +56,11 @@ object_written s n fresh =
 abbrev pub rp_written : Site → ℕ → List Word → RpReply → List TokenText
 rp_written s n fresh (rp.Ask to browser) = object_written s n fresh
 rp_written s n fresh reply = []
+
+-- the location has the request object as its last parameter
+pub record CarriesObject (to : Text) (object : TokenText) : Type 0 where
+  pub front : Text
+  pub parts : to ≡ front ++ codes "&request=" ++ object.1
 
 -- ---- at a place after a world, and in a world
 

@@ -5,8 +5,8 @@
 //! | Module | What it has | Its definitions, in `specs/` |
 //! |---|---|---|
 //! | `types` | what a world is asked and replies, jars of cookies, premises that fail | |
-//! | `law` | laws: the first premise that fails, and what a sign-out's messages carry | |
-//! | | who takes part; places, worlds, and legal worlds | `Site`, `World`, `Legal` |
+//! | `law` | laws: the first premise that fails; what messages and locations carry; worlds of servers | |
+//! | | who takes part; places, worlds, legal worlds, and those of servers | `Site`, `World`, `Legal`, `Merges` |
 //! | | cookies that are set and presented | `Cookies` |
 //! | | whom a sign-out tells; token texts that are written, and that are checked | `Told`, `Tokens`, `Written`, `Checked` |
 //! | | the premises, and the first that fails | `Premises`, `FirstBroken` |
@@ -17,5 +17,8 @@
 mod law;
 mod types;
 
-pub use law::{first_broken_is_exact, messages_carry_the_written_tokens};
+pub use law::{
+    first_broken_is_exact, logins_carry_the_written_objects, merges_are_legal,
+    messages_carry_the_written_tokens,
+};
 pub use types::{Broken, Jar, To, WorldAsk, WorldReply};
