@@ -1,12 +1,17 @@
 pub mod Agreeing
+mod AnswerElsewhere
 pub mod AskKinds
 pub mod Bound
+pub mod BrokenPremises
 pub mod Entering
+mod EqualWords
+mod ForgedToken
 pub mod Founding
 pub mod Invariant
 pub mod Leaving
 pub mod Lists
 pub mod LiveRows
+mod LoginByCode
 pub mod Logouts
 pub mod OpOuts
 pub mod OpPlaces
@@ -16,7 +21,9 @@ pub mod OpSigns
 pub mod Pairs
 pub mod Registry
 pub mod RpPlaces
-mod Samples
 pub mod SameBrowser
+mod Samples
 pub mod Shared
+mod SmallSite
+mod StolenCookie
 pub mod Texts

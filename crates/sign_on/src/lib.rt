@@ -3,9 +3,9 @@
 //!
 //! | Module | What it has |
 //! |---|---|
-//! | `law` | the theorem `agreement`, and two further properties, `same_browser` and `binding` |
+//! | `law` | the theorem `agreement`, two further properties, `same_browser` and `binding`, and that no premise can be left out |
 #![tactic(auto)]
 
 mod law;
 
-pub use law::{agreement, binding, same_browser, sessions_are_founded};
+pub use law::{agreement, binding, no_premise_can_be_left_out, same_browser, sessions_are_founded};
