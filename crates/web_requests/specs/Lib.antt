@@ -1,0 +1,12 @@
+pub mod Sending
+pub mod Locations
+pub mod Following
+pub mod Mixing
+pub mod Forging
+pub mod Posting
+pub mod Visiting
+pub mod Carrying
+pub mod Handing
+pub mod Raw
+pub mod Arriving
+pub mod Asked

@@ -1,0 +1,56 @@
+-- Where a reply sends a browser on (RFC 9110, 10.2.2): a party to the provider, with an authorization request; the provider to a
+-- redirection URI, with an authorization response. A login that entered sends it to the party's own first page, which is a visit
+-- of its own and no location here.
+use Rattle.std.specs.Prelude.{ℕ, ◌==◌, Bool, true, false, List, ◌++◌, codes, Option, Some, None, option_and_then, slice_get}
+use Rattle.std.specs.List.{after_first, position_from}
+use Rattle.std.specs.Str.{bytes_eq}
+use Rattle.sso_base.specs.Words.{Text}
+use Rattle.registered_url.specs.declared.web_url.WebUrl.{WebUrl}
+use Rattle.client_registry.specs.declared.records.Client.{Client}
+use Rattle.client_registry.specs.Configuration.{Configuration}
+use Rattle.client_registry.specs.Numbers.{client_at}
+use Rattle.auth_answer.specs.Printing.{answer_form, refusal_form}
+use Rattle.op_exchange.specs.declared.reply.OpReply.TheVariants as op
+use Rattle.rp_exchange.specs.declared.reply.RpReply.TheVariants as rp
+use Rattle.sso_places.specs.Written.{client_of_uri}
+use Rattle.sso_places.specs.declared.types.WorldReply.{WorldReply}
+use Rattle.sso_places.specs.declared.types.WorldReply.TheVariants.{Provider, Party}
+use Rattle.web_requests.specs.declared.location.Location.{Location}
+use Rattle.web_requests.specs.declared.location.Location.TheVariants as location
+
+-- ---- redirection URIs, as they are registered
+
+-- what is kept of a redirection URI of a client
+abbrev pub kept_url : Text → Client → Option WebUrl
+kept_url uri client = option_and_then (slice_get client.redirect_urls) (position_from (λ t. bytes_eq t uri) 0 client.redirects)
+
+-- what is kept of a redirection URI
+abbrev pub registered_url : Configuration → Text → Option WebUrl
+registered_url c uri = option_and_then (kept_url uri) (option_and_then (client_at c) (client_of_uri c uri))
+
+-- its query, where it has one
+abbrev pub registered_query : Configuration → Text → Option Text
+registered_query c uri = option_and_then (λ (url : WebUrl). url.query) (registered_url c uri)
+
+-- ---- locations
+
+-- a form in a query, behind what stands there already (RFC 6749, 3.1.2)
+abbrev pub behind : Option Text → List ℕ → List ℕ
+behind None form = form
+behind (Some query) form = query ++ codes "&" ++ form
+
+-- a form at a redirection URI: as its fragment, or in its query
+abbrev pub location_at : Configuration → Text → Bool → List ℕ → Location
+location_at c uri true form = location.Client uri true form
+location_at c uri false form = location.Client uri false (behind (registered_query c uri) form)
+
+-- the mark before a query (RFC 3986, 3.4)
+abbrev pub is_question : ℕ → Bool
+is_question b = b == 63
+
+-- where a reply sends a browser on
+unfoldable pub location_of : Configuration → WorldReply → Option Location
+location_of c (Provider (op.Answered answer given)) = Some (location_at c answer.redirect answer.fragment (answer_form answer))
+location_of c (Provider (op.Refused refusal given)) = Some (location_at c refusal.redirect refusal.fragment (refusal_form refusal))
+location_of c (Party (rp.Ask to browser)) = Some (location.Provider (after_first is_question to))
+location_of c reply = None

@@ -1,0 +1,116 @@
+// An answer whose ID Token is forged.
+
+ghost use Rattle.std.specs.Prelude.{◌≡◌, option_map, IfOk, IfSome};
+ghost use Rattle.std.specs.Result.{result_ok};
+ghost use Rattle.id_token.specs.Reading.{id_read};
+ghost use Rattle.web_requests.specs.Forging as spec;
+
+use crate::location::{Location, answer_location, client_of_uri};
+use auth_answer::Answer;
+use client_registry::Registry;
+use id_token::{IdClaims, IdNo, is_subject, read_id, seal_id, written_len};
+use op_exchange::OpReply;
+use sso_base::{NoMemory, Text};
+use sso_places::WorldReply;
+use std::alloc::Global;
+
+// Whether the claims have a subject that is one, and are short enough to be sealed.
+fn may_be_sealed(claims: &IdClaims) -> Result<bool, NoMemory>
+    ensures { IfOk result (λ b. b ≡ spec.may_be_sealed claims.now) }
+{
+    Ok(is_subject(&claims.sub) && written_len(claims)? <= 6000)
+}
+
+// The claims of an ID Token under this key, where it is one.
+#[tactic(auto, using(crate::proofs::ReadClaims::of_token))]
+fn claims_of(alloc: Global, key: &[u8], id: &Text) -> Result<Option<IdClaims>, NoMemory>
+    ensures claims { IfOk result (λ o. o ≡ result_ok (id_read key.now id.now)) }
+    ensures of_token { IfOk result (λ o. IfSome o spec.IsOfToken) }
+{
+    match read_id(alloc, key, id.as_str().as_bytes()) {
+        Ok(claims) => Ok(Some(claims)),
+        Err(IdNo::NoMemory) => Err(NoMemory),
+        Err(_) => Ok(None),
+    }
+}
+
+// The ID Token of claims, with this subject in place of theirs.
+fn resealed(
+    alloc: Global,
+    key: &[u8],
+    user: &Text,
+    mut claims: IdClaims,
+) -> Result<Option<Text>, NoMemory>
+    requires { spec.IsOfToken claims }
+    ensures { IfOk result (λ o. o ≡ spec.resealed key.now user.now claims) }
+{
+    claims.sub = user.copy(alloc)?;
+    if !may_be_sealed(&claims)? {
+        return Ok(None);
+    }
+    Ok(Some(seal_id(alloc, key, &claims)?))
+}
+
+// An ID Token under this secret, with this subject in place of its own.
+fn forged_id(alloc: Global, user: &Text, id: &Text, secret: &Text) -> Result<Option<Text>, NoMemory>
+    ensures { IfOk result (λ o. o ≡ spec.forged_id user.now id.now secret.now) }
+{
+    let key = secret.as_str().as_bytes();
+    match claims_of(alloc, key, id)? {
+        Some(claims) => resealed(alloc, key, user, claims),
+        None => Ok(None),
+    }
+}
+
+// The secret of the client that has a redirection URI.
+fn secret_at<'a>(registry: &'a Registry, uri: &str) -> Option<&'a Text>
+    ensures { option_map (λ t. t.now) result ≡ spec.secret_at registry.now uri.now }
+{
+    let number = client_of_uri(registry, uri)?;
+    Some(&registry.client(number).secret)
+}
+
+// The answer with an ID Token for this subject in place of its own.
+fn forged_answer(
+    alloc: Global,
+    registry: &Registry,
+    answer: &Answer,
+    user: &Text,
+) -> Result<Option<Answer>, NoMemory>
+    ensures { IfOk result (λ o. o ≡ spec.forged_answer registry.now answer.now user.now) }
+{
+    let Some(id) = &answer.id else {
+        return Ok(None);
+    };
+    let Some(secret) = secret_at(registry, answer.redirect.as_str()) else {
+        return Ok(None);
+    };
+    let Some(id) = forged_id(alloc, user, id, secret)? else {
+        return Ok(None);
+    };
+    let mut forged = answer.copy(alloc)?;
+    forged.id = Some(id);
+    Ok(Some(forged))
+}
+
+/// Where an answer sends a browser on whose ID Token is forged: it has the same claims but for the subject, which is this user,
+/// and is sealed anew under the secret of the client that has the redirection URI. None for any other reply, where the answer has
+/// no ID Token of that client, and where the user is no subject (OpenID Connect Core 1.0, 2) or the claims would become too long
+/// to be sealed.
+#[tactic(auto, unfolding(crate::specs::Forging::forged))]
+pub fn forged(
+    alloc: Global,
+    registry: &Registry,
+    reply: &WorldReply,
+    user: &Text,
+) -> Result<Option<Location>, NoMemory>
+    ensures { IfOk result (λ o. o ≡ spec.forged registry.now reply.now user.now) }
+{
+    let WorldReply::Provider(OpReply::Answered { answer, .. }) = reply else {
+        return Ok(None);
+    };
+    match forged_answer(alloc, registry, answer, user)? {
+        Some(answer) => Ok(Some(answer_location(alloc, registry, &answer)?)),
+        None => Ok(None),
+    }
+}
