@@ -1,0 +1,11 @@
+pub mod Faults
+pub mod Guilt
+pub mod Header
+pub mod LineWords
+pub mod Lines
+pub mod Number
+pub mod Order
+pub mod Said
+pub mod Trace
+pub mod Values
+pub mod Verbs
