@@ -1,0 +1,102 @@
+-- The first premise that fails, after one more place.
+use Rattle.std.proofs.Common.{◌≡◌, ℕ, suc, Bool, true, false, cond, List, ◌∷◌, length, Option, Some, None, inl, inr, refl, sym, ap, ◌∙◌}
+use Rattle.sso_base.specs.Words.{Text}
+use Rattle.sso_base.proofs.RowLaws.{option_cases}
+use Rattle.client_registry.specs.Configuration.{Configuration}
+use Rattle.op_answer.specs.Codes.{code_in}
+use Rattle.op_answer.specs.Room.{access_in}
+use Rattle.sso_places.specs.declared.types.Broken.{Broken}
+use Rattle.sso_places.specs.declared.types.Broken.TheVariants.{Forged, Leaked}
+use Rattle.sso_places.specs.declared.types.To.{To}
+use Rattle.sso_places.specs.declared.types.To.TheVariants as to
+use Rattle.sso_places.specs.declared.types.WorldAsk.{WorldAsk}
+use Rattle.sso_places.specs.declared.types.WorldAsk.TheVariants.{Http, Tokens, Info}
+use Rattle.sso_places.specs.declared.types.WorldReply.{WorldReply}
+use Rattle.sso_places.specs.declared.types.WorldReply.TheVariants as reply
+use Rattle.sso_places.specs.FirstBroken.{or_else, first_clash, clash_at, broken_at, first_broken}
+use Rattle.sso_places.specs.Premises.{issued_at, forges, leaks, HasDistinctHashes}
+use Rattle.sso_places.specs.Site.{Site, own_site}
+use Rattle.sso_places.specs.World.{Place, Nothing, World}
+use Rattle.sso_places.proofs.Clashes.{none_found}
+use Rattle.sso_places.proofs.FirstBroken.{none_broken}
+use Rattle.world_index.specs.Issuing.{issued_of}
+use Rattle.world_index.specs.declared.halves.Issued.{Issued}
+use Rattle.running_world.specs.declared.kept.Asked.{Asked}
+use Rattle.running_world.specs.declared.kept.Kept.{Kept}
+use Rattle.running_world.specs.Breaking.{judged_asked, clash_told}
+use Rattle.running_world.specs.Indexed.{first_issued}
+use Rattle.running_world.specs.Noting.{issued_by}
+use Rattle.running_world.specs.Running.{place_asked, kept_place}
+use Rattle.running_world.specs.Whole.{Answers}
+use Rattle.running_world.proofs.HalfDigests.{clash_is_found}
+use Rattle.running_world.proofs.KeptPlaces.{place_issues}
+
+or_else_none : (o : Option Broken) → or_else o None ≡ o
+or_else_none None = refl
+or_else_none (Some b) = refl
+
+or_verdict : (forged leaked : Bool) (a b : Broken) (o : Option Broken) → or_else (cond forged (Some a) (cond leaked (Some b) None)) o ≡ cond forged (Some a) (cond leaked (Some b) o)
+or_verdict true leaked a b o = refl
+or_verdict false true a b o = refl
+or_verdict false false a b o = refl
+
+-- ---- a place at which nothing was asked
+
+nothing_breaks : (c : Configuration) (world : World) → broken_at (own_site c) world Nothing ≡ None
+nothing_breaks c world =
+    ap (λ o. clash_at (suc (length world)) o) (none_found Nothing (Nothing ∷ world) (λ y has. refl))
+
+pub broken_nothing : (c : Configuration) (world : World) → first_broken (own_site c) (Nothing ∷ world) ≡ first_broken (own_site c) world
+broken_nothing c world =
+    ap (λ o. or_else (first_broken (own_site c) world) o) (nothing_breaks c world) ∙ or_else_none (first_broken (own_site c) world)
+
+-- ---- one at which a role was asked
+
+module _ (c : Configuration) (world : World) (a : Asked) where
+  abbrev Breaks : To → WorldAsk → Place → Type 0
+  Breaks role ask x =
+      or_else (judged_asked c world a.from role ask) (clash_at (suc (length world)) (first_clash x (x ∷ world))) ≡ broken_at (own_site c) world x
+
+  breaks : (role : To) (ask : WorldAsk) (answer : WorldReply) → Answers role ask answer → Breaks role ask (place_asked c a role ask answer)
+  breaks to.Provider (Http request) (reply.Provider answer) is =
+      let x : Place = place_asked c a to.Provider (Http request) (reply.Provider answer) in
+      let n : ℕ = suc (length world) in
+      or_verdict (forges (own_site c) world x) (leaks world x) (Forged n) (Leaked n) (clash_at n (first_clash x (x ∷ world)))
+  breaks to.Provider (Http request) (reply.Party answer) is = absurd is
+  breaks to.Provider (Http request) reply.Nothing is = absurd is
+  breaks to.Provider (Tokens w came) answer is = absurd is
+  breaks to.Provider (Info w came) answer is = absurd is
+  breaks (to.Party m) ask (reply.Provider answer) is = absurd is
+  breaks (to.Party m) ask (reply.Party answer) is =
+      let x : Place = place_asked c a (to.Party m) ask (reply.Party answer) in
+      let n : ℕ = suc (length world) in
+      or_verdict (forges (own_site c) world x) (leaks world x) (Forged n) (Leaked n) (clash_at n (first_clash x (x ∷ world)))
+  breaks (to.Party m) ask reply.Nothing is = absurd is
+
+clash_is_told : (halves : List (Text × Issued)) (world : World) (x : Place) (answer : WorldReply) → HasDistinctHashes world → ((half : Text) → issued_of halves half ≡ first_issued half world) → issued_at x ≡ issued_by answer
+    → clash_at (suc (length world)) (first_clash x (x ∷ world)) ≡ clash_told halves (suc (length world)) answer
+clash_is_told halves world x (reply.Provider answer) distinct is issues = clash_is_found halves world distinct is x (code_in answer) (access_in answer) issues
+clash_is_told halves world x (reply.Party answer) distinct is issues = clash_is_found halves world distinct is x None None issues
+clash_is_told halves world x reply.Nothing distinct is issues = clash_is_found halves world distinct is x None None issues
+
+-- the first that failed before, or what is asked, or the reply
+pub broken_more : (c : Configuration) (world : World) (a : Asked) (answer : WorldReply) (halves : List (Text × Issued)) → Answers a.to a.ask answer → ((half : Text) → issued_of halves half ≡ first_issued half world)
+    → or_else (first_broken (own_site c) world) (or_else (judged_asked c world a.from a.to a.ask) (clash_told halves (suc (length world)) answer))
+    ≡ first_broken (own_site c) (kept_place c (record { asked = Some a; reply = answer }) ∷ world)
+broken_more c world a answer halves whole is =
+    let k : Kept = record { asked = Some a; reply = answer } in
+    let x : Place = kept_place c k in
+    let s : Site = own_site c in
+    let told : Option Broken = clash_told halves (suc (length world)) answer in
+    let J : Option Broken → Option Broken = λ o. or_else (judged_asked c world a.from a.to a.ask) o in
+    let F : Option Broken → Option Broken = λ o. or_else o (J told) in
+    let G : Option Broken → Option Broken = λ o. or_else o (broken_at s world x) in
+    elim (option_cases (first_broken s world)) [
+      | inl none ↦
+          (let distinct : HasDistinctHashes world = (none_broken s world none).hashes in
+          ap F none
+          ∙ ap J (sym (clash_is_told halves world x answer distinct is (place_issues c k whole)))
+          ∙ breaks c world a a.to a.ask answer whole
+          ∙ sym (ap G none))
+      | inr some ↦ ap F some.1 ∙ sym (ap G some.1)
+    ]

@@ -1,0 +1,12 @@
+use Rattle.std.proofs.Common.{sym, ◌∙◌, subst}
+use Rattle.running_world.specs.Running.{places_of}
+use Rattle.running_world.specs.Transcribed.{Transcribed}
+use Rattle.running_world.specs.Worlds.{IsWorld}
+use Rattle.running_world.proofs.Beginning.{new_world}
+use Rattle.running_world.proofs.world.World.new.Goals as goal
+
+pub invariant_of-result : goal.invariant_of-result
+invariant_of-result c =
+    let T : Transcribed → Type 0 = λ t. IsWorld t.registry c.in_ok-provider.provider c.in_ok-parties.parties.items (places_of t.registry t.kept) in
+    subst T (sym c.in_ok-new.ensures.new)
+    (new_world c.args.registry c.in_ok-provider.provider c.in_ok-parties.parties.items c.in_ok-new.ensures.read (c.in_ok-provider.ensures.registry ∙ c.in_ok-copy.ensures) c.in_ok-provider.ensures.history c.in_ok-parties.ensures)

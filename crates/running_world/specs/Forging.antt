@@ -1,0 +1,28 @@
+-- The premises at the next place, by what was noted of the places before.
+use Rattle.std.specs.Prelude.{ℕ, Bool, false, ◌&&◌, not, List, Option, Some, None, if◌then◌else◌}
+use Rattle.sso_base.specs.Words.{Word, Text}
+use Rattle.client_registry.specs.Configuration.{Configuration}
+use Rattle.client_registry.specs.Numbers.{client_secret}
+use Rattle.sso_places.specs.declared.types.Broken.{Broken}
+use Rattle.sso_places.specs.declared.types.Broken.TheVariants.{Forged, Leaked}
+use Rattle.sso_places.specs.Tokens.{is_sealed}
+use Rattle.world_index.specs.Setting.{set_for_other}
+use Rattle.world_index.specs.Writing.{is_written_for}
+use Rattle.world_index.specs.declared.setters.Setter.{Setter}
+use Rattle.running_world.specs.declared.judging.TokenText.{TokenText}
+
+-- the word is there, and a number other than this one set it
+abbrev pub set_if : List (Word × Setter) → ℕ → Option Word → Bool
+set_if setters from None = false
+set_if setters from (Some w) = set_for_other setters w from
+
+-- the text is sealed under the client's secret, and was not written for the client
+abbrev pub is_forged : Configuration → List (List Text) → TokenText → Bool
+is_forged c written t = is_sealed (client_secret c t.client) t.text && not (is_written_for written t.text t.client)
+
+abbrev pub forges : Configuration → List (List Text) → Option TokenText → Bool
+forges c written None = false
+forges c written (Some t) = is_forged c written t
+
+abbrev pub verdict : ℕ → Bool → Bool → Option Broken
+verdict number forged leaked = if forged then Some (Forged number) else if leaked then Some (Leaked number) else None

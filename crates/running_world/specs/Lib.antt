@@ -1,0 +1,17 @@
+pub mod Breaking
+pub mod Clashing
+pub mod Foreknowing
+pub mod Forging
+pub mod Indexed
+pub mod JarMaps
+pub mod Jars
+pub mod JarsFound
+pub mod Judging
+pub mod Noting
+pub mod Parties
+pub mod Roles
+pub mod Running
+pub mod Stepping
+pub mod Transcribed
+pub mod Whole
+pub mod Worlds

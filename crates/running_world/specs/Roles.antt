@@ -1,0 +1,44 @@
+-- One step of a role, and what the roles of a world are.
+use Rattle.std.specs.Prelude.{◌≡◌, ℕ, List, ◌∷◌, Some, slice_get, slice_set}
+use Rattle.sso_base.specs.Words.{Word}
+use Rattle.sso_base.specs.Legal.{last_moment}
+use Rattle.op_exchange.specs.declared.ask.OpAsk.{OpAsk}
+use Rattle.op_exchange.specs.declared.reply.OpReply.{OpReply}
+use Rattle.op_answer.specs.Answering.{op_answer}
+use Rattle.op_answer.specs.Legal.{IsLegalOp}
+use Rattle.op_core.specs.Providing.{Providing, past_of as op_past_of}
+use Rattle.rp_exchange.specs.declared.ask.RpAsk.{RpAsk}
+use Rattle.rp_exchange.specs.declared.reply.RpReply.{RpReply}
+use Rattle.rp_answer.specs.Answering.{rp_answer}
+use Rattle.rp_answer.specs.Legal.{IsLegalRp}
+use Rattle.rp_core.specs.Relying.{Relying, past_of as rp_past_of}
+use Rattle.running_world.specs.Stepping.{later}
+
+-- a provider whose past is legal, and the moment of its last entry
+pub record IsLegalAt (p : Providing) (last : ℕ) : Type 0 where
+  pub last_is : last ≡ last_moment (op_past_of p)
+  pub legal : IsLegalOp p.registry (op_past_of p)
+
+-- the past has one more pair, with the answer of the provider
+pub record OpSteps (before after : Providing) (at : ℕ) (fresh : List Word) (asked : OpAsk) (moment : ℕ) (answer : OpReply) : Type 0 where
+  pub registry : after.registry ≡ before.registry
+  pub moment_is : moment ≡ later (last_moment (op_past_of before)) at
+  pub past : op_past_of after ≡ (record { entry = record { at = moment; fresh = fresh; ask = asked }; reply = answer }) ∷ op_past_of before
+  pub answer_is : answer ≡ op_answer before.registry (op_past_of before) (record { at = moment; fresh = fresh; ask = asked })
+  pub legal : IsLegalOp after.registry (op_past_of after)
+
+-- and of a party
+pub record RpSteps (before after : Relying) (at : ℕ) (fresh : List Word) (asked : RpAsk) (moment : ℕ) (answer : RpReply) : Type 0 where
+  pub setup : after.setup ≡ before.setup
+  pub moment_is : moment ≡ later (last_moment (rp_past_of before)) at
+  pub past : rp_past_of after ≡ (record { entry = record { at = moment; fresh = fresh; ask = asked }; reply = answer }) ∷ rp_past_of before
+  pub answer_is : answer ≡ rp_answer before.setup (rp_past_of before) (record { at = moment; fresh = fresh; ask = asked })
+  pub legal : IsLegalRp after.setup (rp_past_of after)
+
+-- the party of a number took the step, and the others stay
+pub record RpStepsAt (before after : List Relying) (n at : ℕ) (fresh : List Word) (asked : RpAsk) (moment : ℕ) (answer : RpReply) : Type 0 where
+  pub old : Relying
+  pub new : Relying
+  pub found : slice_get before n ≡ Some old
+  pub set : after ≡ slice_set before n new
+  pub steps : RpSteps old new at fresh asked moment answer

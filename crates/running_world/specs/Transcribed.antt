@@ -1,0 +1,47 @@
+-- The places of a world as a value: the registry, what was kept at each place and what changed the jars, each list with the newest
+-- first, and for which place there is room.
+use Rattle.std.specs.Prelude.{◌≡◌, ◌<◌, ℕ, Bool, true, false, List, length, Option, None, IfSome}
+use Rattle.std.specs.List.{AllByRecursion}
+use Rattle.client_registry.specs.Configuration.{Configuration}
+use Rattle.client_registry.specs.Registered.{IsRegistry}
+use Rattle.sso_places.specs.declared.types.Broken.{Broken}
+use Rattle.sso_places.specs.FirstBroken.{first_broken}
+use Rattle.sso_places.specs.Site.{own_site}
+use Rattle.running_world.specs.declared.foreknown.Foreknown.{Foreknown}
+use Rattle.running_world.specs.declared.jar_note.JarNote.{JarNote}
+use Rattle.running_world.specs.declared.jar_note.Slot.{Slot}
+use Rattle.running_world.specs.declared.kept.Kept.{Kept}
+use Rattle.running_world.specs.declared.noting.Index.{Index}
+use Rattle.running_world.specs.Foreknowing.{IsKnown}
+use Rattle.running_world.specs.Indexed.{IsIndexed, IsBehind}
+use Rattle.running_world.specs.JarsFound.{Jarred}
+use Rattle.running_world.specs.Running.{places_of}
+use Rattle.running_world.specs.Whole.{IsWhole, IsOfRole}
+
+pub record Transcribed : Type 0 where
+  pub registry : Configuration
+  pub kept : List Kept
+  pub jars : List JarNote
+  pub ready : Option Slot
+
+abbrev pub ready_if : Bool → Option Slot → Option Slot
+ready_if true slot = slot
+ready_if false slot = None
+
+-- there is room for one more place, and the newest is noted
+abbrev pub IsSettled : Bool → ℕ → ℕ → Option Foreknown → Type 0
+IsSettled true count capacity behind = (count < capacity) × (behind ≡ None)
+IsSettled false count capacity behind = Unit {0}
+
+-- what was kept is whole; what is looked up of it, and the first premise that fails, are what is asked of the world
+pub record IsTranscript (c : Configuration) (kept : List Kept) (capacity : ℕ) (jars : Jarred) (index : Index) (behind : Option Foreknown) (broken : Option Broken) (settled : Bool) : Type 0 where
+  pub registry : IsRegistry c
+  pub whole : AllByRecursion IsWhole kept
+  pub roles : AllByRecursion (IsOfRole c) kept
+  pub parties : jars.parties ≡ length c.parties
+  pub clients : length index.written ≡ length c.clients
+  pub known : IfSome behind (IsKnown c)
+  pub newest : IsBehind c behind kept
+  pub indexed : IsIndexed c index behind (places_of c kept)
+  pub broken_is : broken ≡ first_broken (own_site c) (places_of c kept)
+  pub room : IsSettled settled (length kept) capacity behind

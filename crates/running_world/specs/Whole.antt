@@ -1,0 +1,53 @@
+-- What is kept of a place is whole: the reply is one of the role that was asked, and of what it may be asked.
+use Rattle.std.specs.Prelude.{◌≡◌, ℕ, Option, Some, None}
+use Rattle.op_exchange.specs.Replied.{session_given as op_session}
+use Rattle.op_response.specs.Told.{browser_given as op_browser}
+use Rattle.rp_response.specs.Told.{browser_given as rp_browser, session_given as rp_session}
+use Rattle.client_registry.specs.Configuration.{Configuration}
+use Rattle.sso_places.specs.declared.types.To.{To}
+use Rattle.sso_places.specs.declared.types.To.TheVariants as to
+use Rattle.sso_places.specs.declared.types.Jar.{Jar}
+use Rattle.sso_places.specs.declared.types.WorldAsk.{WorldAsk}
+use Rattle.sso_places.specs.declared.types.WorldAsk.TheVariants.{Http, Tokens, Info}
+use Rattle.sso_places.specs.declared.types.WorldReply.{WorldReply}
+use Rattle.sso_places.specs.declared.types.WorldReply.TheVariants as reply
+use Rattle.running_world.specs.declared.kept.Asked.{Asked}
+use Rattle.running_world.specs.declared.kept.Kept.{Kept}
+use Rattle.running_world.specs.Jars.{no_jar}
+use Rattle.running_world.specs.Stepping.{IsRole}
+
+abbrev pub Answers : To → WorldAsk → WorldReply → Type 0
+Answers to.Provider (Http request) (reply.Provider answer) = Unit {0}
+Answers to.Provider (Http request) (reply.Party answer) = ⊥
+Answers to.Provider (Http request) reply.Nothing = ⊥
+Answers to.Provider (Tokens w came) answer = ⊥
+Answers to.Provider (Info w came) answer = ⊥
+Answers (to.Party n) ask (reply.Provider answer) = ⊥
+Answers (to.Party n) ask (reply.Party answer) = Unit {0}
+Answers (to.Party n) ask reply.Nothing = ⊥
+
+abbrev pub IsWholeBy : WorldReply → Option Asked → Type 0
+IsWholeBy answer None = answer ≡ reply.Nothing
+IsWholeBy answer (Some a) = Answers a.to a.ask answer
+
+abbrev pub IsWhole : Kept → Type 0
+IsWhole k = IsWholeBy k.reply k.asked
+
+-- and the role is one of the registry
+abbrev pub IsOfRoleBy : Configuration → Option Asked → Type 0
+IsOfRoleBy c None = Unit {0}
+IsOfRoleBy c (Some a) = IsRole c a.to
+
+abbrev pub IsOfRole : Configuration → Kept → Type 0
+IsOfRole c k = IsOfRoleBy c k.asked
+
+-- the cookies that a reply sets
+abbrev pub set_by : WorldReply → Jar
+set_by (reply.Provider answer) = record { first = op_browser answer; second = op_session answer }
+set_by (reply.Party answer) = record { first = rp_browser answer; second = rp_session answer }
+set_by reply.Nothing = no_jar
+
+-- the number from which it was asked, 0 where nothing was
+abbrev pub from_if : Option Asked → ℕ
+from_if None = 0
+from_if (Some a) = a.from

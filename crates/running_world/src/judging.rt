@@ -1,0 +1,212 @@
+// The premises at a place, from its request: whether a text that it checks is forged, and whether it presents a cookie that was
+// set for another number.
+
+ghost use Rattle.std.specs.Prelude.{◌≡◌, ℕ, ◌<◌, ◌+◌, length, filter, Some, Ok, IfSome, IfOk};
+ghost use Rattle.std.specs.Option.{option_copied};
+ghost use Rattle.std.specs.Str.{bytes_eq};
+ghost use Rattle.sso_base.specs.Words.{Text as TextOf};
+ghost use Rattle.client_registry.specs.Numbers.{client_secret};
+ghost use Rattle.auth_request.specs.Judgement.{client_number as client_number_of};
+ghost use Rattle.request_params.specs.Reading.{request_read};
+ghost use Rattle.op_request.specs.PostedForms.{posted as posted_of};
+ghost use Rattle.op_request.specs.Prepared as op;
+ghost use Rattle.rp_request.specs.Prepared as rp;
+ghost use Rattle.sso_places.specs.Tokens.{token_if, is_sealed as is_sealed_of};
+ghost use Rattle.sso_places.specs.Checked as spec;
+ghost use Rattle.running_world.specs.declared.judging.TokenText.{TokenText as TokenOf};
+ghost use Rattle.running_world.specs.Judging.{tokens_in};
+
+use client_registry::Registry;
+use jws_compact::{JwsNo, unseal};
+use op_exchange::OpAsk;
+use request_params::{AskNo, Pair, Params, read_pairs, read_request, value_of};
+use rp_exchange::RpAsk;
+use sso_base::{Ask, Blob, Method, NoMemory, Text, Word};
+use sso_places::WorldAsk;
+use std::alloc::Global;
+
+// The name of the field that has a logout token (OpenID Connect Back-Channel Logout 1.0, 2.5).
+const LOGOUT_TOKEN: &str = "logout_token";
+
+/// A token text, and the number of the client under whose secret it is checked.
+#[derive(Drop)]
+pub(crate) struct TokenText {
+    pub(crate) client: u32,
+    pub(crate) text: Text,
+}
+
+// The form that was posted; an absent one is empty.
+fn posted(body: &Option<Blob>) -> &[u8]
+    ensures { result.now ≡ posted_of body.now }
+{
+    match body {
+        Some(form) => form.as_bytes(),
+        None => &[],
+    }
+}
+
+// The form of the parameters of an authorization request: the body of a POST, else the query.
+fn parameters_of(ask: &Ask) -> &[u8]
+    ensures { result.now ≡ op.parameters_of ask.now.method ask.now }
+{
+    match ask.method {
+        Method::Post => posted(&ask.body),
+        _ => ask.query.as_bytes(),
+    }
+}
+
+// The number of the client that a request names.
+#[tactic(auto, using(auth_request::proofs::Numbers::below))]
+fn client_number(registry: &Registry, params: &Params) -> Option<u32>
+    ensures known { IfSome result (λ n. n < length registry.now.clients) }
+    ensures client { result ≡ client_number_of registry.now params.now }
+{
+    match &params.client_id {
+        Some(id) => registry.find_client(id.as_str().as_bytes()),
+        None => None,
+    }
+}
+
+// The request object among these parameters, where their client is known.
+fn object_among(registry: &Registry, params: Params) -> Option<TokenText>
+    ensures known { IfSome result (λ (t : TokenOf). t.client < length registry.now.clients) }
+    ensures token { tokens_in result ≡ spec.object_in registry.now (Ok params) }
+{
+    let client = client_number(registry, &params)?;
+    let text = params.request?;
+    Some(TokenText { client, text })
+}
+
+// The request object of an authorization request.
+fn object_in(alloc: Global, registry: &Registry, form: &[u8]) -> Result<Option<TokenText>, NoMemory>
+    ensures known { IfOk result (λ o. IfSome o (λ (t : TokenOf). t.client < length registry.now.clients)) }
+    ensures token { IfOk result (λ o. tokens_in o ≡ spec.object_in registry.now (request_read form.now)) }
+{
+    match read_request(alloc, form) {
+        Ok(params) => Ok(object_among(registry, params)),
+        Err(AskNo::NoMemory) => Err(NoMemory),
+        Err(_) => Ok(None),
+    }
+}
+
+/// The text that a request to the provider has it check.
+pub(crate) fn checked_by_provider(
+    alloc: Global,
+    registry: &Registry,
+    request: &Ask,
+    asked: &OpAsk,
+) -> Result<Option<TokenText>, NoMemory>
+    ensures known { IfOk result (λ o. IfSome o (λ (t : TokenOf). t.client < length registry.now.clients)) }
+    ensures token { IfOk result (λ o. tokens_in o ≡ spec.op_checked registry.now request.now asked.now) }
+{
+    match asked {
+        OpAsk::Authorize { .. } => object_in(alloc, registry, parameters_of(request)),
+        _ => Ok(None),
+    }
+}
+
+// How many fields have the name.
+fn count(fields: &[Pair], name: &str) -> usize
+    ensures { result ≡ length (filter (λ (field : TextOf × TextOf). bytes_eq field.0 name.now) fields.now) }
+{
+    let mut count = 0;
+    for field in fields {
+        if field.0.as_str() == name {
+            count += 1;
+        }
+    }
+    count
+}
+
+// The value of the field that has the name, where only one has it.
+fn only_value<'a>(fields: &'a [Pair], name: &str) -> Option<&'a Text>
+    ensures { option_copied result ≡ rp.only_value name.now fields.now }
+{
+    if count(fields, name) > 1 {
+        return None;
+    }
+    value_of(fields, name)
+}
+
+// The logout token of a form; where there is none, or two, it is the empty text.
+fn logout_token_in(alloc: Global, form: &[u8]) -> Result<Text, NoMemory>
+    ensures { IfOk result (λ t. t ≡ rp.logout_token_in form.now) }
+{
+    let fields = read_pairs(alloc, form)?;
+    match only_value(&fields, LOGOUT_TOKEN) {
+        Some(token) => token.copy(alloc),
+        None => Text::new(alloc, ""),
+    }
+}
+
+// The logout token of a logout request.
+fn logout_checked(alloc: Global, client: u32, ask: &WorldAsk) -> Result<Option<TokenText>, NoMemory>
+    ensures client { IfOk result (λ o. IfSome o (λ (t : TokenOf). t.client ≡ client)) }
+    ensures token { IfOk result (λ o. tokens_in o ≡ spec.logout_checked client ask.now) }
+{
+    match ask {
+        WorldAsk::Http(request) => Ok(Some(TokenText {
+            client,
+            text: logout_token_in(alloc, posted(&request.body))?,
+        })),
+        _ => Ok(None),
+    }
+}
+
+// A copy of the text, where it is there.
+fn copied(alloc: Global, client: u32, text: &Option<Text>) -> Result<Option<TokenText>, NoMemory>
+    ensures client { IfOk result (λ o. IfSome o (λ (t : TokenOf). t.client ≡ client)) }
+    ensures token { IfOk result (λ o. tokens_in o ≡ token_if (Some client) text.now) }
+{
+    match text {
+        Some(text) => Ok(Some(TokenText {
+            client,
+            text: text.copy(alloc)?,
+        })),
+        None => Ok(None),
+    }
+}
+
+/// The text that a request to a party, which is this client, has it check.
+pub(crate) fn checked_by_party(
+    alloc: Global,
+    client: u32,
+    ask: &WorldAsk,
+    asked: &RpAsk,
+) -> Result<Option<TokenText>, NoMemory>
+    ensures client { IfOk result (λ o. IfSome o (λ (t : TokenOf). t.client ≡ client)) }
+    ensures token { IfOk result (λ o. tokens_in o ≡ spec.rp_checked client ask.now asked.now) }
+{
+    match asked {
+        RpAsk::Callback {
+            heard: Ok(heard),
+            ..
+        } => copied(alloc, client, &heard.id),
+        RpAsk::Tokens {
+            tokens: Ok(tokens),
+            ..
+        } => Ok(Some(TokenText {
+            client,
+            text: tokens.id.copy(alloc)?,
+        })),
+        RpAsk::Logout { .. } => logout_checked(alloc, client, ask),
+        _ => Ok(None),
+    }
+}
+
+/// Whether the text is sealed under the client's secret.
+pub(crate) fn is_sealed(
+    alloc: Global,
+    registry: &Registry,
+    token: &TokenText,
+) -> Result<bool, NoMemory>
+    requires { token.now.client < length registry.now.clients }
+    ensures { IfOk result (λ b. b ≡ is_sealed_of (client_secret registry.now token.now.client) token.now.text) }
+{
+    let secret = registry.client(token.client).secret.as_str().as_bytes();
+    match unseal(alloc, secret, token.text.as_str().as_bytes()) {
+        Ok(_) => Ok(true),
+        Err(JwsNo::NoMemory) => Err(NoMemory),
+        Err(_) => Ok(false),
+    }
+}

@@ -1,0 +1,101 @@
+// The premises at the next place, as far as what is asked tells them: whether a text is forged, and whether a cookie leaks.
+
+ghost use Rattle.std.specs.Prelude.{◌≡◌, ◌<◌, length, IfSome, IfOk};
+ghost use Rattle.std.specs.List.{list_any};
+ghost use Rattle.sso_base.specs.Words.{Word as WordOf};
+ghost use Rattle.sso_places.specs.Cookies.{http_words, party_words};
+ghost use Rattle.sso_places.specs.FirstBroken.{or_else};
+ghost use Rattle.world_index.specs.Setting.{set_for_other};
+ghost use Rattle.running_world.specs.declared.judging.TokenText.{TokenText as TokenOf};
+ghost use Rattle.running_world.specs.Forging as spec;
+
+use crate::judging::{TokenText, is_sealed};
+use client_registry::Registry;
+use sso_base::{Ask, NoMemory, Word};
+use sso_places::{Broken, WorldAsk};
+use std::alloc::Global;
+use world_index::{Setters, Written};
+
+// Whether the word is there and was set for another number.
+fn is_set_for_other(setters: &Setters, word: &Option<Word>, from: u32) -> bool
+    ensures { result ≡ spec.set_if setters.now from word.now }
+{
+    match word {
+        Some(word) => setters.is_set_for_other(word, from),
+        None => false,
+    }
+}
+
+/// Whether the request presents a cookie that was set for another number.
+#[tactic(auto, using(crate::proofs::Forging::any_of_two))]
+pub(crate) fn leaks(setters: &Setters, request: &Ask, from: u32) -> bool
+    ensures { result ≡ list_any (λ (w : WordOf). set_for_other setters.now w from) (http_words request.now) }
+{
+    is_set_for_other(setters, &request.first, from)
+        || is_set_for_other(setters, &request.second, from)
+}
+
+/// Whether a party is asked so. The answer of a server presents no cookie.
+pub(crate) fn ask_leaks(setters: &Setters, ask: &WorldAsk, from: u32) -> bool
+    ensures { result ≡ list_any (λ (w : WordOf). set_for_other setters.now w from) (party_words ask.now) }
+{
+    match ask {
+        WorldAsk::Http(request) => leaks(setters, request, from),
+        _ => false,
+    }
+}
+
+// Whether the text is sealed under the client's secret, and was not written for the client. A text that was written needs no MAC.
+fn is_forged(
+    alloc: Global,
+    registry: &Registry,
+    written: &Written,
+    token: &TokenText,
+) -> Result<bool, NoMemory>
+    requires { token.now.client < length registry.now.clients }
+    ensures { IfOk result (λ b. b ≡ spec.is_forged registry.now written.now token.now) }
+{
+    if written.is_written_for(&token.text, token.client) {
+        return Ok(false);
+    }
+    is_sealed(alloc, registry, token)
+}
+
+/// Whether the text, where there is one, is forged.
+pub(crate) fn forges(
+    alloc: Global,
+    registry: &Registry,
+    written: &Written,
+    token: &Option<TokenText>,
+) -> Result<bool, NoMemory>
+    requires { IfSome token.now (λ (t : TokenOf). t.client < length registry.now.clients) }
+    ensures { IfOk result (λ b. b ≡ spec.forges registry.now written.now token.now) }
+{
+    match token {
+        Some(token) => is_forged(alloc, registry, written, token),
+        None => Ok(false),
+    }
+}
+
+/// The premise that fails at the place of this number: a forged text comes before a cookie that leaks.
+pub(crate) fn verdict(number: u64, forged: bool, leaked: bool) -> Option<Broken>
+    ensures { result ≡ spec.verdict number forged leaked }
+{
+    if forged {
+        Some(Broken::Forged(number))
+    } else if leaked {
+        Some(Broken::Leaked(number))
+    } else {
+        None
+    }
+}
+
+/// What failed first.
+pub(crate) fn first_of(before: Option<Broken>, later: Option<Broken>) -> Option<Broken>
+    ensures { result ≡ or_else before later }
+{
+    match before {
+        Some(broken) => Some(broken),
+        None => later,
+    }
+}

@@ -1,0 +1,85 @@
+// What a reply sets and issues: cookies, a code and an access token.
+
+ghost use Rattle.std.specs.Prelude.{◌≡◌};
+ghost use Rattle.op_answer.specs.Codes.{code_in as code_of};
+ghost use Rattle.op_answer.specs.Room.{access_in as access_of};
+ghost use Rattle.op_response.specs.Told.{browser_given as op_browser_of};
+ghost use Rattle.rp_response.specs.Told.{browser_given as rp_browser_of, session_given as rp_session_of};
+ghost use Rattle.running_world.specs.Whole.{set_by};
+
+use op_exchange::OpReply;
+use rp_exchange::RpReply;
+use sso_base::Word;
+use sso_places::{Jar, WorldReply};
+
+/// The cookies that a reply sets: the browser's word and the session's.
+pub(crate) fn jar_set(reply: &WorldReply) -> Jar
+    ensures { result ≡ set_by reply.now }
+{
+    match reply {
+        WorldReply::Provider(reply) => Jar {
+            first: op_browser(reply),
+            second: reply.session_given(),
+        },
+        WorldReply::Party(reply) => Jar {
+            first: rp_browser(reply),
+            second: rp_session(reply),
+        },
+        WorldReply::Nothing => Jar {
+            first: None,
+            second: None,
+        },
+    }
+}
+
+// The browser word that a page of the provider sets.
+fn op_browser(reply: &OpReply) -> Option<Word>
+    ensures { result ≡ op_browser_of reply.now }
+{
+    match reply {
+        OpReply::LoginPage { browser, .. } => Some(*browser),
+        OpReply::ConsentPage { browser, .. } => Some(*browser),
+        _ => None,
+    }
+}
+
+// The browser word that a party sets as a login begins.
+fn rp_browser(reply: &RpReply) -> Option<Word>
+    ensures { result ≡ rp_browser_of reply.now }
+{
+    match reply {
+        RpReply::Ask { browser, .. } => Some(*browser),
+        _ => None,
+    }
+}
+
+// The session word that a party sets as a login enters.
+fn rp_session(reply: &RpReply) -> Option<Word>
+    ensures { result ≡ rp_session_of reply.now }
+{
+    match reply {
+        RpReply::Entered { session, .. } => Some(*session),
+        _ => None,
+    }
+}
+
+/// The code that a reply issues.
+pub(crate) fn code_in(reply: &OpReply) -> Option<Word>
+    ensures { result ≡ code_of reply.now }
+{
+    match reply {
+        OpReply::Answered { answer, .. } => answer.code,
+        _ => None,
+    }
+}
+
+/// The access token that a reply issues.
+pub(crate) fn access_in(reply: &OpReply) -> Option<Word>
+    ensures { result ≡ access_of reply.now }
+{
+    match reply {
+        OpReply::Answered { answer, .. } => answer.access,
+        OpReply::Tokens { access, .. } => Some(*access),
+        _ => None,
+    }
+}

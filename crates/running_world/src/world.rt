@@ -1,0 +1,172 @@
+// A world that runs.
+
+ghost use Rattle.std.specs.Prelude.{◌≡◌, ℕ, ◌<◌, ◌≤◌, ◌+◌, [], ◌∷◌, length, Err, None, Some, option_copied, option_map, IfOk, IfErr, OnOk, OnErr};
+ghost use Rattle.sso_base.specs.Journal.{most_weight};
+ghost use Rattle.sso_places.specs.Agreement.{SignsOn};
+ghost use Rattle.sso_places.specs.Legal.{IsLegalWorld};
+ghost use Rattle.sso_places.specs.Premises.{HasDistinctWords, IsUnleaked, IsUnforged, IsJoined};
+ghost use Rattle.sso_places.specs.Site.{own_site};
+ghost use Rattle.sso_places.specs.World.{Nothing, place_at, from_of};
+ghost use Rattle.sso_places.specs.FirstBroken.{first_broken};
+ghost use Rattle.running_world.specs.Jars.{jar_of, jars_after, jars_stolen};
+ghost use Rattle.running_world.specs.Running.{world_of, reply_at};
+ghost use Rattle.running_world.specs.Stepping.{IsRole, IsForRole, stepped, role_weight, asked_weight};
+
+use crate::asking::{ask_party, ask_provider};
+use crate::roles::{OpRole, RpRole, new_parties};
+use crate::transcript::Transcript;
+use client_registry::Registry;
+use sso_base::{CoreNo, Moment, NoMemory, Word};
+use sso_places::{Broken, Jar, To, WorldAsk, WorldReply};
+use std::alloc::Global;
+use std::marker::Model;
+
+/// A provider and the relying parties of one registry, which are asked at places, one after another: seen as the registry, what was
+/// kept at each place, and what changed the jars of browsers. Each party trusts the registry's provider.
+#[derive(Drop)]
+pub struct World {
+    transcript: Transcript,
+    provider: OpRole,
+    parties: Vec<RpRole>,
+}
+
+impl Model for World {
+    ghost use Rattle.running_world.specs.Running.{Running, places_of};
+    ghost use Rattle.running_world.specs.Worlds.{shown, IsWorld};
+
+    ghost Value = { Running };
+
+    ghost view = { λ w. shown w.transcript };
+
+    ghost invariant = { λ w. IsWorld w.transcript.registry w.provider w.parties.items (places_of w.transcript.registry w.transcript.kept) };
+}
+
+impl World {
+    /// A world of this registry at which nothing was asked.
+    pub fn new(alloc: Global, registry: Registry) -> Result<World, NoMemory>
+        ensures { IfOk result (λ w. w ≡ record { registry = registry; kept = []; jars = [] }) }
+    {
+        let provider = OpRole::new(alloc, registry.copy(alloc)?)?;
+        let parties = new_parties(alloc, &registry)?;
+        Ok(World {
+            transcript: Transcript::new(alloc, registry)?,
+            provider,
+            parties,
+        })
+    }
+
+    /// Asks the provider, or a relying party, and keeps what was asked and replied at the next place. The moment is the later of
+    /// this one and the last one of the role. The cookies that the reply sets come into the jar of `from`, which is the number of a
+    /// browser, or 0 for a server, which has no jar.
+    ///
+    /// A party is one of the registry's, and only a party is asked with the answer of another server. Where it is refused, for want
+    /// of memory or since the history of the role has no room for what is asked, nothing changes. Where the premises hold, the
+    /// reading of the world is a run of the sign-on machine.
+    pub fn step(
+        &mut self,
+        alloc: Global,
+        from: u32,
+        to: To,
+        at: Moment,
+        fresh: [Word; 4],
+        ask: WorldAsk,
+    ) -> Result<(), CoreNo>
+        requires role { IsRole self.old.registry to }
+        requires ask { IsForRole to ask }
+        ensures registry { self.new.registry ≡ self.old.registry }
+        ensures ok { OnOk result (world_of self.new ≡ stepped (own_site self.old.registry) from to at fresh ask (world_of self.old) ∷ world_of self.old) }
+        ensures jars { OnOk result (self.new.jars ≡ jars_after (stepped (own_site self.old.registry) from to at fresh ask (world_of self.old)) self.old.jars) }
+        ensures err { OnErr result (self.new ≡ self.old) }
+        ensures room { OnOk result (role_weight to (world_of self.old) + asked_weight self.old.registry to ask ≤ most_weight) }
+        ensures full { (w : ℕ) → result ≡ Err (CoreNo.JournalFull w) → (w ≡ role_weight to (world_of self.old)) × (most_weight < w + asked_weight self.old.registry to ask) }
+        ensures legal { IsLegalWorld (own_site self.new.registry) (world_of self.new) }
+        ensures signs { HasDistinctWords (world_of self.new) → IsUnleaked (world_of self.new) → IsUnforged (own_site self.new.registry) (world_of self.new) → IsJoined (world_of self.new) → SignsOn (own_site self.new.registry) (world_of self.new) }
+    {
+        match to {
+            To::Provider => match ask {
+                WorldAsk::Http(request) => ask_provider(
+                    &mut self.provider,
+                    &mut self.transcript,
+                    alloc,
+                    from,
+                    at,
+                    fresh,
+                    request,
+                ),
+                WorldAsk::Tokens(..) | WorldAsk::Info(..) => unreachable!(),
+            },
+            To::Party(party) => ask_party(
+                &mut self.parties,
+                &mut self.transcript,
+                alloc,
+                from,
+                party,
+                at,
+                fresh,
+                ask,
+            ),
+        }
+    }
+
+    /// Keeps a place at which nothing was asked.
+    pub fn skip(&mut self, alloc: Global) -> Result<(), NoMemory>
+        ensures registry { self.new.registry ≡ self.old.registry }
+        ensures ok { OnOk result (world_of self.new ≡ Nothing ∷ world_of self.old) }
+        ensures jars { self.new.jars ≡ self.old.jars }
+        ensures err { OnErr result (self.new ≡ self.old) }
+        ensures legal { IsLegalWorld (own_site self.new.registry) (world_of self.new) }
+        ensures signs { HasDistinctWords (world_of self.new) → IsUnleaked (world_of self.new) → IsUnforged (own_site self.new.registry) (world_of self.new) → IsJoined (world_of self.new) → SignsOn (own_site self.new.registry) (world_of self.new) }
+    {
+        self.transcript.skip(alloc)
+    }
+
+    /// The thief has copies of the owner's jars at all roles, in place of its own. The number 0, of a server, has no jars.
+    pub fn steal(&mut self, thief: u32, owner: u32) -> Result<(), NoMemory>
+        ensures registry { self.new.registry ≡ self.old.registry }
+        ensures places { world_of self.new ≡ world_of self.old }
+        ensures ok { OnOk result (self.new.jars ≡ jars_stolen thief owner self.old.jars) }
+        ensures err { OnErr result (self.new ≡ self.old) }
+    {
+        self.transcript.steal(thief, owner)
+    }
+
+    /// How many places there are.
+    pub fn places(&self) -> u64
+        ensures { result ≡ length (world_of self.now) }
+    {
+        self.transcript.places()
+    }
+
+    /// The reply at a place, from 1. None exactly where there is no such place.
+    pub fn reply(&self, place: u64) -> Option<&WorldReply>
+        ensures { option_copied result ≡ option_map reply_at (place_at (world_of self.now) place) }
+    {
+        self.transcript.reply(place)
+    }
+
+    /// The number from which a place was asked, 0 where nothing was. None exactly where there is no such place.
+    pub fn from(&self, place: u64) -> Option<u32>
+        ensures { result ≡ option_map from_of (place_at (world_of self.now) place) }
+    {
+        self.transcript.from(place)
+    }
+
+    /// The cookies of a browser at a role.
+    pub fn jar(&self, browser: u32, to: To) -> Jar
+        ensures { result ≡ jar_of self.now.jars browser to }
+    {
+        self.transcript.jar(browser, to)
+    }
+
+    /// Whether the premises of the sign-on theorem that are tested hold: no token text is forged, no cookie is used under another
+    /// number, and no half digests of codes and access tokens clash. Else the first place at which one fails, and which.
+    pub fn premises(&self) -> Result<(), Broken>
+        ensures ok { OnOk result (first_broken (own_site self.now.registry) (world_of self.now) ≡ None) }
+        ensures err { IfErr result (λ b. first_broken (own_site self.now.registry) (world_of self.now) ≡ Some b) }
+    {
+        match self.transcript.broken() {
+            None => Ok(()),
+            Some(broken) => Err(broken),
+        }
+    }
+}

@@ -1,0 +1,180 @@
+// The token texts that a place writes are noted.
+
+ghost use Rattle.std.specs.Prelude.{◌≡◌, ◌<◌, length, Some, IfSome, OnOk};
+ghost use Rattle.op_answer.specs.Replies.{sign_out_of as sign_out};
+ghost use Rattle.op_exchange.specs.declared.ask.OpAsk.TheVariants as op_ask;
+ghost use Rattle.sso_places.specs.Site.{own_site};
+ghost use Rattle.sso_places.specs.Tokens.{token_if};
+ghost use Rattle.sso_places.specs.Written.{client_of_uri as client_of_uri_of, rp_written};
+ghost use Rattle.running_world.specs.Foreknowing.{IsKnown};
+ghost use Rattle.running_world.specs.Noting as spec;
+
+use crate::foreknown::Foreknown;
+use crate::kept::Asked;
+use client_registry::Registry;
+use code_grant::SessionRow;
+use login_request::login_object;
+use op_exchange::OpReply;
+use op_issue::{Authentication, SignOut, logout_token_for};
+use rp_exchange::RpReply;
+use sso_base::{NoMemory, Text};
+use std::alloc::Global;
+use world_index::Written;
+
+// The client that has the redirection URI.
+fn client_of_uri(registry: &Registry, uri: &Text) -> Option<u32>
+    ensures client { result ≡ client_of_uri_of registry.now uri.now }
+    ensures known { IfSome result (λ n. n < length registry.now.clients) }
+{
+    for client in 0..registry.clients() {
+        if registry.client(client).redirects.has(uri.as_str()) {
+            return Some(client);
+        }
+    }
+    None
+}
+
+// The text is written for the client, where both are there.
+fn note_text(
+    written: &mut Written,
+    alloc: Global,
+    client: Option<u32>,
+    text: &Option<Text>,
+) -> Result<(), NoMemory>
+    requires { IfSome client (λ n. n < length written.old) }
+    ensures count { length written.new ≡ length written.old }
+    ensures ok { OnOk result (spec.AreNoted written.old written.new (token_if client text.now)) }
+    ensures either { spec.ArePartlyNoted written.old written.new (token_if client text.now) }
+{
+    match (client, text) {
+        (Some(client), Some(text)) => written.note(alloc, text, client),
+        _ => Ok(()),
+    }
+}
+
+// The sign-out that ends a session at a place.
+fn sign_out_of(asked: &Asked, session: &SessionRow) -> SignOut
+    ensures { result ≡ sign_out (record { at = asked.now.at; fresh = asked.now.fresh; ask = op_ask.NotHere }) session.now }
+{
+    SignOut {
+        who: Authentication {
+            user: session.user,
+            sid: session.sid,
+            auth_time: session.auth_time,
+        },
+        at: asked.at,
+        word: asked.fresh[0],
+    }
+}
+
+// The logout token for a client is written, where the client is told.
+fn note_logout(
+    written: &mut Written,
+    alloc: Global,
+    registry: &Registry,
+    client: u32,
+    out: &SignOut,
+    session: &SessionRow,
+) -> Result<(), NoMemory>
+    requires count { length written.old ≡ length registry.now.clients }
+    requires client { client < length registry.now.clients }
+    requires user { out.now.who.user < length registry.now.users }
+    ensures count { length written.new ≡ length written.old }
+    ensures ok { OnOk result (spec.AreNoted written.old written.new (spec.logout_written registry.now out.now session.now.clients client)) }
+    ensures either { spec.ArePartlyNoted written.old written.new (spec.logout_written registry.now out.now session.now.clients client) }
+{
+    if session.clients.has(client) && registry.client(client).logout.is_some() {
+        let token = logout_token_for(alloc, registry, client, out)?;
+        written.note(alloc, &token, client)?;
+    }
+    Ok(())
+}
+
+// The logout tokens of the sign-out of a session are written.
+fn note_logouts(
+    written: &mut Written,
+    alloc: Global,
+    registry: &Registry,
+    asked: &Asked,
+    session: &SessionRow,
+) -> Result<(), NoMemory>
+    requires count { length written.old ≡ length registry.now.clients }
+    requires user { session.now.user < length registry.now.users }
+    ensures count { length written.new ≡ length written.old }
+    ensures ok { OnOk result (spec.AreNoted written.old written.new (spec.ended_writes registry.now asked.now.at asked.now.fresh (Some session.now))) }
+    ensures either { spec.ArePartlyNoted written.old written.new (spec.ended_writes registry.now asked.now.at asked.now.fresh (Some session.now)) }
+{
+    let out = sign_out_of(asked, session);
+    for client in 0..registry.clients() {
+        note_logout(written, alloc, registry, client, &out, session)?;
+    }
+    Ok(())
+}
+
+/// The texts that a reply of the provider writes are written.
+pub(crate) fn note_op_written(
+    written: &mut Written,
+    alloc: Global,
+    registry: &Registry,
+    asked: &Asked,
+    reply: &OpReply,
+    fore: &Foreknown,
+) -> Result<(), NoMemory>
+    requires count { length written.old ≡ length registry.now.clients }
+    requires fore { IsKnown registry.now fore.now }
+    ensures count { length written.new ≡ length written.old }
+    ensures ok { OnOk result (spec.AreNoted written.old written.new (spec.written_by registry.now asked.now.at asked.now.fresh reply.now fore.now.client fore.now.ended)) }
+    ensures either { spec.ArePartlyNoted written.old written.new (spec.written_by registry.now asked.now.at asked.now.fresh reply.now fore.now.client fore.now.ended) }
+{
+    match reply {
+        OpReply::Answered { answer, .. } => note_text(
+            written,
+            alloc,
+            client_of_uri(registry, &answer.redirect),
+            &answer.id,
+        ),
+        OpReply::Tokens { id, .. } => match fore.client {
+            Some(client) => written.note(alloc, id, client),
+            None => Ok(()),
+        },
+        OpReply::SignedOut { .. } => match &fore.ended {
+            Some(session) => note_logouts(written, alloc, registry, asked, session),
+            None => Ok(()),
+        },
+        _ => Ok(()),
+    }
+}
+
+/// The request object of a login that begins is written, where the party's requests are signed.
+pub(crate) fn note_rp_written(
+    written: &mut Written,
+    alloc: Global,
+    registry: &Registry,
+    party: u32,
+    asked: &Asked,
+    reply: &RpReply,
+) -> Result<(), NoMemory>
+    requires count { length written.old ≡ length registry.now.clients }
+    requires party { party < length registry.now.parties }
+    ensures count { length written.new ≡ length written.old }
+    ensures ok { OnOk result (spec.AreNoted written.old written.new (rp_written (own_site registry.now) party asked.now.fresh reply.now)) }
+    ensures either { spec.ArePartlyNoted written.old written.new (rp_written (own_site registry.now) party asked.now.fresh reply.now) }
+{
+    let RpReply::Ask { .. } = reply else {
+        return Ok(());
+    };
+    let row = registry.party(party);
+    if row.signed {
+        let issuer = &registry.provider().issuer;
+        let object = login_object(
+            alloc,
+            registry,
+            party,
+            issuer,
+            &asked.fresh[1],
+            &asked.fresh[2],
+        )?;
+        written.note(alloc, &object, row.client)?;
+    }
+    Ok(())
+}

@@ -1,0 +1,30 @@
+-- Codes and access tokens that were issued, each under its half digest (OpenID Connect Core 1.0, 3.1.3.6 and 3.3.2.11).
+use Rattle.std.specs.Prelude.{ℕ, List, Option, Some, None, if◌then◌else◌}
+use Rattle.std.specs.Map.{lookup}
+use Rattle.std.specs.Ordering.{is_eq, nat_cmp}
+use Rattle.std.specs.Cmp.Lexicographic.{slice_cmp}
+use Rattle.std.specs.Str.{bytes_eq}
+use Rattle.sso_base.specs.Words.{Word, Text, word_text}
+use Rattle.id_token.specs.HalfHash.{half_hash_of}
+use Rattle.world_index.specs.declared.halves.Issued.{Issued}
+
+abbrev pub half_digest : Word → Text
+half_digest w = half_hash_of (word_text w)
+
+-- what was noted first of a half digest
+abbrev pub issued_of : List (Text × Issued) → Text → Option Issued
+issued_of halves half = lookup (λ h. is_eq (slice_cmp nat_cmp half h)) halves
+
+-- what stands first
+abbrev pub first_of : Option Issued → Option Issued → Option Issued
+first_of None later = later
+first_of (Some issued) later = Some issued
+
+-- a word that is issued at a place, where the half digest is its own
+abbrev pub issued_as : Text → Word → ℕ → Option Issued
+issued_as half w place = if bytes_eq (half_digest w) half then Some (record { word = w; place = place }) else None
+
+-- the place of another word
+abbrev pub other_place : Word → Option Issued → Option ℕ
+other_place w None = None
+other_place w (Some issued) = if bytes_eq issued.word w then None else Some issued.place

@@ -1,0 +1,73 @@
+// For each half digest, the first word that was issued with it, and where.
+
+ghost use Rattle.std.specs.Prelude.{◌≡◌, None, OnOk, OnErr};
+ghost use Rattle.sso_base.specs.Words.{Text as TextOf};
+ghost use Rattle.world_index.specs.Issuing.{half_digest, issued_of, first_of, issued_as, other_place};
+
+use id_token::half_hash;
+use sso_base::{NoMemory, Word};
+use std::alloc::Global;
+use std::collections::BTreeMap;
+use std::marker::Model;
+
+// A word that was issued, and the place at which it was.
+#[derive(Clone, Copy)]
+struct Issued {
+    word: Word,
+    place: u64,
+}
+
+/// The half digests of the codes and access tokens that were issued, each with the first word that has it and with the place
+/// at which that was issued first (OpenID Connect Core 1.0, 3.1.3.6 and 3.3.2.11).
+#[derive(Drop)]
+pub struct Halves {
+    words: BTreeMap<[u8; 22], Issued>,
+}
+
+impl Model for Halves {
+    ghost use Rattle.std.specs.Prelude.{List, ℕ};
+    ghost use Rattle.world_index.specs.declared.halves.Issued.{Issued};
+
+    ghost Value = { List (List ℕ × Issued) };
+
+    ghost view = { λ h. h.words.entries };
+}
+
+impl Halves {
+    /// No word was issued.
+    pub fn new(alloc: Global) -> Halves
+        ensures { (half : TextOf) → issued_of result half ≡ None }
+    {
+        Halves {
+            words: BTreeMap::new(alloc),
+        }
+    }
+
+    /// The place at which another word of the same half digest was issued, where the first of them is another.
+    pub fn clash(&self, word: &Word) -> Option<u64>
+        ensures { result ≡ other_place word.now (issued_of self.now (half_digest word.now)) }
+    {
+        match self.words.get(&half_hash(&word.text())) {
+            None => None,
+            Some(issued) => {
+                if issued.word == *word {
+                    None
+                } else {
+                    Some(issued.place)
+                }
+            }
+        }
+    }
+
+    /// The word is issued at a place.
+    pub fn note(&mut self, word: &Word, place: u64) -> Result<(), NoMemory>
+        ensures ok { OnOk result ((half : TextOf) → issued_of self.new half ≡ first_of (issued_of self.old half) (issued_as half word.now place)) }
+        ensures err { OnErr result (self.new ≡ self.old) }
+    {
+        let half = half_hash(&word.text());
+        if self.words.get(&half).is_none() {
+            self.words.insert(half, Issued { word: *word, place })?;
+        }
+        Ok(())
+    }
+}
