@@ -20,8 +20,8 @@ fn repeated(alloc: Global, count: u32, text: &str) -> Result<Vec<u8>, AllocError
     Ok(bytes)
 }
 
-// The count and the text of a field `COUNT*TEXT`.
-fn times(field: &str) -> Option<(u32, &str)> {
+/// The count and the text of a field `COUNT*TEXT`.
+pub fn times(field: &str) -> Option<(u32, &str)> {
     let (count, text) = field.split_once('*')?;
     Some((count.parse::<u32>().ok()?, text))
 }

@@ -33,7 +33,7 @@ pub use crate::answers::{
 };
 pub use crate::fields::{
     as_text, bytes, field, given, given_text, given_texts, hex_word, in_32, moment, number, scopes,
-    word_in, word_of, written,
+    times, word_in, word_of, written,
 };
 pub use crate::http::{push_field, push_http, push_message};
 pub use crate::numbered::{word, words_of_place};

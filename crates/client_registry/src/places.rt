@@ -31,7 +31,8 @@ pub(crate) fn secret_place(clients: &[Client], secret: &str) -> Option<usize>
 
 // The first client that has the redirection URI.
 pub(crate) fn redirect_place(clients: &[Client], uri: &str) -> Option<usize>
-    ensures { result ≡ spec.redirect_place uri.now clients.now }
+    ensures value { result ≡ spec.redirect_place uri.now clients.now }
+    ensures within { IfSome result (λ place. place < length clients.now) }
 {
     for (place, client) in clients.iter().enumerate() {
         if client.redirects.has(uri) {

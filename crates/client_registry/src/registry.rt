@@ -1,13 +1,13 @@
 // The registry: an accepted configuration.
 
-ghost use Rattle.std.specs.Prelude.{◌≡◌, ◌<◌, length, Some, IfOk};
+ghost use Rattle.std.specs.Prelude.{◌≡◌, ◌<◌, length, Some, IfSome, IfOk};
 ghost use Rattle.client_registry.specs.Configuration.{subject_at};
 ghost use Rattle.client_registry.specs.Numbers.{user_at, client_at, party_at};
 ghost use Rattle.client_registry.specs.Registered.{IsRegistry};
 ghost use Rattle.client_registry.specs.Records.{client_place};
-ghost use Rattle.client_registry.specs.Rules.{user_place, party_place};
+ghost use Rattle.client_registry.specs.Rules.{user_place, redirect_place, party_place};
 
-use crate::places::{party_place, user_place};
+use crate::places::{party_place, redirect_place, user_place};
 use crate::records::{Client, Party, Provider, User};
 use crate::rows::client_place;
 use sso_base::{NoMemory, Text, Texts};
@@ -130,6 +130,15 @@ impl Registry {
         ensures { result ≡ client_place id.now self.now.clients }
     {
         let place = client_place(&self.clients, id)?;
+        Some(place as u32)
+    }
+
+    /// The number of the client that has this redirection URI (RFC 6749, 3.1.2.2). None exactly where no client has it.
+    pub fn client_of_uri(&self, uri: &str) -> Option<u32>
+        ensures client { result ≡ redirect_place uri.now self.now.clients }
+        ensures known { IfSome result (λ n. n < length self.now.clients) }
+    {
+        let place = redirect_place(&self.clients, uri)?;
         Some(place as u32)
     }
 

@@ -6,19 +6,19 @@ use Rattle.command_line.specs.Commands.{is_plain, command_of, is_command, asks_r
 
 -- ---- each list of words that is accepted
 
-replay : command_of (codes "replay" ∷ codes "mini.toml" ∷ codes "login.trace" ∷ []) ≡ Some (Replay (codes "mini.toml") (codes "login.trace"))
+replay : command_of (codes "replay" ∷ codes "sample.toml" ∷ codes "login.trace" ∷ []) ≡ Some (Replay (codes "sample.toml") (codes "login.trace"))
 unfolding command_of
 replay = refl
 
-op : command_of (codes "op" ∷ codes "mini.toml" ∷ []) ≡ Some (Op (codes "mini.toml"))
+op : command_of (codes "op" ∷ codes "sample.toml" ∷ []) ≡ Some (Op (codes "sample.toml"))
 unfolding command_of
 op = refl
 
-rp : command_of (codes "rp" ∷ codes "mini.toml" ∷ codes "news" ∷ []) ≡ Some (Rp (codes "mini.toml") (codes "news") None)
+rp : command_of (codes "rp" ∷ codes "sample.toml" ∷ codes "news" ∷ []) ≡ Some (Rp (codes "sample.toml") (codes "news") None)
 unfolding command_of
 rp = refl
 
-rp_with_discovery : command_of (codes "rp" ∷ codes "mini.toml" ∷ codes "news" ∷ codes "op.json" ∷ []) ≡ Some (Rp (codes "mini.toml") (codes "news") (Some (codes "op.json")))
+rp_with_discovery : command_of (codes "rp" ∷ codes "sample.toml" ∷ codes "news" ∷ codes "op.json" ∷ []) ≡ Some (Rp (codes "sample.toml") (codes "news") (Some (codes "op.json")))
 unfolding command_of
 rp_with_discovery = refl
 
@@ -28,7 +28,7 @@ token = refl
 
 -- ---- lists of words that are none
 
-with_an_empty_word : command_of (codes "rp" ∷ codes "mini.toml" ∷ codes "news" ∷ [] ∷ []) ≡ None
+with_an_empty_word : command_of (codes "rp" ∷ codes "sample.toml" ∷ codes "news" ∷ [] ∷ []) ≡ None
 unfolding command_of
 with_an_empty_word = refl
 
@@ -36,7 +36,7 @@ with_a_hyphen : command_of (codes "op" ∷ codes "-v" ∷ []) ≡ None
 unfolding command_of
 with_a_hyphen = refl
 
-five_words : command_of (codes "rp" ∷ codes "mini.toml" ∷ codes "news" ∷ codes "op.json" ∷ codes "more" ∷ []) ≡ None
+five_words : command_of (codes "rp" ∷ codes "sample.toml" ∷ codes "news" ∷ codes "op.json" ∷ codes "more" ∷ []) ≡ None
 unfolding command_of
 five_words = refl
 
@@ -48,15 +48,15 @@ name_alone : command_of (codes "op" ∷ []) ≡ None
 unfolding command_of
 name_alone = refl
 
-other_name : command_of (codes "Op" ∷ codes "mini.toml" ∷ []) ≡ None
+other_name : command_of (codes "Op" ∷ codes "sample.toml" ∷ []) ≡ None
 unfolding command_of
 other_name = refl
 
-a_word_too_many : command_of (codes "op" ∷ codes "mini.toml" ∷ codes "more" ∷ []) ≡ None
+a_word_too_many : command_of (codes "op" ∷ codes "sample.toml" ∷ codes "more" ∷ []) ≡ None
 unfolding command_of
 a_word_too_many = refl
 
-a_word_too_few : command_of (codes "replay" ∷ codes "mini.toml" ∷ []) ≡ None
+a_word_too_few : command_of (codes "replay" ∷ codes "sample.toml" ∷ []) ≡ None
 unfolding command_of
 a_word_too_few = refl
 
@@ -75,7 +75,7 @@ hyphen_alone = refl
 empty : is_plain [] ≡ false
 empty = refl
 
-command : is_command (codes "op" ∷ codes "mini.toml" ∷ []) ≡ true
+command : is_command (codes "op" ∷ codes "sample.toml" ∷ []) ≡ true
 unfolding command_of
 command = refl
 

@@ -1,6 +1,9 @@
-pub mod Commands
-pub mod Decimals
-pub mod Order
-pub mod PlainText
-pub mod Plays
-pub mod Samples
+mod Distinct
+mod DrawnWords
+mod InOrder
+mod Joined
+mod PlayLaws
+pub mod Played
+mod PlacesTaken
+mod Samples
+mod WordBytes

@@ -1,71 +1,98 @@
--- Traces that are read and traces that are refused, and one play, computed over the definitions.
-use Rattle.std.specs.Prelude.{◌≡◌, ℕ, List, [], ◌∷◌, ◌++◌, codes, Ok, Err, refl}
+-- The definitions of a play, computed on short traces over a small registry.
+use Rattle.std.proofs.Common.{◌≡◌, ℕ, List, [], ◌∷◌, ◌++◌, Some, None, codes, refl}
 use Rattle.std.specs.Fmt.{digits}
-use Rattle.hex.specs.Hex.{decode_pairs}
-use Rattle.sso_world.specs.declared.place.FirstAsk.{FirstAsk}
-use Rattle.sso_world.specs.declared.place.FirstAsk.TheVariants.{Begin, Follow, Login}
-use Rattle.sso_world.specs.ProviderAnswer.{op_answer}
-use Rattle.sso_world.specs.PartyAnswer.{rp_answer}
-use Rattle.oidc_replay.specs.declared.trace.TraceLine.{TraceLine}
-use Rattle.oidc_replay.specs.declared.trace.TraceNo.TheVariants.{NotYet}
-use Rattle.oidc_replay.specs.Trace.{Told, trace_of}
-use Rattle.oidc_replay.specs.Replay.{play_of, text_of}
+use Rattle.sso_base.specs.declared.http.Method.TheVariants.{Get}
+use Rattle.rp_request.specs.Prepared.{prepared}
+use Rattle.rp_response.specs.Lines.{line_of as rp_line}
+use Rattle.rp_answer.specs.Answering.{rp_answer}
+use Rattle.rp_answer.proofs.Sample.{sample}
+use Rattle.sso_places.specs.declared.types.Broken.TheVariants.{Forged, Leaked, HashClash}
+use Rattle.sso_places.specs.declared.types.To.TheVariants as to
+use Rattle.trace_lines.specs.declared.line.Line.{Line}
+use Rattle.trace_lines.specs.declared.line.Line.TheVariants.{At, Steal, Show, Begin, Follow, Visit, Carry, Back, Raw}
+use Rattle.trace_lines.specs.declared.line.Shown.TheVariants as shown
+use Rattle.trace_lines.specs.Trace.{Told}
+use Rattle.web_requests.specs.Carrying.{carried}
+use Rattle.web_requests.specs.Handing.{printed, handed_back}
+use Rattle.web_requests.specs.Locations.{location_of}
+use Rattle.web_requests.specs.Raw.{raw_sent}
+use Rattle.oidc_replay.specs.declared.replaying.ReplayEnd.TheVariants as end
+use Rattle.oidc_replay.specs.Words.{word_at, words_after}
+use Rattle.oidc_replay.specs.Play.{Played, play_on, play_of}
+use Rattle.oidc_replay.specs.End.{end_of}
+use Rattle.oidc_replay.specs.Text.{end_line, text_of}
 
-abbrev line : List ℕ → List ℕ
-line text = text ++ 10 ∷ []
+-- ---- words: the seed, then the number, greatest byte first
 
--- 24 times the byte 16
-abbrev sixteens : List ℕ
-sixteens = 16 ∷ 16 ∷ 16 ∷ 16 ∷ 16 ∷ 16 ∷ 16 ∷ 16 ∷ 16 ∷ 16 ∷ 16 ∷ 16 ∷ 16 ∷ 16 ∷ 16 ∷ 16 ∷ 16 ∷ 16 ∷ 16 ∷ 16 ∷ 16 ∷ 16 ∷ 16 ∷ 16 ∷ []
+abbrev eight : List ℕ
+eight = 0 ∷ 0 ∷ 0 ∷ 0 ∷ 0 ∷ 0 ∷ 0 ∷ 0 ∷ []
 
-abbrev header : List ℕ
-header = line (codes "sso-trace 1 101010101010101010101010101010101010101010101010")
+abbrev zeros : List ℕ
+zeros = eight ++ eight ++ eight
 
--- ---- A login
+word_258 : word_at zeros 258 ≡ zeros ++ (0 ∷ 0 ∷ 0 ∷ 0 ∷ 0 ∷ 0 ∷ 1 ∷ 2 ∷ [])
+word_258 = refl
 
-abbrev asked_at_1000 : FirstAsk → TraceLine
-asked_at_1000 ask = record { browser = 1; at = 1000; ask = ask }
+-- place 2, which follows one place, draws the words 5 to 8
+second_words : words_after zeros 1 ≡ word_at zeros 5 ∷ word_at zeros 6 ∷ word_at zeros 7 ∷ word_at zeros 8 ∷ []
+second_words = refl
 
-abbrev login_told : Told
-login_told = record {
-  seed = sixteens;
-  lines = asked_at_1000 (Follow 3) ∷ asked_at_1000 (Login 2 (codes "alice") (codes "password")) ∷ asked_at_1000 (Follow 1) ∷ asked_at_1000 Begin ∷ [];
-}
+-- ---- traces; the newest line stands first
 
-a_login_is_read : trace_of (header ++ line (codes "at 1000") ++ line (codes "begin 1 news") ++ line (codes "follow 1 1") ++ line (codes "login 1 2 alice password") ++ line (codes "follow 1 3")) ≡ Ok login_told
-unfolding trace_of decode_pairs
-a_login_is_read = refl
+abbrev told : List Line → Told
+told lines = record { seed = zeros; lines = lines }
 
-a_login_enters : text_of login_told ≡ line (codes "1 news ask") ++ line (codes "2 op login") ++ line (codes "3 op answer id_token token") ++ line (codes "4 news session alice") ++ line (codes "premises met")
-unfolding text_of play_of op_answer rp_answer digits
-a_login_enters = refl
+-- no line
+nothing_text : text_of sample (told []) ≡ codes "premises met\n"
+unfolding text_of end_of play_of
+nothing_text = refl
 
--- ---- What is skipped and what is not accepted
+-- a visit, and a line for which its reply lacks a location; what holds nothing is shown as such
+visit_text : text_of sample (told (Show 2 ∷ Follow 1 1 ∷ Visit 1 0 ∷ At 1000 ∷ [])) ≡ codes "1 shop nobody\n2 - none\nshow 2 \npremises met\n"
+unfolding text_of end_of play_of location_of printed prepared rp_answer rp_line digits
+visit_text = refl
 
-comments_are_skipped : trace_of (header ++ line [] ++ line (codes "# at 7") ++ codes "begin 65535 news") ≡ Ok (record { seed = sixteens; lines = record { browser = 65535; at = 0; ask = Begin } ∷ [] })
-unfolding trace_of decode_pairs
-comments_are_skipped = refl
+-- a reply that has no message, and one that asks nothing of another server
+no_message : text_of sample (told (Back 1 1 ∷ Carry 1 0 ∷ Visit 1 0 ∷ [])) ≡ codes "1 shop nobody\n2 - none\n3 - none\npremises met\n"
+unfolding text_of end_of play_of carried handed_back printed prepared rp_answer rp_line digits
+no_message = refl
 
-no_header_is_in_capitals : trace_of (line (codes "sso-trace 1 A01010101010101010101010101010101010101010101010")) ≡ Err (NotYet 1)
-unfolding trace_of
-no_header_is_in_capitals = refl
+-- a browser visits with the cookies of another
+stolen : end_of sample (told (Visit 2 0 ∷ Steal 2 1 ∷ Begin 1 0 ∷ [])) ≡ end.Broken (Leaked 2)
+unfolding end_of play_of prepared rp_answer
+stolen = refl
 
-a_place_that_has_not_come_is_refused : trace_of (header ++ line (codes "begin 1 news") ++ line (codes "follow 1 2")) ≡ Err (NotYet 3)
-unfolding trace_of decode_pairs
-a_place_that_has_not_come_is_refused = refl
+-- its own cookies leak nothing
+own : end_of sample (told (Visit 1 0 ∷ Steal 2 1 ∷ Begin 1 0 ∷ [])) ≡ end.Met
+unfolding end_of play_of prepared rp_answer
+own = refl
 
-a_moment_that_goes_back_is_refused : trace_of (header ++ line (codes "at 8") ++ line (codes "#") ++ line (codes "at 7")) ≡ Err (NotYet 4)
-unfolding trace_of decode_pairs
-a_moment_that_goes_back_is_refused = refl
+-- a request shows the word that is written, and none of the jar
+shown_word : end_of sample (told (Raw 2 (to.Party 0) Get (Some (codes "/")) (shown.Given (word_at zeros 1)) shown.Jar None None ∷ Begin 1 0 ∷ [])) ≡ end.Broken (Leaked 2)
+unfolding end_of play_of prepared rp_answer raw_sent
+shown_word = refl
 
-a_leading_zero_is_refused : trace_of (header ++ line (codes "at 07")) ≡ Err (NotYet 2)
-unfolding trace_of decode_pairs
-a_leading_zero_is_refused = refl
+-- ---- ends
 
-two_spaces_are_refused : trace_of (header ++ line (codes "at  7")) ≡ Err (NotYet 2)
-unfolding trace_of decode_pairs
-two_spaces_are_refused = refl
+forged_line : end_line (end.Broken (Forged 4)) ≡ codes "premises forged 4\n"
+unfolding digits
+forged_line = refl
 
-an_empty_trace_is_refused : trace_of [] ≡ Err (NotYet 1)
-unfolding trace_of
-an_empty_trace_is_refused = refl
+leaked_line : end_line (end.Broken (Leaked 9)) ≡ codes "premises leaked 9\n"
+unfolding digits
+leaked_line = refl
+
+clash_line : end_line (end.Broken (HashClash 5 12)) ≡ codes "premises clash 5 12\n"
+unfolding digits
+clash_line = refl
+
+journal_line : end_line (end.Journal 262145) ≡ codes "journal 262145\n"
+unfolding digits
+journal_line = refl
+
+-- nothing is played after the end
+abbrev over : Played
+over = record { world = []; jars = []; at = 0; ended = Some 1 }
+
+nothing_more : play_on sample zeros over (Visit 1 0) ≡ over
+nothing_more = refl

@@ -1,5 +1,6 @@
-pub mod Header
-pub mod Line
-pub mod Number
-pub mod Replay
-pub mod Trace
+pub mod End
+pub mod Play
+pub mod Sending
+pub mod Text
+pub mod Theorem
+pub mod Words

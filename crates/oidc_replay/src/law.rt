@@ -1,20 +1,22 @@
-//! Laws of the definitions, as contracts of functions that do nothing.
+// What holds of every play, for the crates above.
 
-ghost use Rattle.std.specs.Prelude.{◌≡◌, ◌<◌, ◌^◌, ◌↔◌, ℕ, List, Some, Ok};
-ghost use Rattle.std.specs.Fmt.{decimal};
-ghost use Rattle.sso_world.specs.Premises.{MeetsPremises};
-ghost use Rattle.sso_world.specs.Agreement.{SignsOn};
-ghost use Rattle.oidc_replay.specs.Number.{number_of};
-ghost use Rattle.oidc_replay.specs.Trace.{Told, trace_of};
-ghost use Rattle.oidc_replay.specs.Replay.{play_of};
+ghost use Rattle.std.specs.Prelude.{◌≡◌, ◌<◌, ◌^◌, ℕ, suc, length, None, Some};
+ghost use Rattle.client_registry.specs.Configuration.{Configuration};
+ghost use Rattle.sso_places.specs.Premises.{HasDistinctWords, IsJoined};
+ghost use Rattle.trace_lines.specs.Lines.{places_after};
+ghost use Rattle.trace_lines.specs.Trace.{Told};
+ghost use Rattle.oidc_replay.specs.Play.{play_of};
 
-/// The world of every first trace that is read meets the premises of the sign-on theorem, and signs on.
-pub fn every_trace_signs_on()
-    ensures premises { (bytes : List ℕ) (told : Told) → trace_of bytes ≡ Ok told → MeetsPremises (play_of told) }
-    ensures signs { (bytes : List ℕ) (told : Told) → trace_of bytes ≡ Ok told → SignsOn (play_of told) }
+/// Two premises of the sign-on theorem hold in every play by its making: all words that the roles draw differ, and what a server
+/// answers comes under the number of the place that asked.
+pub fn plays_are_distinct_and_joined()
+    ensures distinct { (c : Configuration) (told : Told) → length told.lines < 2 ^ 60 → HasDistinctWords (play_of c told).world }
+    ensures joined { (c : Configuration) (told : Told) → length told.lines < 2 ^ 60 → IsJoined (play_of c told).world }
 {}
 
-/// A word is read as a number exactly where it is the text of that number.
-pub fn numbers_are_decimal()
-    ensures { (word : List ℕ) (n : ℕ) → (number_of word ≡ Some n) ↔ ((word ≡ decimal n) × (n < 2 ^ 64)) }
+/// Each line that takes a place has it, in the order of the lines, so that the places which a line names are those of the lines
+/// before it. A play that ended early ended before the place that was next.
+pub fn plays_have_the_places_of_their_lines()
+    ensures places { (c : Configuration) (told : Told) → (play_of c told).ended ≡ None → length (play_of c told).world ≡ places_after told.lines }
+    ensures ended { (c : Configuration) (told : Told) (place : ℕ) → (play_of c told).ended ≡ Some place → place ≡ suc (length (play_of c told).world) }
 {}

@@ -1,38 +1,27 @@
-//! First traces: their reading, and their replay in a world of one provider, one relying party and their browsers.
+//! The replay of traces: a trace of what browsers and servers do is played over the provider and the relying parties of a registry,
+//! and told line by line.
 //!
-//! A first trace is at most 65,536 bytes. Its lines end with a line feed, which the last one may lack. The first line is
-//! `sso-trace 1 SEED`, with 48 lower-case hexadecimal digits for the seed of the words that the roles draw. Then empty
-//! lines, and those that begin with `#`, are skipped; each other line is one of these, of words of visible ASCII with
-//! exactly one space between:
-//!
-//! | Line | What it does |
-//! |---|---|
-//! | `at SECONDS` | sets the moment, which is 0 before and never goes back |
-//! | `begin B news` | browser B begins a login at the relying party |
-//! | `follow B P` | browser B follows the location of the reply at place P |
-//! | `login B P USER PASSWORD` | browser B posts the login form of the page at place P |
-//!
-//! The last three make the next place, from 1, and P is a place before their own. Browsers are numbered from 1 to 65,535.
+//! [`read_trace`] reads a trace for a registry; its grammar is that of the crate `trace_lines`. [`replay`] plays it. Each request
+//! takes the next place, from 1, and the role that it is sent to replies there. The words that the roles draw come from the seed of
+//! the trace: place p draws the words 4p - 3 to 4p, and word i is the seed followed by i in 8 bytes, greatest first.
 //!
 //! | Module | What it has | Its definitions, in `specs/` |
 //! |---|---|---|
-//! | `number` | decimal numbers | `Number` |
-//! | `header` | the first line | `Header` |
-//! | `line` | what another line says by itself | `Line` |
-//! | `trace`, `reading` | traces, and their reading | `Trace` |
-//! | `replay` | the replay of a trace | `Replay` |
-//! | `law` | every trace signs on; numbers are decimal | |
+//! | `words` | the words that the roles draw | `Words` |
+//! | `sending` | what a line sends | `Sending` |
+//! | `play` | the play of lines | `Play` |
+//! | `text` | what lines print | `Text` |
+//! | `replaying` | [`replay`], and how a play ends | `End`, `Theorem` |
+//! | `law` | what holds of every play, for the crates above | |
 #![tactic(auto)]
 
-mod header;
 mod law;
-mod line;
-mod number;
-mod reading;
-mod replay;
-mod trace;
+mod play;
+mod replaying;
+mod sending;
+mod text;
+mod words;
 
-pub use law::{every_trace_signs_on, numbers_are_decimal};
-pub use reading::read_first;
-pub use replay::replay_first;
-pub use trace::{Trace, TraceLine, TraceNo};
+pub use law::{plays_are_distinct_and_joined, plays_have_the_places_of_their_lines};
+pub use replaying::{ReplayEnd, Replayed, replay};
+pub use trace_lines::{Trace, TraceNo, read_trace};

@@ -106,8 +106,8 @@ fn authorization(
     })
 }
 
-// The form of the parameters of an authorization request: the body of a POST, else the query.
-fn parameters_of(ask: &Ask) -> &[u8]
+/// The form of the parameters of an authorization request: the body of a POST, else the query (OpenID Connect Core 1.0, 3.1.2.1).
+pub fn parameters_of(ask: &Ask) -> &[u8]
     ensures { result.now ≡ spec.parameters_of ask.now.method ask.now }
 {
     match ask.method {

@@ -4,7 +4,7 @@ ghost use Rattle.std.specs.Prelude.{◌<◌};
 
 use machine_desk::{RandomDraw, SystemClock, TcpDoor, TcpLink, desk};
 use server_desk::{Clock, Door, Draw, Link, LinkNo, Source, read_whole};
-use sso::{MINI, sso};
+use sso::sso;
 use sso_base::{Blob, File, MemoryShelf, MemorySink, Text, write_whole};
 use std::alloc::{AllocGlobal, Global};
 use std::io::{Read, Write};
@@ -173,20 +173,20 @@ fn the_clock_and_the_draw_are_the_machines(rt: HostRuntime) -> Result<(), Fail> 
     Ok(())
 }
 
-// A shelf with the small configuration, whose provider listens at this place.
+// A shelf with a configuration, whose provider is at this place.
 fn shelf_at(alloc: Global, place: &Text) -> Option<MemoryShelf> {
-    let listen = format!(in alloc; "listen = \"{}\"", place.as_str()).ok()?;
-    let config = MINI
-        .replace(alloc, "listen = \"127.0.0.1:8080\"", listen.as_str())
-        .ok()?;
+    let place = place.as_str();
+    let config = format!(in alloc;
+        "version = 1\n[provider]\nissuer = \"http://{place}\"\nlisten = \"{place}\"\nsalt = \"00112233445566778899aabbccddeeff\"\n"
+    ).ok()?;
     let file = File {
         name: Text::new(alloc, "config").ok()?,
-        content: Blob::new(alloc, config.as_bytes()).ok()?,
+        content: Blob::new(alloc, config.as_str().as_bytes()).ok()?,
     };
     Some(MemoryShelf::new(vec![in alloc; file].ok()?))
 }
 
-// Runs the provider of the small configuration at this place, for one connection. Whether it ended as it should.
+// Runs the provider at this place, for one connection. Whether it ended as it should.
 fn run_provider<R>(rt: &R, alloc: Global, place: &Text) -> Option<bool>
 where
     R: Threads

@@ -5,7 +5,7 @@
 //! | Module | What it has |
 //! |---|---|
 //! | `prepare` | [`prepare_rp`] reads a request, [`prepare_tokens`] a token endpoint's answer, [`prepare_info`] UserInfo's |
-//! | `logout` | a logout request |
+//! | `logout` | a logout request, and [`logout_token_of`] one |
 //! | `routes` | which endpoint a request is to |
 //! | `law` | what holds of the asks that they give, for the crates above |
 #![tactic(auto)]
@@ -22,4 +22,5 @@ pub use law::{
     the_one_logout_token_is_read, the_page_is_asked_for_without_a_query,
     token_answers_are_read_for_their_exchange, token_answers_have_opened_id_tokens,
 };
+pub use logout::logout_token_of;
 pub use prepare::{prepare_info, prepare_rp, prepare_tokens};

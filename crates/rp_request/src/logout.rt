@@ -7,10 +7,11 @@ ghost use Rattle.sso_base.specs.Words.{Text};
 ghost use Rattle.logout_token.specs.LogoutToken.{logout_read};
 ghost use Rattle.rp_request.specs.Prepared as spec;
 
+use crate::prepare::posted;
 use logout_token::{LogoutClaims, LogoutNo, read_logout};
 use request_params::{Pair, read_pairs, value_of};
 use rp_exchange::RpAsk;
-use sso_base::{NoMemory, Text};
+use sso_base::{Ask, NoMemory, Text};
 use std::alloc::Global;
 
 // The name of the field that has the logout token.
@@ -48,6 +49,13 @@ fn logout_token_in(alloc: Global, form: &[u8]) -> Result<Text, NoMemory>
         Some(token) => token.copy(alloc),
         None => Text::new(alloc, ""),
     }
+}
+
+/// The logout token of a logout request. Where its form has none, or more than one, it is the empty text.
+pub fn logout_token_of(alloc: Global, ask: &Ask) -> Result<Text, NoMemory>
+    ensures { IfOk result (λ t. t ≡ spec.logout_token_in (spec.posted ask.now.body)) }
+{
+    logout_token_in(alloc, posted(&ask.body))
 }
 
 // What is read of a logout token, which may be a refusal.

@@ -91,7 +91,7 @@ fn read_if_there(
 }
 
 // The form that was posted; an absent one is empty.
-fn posted(body: &Option<Blob>) -> &[u8]
+pub(crate) fn posted(body: &Option<Blob>) -> &[u8]
     ensures { result.now ≡ spec.posted body.now }
 {
     match body {

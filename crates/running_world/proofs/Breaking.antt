@@ -1,12 +1,11 @@
 -- The first premise that fails, after one more place.
-use Rattle.std.proofs.Common.{◌≡◌, ℕ, suc, Bool, true, false, cond, List, ◌∷◌, length, Option, Some, None, inl, inr, refl, sym, ap, ◌∙◌}
+use Rattle.std.proofs.Common.{◌≡◌, suc, List, ◌∷◌, length, Option, Some, None, inl, inr, refl, sym, ap, ◌∙◌}
 use Rattle.sso_base.specs.Words.{Text}
 use Rattle.sso_base.proofs.RowLaws.{option_cases}
 use Rattle.client_registry.specs.Configuration.{Configuration}
 use Rattle.op_answer.specs.Codes.{code_in}
 use Rattle.op_answer.specs.Room.{access_in}
 use Rattle.sso_places.specs.declared.types.Broken.{Broken}
-use Rattle.sso_places.specs.declared.types.Broken.TheVariants.{Forged, Leaked}
 use Rattle.sso_places.specs.declared.types.To.{To}
 use Rattle.sso_places.specs.declared.types.To.TheVariants as to
 use Rattle.sso_places.specs.declared.types.WorldAsk.{WorldAsk}
@@ -14,7 +13,7 @@ use Rattle.sso_places.specs.declared.types.WorldAsk.TheVariants.{Http, Tokens, I
 use Rattle.sso_places.specs.declared.types.WorldReply.{WorldReply}
 use Rattle.sso_places.specs.declared.types.WorldReply.TheVariants as reply
 use Rattle.sso_places.specs.FirstBroken.{or_else, first_clash, clash_at, broken_at, first_broken}
-use Rattle.sso_places.specs.Premises.{issued_at, forges, leaks, HasDistinctHashes}
+use Rattle.sso_places.specs.Premises.{issued_at, HasDistinctHashes}
 use Rattle.sso_places.specs.Site.{Site, own_site}
 use Rattle.sso_places.specs.World.{Place, Nothing, World}
 use Rattle.sso_places.proofs.Clashes.{none_found}
@@ -35,11 +34,6 @@ or_else_none : (o : Option Broken) → or_else o None ≡ o
 or_else_none None = refl
 or_else_none (Some b) = refl
 
-or_verdict : (forged leaked : Bool) (a b : Broken) (o : Option Broken) → or_else (cond forged (Some a) (cond leaked (Some b) None)) o ≡ cond forged (Some a) (cond leaked (Some b) o)
-or_verdict true leaked a b o = refl
-or_verdict false true a b o = refl
-or_verdict false false a b o = refl
-
 -- ---- a place at which nothing was asked
 
 nothing_breaks : (c : Configuration) (world : World) → broken_at (own_site c) world Nothing ≡ None
@@ -58,19 +52,13 @@ module _ (c : Configuration) (world : World) (a : Asked) where
       or_else (judged_asked c world a.from role ask) (clash_at (suc (length world)) (first_clash x (x ∷ world))) ≡ broken_at (own_site c) world x
 
   breaks : (role : To) (ask : WorldAsk) (answer : WorldReply) → Answers role ask answer → Breaks role ask (place_asked c a role ask answer)
-  breaks to.Provider (Http request) (reply.Provider answer) is =
-      let x : Place = place_asked c a to.Provider (Http request) (reply.Provider answer) in
-      let n : ℕ = suc (length world) in
-      or_verdict (forges (own_site c) world x) (leaks world x) (Forged n) (Leaked n) (clash_at n (first_clash x (x ∷ world)))
+  breaks to.Provider (Http request) (reply.Provider answer) is = refl
   breaks to.Provider (Http request) (reply.Party answer) is = absurd is
   breaks to.Provider (Http request) reply.Nothing is = absurd is
   breaks to.Provider (Tokens w came) answer is = absurd is
   breaks to.Provider (Info w came) answer is = absurd is
   breaks (to.Party m) ask (reply.Provider answer) is = absurd is
-  breaks (to.Party m) ask (reply.Party answer) is =
-      let x : Place = place_asked c a (to.Party m) ask (reply.Party answer) in
-      let n : ℕ = suc (length world) in
-      or_verdict (forges (own_site c) world x) (leaks world x) (Forged n) (Leaked n) (clash_at n (first_clash x (x ∷ world)))
+  breaks (to.Party m) ask (reply.Party answer) is = refl
   breaks (to.Party m) ask reply.Nothing is = absurd is
 
 clash_is_told : (halves : List (Text × Issued)) (world : World) (x : Place) (answer : WorldReply) → HasDistinctHashes world → ((half : Text) → issued_of halves half ≡ first_issued half world) → issued_at x ≡ issued_by answer

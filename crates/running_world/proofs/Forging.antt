@@ -15,7 +15,8 @@ use Rattle.world_index.specs.Setting.{set_for_other}
 use Rattle.world_index.specs.declared.setters.Setter.{Setter}
 use Rattle.running_world.specs.declared.judging.TokenText.{TokenText}
 use Rattle.running_world.specs.declared.noting.Index.{Index}
-use Rattle.running_world.specs.Forging.{set_if, forges, verdict}
+use Rattle.sso_places.specs.FirstBroken.{verdict}
+use Rattle.running_world.specs.Forging.{set_if, forges}
 use Rattle.running_world.specs.Indexed.{IsIndexed}
 use Rattle.running_world.specs.Judging.{tokens_in, judged}
 

@@ -1,5 +1,5 @@
 -- What is kept is found by the number of its place, and is whole: it tells the reply of the place, the number and the cookies.
-use Rattle.std.proofs.Common.{◌≡◌, ◌≢◌, ℕ, zero, suc, ◌==◌, Bool, true, false, cond, List, [], ◌∷◌, ◌++◌, length, reverse, slice_get, Option, Some, None, option_map, IfSome, inl, inr, refl, sym, ap, ◌∙◌, subst, arith}
+use Rattle.std.proofs.Common.{◌≡◌, ◌≢◌, ℕ, zero, suc, ◌==◌, Bool, true, false, cond, List, [], ◌∷◌, ◌++◌, length, reverse, slice_get, Option, Some, None, option_map, option_and_then, IfSome, inl, inr, refl, sym, ap, ◌∙◌, subst, arith}
 use Rattle.std.specs.List.{AllByRecursion}
 use Rattle.std.proofs.lemmas.Bool.{eqb-true, eqb-false}
 use Rattle.std.proofs.lemmas.Option.{same_Some}
@@ -13,14 +13,16 @@ use Rattle.sso_places.specs.declared.types.WorldAsk.{WorldAsk}
 use Rattle.sso_places.specs.declared.types.WorldAsk.TheVariants.{Http, Tokens, Info}
 use Rattle.sso_places.specs.declared.types.WorldReply.{WorldReply}
 use Rattle.sso_places.specs.declared.types.WorldReply.TheVariants as reply
-use Rattle.sso_places.specs.World.{Place, place_at, from_of}
+use Rattle.sso_places.specs.Legal.{IsAsked, IsRole}
+use Rattle.sso_places.specs.World.{Place, Provider, Party, Nothing, World, place_at, from_of, role_at, reply_at}
 use Rattle.running_world.specs.declared.kept.Asked.{Asked}
 use Rattle.running_world.specs.declared.kept.Kept.{Kept}
-use Rattle.running_world.specs.declared.jar_note.JarNote.{JarNote}
-use Rattle.running_world.specs.Jars.{jars_set, jars_after}
+use Rattle.cookie_jars.specs.declared.jar_note.JarNote.{JarNote}
+use Rattle.cookie_jars.specs.Jars.{jars_set, jars_after}
 use Rattle.running_world.specs.Parties.{IsNewParty}
-use Rattle.running_world.specs.Running.{place_asked, place_if, kept_place, places_of, kept_at, reply_at}
-use Rattle.running_world.specs.Whole.{Answers, IsWholeBy, IsWhole, set_by, from_if}
+use Rattle.running_world.specs.Running.{place_asked, place_if, kept_place, places_of, kept_at}
+use Rattle.sso_places.specs.Cookies.{set_by}
+use Rattle.running_world.specs.Whole.{Answers, IsWholeBy, IsWhole, from_if, role_if}
 
 -- ---- by number
 
@@ -106,6 +108,16 @@ asked_from c a (to.Party n) ask (reply.Provider answer) is = absurd is
 asked_from c a (to.Party n) ask (reply.Party answer) is = refl
 asked_from c a (to.Party n) ask reply.Nothing is = absurd is
 
+asked_role : (c : Configuration) (a : Asked) (role : To) (ask : WorldAsk) (answer : WorldReply) → Answers role ask answer → role_at (place_asked c a role ask answer) ≡ Some role
+asked_role c a to.Provider (Http request) (reply.Provider answer) is = refl
+asked_role c a to.Provider (Http request) (reply.Party answer) is = absurd is
+asked_role c a to.Provider (Http request) reply.Nothing is = absurd is
+asked_role c a to.Provider (Tokens w came) answer is = absurd is
+asked_role c a to.Provider (Info w came) answer is = absurd is
+asked_role c a (to.Party n) ask (reply.Provider answer) is = absurd is
+asked_role c a (to.Party n) ask (reply.Party answer) is = refl
+asked_role c a (to.Party n) ask reply.Nothing is = absurd is
+
 whole_reply : (c : Configuration) (answer : WorldReply) (asked : Option Asked) → IsWholeBy answer asked → reply_at (place_if c asked answer) ≡ answer
 whole_reply c answer None is = sym is
 whole_reply c answer (Some a) is = asked_reply c a a.to a.ask answer is
@@ -114,6 +126,10 @@ whole_from : (c : Configuration) (answer : WorldReply) (asked : Option Asked) �
 whole_from c answer None is = refl
 whole_from c answer (Some a) is = asked_from c a a.to a.ask answer is
 
+whole_role : (c : Configuration) (answer : WorldReply) (asked : Option Asked) → IsWholeBy answer asked → role_at (place_if c asked answer) ≡ role_if asked
+whole_role c answer None is = refl
+whole_role c answer (Some a) is = asked_role c a a.to a.ask answer is
+
 pub replies : (c : Configuration) (o : Option Kept) → IfSome o IsWhole → option_map reply_at (option_map (kept_place c) o) ≡ option_map (λ (k : Kept). k.reply) o
 replies c None whole = refl
 replies c (Some k) whole = ap (λ (r : WorldReply). Some r) (whole_reply c k.reply k.asked whole)
@@ -121,6 +137,26 @@ replies c (Some k) whole = ap (λ (r : WorldReply). Some r) (whole_reply c k.rep
 pub numbers : (c : Configuration) (o : Option Kept) → IfSome o IsWhole → option_map from_of (option_map (kept_place c) o) ≡ option_map (λ (k : Kept). from_if k.asked) o
 numbers c None whole = refl
 numbers c (Some k) whole = ap (λ (n : ℕ). Some n) (whole_from c k.reply k.asked whole)
+
+pub roles : (c : Configuration) (o : Option Kept) → IfSome o IsWhole → option_and_then role_at (option_map (kept_place c) o) ≡ option_and_then (λ (k : Kept). role_if k.asked) o
+roles c None whole = refl
+roles c (Some k) whole = whole_role c k.reply k.asked whole
+
+-- a role that was asked is one of the registry
+role_known : (c : Configuration) (x : Place) → IsAsked c x → IfSome (role_at x) (IsRole c)
+role_known c (Provider from request p) asked = tt
+role_known c (Party n from request p) asked = asked.0
+role_known c Nothing asked = tt
+
+pub roles_known : (c : Configuration) (world : World) (number : ℕ) → AllByRecursion (IsAsked c) world → IfSome (option_and_then role_at (place_at world number)) (IsRole c)
+roles_known c [] number asked = tt
+roles_known c (x ∷ world) number asked =
+    let P : Option Place → Type 0 = λ o. IfSome (option_and_then role_at o) (IsRole c) in
+    let C : Bool → Option Place = λ b. cond b (Some x) (place_at world number) in
+    elim (bool_cases (number == suc (length world))) [
+      | inl e ↦ (let is : Some x ≡ C (number == suc (length world)) = sym (ap C e) in subst P is (role_known c x asked.0))
+      | inr e ↦ (let is : place_at world number ≡ C (number == suc (length world)) = sym (ap C e) in subst P is (roles_known c world number asked.1))
+    ]
 
 -- ---- the cookies that a place sets
 

@@ -27,7 +27,8 @@ use Rattle.running_world.specs.declared.kept.Kept.{Kept}
 use Rattle.running_world.specs.Foreknowing.{client_asked, IsForeknown, IsForeknownAt, IsForeknownIf}
 use Rattle.running_world.specs.Noting.{sets_for, ended_writes, written_by, writes_by, writes_if, kept_writes, issued_by}
 use Rattle.running_world.specs.Running.{place_asked, place_if, kept_place}
-use Rattle.running_world.specs.Whole.{Answers, IsWholeBy, IsWhole, set_by, from_if}
+use Rattle.sso_places.specs.Cookies.{set_by}
+use Rattle.running_world.specs.Whole.{Answers, IsWholeBy, IsWhole, from_if}
 
 -- ---- cookies
 

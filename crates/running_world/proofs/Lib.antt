@@ -3,7 +3,6 @@ pub mod Breaking
 pub mod Forging
 pub mod HalfDigests
 pub mod Indexing
-pub mod Jarring
 pub mod Keeping
 pub mod KeptPlaces
 pub mod LiveSessions

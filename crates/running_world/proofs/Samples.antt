@@ -1,60 +1,18 @@
--- The definitions, tried on small cases: jars of browsers, moments, premises at the next place, and what is kept of a place.
-use Rattle.std.proofs.Common.{◌≡◌, ℕ, true, false, [], ◌∷◌, Some, None, refl}
-use Rattle.sso_base.specs.Words.{Word}
+-- The definitions, tried on small cases: moments, premises at the next place, and what is kept of a place.
+use Rattle.std.proofs.Common.{◌≡◌, true, false, [], ◌∷◌, Some, None, refl}
 use Rattle.sso_base.specs.declared.http.Method.TheVariants.{Get}
 use Rattle.sso_base.specs.declared.http.Ask.{Ask}
-use Rattle.op_exchange.specs.declared.reply.OpReply.TheVariants.{Keys, LoginPage}
-use Rattle.op_exchange.proofs.Sample.{word}
+use Rattle.op_exchange.specs.declared.reply.OpReply.TheVariants.{Keys}
 use Rattle.sso_places.specs.declared.types.Broken.TheVariants.{Forged, Leaked, HashClash}
 use Rattle.sso_places.specs.declared.types.To.TheVariants as to
-use Rattle.sso_places.specs.declared.types.Jar.{Jar}
-use Rattle.sso_places.specs.declared.types.WorldAsk.{WorldAsk}
 use Rattle.sso_places.specs.declared.types.WorldAsk.TheVariants.{Http}
 use Rattle.sso_places.specs.declared.types.WorldReply.TheVariants as reply
-use Rattle.running_world.specs.declared.jar_note.JarNote.TheVariants.{Set, Stolen}
 use Rattle.running_world.specs.declared.kept.Kept.{Kept}
 use Rattle.running_world.specs.Clashing.{clash_by, earlier_of}
-use Rattle.running_world.specs.Forging.{verdict}
-use Rattle.running_world.specs.Jars.{no_jar, jar_of, jars_set, jars_stolen}
+use Rattle.sso_places.specs.FirstBroken.{verdict}
 use Rattle.running_world.specs.Running.{kept_at}
 use Rattle.running_world.specs.Stepping.{IsForRole, later}
-use Rattle.running_world.specs.Whole.{IsWhole, set_by, from_if}
-
--- ---- jars
-
-abbrev page : Jar
-page = set_by (reply.Provider (LoginPage (word 6) (word 5) false))
-
-kept_by_its_browser : jar_of (Set 1 to.Provider page ∷ []) 1 to.Provider ≡ record { first = Some (word 5); second = None }
-kept_by_its_browser = refl
-
-not_by_another : jar_of (Set 1 to.Provider page ∷ []) 2 to.Provider ≡ no_jar
-not_by_another = refl
-
-not_at_another_role : jar_of (Set 1 to.Provider page ∷ []) 1 (to.Party 0) ≡ no_jar
-not_at_another_role = refl
-
--- a reply that sets one cookie leaves the other
-other_cookie_stays : jar_of (Set 1 to.Provider page ∷ Set 1 to.Provider (record { first = Some (word 1); second = Some (word 9) }) ∷ []) 1 to.Provider
-    ≡ record { first = Some (word 5); second = Some (word 9) }
-other_cookie_stays = refl
-
--- a thief has the owner's cookies, and loses its own
-stolen : jar_of (Stolen 2 1 ∷ Set 1 to.Provider page ∷ Set 2 (to.Party 0) page ∷ []) 2 to.Provider ≡ page
-stolen = refl
-
-lost : jar_of (Stolen 2 1 ∷ Set 1 to.Provider page ∷ Set 2 (to.Party 0) page ∷ []) 2 (to.Party 0) ≡ no_jar
-lost = refl
-
-owner_keeps : jar_of (Stolen 2 1 ∷ Set 1 to.Provider page ∷ []) 1 to.Provider ≡ page
-owner_keeps = refl
-
--- a server has none
-no_jar_of_servers : jars_set 0 to.Provider page [] ≡ []
-no_jar_of_servers = refl
-
-servers_steal_nothing : jars_stolen 0 1 [] ≡ []
-servers_steal_nothing = refl
+use Rattle.running_world.specs.Whole.{IsWhole, from_if, role_if}
 
 -- ---- moments
 
@@ -100,6 +58,9 @@ nothing_asked = refl
 
 from_three : from_if kept.asked ≡ 3
 from_three = refl
+
+of_the_provider : role_if kept.asked ≡ Some to.Provider
+of_the_provider = refl
 
 first_kept : kept_at (kept ∷ []) 1 ≡ Some kept
 first_kept = refl

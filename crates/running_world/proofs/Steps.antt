@@ -18,7 +18,7 @@ use Rattle.sso_places.specs.declared.types.WorldReply.TheVariants as reply
 use Rattle.sso_places.specs.Site.{own_site}
 use Rattle.sso_places.specs.World.{Place, World, op_past, rp_past}
 use Rattle.running_world.specs.declared.kept.Kept.{Kept}
-use Rattle.running_world.specs.Jars.{jars_after}
+use Rattle.cookie_jars.specs.Jars.{jars_after}
 use Rattle.running_world.specs.Running.{Running, op_place, rp_place, places_of, world_of}
 use Rattle.running_world.specs.Stepping.{stepped, role_weight}
 use Rattle.running_world.specs.Transcribed.{Transcribed}

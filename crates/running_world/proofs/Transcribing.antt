@@ -8,7 +8,7 @@ use Rattle.client_registry.specs.Registered.{IsRegistry}
 use Rattle.sso_places.specs.declared.types.Broken.{Broken}
 use Rattle.sso_places.specs.declared.types.WorldReply.{WorldReply}
 use Rattle.sso_places.specs.declared.types.WorldReply.TheVariants as reply
-use Rattle.sso_places.specs.FirstBroken.{or_else, first_broken}
+use Rattle.sso_places.specs.FirstBroken.{or_else, first_broken, verdict}
 use Rattle.sso_places.specs.Site.{own_site}
 use Rattle.sso_places.specs.Tokens.{TokenText as TokenPair}
 use Rattle.sso_places.specs.World.{World}
@@ -16,19 +16,19 @@ use Rattle.world_index.specs.Setting.{set_for_other}
 use Rattle.world_index.specs.Writing.{is_written_for}
 use Rattle.world_index.specs.Issuing.{issued_of}
 use Rattle.running_world.specs.declared.foreknown.Foreknown.{Foreknown}
-use Rattle.running_world.specs.declared.jar_note.Slot.{Slot}
+use Rattle.cookie_jars.specs.declared.jar_note.Slot.{Slot}
 use Rattle.running_world.specs.declared.judging.TokenText.{TokenText}
 use Rattle.running_world.specs.declared.kept.Asked.{Asked}
 use Rattle.running_world.specs.declared.kept.Kept.{Kept}
 use Rattle.running_world.specs.declared.noting.Index.{Index}
 use Rattle.running_world.specs.Breaking.{judged_asked, clash_told}
 use Rattle.running_world.specs.Foreknowing.{IsKnown, IsForeknownAt}
-use Rattle.running_world.specs.Forging.{forges, verdict}
+use Rattle.running_world.specs.Forging.{forges}
 use Rattle.running_world.specs.Indexed.{first_issued, IsIndexed, IsBehind}
-use Rattle.running_world.specs.JarsFound.{Jarred}
+use Rattle.cookie_jars.specs.JarsFound.{Jarred}
 use Rattle.running_world.specs.Judging.{tokens_in, judged}
 use Rattle.running_world.specs.Running.{kept_place, places_of, kept_at}
-use Rattle.running_world.specs.Stepping.{IsRole}
+use Rattle.sso_places.specs.Legal.{IsRole}
 use Rattle.running_world.specs.Transcribed.{ready_if, IsSettled, IsTranscript}
 use Rattle.running_world.specs.Whole.{Answers}
 use Rattle.running_world.proofs.Breaking.{broken_more, broken_nothing}

@@ -4,7 +4,8 @@ use Rattle.sso_base.specs.Words.{Word, Text}
 use Rattle.sso_places.specs.declared.types.Broken.{Broken}
 use Rattle.sso_places.specs.declared.types.Broken.TheVariants.{HashClash}
 use Rattle.sso_places.specs.FirstBroken.{do_clash}
-use Rattle.world_index.specs.Issuing.{half_digest, issued_of, other_place}
+use Rattle.sso_places.specs.Premises.{half_digest}
+use Rattle.world_index.specs.Issuing.{issued_of, other_place}
 use Rattle.world_index.specs.declared.halves.Issued.{Issued}
 
 -- the earlier of two places

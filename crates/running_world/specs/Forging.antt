@@ -1,10 +1,8 @@
 -- The premises at the next place, by what was noted of the places before.
-use Rattle.std.specs.Prelude.{ℕ, Bool, false, ◌&&◌, not, List, Option, Some, None, if◌then◌else◌}
+use Rattle.std.specs.Prelude.{ℕ, Bool, false, ◌&&◌, not, List, Option, Some, None}
 use Rattle.sso_base.specs.Words.{Word, Text}
 use Rattle.client_registry.specs.Configuration.{Configuration}
 use Rattle.client_registry.specs.Numbers.{client_secret}
-use Rattle.sso_places.specs.declared.types.Broken.{Broken}
-use Rattle.sso_places.specs.declared.types.Broken.TheVariants.{Forged, Leaked}
 use Rattle.sso_places.specs.Tokens.{is_sealed}
 use Rattle.world_index.specs.Setting.{set_for_other}
 use Rattle.world_index.specs.Writing.{is_written_for}
@@ -23,6 +21,3 @@ is_forged c written t = is_sealed (client_secret c t.client) t.text && not (is_w
 abbrev pub forges : Configuration → List (List Text) → Option TokenText → Bool
 forges c written None = false
 forges c written (Some t) = is_forged c written t
-
-abbrev pub verdict : ℕ → Bool → Bool → Option Broken
-verdict number forged leaked = if forged then Some (Forged number) else if leaked then Some (Leaked number) else None

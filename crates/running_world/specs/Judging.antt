@@ -1,9 +1,9 @@
 -- The premises at a place, as far as its request tells them.
-use Rattle.std.specs.Prelude.{ℕ, suc, List, [], ◌∷◌, length, Option, Some, None, if◌then◌else◌}
+use Rattle.std.specs.Prelude.{ℕ, suc, List, [], ◌∷◌, length, Option, Some, None}
 use Rattle.std.specs.List.{list_any}
 use Rattle.sso_base.specs.Words.{Word}
 use Rattle.sso_places.specs.declared.types.Broken.{Broken}
-use Rattle.sso_places.specs.declared.types.Broken.TheVariants.{Forged, Leaked}
+use Rattle.sso_places.specs.FirstBroken.{verdict}
 use Rattle.sso_places.specs.Site.{Site}
 use Rattle.sso_places.specs.World.{World}
 use Rattle.sso_places.specs.Tokens.{TokenText as TokenPair}
@@ -17,7 +17,4 @@ tokens_in (Some t) = (t.client, t.text) ∷ []
 
 -- the premise that fails at the next place, by its number, the texts that it checks and the words that it presents
 abbrev pub judged : Site → World → ℕ → List TokenPair → List Word → Option Broken
-judged s world from texts words =
-    if list_any (is_forged s world) texts then Some (Forged (suc (length world)))
-    else if list_any (set_elsewhere world from) words then Some (Leaked (suc (length world)))
-    else None
+judged s world from texts words = verdict (suc (length world)) (list_any (is_forged s world) texts) (list_any (set_elsewhere world from) words)

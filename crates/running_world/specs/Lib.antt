@@ -3,15 +3,13 @@ pub mod Clashing
 pub mod Foreknowing
 pub mod Forging
 pub mod Indexed
-pub mod JarMaps
-pub mod Jars
-pub mod JarsFound
 pub mod Judging
 pub mod Noting
 pub mod Parties
 pub mod Roles
 pub mod Running
 pub mod Stepping
+pub mod Theorem
 pub mod Transcribed
 pub mod Whole
 pub mod Worlds

@@ -33,7 +33,8 @@ use Rattle.running_world.specs.declared.foreknown.Foreknown.{Foreknown}
 use Rattle.running_world.specs.declared.kept.Asked.{Asked}
 use Rattle.running_world.specs.declared.kept.Kept.{Kept}
 use Rattle.running_world.specs.declared.noting.Index.{Index}
-use Rattle.running_world.specs.Whole.{set_by, from_if}
+use Rattle.sso_places.specs.Cookies.{set_by}
+use Rattle.running_world.specs.Whole.{from_if}
 
 -- ---- cookies
 

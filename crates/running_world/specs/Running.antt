@@ -17,7 +17,7 @@ use Rattle.sso_places.specs.Legal.{party_prepared}
 use Rattle.sso_places.specs.World.{Place, Provider, Party, Nothing, World}
 use Rattle.running_world.specs.declared.kept.Asked.{Asked}
 use Rattle.running_world.specs.declared.kept.Kept.{Kept}
-use Rattle.running_world.specs.declared.jar_note.JarNote.{JarNote}
+use Rattle.cookie_jars.specs.declared.jar_note.JarNote.{JarNote}
 
 pub record Running : Type 0 where
   pub registry : Configuration
@@ -57,10 +57,3 @@ world_of r = places_of r.registry r.kept
 abbrev pub kept_at : List Kept → ℕ → Option Kept
 kept_at [] number = None
 kept_at (k ∷ kept) number = if number == suc (length kept) then Some k else kept_at kept number
-
--- ---- what is told of a place
-
-abbrev pub reply_at : Place → WorldReply
-reply_at (Provider from request p) = reply.Provider p.reply
-reply_at (Party n from request p) = reply.Party p.reply
-reply_at Nothing = reply.Nothing

@@ -1,5 +1,5 @@
 -- One more place of a world: the answer of the role that is asked, after its own past.
-use Rattle.std.specs.Prelude.{◌<◌, ℕ, nat_lt, List, length, reverse, if◌then◌else◌}
+use Rattle.std.specs.Prelude.{ℕ, nat_lt, List, reverse, if◌then◌else◌}
 use Rattle.sso_base.specs.Words.{Word}
 use Rattle.sso_base.specs.Legal.{last_moment}
 use Rattle.sso_base.specs.Journal.{history_weight}
@@ -19,11 +19,6 @@ use Rattle.sso_places.specs.World.{Place, Nothing, World, op_past, rp_past}
 use Rattle.running_world.specs.Running.{op_place, rp_place}
 
 -- ---- what may be asked
-
--- a party is one of the registry
-abbrev pub IsRole : Configuration → To → Type 0
-IsRole c to.Provider = Unit {0}
-IsRole c (to.Party n) = n < length c.parties
 
 -- the provider is asked by requests alone
 abbrev pub IsForRole : To → WorldAsk → Type 0

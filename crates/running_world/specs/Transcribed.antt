@@ -8,13 +8,13 @@ use Rattle.sso_places.specs.declared.types.Broken.{Broken}
 use Rattle.sso_places.specs.FirstBroken.{first_broken}
 use Rattle.sso_places.specs.Site.{own_site}
 use Rattle.running_world.specs.declared.foreknown.Foreknown.{Foreknown}
-use Rattle.running_world.specs.declared.jar_note.JarNote.{JarNote}
-use Rattle.running_world.specs.declared.jar_note.Slot.{Slot}
+use Rattle.cookie_jars.specs.declared.jar_note.JarNote.{JarNote}
+use Rattle.cookie_jars.specs.declared.jar_note.Slot.{Slot}
 use Rattle.running_world.specs.declared.kept.Kept.{Kept}
 use Rattle.running_world.specs.declared.noting.Index.{Index}
 use Rattle.running_world.specs.Foreknowing.{IsKnown}
 use Rattle.running_world.specs.Indexed.{IsIndexed, IsBehind}
-use Rattle.running_world.specs.JarsFound.{Jarred}
+use Rattle.cookie_jars.specs.JarsFound.{Jarred}
 use Rattle.running_world.specs.Running.{places_of}
 use Rattle.running_world.specs.Whole.{IsWhole, IsOfRole}
 

@@ -1,20 +1,15 @@
 -- What is kept of a place is whole: the reply is one of the role that was asked, and of what it may be asked.
 use Rattle.std.specs.Prelude.{◌≡◌, ℕ, Option, Some, None}
-use Rattle.op_exchange.specs.Replied.{session_given as op_session}
-use Rattle.op_response.specs.Told.{browser_given as op_browser}
-use Rattle.rp_response.specs.Told.{browser_given as rp_browser, session_given as rp_session}
 use Rattle.client_registry.specs.Configuration.{Configuration}
 use Rattle.sso_places.specs.declared.types.To.{To}
 use Rattle.sso_places.specs.declared.types.To.TheVariants as to
-use Rattle.sso_places.specs.declared.types.Jar.{Jar}
 use Rattle.sso_places.specs.declared.types.WorldAsk.{WorldAsk}
 use Rattle.sso_places.specs.declared.types.WorldAsk.TheVariants.{Http, Tokens, Info}
 use Rattle.sso_places.specs.declared.types.WorldReply.{WorldReply}
 use Rattle.sso_places.specs.declared.types.WorldReply.TheVariants as reply
 use Rattle.running_world.specs.declared.kept.Asked.{Asked}
 use Rattle.running_world.specs.declared.kept.Kept.{Kept}
-use Rattle.running_world.specs.Jars.{no_jar}
-use Rattle.running_world.specs.Stepping.{IsRole}
+use Rattle.sso_places.specs.Legal.{IsRole}
 
 abbrev pub Answers : To → WorldAsk → WorldReply → Type 0
 Answers to.Provider (Http request) (reply.Provider answer) = Unit {0}
@@ -41,13 +36,12 @@ IsOfRoleBy c (Some a) = IsRole c a.to
 abbrev pub IsOfRole : Configuration → Kept → Type 0
 IsOfRole c k = IsOfRoleBy c k.asked
 
--- the cookies that a reply sets
-abbrev pub set_by : WorldReply → Jar
-set_by (reply.Provider answer) = record { first = op_browser answer; second = op_session answer }
-set_by (reply.Party answer) = record { first = rp_browser answer; second = rp_session answer }
-set_by reply.Nothing = no_jar
-
 -- the number from which it was asked, 0 where nothing was
 abbrev pub from_if : Option Asked → ℕ
 from_if None = 0
 from_if (Some a) = a.from
+
+-- the role that was asked, where one was
+abbrev pub role_if : Option Asked → Option To
+role_if None = None
+role_if (Some a) = Some a.to

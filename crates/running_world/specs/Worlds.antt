@@ -20,11 +20,11 @@ use Rattle.sso_places.specs.Legal.{IsLegalWorld, party_prepared}
 use Rattle.sso_places.specs.Site.{own_site, setup_at}
 use Rattle.sso_places.specs.World.{World, op_past, rp_past}
 use Rattle.running_world.specs.declared.kept.Kept.{Kept}
-use Rattle.running_world.specs.Jars.{jars_set}
+use Rattle.cookie_jars.specs.Jars.{jars_set}
 use Rattle.running_world.specs.Roles.{OpSteps, RpStepsAt}
 use Rattle.running_world.specs.Running.{Running}
 use Rattle.running_world.specs.Transcribed.{Transcribed}
-use Rattle.running_world.specs.Whole.{set_by}
+use Rattle.sso_places.specs.Cookies.{set_by}
 
 -- what a world shows of its places
 abbrev pub shown : Transcribed → Running

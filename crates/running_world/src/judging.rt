@@ -1,16 +1,10 @@
 // The premises at a place, from its request: whether a text that it checks is forged, and whether it presents a cookie that was
 // set for another number.
 
-ghost use Rattle.std.specs.Prelude.{◌≡◌, ℕ, ◌<◌, ◌+◌, length, filter, Some, Ok, IfSome, IfOk};
-ghost use Rattle.std.specs.Option.{option_copied};
-ghost use Rattle.std.specs.Str.{bytes_eq};
-ghost use Rattle.sso_base.specs.Words.{Text as TextOf};
+ghost use Rattle.std.specs.Prelude.{◌≡◌, ◌<◌, length, Some, Ok, IfSome, IfOk};
 ghost use Rattle.client_registry.specs.Numbers.{client_secret};
 ghost use Rattle.auth_request.specs.Judgement.{client_number as client_number_of};
 ghost use Rattle.request_params.specs.Reading.{request_read};
-ghost use Rattle.op_request.specs.PostedForms.{posted as posted_of};
-ghost use Rattle.op_request.specs.Prepared as op;
-ghost use Rattle.rp_request.specs.Prepared as rp;
 ghost use Rattle.sso_places.specs.Tokens.{token_if, is_sealed as is_sealed_of};
 ghost use Rattle.sso_places.specs.Checked as spec;
 ghost use Rattle.running_world.specs.declared.judging.TokenText.{TokenText as TokenOf};
@@ -19,40 +13,19 @@ ghost use Rattle.running_world.specs.Judging.{tokens_in};
 use client_registry::Registry;
 use jws_compact::{JwsNo, unseal};
 use op_exchange::OpAsk;
-use request_params::{AskNo, Pair, Params, read_pairs, read_request, value_of};
+use op_request::parameters_of;
+use request_params::{AskNo, Params, read_request};
 use rp_exchange::RpAsk;
-use sso_base::{Ask, Blob, Method, NoMemory, Text, Word};
+use rp_request::logout_token_of;
+use sso_base::{Ask, NoMemory, Text};
 use sso_places::WorldAsk;
 use std::alloc::Global;
-
-// The name of the field that has a logout token (OpenID Connect Back-Channel Logout 1.0, 2.5).
-const LOGOUT_TOKEN: &str = "logout_token";
 
 /// A token text, and the number of the client under whose secret it is checked.
 #[derive(Drop)]
 pub(crate) struct TokenText {
     pub(crate) client: u32,
     pub(crate) text: Text,
-}
-
-// The form that was posted; an absent one is empty.
-fn posted(body: &Option<Blob>) -> &[u8]
-    ensures { result.now ≡ posted_of body.now }
-{
-    match body {
-        Some(form) => form.as_bytes(),
-        None => &[],
-    }
-}
-
-// The form of the parameters of an authorization request: the body of a POST, else the query.
-fn parameters_of(ask: &Ask) -> &[u8]
-    ensures { result.now ≡ op.parameters_of ask.now.method ask.now }
-{
-    match ask.method {
-        Method::Post => posted(&ask.body),
-        _ => ask.query.as_bytes(),
-    }
 }
 
 // The number of the client that a request names.
@@ -105,40 +78,6 @@ pub(crate) fn checked_by_provider(
     }
 }
 
-// How many fields have the name.
-fn count(fields: &[Pair], name: &str) -> usize
-    ensures { result ≡ length (filter (λ (field : TextOf × TextOf). bytes_eq field.0 name.now) fields.now) }
-{
-    let mut count = 0;
-    for field in fields {
-        if field.0.as_str() == name {
-            count += 1;
-        }
-    }
-    count
-}
-
-// The value of the field that has the name, where only one has it.
-fn only_value<'a>(fields: &'a [Pair], name: &str) -> Option<&'a Text>
-    ensures { option_copied result ≡ rp.only_value name.now fields.now }
-{
-    if count(fields, name) > 1 {
-        return None;
-    }
-    value_of(fields, name)
-}
-
-// The logout token of a form; where there is none, or two, it is the empty text.
-fn logout_token_in(alloc: Global, form: &[u8]) -> Result<Text, NoMemory>
-    ensures { IfOk result (λ t. t ≡ rp.logout_token_in form.now) }
-{
-    let fields = read_pairs(alloc, form)?;
-    match only_value(&fields, LOGOUT_TOKEN) {
-        Some(token) => token.copy(alloc),
-        None => Text::new(alloc, ""),
-    }
-}
-
 // The logout token of a logout request.
 fn logout_checked(alloc: Global, client: u32, ask: &WorldAsk) -> Result<Option<TokenText>, NoMemory>
     ensures client { IfOk result (λ o. IfSome o (λ (t : TokenOf). t.client ≡ client)) }
@@ -147,7 +86,7 @@ fn logout_checked(alloc: Global, client: u32, ask: &WorldAsk) -> Result<Option<T
     match ask {
         WorldAsk::Http(request) => Ok(Some(TokenText {
             client,
-            text: logout_token_in(alloc, posted(&request.body))?,
+            text: logout_token_of(alloc, request)?,
         })),
         _ => Ok(None),
     }

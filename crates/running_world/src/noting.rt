@@ -10,7 +10,7 @@ ghost use Rattle.running_world.specs.Foreknowing.{IsKnown};
 ghost use Rattle.running_world.specs.Indexed.{IsIndexed, IsBehind};
 ghost use Rattle.running_world.specs.Noting as spec;
 ghost use Rattle.running_world.specs.Running.{places_of};
-ghost use Rattle.running_world.specs.Stepping.{IsRole};
+ghost use Rattle.sso_places.specs.Legal.{IsRole};
 ghost use Rattle.running_world.specs.Whole.{IsWhole, IsOfRole};
 
 use crate::foreknown::Foreknown;

@@ -4,7 +4,7 @@ ghost use Rattle.std.specs.Prelude.{◌≡◌, ◌<◌, length, IfSome, IfOk};
 ghost use Rattle.std.specs.List.{list_any};
 ghost use Rattle.sso_base.specs.Words.{Word as WordOf};
 ghost use Rattle.sso_places.specs.Cookies.{http_words, party_words};
-ghost use Rattle.sso_places.specs.FirstBroken.{or_else};
+ghost use Rattle.sso_places.specs.FirstBroken.{or_else, verdict as verdict_of};
 ghost use Rattle.world_index.specs.Setting.{set_for_other};
 ghost use Rattle.running_world.specs.declared.judging.TokenText.{TokenText as TokenOf};
 ghost use Rattle.running_world.specs.Forging as spec;
@@ -79,7 +79,7 @@ pub(crate) fn forges(
 
 /// The premise that fails at the place of this number: a forged text comes before a cookie that leaks.
 pub(crate) fn verdict(number: u64, forged: bool, leaked: bool) -> Option<Broken>
-    ensures { result ≡ spec.verdict number forged leaked }
+    ensures { result ≡ verdict_of number forged leaked }
 {
     if forged {
         Some(Broken::Forged(number))

@@ -7,7 +7,7 @@ ghost use Rattle.op_core.specs.Providing.{past_of as op_past_of};
 ghost use Rattle.op_exchange.specs.Weight.{ask_weight as op_weight};
 ghost use Rattle.op_exchange.specs.Asks.{is_prepared};
 ghost use Rattle.op_answer.specs.Sessions.{live_session as live_session_of};
-ghost use Rattle.rp_core.specs.Relying.{Relying, past_of as rp_past_of};
+ghost use Rattle.rp_core.specs.Relying.{Relying};
 ghost use Rattle.rp_exchange.specs.Weight.{ask_weight as rp_weight};
 ghost use Rattle.rp_accept.specs.Serving.{setup_of};
 ghost use Rattle.sso_places.specs.Told.{session_ended as ended_of};

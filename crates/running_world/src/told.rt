@@ -5,7 +5,7 @@ ghost use Rattle.op_answer.specs.Codes.{code_in as code_of};
 ghost use Rattle.op_answer.specs.Room.{access_in as access_of};
 ghost use Rattle.op_response.specs.Told.{browser_given as op_browser_of};
 ghost use Rattle.rp_response.specs.Told.{browser_given as rp_browser_of, session_given as rp_session_of};
-ghost use Rattle.running_world.specs.Whole.{set_by};
+ghost use Rattle.sso_places.specs.Cookies.{set_by};
 
 use op_exchange::OpReply;
 use rp_exchange::RpReply;

@@ -1,28 +1,29 @@
 // The places of a world, with the jars of browsers and the first premise that fails, apart from the cores.
 
-ghost use Rattle.std.specs.Prelude.{◌≡◌, ◌<◌, [], ◌∷◌, length, Some, None, option_copied, option_map, IfSome, IfOk, OnOk, OnErr};
+ghost use Rattle.std.specs.Prelude.{◌≡◌, ◌<◌, [], ◌∷◌, length, Some, None, option_copied, option_map, option_and_then, IfSome, IfOk, IfErr, OnOk, OnErr};
+ghost use Rattle.std.specs.Vec.{vec_capacity};
 ghost use Rattle.client_registry.specs.Registered.{IsRegistry};
 ghost use Rattle.op_request.specs.Prepared.{prepared as op_prepared};
 ghost use Rattle.sso_places.specs.FirstBroken.{first_broken};
-ghost use Rattle.sso_places.specs.Legal.{party_prepared};
+ghost use Rattle.sso_places.specs.Legal.{IsRole, party_prepared};
 ghost use Rattle.sso_places.specs.Site.{own_site};
 ghost use Rattle.running_world.specs.declared.kept.Kept.{Kept as KeptOf};
 ghost use Rattle.running_world.specs.Breaking.{judged_asked};
 ghost use Rattle.running_world.specs.Foreknowing.{IsKnown, IsForeknownAt};
-ghost use Rattle.running_world.specs.Jars.{jar_of, jars_set, jars_stolen};
+ghost use Rattle.cookie_jars.specs.Jars.{jar_of, jars_set, jars_stolen};
 ghost use Rattle.running_world.specs.Running.{kept_at, places_of};
-ghost use Rattle.running_world.specs.Stepping.{IsRole};
-ghost use Rattle.running_world.specs.Whole.{Answers, IsWhole, set_by, from_if};
+ghost use Rattle.sso_places.specs.Cookies.{set_by};
+ghost use Rattle.running_world.specs.Whole.{Answers, IsWhole, from_if, role_if};
 
 use crate::clashing::clash_in;
 use crate::foreknown::Foreknown;
-use crate::jars::Jars;
 use crate::judging::{checked_by_party, checked_by_provider};
 use crate::kept::{Asked, Kept};
 use crate::noting::{Index, settle};
 use crate::premises::{ask_leaks, first_of, forges, leaks, verdict};
 use crate::told::jar_set;
 use client_registry::Registry;
+use cookie_jars::Jars;
 use op_exchange::OpAsk;
 use rp_exchange::RpAsk;
 use sso_base::{Ask, NoMemory};
@@ -55,6 +56,18 @@ impl Model for Transcript {
     ghost view = { λ t. record { registry = t.registry; kept = reverse t.kept.items; jars = t.jars.notes; ready = ready_if t.settled t.jars.ready } };
 
     ghost invariant = { λ t. IsTranscript t.registry (reverse t.kept.items) (vec_capacity t.kept) t.jars t.index t.behind t.broken t.settled };
+}
+
+// Room for one more place. What stands at a place is large, so that the room grows by an eighth.
+fn make_room(kept: &mut Vec<Kept>) -> Result<(), NoMemory>
+    ensures items { kept.new.items ≡ kept.old.items }
+    ensures room { OnOk result (length kept.new.items < vec_capacity kept.new) }
+{
+    let count = kept.len();
+    if count == kept.capacity() {
+        kept.reserve_exact(1 + count / 8)?;
+    }
+    Ok(())
 }
 
 impl Transcript {
@@ -98,7 +111,7 @@ impl Transcript {
             &self.registry,
             &self.kept,
         )?;
-        self.kept.reserve(1)?;
+        make_room(&mut self.kept)?;
         self.jars.prepare(from, to)?;
         self.settled = true;
         Ok(())
@@ -187,10 +200,11 @@ impl Transcript {
             &self.registry,
             &self.kept,
         )?;
-        self.kept.push(Kept {
+        make_room(&mut self.kept)?;
+        self.kept.push_reserved(Kept {
             asked: None,
             reply: WorldReply::Nothing,
-        })?;
+        });
         Ok(())
     }
 
@@ -229,6 +243,17 @@ impl Transcript {
         self.kept.get(place as usize - 1)
     }
 
+    /// The role that was asked at a place.
+    pub(crate) fn role(&self, place: u64) -> Option<To>
+        ensures role { result ≡ option_and_then (λ (k : KeptOf). role_if k.asked) (kept_at self.now.kept place) }
+        ensures whole { IfSome (kept_at self.now.kept place) IsWhole }
+    {
+        match self.kept_at(place) {
+            Some(kept) => role_of(kept),
+            None => None,
+        }
+    }
+
     /// The reply at a place.
     pub(crate) fn reply(&self, place: u64) -> Option<&WorldReply>
         ensures reply { option_copied result ≡ option_map (λ (k : KeptOf). k.reply) (kept_at self.now.kept place) }
@@ -251,11 +276,15 @@ impl Transcript {
         }
     }
 
-    /// The first premise that fails.
-    pub(crate) fn broken(&self) -> Option<Broken>
-        ensures { result ≡ first_broken (own_site self.now.registry) (places_of self.now.registry self.now.kept) }
+    /// Whether the premises hold that are tested, or the first that fails.
+    pub(crate) fn premises(&self) -> Result<(), Broken>
+        ensures ok { OnOk result (first_broken (own_site self.now.registry) (places_of self.now.registry self.now.kept) ≡ None) }
+        ensures err { IfErr result (λ b. first_broken (own_site self.now.registry) (places_of self.now.registry self.now.kept) ≡ Some b) }
     {
-        self.broken
+        match self.broken {
+            None => Ok(()),
+            Some(broken) => Err(broken),
+        }
     }
 }
 
@@ -266,5 +295,15 @@ fn from_of(kept: &Kept) -> u32
     match &kept.asked {
         Some(asked) => asked.from,
         None => 0,
+    }
+}
+
+// The role that was asked at a place.
+fn role_of(kept: &Kept) -> Option<To>
+    ensures { result ≡ role_if kept.now.asked }
+{
+    match &kept.asked {
+        Some(asked) => Some(asked.to),
+        None => None,
     }
 }

@@ -1,16 +1,15 @@
 // A world that runs.
 
-ghost use Rattle.std.specs.Prelude.{◌≡◌, ℕ, ◌<◌, ◌≤◌, ◌+◌, [], ◌∷◌, length, Err, None, Some, option_copied, option_map, IfOk, IfErr, OnOk, OnErr};
+ghost use Rattle.std.specs.Prelude.{◌≡◌, ℕ, ◌<◌, ◌≤◌, ◌+◌, [], ◌∷◌, length, Err, None, Some, option_copied, option_map, option_and_then, IfSome, IfOk, IfErr, OnOk, OnErr};
 ghost use Rattle.sso_base.specs.Journal.{most_weight};
-ghost use Rattle.sso_places.specs.Agreement.{SignsOn};
-ghost use Rattle.sso_places.specs.Legal.{IsLegalWorld};
-ghost use Rattle.sso_places.specs.Premises.{HasDistinctWords, IsUnleaked, IsUnforged, IsJoined};
+ghost use Rattle.sso_places.specs.Legal.{IsRole};
 ghost use Rattle.sso_places.specs.Site.{own_site};
-ghost use Rattle.sso_places.specs.World.{Nothing, place_at, from_of};
+ghost use Rattle.sso_places.specs.World.{Nothing, place_at, from_of, role_at, reply_at};
 ghost use Rattle.sso_places.specs.FirstBroken.{first_broken};
-ghost use Rattle.running_world.specs.Jars.{jar_of, jars_after, jars_stolen};
-ghost use Rattle.running_world.specs.Running.{world_of, reply_at};
-ghost use Rattle.running_world.specs.Stepping.{IsRole, IsForRole, stepped, role_weight, asked_weight};
+ghost use Rattle.cookie_jars.specs.Jars.{jar_of, jars_after, jars_stolen};
+ghost use Rattle.running_world.specs.Running.{world_of};
+ghost use Rattle.running_world.specs.Stepping.{IsForRole, stepped, role_weight, asked_weight};
+ghost use Rattle.running_world.specs.Theorem.{TheoremHolds};
 
 use crate::asking::{ask_party, ask_provider};
 use crate::roles::{OpRole, RpRole, new_parties};
@@ -60,8 +59,7 @@ impl World {
     /// browser, or 0 for a server, which has no jar.
     ///
     /// A party is one of the registry's, and only a party is asked with the answer of another server. Where it is refused, for want
-    /// of memory or since the history of the role has no room for what is asked, nothing changes. Where the premises hold, the
-    /// reading of the world is a run of the sign-on machine.
+    /// of memory or since the history of the role has no room for what is asked, nothing changes.
     pub fn step(
         &mut self,
         alloc: Global,
@@ -79,8 +77,6 @@ impl World {
         ensures err { OnErr result (self.new ≡ self.old) }
         ensures room { OnOk result (role_weight to (world_of self.old) + asked_weight self.old.registry to ask ≤ most_weight) }
         ensures full { (w : ℕ) → result ≡ Err (CoreNo.JournalFull w) → (w ≡ role_weight to (world_of self.old)) × (most_weight < w + asked_weight self.old.registry to ask) }
-        ensures legal { IsLegalWorld (own_site self.new.registry) (world_of self.new) }
-        ensures signs { HasDistinctWords (world_of self.new) → IsUnleaked (world_of self.new) → IsUnforged (own_site self.new.registry) (world_of self.new) → IsJoined (world_of self.new) → SignsOn (own_site self.new.registry) (world_of self.new) }
     {
         match to {
             To::Provider => match ask {
@@ -114,8 +110,6 @@ impl World {
         ensures ok { OnOk result (world_of self.new ≡ Nothing ∷ world_of self.old) }
         ensures jars { self.new.jars ≡ self.old.jars }
         ensures err { OnErr result (self.new ≡ self.old) }
-        ensures legal { IsLegalWorld (own_site self.new.registry) (world_of self.new) }
-        ensures signs { HasDistinctWords (world_of self.new) → IsUnleaked (world_of self.new) → IsUnforged (own_site self.new.registry) (world_of self.new) → IsJoined (world_of self.new) → SignsOn (own_site self.new.registry) (world_of self.new) }
     {
         self.transcript.skip(alloc)
     }
@@ -130,11 +124,26 @@ impl World {
         self.transcript.steal(thief, owner)
     }
 
+    /// The registry.
+    pub fn registry(&self) -> &Registry
+        ensures { result.now ≡ self.now.registry }
+    {
+        self.transcript.registry()
+    }
+
     /// How many places there are.
     pub fn places(&self) -> u64
         ensures { result ≡ length (world_of self.now) }
     {
         self.transcript.places()
+    }
+
+    /// The role that was asked at a place, from 1. None exactly where there is no such place, or nothing was asked.
+    pub fn role(&self, place: u64) -> Option<To>
+        ensures role { result ≡ option_and_then role_at (place_at (world_of self.now) place) }
+        ensures known { IfSome result (IsRole self.now.registry) }
+    {
+        self.transcript.role(place)
     }
 
     /// The reply at a place, from 1. None exactly where there is no such place.
@@ -164,9 +173,15 @@ impl World {
         ensures ok { OnOk result (first_broken (own_site self.now.registry) (world_of self.now) ≡ None) }
         ensures err { IfErr result (λ b. first_broken (own_site self.now.registry) (world_of self.now) ≡ Some b) }
     {
-        match self.transcript.broken() {
-            None => Ok(()),
-            Some(broken) => Err(broken),
-        }
+        self.transcript.premises()
+    }
+
+    /// The sign-on theorem of each world, as a law for the crates above: it is legal, and where the premises hold its reading is a run
+    /// of the sign-on machine. The call does nothing.
+    pub fn theorem(&self)
+        ensures { TheoremHolds (own_site self.now.registry) (world_of self.now) }
+    {
+        // What every world keeps is known where a part of it is read.
+        let _places = self.transcript.places();
     }
 }

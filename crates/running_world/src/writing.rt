@@ -5,7 +5,7 @@ ghost use Rattle.op_answer.specs.Replies.{sign_out_of as sign_out};
 ghost use Rattle.op_exchange.specs.declared.ask.OpAsk.TheVariants as op_ask;
 ghost use Rattle.sso_places.specs.Site.{own_site};
 ghost use Rattle.sso_places.specs.Tokens.{token_if};
-ghost use Rattle.sso_places.specs.Written.{client_of_uri as client_of_uri_of, rp_written};
+ghost use Rattle.sso_places.specs.Written.{rp_written};
 ghost use Rattle.running_world.specs.Foreknowing.{IsKnown};
 ghost use Rattle.running_world.specs.Noting as spec;
 
@@ -20,19 +20,6 @@ use rp_exchange::RpReply;
 use sso_base::{NoMemory, Text};
 use std::alloc::Global;
 use world_index::Written;
-
-// The client that has the redirection URI.
-fn client_of_uri(registry: &Registry, uri: &Text) -> Option<u32>
-    ensures client { result ≡ client_of_uri_of registry.now uri.now }
-    ensures known { IfSome result (λ n. n < length registry.now.clients) }
-{
-    for client in 0..registry.clients() {
-        if registry.client(client).redirects.has(uri.as_str()) {
-            return Some(client);
-        }
-    }
-    None
-}
 
 // The text is written for the client, where both are there.
 fn note_text(
@@ -130,7 +117,7 @@ pub(crate) fn note_op_written(
         OpReply::Answered { answer, .. } => note_text(
             written,
             alloc,
-            client_of_uri(registry, &answer.redirect),
+            registry.client_of_uri(answer.redirect.as_str()),
             &answer.id,
         ),
         OpReply::Tokens { id, .. } => match fore.client {

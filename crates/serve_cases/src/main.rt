@@ -3,8 +3,8 @@
 //!
 //! The file `stdin` has the cases, and `stdout` the same with their answers. `case_lines` says how a line is read, and the comments
 //! there where the expected answers come from. `desks` says how a desk is written, `$sample$` is a configuration with all roles,
-//! `$form$` the field of a request that has a form, `$header$` the first line of a trace, `$mini$` the small configuration, and
-//! `$provider$` and `$alice$` are rows of others.
+//! `$form$` the field of a request that has a form, `$header$` the first line of a trace, and `$provider$` and `$alice$` are rows of
+//! other configurations.
 //!
 //! | Call | Answer |
 //! |---|---|
@@ -20,7 +20,6 @@
 //!
 //! | Module | What it has |
 //! |---|---|
-//! | `sample` | the configuration |
 //! | `sources` | sources that give few bytes at a call |
 //! | `desks` | desks in memory, read of a field, and what is told of them |
 //! | `tick`, `tally`, `tally_role` | the role whose core is full after one ask |
@@ -35,7 +34,6 @@ mod files;
 mod login_door;
 mod meeting;
 mod passes;
-mod sample;
 mod servers;
 mod sources;
 mod tally;
@@ -46,8 +44,8 @@ mod two;
 mod workers;
 
 use case_lines::{Cases, print_lines, told, written_out};
+use sample_configuration::sample;
 use sample_rows::{ALICE, PROVIDER};
-use sso::MINI;
 use sso_base::{File, NoMemory, Text};
 use std::alloc::Global;
 use std::io;
@@ -72,7 +70,6 @@ impl Cases for ServeCases {
         match name {
             "form" => Some("Content-Type: application/x-www-form-urlencoded"),
             "header" => Some("sso-trace 1 000102030405060708090a0b0c0d0e0f1011121314151617"),
-            "mini" => Some(MINI),
             "provider" => Some(PROVIDER),
             "alice" => Some(ALICE),
             _ => None,
@@ -81,7 +78,7 @@ impl Cases for ServeCases {
 
     fn made(&self, alloc: Global, name: &str) -> Result<Option<Text>, NoMemory> {
         match name {
-            "sample" => Ok(Some(Text::from_string(sample::sample(alloc)?))),
+            "sample" => Ok(Some(Text::from_string(sample(alloc)?))),
             _ => Ok(None),
         }
     }

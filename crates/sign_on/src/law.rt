@@ -43,9 +43,10 @@ pub fn binding()
 {}
 
 /// No premise of the sign-on theorem on worlds can be left out: what is then said is false, though the registry is one that was read,
-/// and all other premises are kept. In the worlds that show it each request is real and each reply the answer of its core: a
-/// browser posts the consent page with the cookies of the one that signed in; the same words are drawn for two logins; a browser brings an
-/// ID Token that somebody else sealed under the client's secret; the token endpoint's answer comes under the number of another browser.
+/// and all other premises are kept. Where worlds need not be legal, a browser leaves a session that nobody entered. In the worlds of the
+/// other four each request is real and each reply the answer of its core: a browser posts the consent page with the cookies of the one
+/// that signed in; the same words are drawn for two logins; a browser brings an ID Token that somebody else sealed under the client's
+/// secret; the token endpoint's answer comes under the number of another browser.
 pub fn no_premise_can_be_left_out()
     ensures legal { ¬ ((s : Site) (world : World) → IsSite s → HasDistinctWords world → IsUnleaked world → IsUnforged s world → IsJoined world → SignsOn s world) }
     ensures words { ¬ ((s : Site) (world : World) → IsSite s → IsLegalWorld s world → IsUnleaked world → IsUnforged s world → IsJoined world → SignsOn s world) }

@@ -1,11 +1,8 @@
 -- How a call ends, from what was answered and how that was written.
-use Rattle.std.proofs.Common.{◌≡◌, ◌⊎◌, ℕ, Bool, true, false, nat_le, cond, List, length, codes, Option, Some, None, is_some, option_map, Result, Ok, Err, inl, inr, refl, ap, ◌∙◌, sym, subst}
-use Rattle.std.proofs.lemmas.Option.{same_Some}
-use Rattle.std.specs.Str.{bytes_eq}
+use Rattle.std.proofs.Common.{◌≡◌, ℕ, Bool, true, false, nat_le, cond, List, length, codes, Option, Some, None, is_some, option_map, Result, Ok, Err, inl, inr, refl, ap, ◌∙◌, sym, subst}
 use Rattle.sso_base.specs.Words.{Text}
-use Rattle.sso_base.specs.Faults.{Rose}
 use Rattle.sso_base.specs.Outside.{Content, content_of, Takes}
-use Rattle.sso_base.proofs.RowLaws.{bool_cases, bytes_same}
+use Rattle.sso_base.proofs.RowLaws.{bool_cases}
 use Rattle.jws_compact.specs.declared.no.JwsNo.{JwsNo}
 use Rattle.jws_compact.specs.declared.unsealing.Unsealed.{Unsealed}
 use Rattle.jws_compact.specs.Jws.{verdict}
@@ -22,39 +19,18 @@ use Rattle.rp_answer.specs.Setup.{PartySetup}
 use Rattle.command_line.specs.declared.command.Command.{Command}
 use Rattle.command_line.specs.declared.command.Command.TheVariants.{Replay, Op, Rp, Token}
 use Rattle.command_line.specs.Commands.{command_of, is_command}
-use Rattle.oidc_replay.specs.declared.trace.TraceNo.{TraceNo}
-use Rattle.oidc_replay.specs.Trace.{Told, trace_of}
-use Rattle.sso.specs.Answer.{Answer, registry_name, configuration_refusal, configuration_no, not_taken, unless_refused, trace_answer, answer_to, without_feed, is_secret, token_refusal, verdict_answer, token_answer}
+use Rattle.trace_lines.specs.declared.no.TraceNo.{TraceNo}
+use Rattle.trace_lines.specs.Trace.{Told, trace_told}
+use Rattle.oidc_replay.specs.declared.replaying.ReplayEnd.{ReplayEnd}
+use Rattle.oidc_replay.specs.declared.replaying.ReplayEnd.TheVariants as end
+use Rattle.oidc_replay.specs.End.{end_of}
+use Rattle.sso.specs.Answer.{Answer, registry_name, configuration_refusal, end_status, trace_answer, replay_answer, answer_to, without_feed, is_secret, token_refusal, verdict_answer, token_answer}
 use Rattle.sso.specs.Asked.{provider_asked, op_asked, metadata_refusal, metadata_name, provider_read, described, trusted, setup_asked, number_asked, party_asked, rp_asked, server_answer}
 use Rattle.sso.specs.Ends.{IsConfigurationNo, IsTokenNo, IsMetadataNo, status_of_both, status_of_asked, op_status, content_if, rp_status, status_for, IsStatus, IsStatusOf, is_serving}
-use Rattle.sso.specs.Outcomes.{IsContent, IsContentIf, PlaysWell, FailsAtShelf, AnswersReplay, AnswersToken, AnswersOp, AnswersRp, ServedOp, ServedRp, MayReplay, MayOpen, MayServeOp, MayServeRp, MayAnswer, IsWritten, usage_answer, shelf_answer}
+use Rattle.sso.specs.Outcomes.{IsContent, IsContentIf, Plays, FailsAtShelf, AnswersReplay, AnswersToken, ServedOp, ServedRp, MayReplay, MayOpen, MayServeOp, MayServeRp, MayAnswer, IsWritten, usage_answer, shelf_answer}
+use Rattle.sso.specs.SignOn.{Replays}
 use Rattle.sso.specs.Statuses.{Call, Ended}
-use Rattle.sso.proofs.Endings.{runs_end, usage_ends, configuration_ends, trace_ends, shelf_ends, sink_ends, door_ends, refusal_ends}
-
--- ---- A configuration
-
--- why a configuration is not taken for a replay
-no_of : (small config : List ℕ) (config_at trace_at : Text) (read : Result Configuration RegNo) (same : Bool) → registry_read config ≡ read → bytes_eq config small ≡ same
-    → (name : Text) → not_taken read same ≡ Some name → IsConfigurationNo small (Replay config_at trace_at) config name
-no_of small config config_at trace_at (Err why) same is e name h = inl (why, is, sym (same_Some (registry_name why) name h))
-no_of small config config_at trace_at (Ok configuration) true is e name h = absurd (cc)
-no_of small config config_at trace_at (Ok configuration) false is e name h = inr (configuration, is, (e, sym (same_Some (codes "NotYet") name h)))
-
--- that it is taken
-taken_of : (small config : List ℕ) (read : Result Configuration RegNo) (same : Bool) → registry_read config ≡ read → bytes_eq config small ≡ same
-    → not_taken read same ≡ None → (bytes_eq config small ≡ true) × ((configuration : Configuration) × (registry_read config ≡ Ok configuration))
-taken_of small config (Err why) same is e h = absurd (cc)
-taken_of small config (Ok configuration) true is e h = (e, (configuration, is))
-taken_of small config (Ok configuration) false is e h = absurd (cc)
-
-refused_configuration : (small config : List ℕ) (config_at trace_at name : Text) → configuration_no small config ≡ Some name
-    → IsConfigurationNo small (Replay config_at trace_at) config name
-unfolding configuration_no
-refused_configuration small config config_at trace_at name h = no_of small config config_at trace_at (registry_read config) (bytes_eq config small) refl refl name h
-
-taken_configuration : (small config : List ℕ) → configuration_no small config ≡ None → (bytes_eq config small ≡ true) × ((configuration : Configuration) × (registry_read config ≡ Ok configuration))
-unfolding configuration_no
-taken_configuration small config h = taken_of small config (registry_read config) (bytes_eq config small) refl refl h
+use Rattle.sso.proofs.Endings.{runs_end, usage_ends, configuration_ends, trace_ends, shelf_ends, broken_ends, full_ends, sink_ends, door_ends, refusal_ends}
 
 module _ {D L C W S K : Type 0} (call : Call D L C W S K) where
   -- an answer that was written whole
@@ -76,12 +52,12 @@ module _ {D L C W S K : Type 0} (call : Call D L C W S K) where
 
   -- ---- `replay`
 
-  -- the configuration is not taken
-  other_ends : (config_at trace_at : Text) (answer : Answer) → command_of call.words ≡ Some (Replay config_at trace_at) → call.news ≡ call.olds
-      → (a : AnswersReplay call.small call.contents config_at trace_at answer) → (name : Text)
-      → IsConfigurationNo call.small (Replay config_at trace_at) a.config name → answer ≡ configuration_refusal name → Whole answer → Ended call answer.status
-  other_ends config_at trace_at answer words_are idle a name why is wrote =
-      ended_as answer (configuration_refusal name) is
+  -- the configuration is refused
+  unread_ends : (config_at trace_at : Text) (answer : Answer) → command_of call.words ≡ Some (Replay config_at trace_at) → call.news ≡ call.olds
+      → (a : AnswersReplay call.contents config_at trace_at answer) → (why : RegNo) → registry_read a.config ≡ Err why
+      → answer ≡ configuration_refusal (registry_name why) → Whole answer → Ended call answer.status
+  unread_ends config_at trace_at answer words_are idle a why refused is wrote =
+      ended_as answer (configuration_refusal (registry_name why)) is
       (configuration_ends call idle
       (record {
         command = Replay config_at trace_at;
@@ -90,71 +66,72 @@ module _ {D L C W S K : Type 0} (call : Call D L C W S K) where
         at = refl;
         config = a.config;
         there = a.config_there;
-        name = name;
-        why = why;
-        wrote = whole_as answer (configuration_refusal name) wrote is;
+        name = registry_name why;
+        why = inl (why, refused, refl);
+        wrote = whole_as answer (configuration_refusal (registry_name why)) wrote is;
       }))
 
-  -- the configuration is taken
+  -- the status of a play, by how it ended
+  play_ends : call.news ≡ call.olds → (end : ReplayEnd) → Replays call.contents call.words (end_status end) call.old call.new → Ended call (end_status end)
+  play_ends idle end.Met replays = runs_end call (inl replays)
+  play_ends idle (end.Broken broken) replays = broken_ends call idle replays
+  play_ends idle (end.Journal place) replays = full_ends call idle replays
+
+  -- the configuration is accepted
   traced_ends : (config_at trace_at : Text) (answer : Answer) → command_of call.words ≡ Some (Replay config_at trace_at) → call.news ≡ call.olds
-      → (a : AnswersReplay call.small call.contents config_at trace_at answer)
-      → IsContent call.contents config_at call.small → (configuration : Configuration) → registry_read call.small ≡ Ok configuration → Whole answer
-      → (told : Result Told TraceNo) → trace_of a.trace ≡ told → answer ≡ trace_answer told → Ended call answer.status
-  unfolding PlaysWell
-  traced_ends config_at trace_at answer words_are idle a config_there configuration read wrote (Ok told) accepted is =
-      let well = a.well (ap (λ (v : Answer). v.status) is) told accepted in
-      ended_as answer (trace_answer (Ok told)) is
-      (runs_end call (inl
+      → (a : AnswersReplay call.contents config_at trace_at answer) → (c : Configuration) → registry_read a.config ≡ Ok c → Whole answer
+      → (told : Result Told TraceNo) → trace_told c a.trace ≡ told → answer ≡ trace_answer c told → Ended call answer.status
+  unfolding Plays
+  traced_ends config_at trace_at answer words_are idle a c read wrote (Ok told) accepted is =
+      ended_as answer (trace_answer c (Ok told)) is
+      (play_ends idle (end_of c told)
       (record {
         config_at = config_at;
         trace_at = trace_at;
         words_are = words_are;
-        config_there = config_there;
-        configuration = configuration;
+        config = a.config;
+        config_there = a.config_there;
+        configuration = c;
         read = read;
         trace = a.trace;
         trace_there = a.trace_there;
         told = told;
         accepted = accepted;
-        wrote = whole_as answer (trace_answer (Ok told)) wrote is;
-        premises = well.0;
-        signs = well.1;
-      })))
-  traced_ends config_at trace_at answer words_are idle a config_there configuration read wrote (Err why) refused is =
-      ended_as answer (trace_answer (Err why)) is
+        ends = refl;
+        wrote = whole_as answer (trace_answer c (Ok told)) wrote is;
+        well = a.well c read told accepted;
+      }))
+  traced_ends config_at trace_at answer words_are idle a c read wrote (Err why) refused is =
+      ended_as answer (trace_answer c (Err why)) is
       (trace_ends call idle
       (record {
         config_at = config_at;
         trace_at = trace_at;
         words_are = words_are;
-        config_there = config_there;
-        configuration = configuration;
+        config = a.config;
+        config_there = a.config_there;
+        configuration = c;
         read = read;
         trace = a.trace;
         trace_there = a.trace_there;
         why = why;
         refused = refused;
-        wrote = whole_as answer (trace_answer (Err why)) wrote is;
+        wrote = whole_as answer (trace_answer c (Err why)) wrote is;
       }))
 
   replay_by : (config_at trace_at : Text) (answer : Answer) → command_of call.words ≡ Some (Replay config_at trace_at) → call.news ≡ call.olds
-      → (a : AnswersReplay call.small call.contents config_at trace_at answer) → Whole answer
-      → (why : Option Text) → configuration_no call.small a.config ≡ why → answer ≡ unless_refused why (trace_answer (trace_of a.trace)) → Ended call answer.status
-  replay_by config_at trace_at answer words_are idle a wrote (Some name) found is =
-      other_ends config_at trace_at answer words_are idle a name (refused_configuration call.small a.config config_at trace_at name found) is wrote
-  replay_by config_at trace_at answer words_are idle a wrote None found is =
-      let taken = taken_configuration call.small a.config found in
-      let same : a.config ≡ call.small = bytes_same a.config call.small taken.0 in
-      let C : List ℕ → Type 0 = λ v. IsContent call.contents config_at v in
-      let R : List ℕ → Type 0 = λ v. registry_read v ≡ Ok taken.1.0 in
-      traced_ends config_at trace_at answer words_are idle a (subst C same a.config_there) taken.1.0 (subst R same taken.1.1) wrote (trace_of a.trace) refl is
+      → (a : AnswersReplay call.contents config_at trace_at answer) → Whole answer
+      → (read : Result Configuration RegNo) → registry_read a.config ≡ read → answer ≡ replay_answer read a.trace → Ended call answer.status
+  replay_by config_at trace_at answer words_are idle a wrote (Err why) read is = unread_ends config_at trace_at answer words_are idle a why read is wrote
+  replay_by config_at trace_at answer words_are idle a wrote (Ok c) read is =
+      traced_ends config_at trace_at answer words_are idle a c read wrote (trace_told c a.trace) refl is
 
   replay_ends : (config_at trace_at : Text) (answer : Answer) → command_of call.words ≡ Some (Replay config_at trace_at) → call.news ≡ call.olds
-      → MayReplay call.small call.contents call.shelf_before call.shelf_after config_at trace_at answer → Whole answer → Ended call answer.status
+      → MayReplay call.contents call.shelf_before call.shelf_after config_at trace_at answer → Whole answer → Ended call answer.status
   unfolding answer_to
   replay_ends config_at trace_at answer words_are idle (inl failed) wrote = shelf_failed (Replay config_at trace_at) answer words_are idle failed wrote
   replay_ends config_at trace_at answer words_are idle (inr a) wrote =
-      replay_by config_at trace_at answer words_are idle a wrote (configuration_no call.small a.config) refl a.answers
+      replay_by config_at trace_at answer words_are idle a wrote (registry_read a.config) refl a.answers
 
   -- ---- `token`
 
@@ -263,7 +240,7 @@ module _ {D L C W S K : Type 0} (call : Call D L C W S K) where
 
   party_refused : (config_at party : Text) (metadata_at : Option Text) (config : List ℕ) (metadata : Option (List ℕ)) (answer : Answer)
       → Party config_at party metadata_at config metadata → call.news ≡ call.olds → (name : Text)
-      → IsConfigurationNo call.small (Rp config_at party metadata_at) config name → answer ≡ configuration_refusal name → Whole answer → Ended call answer.status
+      → IsConfigurationNo (Rp config_at party metadata_at) config name → answer ≡ configuration_refusal name → Whole answer → Ended call answer.status
   party_refused config_at party metadata_at config metadata answer given idle name why is wrote =
       ended_as answer (configuration_refusal name) is
       (configuration_ends call idle
@@ -395,7 +372,7 @@ module _ {D L C W S K : Type 0} (call : Call D L C W S K) where
 
   -- what may be answered to a command
   abbrev May : Option Command → Answer → Type 0
-  May command answer = MayAnswer call.tells call.olds call.news call.small call.contents call.shelf_before call.shelf_after command answer
+  May command answer = MayAnswer call.tells call.olds call.news call.contents call.shelf_before call.shelf_after command answer
 
   -- where nothing is served the desks are as they were
   abbrev Idle : Option Command → Type 0
@@ -480,22 +457,22 @@ module _ {D L C W S K : Type 0} (call : Call D L C W S K) where
 
   -- the status of an answer that was written whole
   whole_told : (held : List Content) → Tells held → (command : Option Command) (answer : Answer) → May command answer
-      → IsStatusOf (status_for call.small held command) answer.status
+      → IsStatusOf (status_for held command) answer.status
   unfolding usage_answer
   whole_told held is None answer usage = inl (ap (λ (v : Answer). v.status) usage)
-  whole_told held is (Some (Replay config trace)) answer (inl failed) = failed_told (status_for call.small held (Some (Replay config trace))) answer failed.0
+  whole_told held is (Some (Replay config trace)) answer (inl failed) = failed_told (status_for held (Some (Replay config trace))) answer failed.0
   whole_told held is (Some (Replay config trace)) answer (inr a) =
       inl (ap (λ (v : Answer). v.status) a.answers
-      ∙ sym (both_told (answer_to call.small) held config trace a.config a.trace (told_at held config a.config is a.config_there) (told_at held trace a.trace is a.trace_there)))
-  whole_told held is (Some (Token secret token)) answer (inl failed) = failed_told (status_for call.small held (Some (Token secret token))) answer failed.0
+      ∙ sym (both_told answer_to held config trace a.config a.trace (told_at held config a.config is a.config_there) (told_at held trace a.trace is a.trace_there)))
+  whole_told held is (Some (Token secret token)) answer (inl failed) = failed_told (status_for held (Some (Token secret token))) answer failed.0
   whole_told held is (Some (Token secret token)) answer (inr a) =
       inl (ap (λ (v : Answer). v.status) a.answers
       ∙ sym (both_told token_answer held secret token a.secret a.token (told_at held secret a.secret is a.secret_there) (told_at held token a.token is a.token_there)))
-  whole_told held is (Some (Op config)) answer (inl failed) = failed_told (status_for call.small held (Some (Op config))) answer failed.0.0
+  whole_told held is (Some (Op config)) answer (inl failed) = failed_told (status_for held (Some (Op config))) answer failed.0.0
   whole_told held is (Some (Op config)) answer (inr a) =
       let S : Option (List ℕ) → Type 0 = λ o. IsStatusOf (op_status o) answer.status in
       subst S (sym (told_at held config a.config is a.config_there)) (op_told (op_asked a.config) answer a.served)
-  whole_told held is (Some (Rp config party metadata)) answer (inl failed) = failed_told (status_for call.small held (Some (Rp config party metadata))) answer failed.0.0
+  whole_told held is (Some (Rp config party metadata)) answer (inl failed) = failed_told (status_for held (Some (Rp config party metadata))) answer failed.0.0
   whole_told held is (Some (Rp config party metadata)) answer (inr a) =
       let S : Option (List ℕ) → Type 0 = λ o. IsStatusOf (rp_status party o (content_if held metadata)) answer.status in
       let M : Option (Option (List ℕ)) → Type 0 = λ o. IsStatusOf (rp_status party (Some a.config) o) answer.status in
@@ -507,8 +484,8 @@ module _ {D L C W S K : Type 0} (call : Call D L C W S K) where
   cut_told None status is = inr (inr (inr (inr is)))
 
   pub contents_tell : (answer : Answer) (status : ℕ) → May (command_of call.words) answer → Written answer status
-      → (held : List Content) → call.contents ≡ Some held → IsStatusOf (status_for call.small held (command_of call.words)) status
+      → (held : List Content) → call.contents ≡ Some held → IsStatusOf (status_for held (command_of call.words)) status
   contents_tell answer status may (inl whole) held is =
-      let S : ℕ → Type 0 = λ n. IsStatusOf (status_for call.small held (command_of call.words)) n in
+      let S : ℕ → Type 0 = λ n. IsStatusOf (status_for held (command_of call.words)) n in
       subst S (sym whole.0) (whole_told held is (command_of call.words) answer may)
-  contents_tell answer status may (inr front) held is = cut_told (status_for call.small held (command_of call.words)) status front.0
+  contents_tell answer status may (inr front) held is = cut_told (status_for held (command_of call.words)) status front.0

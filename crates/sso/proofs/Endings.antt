@@ -10,31 +10,37 @@ module _ {D L C W S K : Type 0} (call : Call D L C W S K) where
   -- ---- the statuses
 
   pub runs_end : Runs call → Ended call 0
-  runs_end runs = record { at = runs; range = inl (omega arith); unserved = λ never. absurd (cc) }
+  runs_end runs = record { at = runs; range = omega arith; unserved = λ never. absurd (cc) }
 
   pub no_memory_ends : call.new ≡ call.old → Ended call 1
-  no_memory_ends same = record { at = same; range = inl (omega arith); unserved = λ never. absurd (cc) }
+  no_memory_ends same = record { at = same; range = omega arith; unserved = λ never. absurd (cc) }
 
   pub usage_ends : call.news ≡ call.olds → ShowsUsage call.words call.old call.new → Ended call 2
-  usage_ends idle shows = record { at = shows; range = inl (omega arith); unserved = λ _. idle }
+  usage_ends idle shows = record { at = shows; range = omega arith; unserved = λ _. idle }
 
-  pub configuration_ends : call.news ≡ call.olds → RefusesConfiguration call.small call.contents call.words call.old call.new → Ended call 3
-  configuration_ends idle refuses = record { at = refuses; range = inl (omega arith); unserved = λ _. idle }
+  pub configuration_ends : call.news ≡ call.olds → RefusesConfiguration call.contents call.words call.old call.new → Ended call 3
+  configuration_ends idle refuses = record { at = refuses; range = omega arith; unserved = λ _. idle }
 
-  pub trace_ends : call.news ≡ call.olds → RefusesTrace call.small call.contents call.words call.old call.new → Ended call 4
-  trace_ends idle refuses = record { at = refuses; range = inl (omega arith); unserved = λ _. idle }
+  pub trace_ends : call.news ≡ call.olds → RefusesTrace call.contents call.words call.old call.new → Ended call 4
+  trace_ends idle refuses = record { at = refuses; range = omega arith; unserved = λ _. idle }
 
   pub shelf_ends : call.news ≡ call.olds → ReportsShelf call.shelf_before call.shelf_after call.words call.old call.new → Ended call 5
-  shelf_ends idle reports = record { at = reports; range = inl (omega arith); unserved = λ _. idle }
+  shelf_ends idle reports = record { at = reports; range = omega arith; unserved = λ _. idle }
+
+  pub broken_ends : call.news ≡ call.olds → Replays call.contents call.words 7 call.old call.new → Ended call 7
+  broken_ends idle replays = record { at = replays; range = omega arith; unserved = λ _. idle }
+
+  pub full_ends : call.news ≡ call.olds → Replays call.contents call.words 8 call.old call.new → Ended call 8
+  full_ends idle replays = record { at = replays; range = omega arith; unserved = λ _. idle }
 
   pub sink_ends : Stops call → Ended call 6
-  sink_ends stops = record { at = stops; range = inl (omega arith); unserved = λ never. absurd (cc) }
+  sink_ends stops = record { at = stops; range = omega arith; unserved = λ never. absurd (cc) }
 
   pub door_ends : FailsAtDoor call → Ended call 9
-  door_ends fails = record { at = fails; range = inr (inl refl); unserved = λ never. absurd (cc) }
+  door_ends fails = record { at = fails; range = omega arith; unserved = λ never. absurd (cc) }
 
   pub refusal_ends : call.news ≡ call.olds → Refuses call → Ended call 10
-  refusal_ends idle refuses = record { at = refuses; range = inr (inr refl); unserved = λ _. idle }
+  refusal_ends idle refuses = record { at = refuses; range = omega arith; unserved = λ _. idle }
 
   -- ---- the clauses
 
@@ -48,7 +54,7 @@ module _ {D L C W S K : Type 0} (call : Call D L C W S K) where
   not_both asks command is_so words_are is_not =
       (let never : ◌≡◌ {A = Bool} true false = sym is_so ∙ ap asks words_are ∙ is_not in cc)
 
-  replayed_of : Runs call → asks_replay (command_of call.words) ≡ true → Replays call.small call.contents call.words call.old call.new
+  replayed_of : Runs call → asks_replay (command_of call.words) ≡ true → Replays call.contents call.words 0 call.old call.new
   replayed_of (inl replays) is_so = replays
   replayed_of (inr (inl opens)) is_so = not_both asks_replay _ is_so opens.words_are refl
   replayed_of (inr (inr (inl serves))) is_so = not_both asks_replay _ is_so serves.words_are refl
@@ -80,8 +86,14 @@ module _ {D L C W S K : Type 0} (call : Call D L C W S K) where
   command_in (inr (inr (inl serves))) = ap is_some serves.words_are
   command_in (inr (inr (inr serves))) = ap is_some serves.words_are
 
-  pub replayed : (status : ℕ) → Ended call status → status ≡ 0 → asks_replay (command_of call.words) ≡ true → Replays call.small call.contents call.words call.old call.new
+  pub replayed : (status : ℕ) → Ended call status → status ≡ 0 → asks_replay (command_of call.words) ≡ true → Replays call.contents call.words 0 call.old call.new
   replayed status ended is = replayed_of (at_status status 0 ended is)
+
+  pub broken : (status : ℕ) → Ended call status → status ≡ 7 → Replays call.contents call.words 7 call.old call.new
+  broken status ended is = at_status status 7 ended is
+
+  pub full : (status : ℕ) → Ended call status → status ≡ 8 → Replays call.contents call.words 8 call.old call.new
+  full status ended is = at_status status 8 ended is
 
   pub opened : (status : ℕ) → Ended call status → status ≡ 0 → asks_token (command_of call.words) ≡ true → OpensToken call.contents call.words call.old call.new
   opened status ended is = opened_of (at_status status 0 ended is)
@@ -103,10 +115,10 @@ module _ {D L C W S K : Type 0} (call : Call D L C W S K) where
   pub usage : (status : ℕ) → Ended call status → status ≡ 2 → ShowsUsage call.words call.old call.new
   usage status ended is = at_status status 2 ended is
 
-  pub configuration : (status : ℕ) → Ended call status → status ≡ 3 → RefusesConfiguration call.small call.contents call.words call.old call.new
+  pub configuration : (status : ℕ) → Ended call status → status ≡ 3 → RefusesConfiguration call.contents call.words call.old call.new
   configuration status ended is = at_status status 3 ended is
 
-  pub trace : (status : ℕ) → Ended call status → status ≡ 4 → RefusesTrace call.small call.contents call.words call.old call.new
+  pub trace : (status : ℕ) → Ended call status → status ≡ 4 → RefusesTrace call.contents call.words call.old call.new
   trace status ended is = at_status status 4 ended is
 
   pub shelf : (status : ℕ) → Ended call status → status ≡ 5 → ReportsShelf call.shelf_before call.shelf_after call.words call.old call.new

@@ -18,13 +18,13 @@ use Rattle.client_registry.specs.Rules.{party_place}
 use Rattle.discovery_doc.specs.Reading.{discovery_read}
 use Rattle.rp_answer.specs.Setup.{PartySetup}
 use Rattle.std.proofs.lemmas.Grind.{common_steps}
-use Rattle.oidc_replay.specs.declared.trace.TraceNo.TheVariants as no
-use Rattle.oidc_replay.specs.Trace.{trace_of, told_of, lines_of}
-use Rattle.sso.specs.Answer.{Answer, answer_to, trace_answer, registry_name, not_taken, configuration_no, unless_refused, without_feed, is_secret, token_refusal, verdict_answer, token_answer}
+use Rattle.trace_lines.specs.declared.no.TraceNo.TheVariants as no
+use Rattle.trace_lines.specs.Trace.{trace_told, told_of, lines_of}
+use Rattle.sso.specs.Answer.{Answer, answer_to, trace_answer, replay_answer, without_feed, is_secret, token_refusal, verdict_answer, token_answer}
 use Rattle.server_desk.specs.declared.desk.Desk.{Desk}
 use Rattle.serving.specs.Summaries.{Telling}
 use Rattle.sso.specs.Asked.{op_asked, provider_asked, metadata_refusal, provider_read, described, trusted, rp_asked, party_asked, number_asked, setup_asked}
-use Rattle.sso.specs.Outcomes.{IsContent, IsContentIf, IsFetched, IsFetchedIf, AnswersReplay, AnswersToken, ServedOp, AnswersOp, ServedRp, AnswersRp, PlaysWell}
+use Rattle.sso.specs.Outcomes.{IsContent, IsContentIf, IsFetched, IsFetchedIf, AnswersReplay, AnswersToken, ServedOp, AnswersOp, ServedRp, AnswersRp, Plays}
 
 -- ---- One content
 
@@ -50,64 +50,54 @@ registry_cut config =
           ∙ sym (too_long_configuration config (is_longer 1048576 (length config) (omega arith)))
     ]
 
-not_taken_long : (small config : List ℕ) → nat_lt 1048576 (length config) ≡ true → configuration_no small config ≡ Some (registry_name reg.TooLong)
-unfolding configuration_no
-not_taken_long small config long = ap (λ r. not_taken r (bytes_eq config small)) (too_long_configuration config long)
-
-configuration_cut : (small config : List ℕ) → configuration_no small (take 1048577 config) ≡ configuration_no small config
-configuration_cut small config =
-    elim (leb_tells (length config) 1048577) [
-      | inl p ↦ ap (configuration_no small) (take_all 1048577 config p.1)
-      | inr p ↦
-          let e : length (take 1048577 config) ≡ 1048577 = length-take-le 1048577 config (omega arith) in
-          not_taken_long small (take 1048577 config) (is_longer 1048576 (length (take 1048577 config)) (omega arith))
-          ∙ sym (not_taken_long small config (is_longer 1048576 (length config) (omega arith)))
-    ]
-
 -- ---- The trace
 
-too_long : (b : List ℕ) → nat_le (length b) 65536 ≡ false → trace_of b ≡ Err no.Size
-unfolding trace_of
-too_long b long = ap (λ (x : Bool). cond x (told_of (lines_of b)) (Err no.Size)) long
+too_long_trace : (c : Configuration) (trace : List ℕ) → nat_lt 4194304 (length trace) ≡ true → trace_told c trace ≡ Err no.Size
+unfolding trace_told
+too_long_trace c trace long = ap (λ (b : Bool). cond b (Err no.Size) (told_of c (lines_of trace))) long
 
-is_above : (most n : ℕ) → most < n → nat_le n most ≡ false
-is_above most n above = elim (leb_tells n most) [ inl p ↦ absurd (omega arith) | inr p ↦ p.0 ]
-
-trace_cut : (trace : List ℕ) → trace_of (take 65537 trace) ≡ trace_of trace
-trace_cut trace =
-    elim (leb_tells (length trace) 65537) [
-      | inl p ↦ ap trace_of (take_all 65537 trace p.1)
+trace_cut : (c : Configuration) (trace : List ℕ) → trace_told c (take 4194305 trace) ≡ trace_told c trace
+trace_cut c trace =
+    elim (leb_tells (length trace) 4194305) [
+      | inl p ↦ ap (trace_told c) (take_all 4194305 trace p.1)
       | inr p ↦
-          let e : length (take 65537 trace) ≡ 65537 = length-take-le 65537 trace (omega arith) in
-          too_long (take 65537 trace) (is_above 65536 (length (take 65537 trace)) (omega arith)) ∙ sym (too_long trace (is_above 65536 (length trace) (omega arith)))
+          let e : length (take 4194305 trace) ≡ 4194305 = length-take-le 4194305 trace (omega arith) in
+          too_long_trace c (take 4194305 trace) (is_longer 4194304 (length (take 4194305 trace)) (omega arith))
+          ∙ sym (too_long_trace c trace (is_longer 4194304 (length trace) (omega arith)))
     ]
 
 -- ---- The configuration and the trace
 
-answer_cut : (small config trace : List ℕ) → answer_to small (take 1048577 config) (take 65537 trace) ≡ answer_to small config trace
+replay_cut : (read : Result Configuration RegNo) (trace : List ℕ) → replay_answer read (take 4194305 trace) ≡ replay_answer read trace
+replay_cut (Ok c) trace = ap (trace_answer c) (trace_cut c trace)
+replay_cut (Err why) trace = refl
+
+answer_cut : (config trace : List ℕ) → answer_to (take 1048577 config) (take 4194305 trace) ≡ answer_to config trace
 unfolding answer_to
-answer_cut small config trace =
-    ap (λ (why : Option Text). unless_refused why (trace_answer (trace_of (take 65537 trace)))) (configuration_cut small config)
-    ∙ ap (λ x. unless_refused (configuration_no small config) (trace_answer x)) (trace_cut trace)
+answer_cut config trace =
+    ap (λ (read : Result Configuration RegNo). replay_answer read (take 4194305 trace)) (registry_cut config) ∙ replay_cut (registry_read config) trace
 
 -- The answer to what was fetched is the answer to the contents that stand there.
-pub replay_fetched : (small : List ℕ) (contents : Option (List Content)) (config_at trace_at : Text) (config trace : List ℕ) (answer : Answer)
-    → IsFetched contents config_at 1048577 config → IsFetched contents trace_at 65537 trace
-    → answer ≡ answer_to small config trace → (answer.status ≡ 0 → PlaysWell trace) → AnswersReplay small contents config_at trace_at answer
-unfolding PlaysWell
-replay_fetched small contents config_at trace_at config trace answer config_from trace_from e well =
+pub replay_fetched : (contents : Option (List Content)) (config_at trace_at : Text) (config trace : List ℕ) (answer : Answer)
+    → IsFetched contents config_at 1048577 config → IsFetched contents trace_at 4194305 trace
+    → answer ≡ answer_to config trace → Plays config trace → AnswersReplay contents config_at trace_at answer
+unfolding Plays
+replay_fetched contents config_at trace_at config trace answer config_from trace_from e well =
     let c = from_fetch contents config_at 1048577 config config_from in
-    let t = from_fetch contents trace_at 65537 trace trace_from in
+    let t = from_fetch contents trace_at 4194305 trace trace_from in
     record {
       config = c.0;
       trace = t.0;
       config_there = c.1;
       trace_there = t.1;
-      answers = e ∙ ap (λ (v : List ℕ). answer_to small v trace) c.2 ∙ ap (λ (v : List ℕ). answer_to small (take 1048577 c.0) v) t.2 ∙ answer_cut small c.0 t.0;
-      well = λ z told is. well z told (ap trace_of t.2 ∙ trace_cut t.0 ∙ is);
+      answers = e ∙ ap (λ (v : List ℕ). answer_to v trace) c.2 ∙ ap (λ (v : List ℕ). answer_to (take 1048577 c.0) v) t.2 ∙ answer_cut c.0 t.0;
+      well = λ k read told is. well k (ap registry_read c.2 ∙ registry_cut c.0 ∙ read) told (ap (trace_told k) t.2 ∙ trace_cut k t.0 ∙ is);
     }
 
 -- ---- The secret
+
+is_above : (most n : ℕ) → most < n → nat_le n most ≡ false
+is_above most n above = elim (leb_tells n most) [ inl p ↦ absurd (omega arith) | inr p ↦ p.0 ]
 
 few_dropped : (bytes : List ℕ) → length bytes ≤ length (without_feed bytes) + 1
 few_dropped bytes =

@@ -1,5 +1,5 @@
 -- Where a party of a name is found, it is one of the configuration; and the provider that it trusts has the configuration's issuer.
-use Rattle.std.proofs.Common.{◌≡◌, ℕ, ◌<◌, ◌≤◌, ◌+◌, Bool, true, false, nat_le, cond, List, [], ◌∷◌, length, codes, Option, Some, None, Result, Ok, Err, inl, inr, arith, refl, ap, sym, ◌∙◌, subst}
+use Rattle.std.proofs.Common.{◌≡◌, ℕ, ◌<◌, ◌+◌, Bool, nat_le, cond, List, [], ◌∷◌, length, codes, Option, Some, None, Result, Ok, Err, inl, inr, arith, refl, ap, sym, ◌∙◌, subst}
 use Rattle.std.proofs.lemmas.Option.{same_Some}
 use Rattle.std.specs.List.{position_from}
 use Rattle.std.specs.Str.{bytes_eq}
@@ -13,7 +13,7 @@ use Rattle.discovery_doc.specs.declared.no.DiscNo.{DiscNo}
 use Rattle.discovery_doc.specs.Reading.{discovery_read}
 use Rattle.discovery_doc.proofs.Documents.{names_the_issuer}
 use Rattle.sso.specs.Answer.{Answer}
-use Rattle.sso.specs.Asked.{metadata_refusal, metadata_name, provider_read, described, trusted}
+use Rattle.sso.specs.Asked.{metadata_refusal, provider_read, described, trusted}
 
 place_below : (test : Party → Bool) (from place : ℕ) (parties : List Party) → position_from test from parties ≡ Some place → place < from + length parties
 place_below test from place [] found = absurd (cc)

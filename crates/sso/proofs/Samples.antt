@@ -2,7 +2,6 @@
 use Rattle.std.proofs.Common.{◌≡◌, ℕ, Bool, true, false, nat_le, List, [], ◌∷◌, ◌++◌, length, codes, Option, Some, None, Result, Ok, Err, inl, inr, refl, ap, sym, ◌∙◌, subst, arith}
 use Rattle.std.proofs.lemmas.Option.{same_Some}
 use Rattle.std.specs.Fmt.{digits}
-use Rattle.std.specs.Str.{bytes_eq}
 use Rattle.std.specs.Str.{is_utf8, chars}
 use Rattle.hex.specs.Hex.{decode_pairs}
 use Rattle.hex.proofs.OnLiterals.{hex_on_literals}
@@ -24,32 +23,34 @@ use Rattle.jws_compact.specs.declared.unsealing.Unsealed.{Unsealed}
 use Rattle.jws_compact.specs.Jws.{verdict}
 use Rattle.jws_compact.proofs.OnLiterals.{jws_on_literals}
 use Rattle.jws_compact.specs.Names.{jws_name}
-use Rattle.oidc_replay.specs.declared.trace.TraceNo.TheVariants as no
-use Rattle.oidc_replay.specs.Trace.{Told, trace_of}
-use Rattle.oidc_replay.specs.Replay.{play_of, text_of}
-use Rattle.oidc_replay.proofs.Order.{told_read}
-use Rattle.oidc_replay.proofs.Plays.{play_meets, play_signs}
-use Rattle.client_registry.specs.Rules.{party_place}
+use Rattle.sso_places.specs.declared.types.Broken.TheVariants.{Leaked}
+use Rattle.sso_places.specs.Agreement.{SignsOn}
+use Rattle.sso_places.specs.Binding.{IsBound}
+use Rattle.sso_places.specs.Site.{own_site}
+use Rattle.sso_places.specs.World.{Place, Party, World}
+use Rattle.trace_lines.specs.declared.no.TraceNo.TheVariants as no
+use Rattle.trace_lines.specs.Trace.{Told, trace_told}
+use Rattle.oidc_replay.specs.declared.replaying.ReplayEnd.TheVariants as end
+use Rattle.oidc_replay.specs.Play.{play_of}
+use Rattle.oidc_replay.specs.End.{end_of}
+use Rattle.oidc_replay.specs.Text.{text_of}
+use Rattle.oidc_replay.specs.Theorem.{PlaysWell}
 use Rattle.discovery_doc.specs.Reading.{discovery_read}
 use Rattle.op_exchange.specs.declared.ask.OpAsk.{OpAsk}
 use Rattle.op_exchange.specs.declared.reply.OpReply.{OpReply}
 use Rattle.op_core.specs.Providing.{Providing}
-use Rattle.rp_exchange.specs.declared.ask.RpAsk.{RpAsk}
-use Rattle.rp_exchange.specs.declared.reply.RpReply.{RpReply}
-use Rattle.rp_core.specs.Relying.{Relying}
 use Rattle.command_line.specs.declared.command.Command.{Command}
-use Rattle.command_line.specs.declared.command.Command.TheVariants.{Replay, Op, Rp, Token}
+use Rattle.command_line.specs.declared.command.Command.TheVariants.{Replay, Rp, Token}
 use Rattle.command_line.specs.Commands.{command_of}
-use Rattle.server_desk.specs.declared.desk.Desk.{Desk}
 use Rattle.serving.specs.declared.summary.Summary.{Summary}
 use Rattle.serving.specs.Summaries.{Telling}
 use Rattle.sso_serve.specs.Servers.{ServesOp}
-use Rattle.sso.specs.Answer.{Answer, configuration_refusal, answer_to, not_taken, unless_refused, trace_answer, registry_name, configuration_no, configuration_text, usage_text, refused_text, without_feed, token_text, token_answer}
-use Rattle.sso.specs.Asked.{provider_asked, op_asked, metadata_refusal, metadata_text, described, party_asked, rp_asked, door_text, served_text}
-use Rattle.sso.specs.Ends.{config_in, ShowsUsage, ReportsShelf, IsConfigurationNo, RefusesConfiguration, RefusesTrace, RefusesToken, RefusesMetadata, OpensToken, RunsProvider, RunsParty, IsTokenNo, op_status, rp_status, status_of_asked, status_for}
+use Rattle.sso.specs.Answer.{configuration_refusal, end_status, answer_to, replay_answer, registry_name, configuration_text, usage_text, trace_name, refused_text, without_feed, token_text, token_answer}
+use Rattle.sso.specs.Asked.{provider_asked, op_asked, metadata_refusal, described, party_asked, rp_asked, served_text}
+use Rattle.sso.specs.Ends.{config_in, ShowsUsage, ReportsShelf, IsConfigurationNo, RefusesConfiguration, RefusesTrace, RefusesToken, OpensToken, RunsProvider, IsTokenNo, op_status, rp_status, status_of_asked, status_for}
 use Rattle.sso.specs.SignOn.{Replays}
 
--- a configuration that stands for the small one, and what is read of it
+-- a small configuration, and what is read of it
 abbrev small : List ℕ
 small = codes "version = 1\n[provider]\nissuer = \"https://a.b\"\nlisten = \"a.b:443\"\nsalt = \"00112233445566778899aabbccddeeff\"\n"
 
@@ -69,29 +70,10 @@ small_read : registry_read small ≡ Ok configuration
 unfolding document_in toml_on_literals version1_read records_read subjects_read rows_refusals records_refusals subjects_refusals configuration_of url_on_literals parts_of hex_on_literals is_utf8 chars
 small_read = refl
 
--- one that is no TOML, and one that is read and is another
+-- one that is no TOML
 other_refused : registry_read (codes "version") ≡ Err reg.NotToml
 unfolding document_in toml_on_literals is_utf8 chars
 other_refused = refl
-
-abbrev longer : List ℕ
-longer = codes "version = 1\n[provider]\nissuer = \"https://a.b\"\nlisten = \"a.b:443\"\nsalt = \"00112233445566778899aabbccddeeff\"\n\n"
-
-longer_read : registry_read longer ≡ Ok configuration
-unfolding document_in toml_on_literals version1_read records_read subjects_read rows_refusals records_refusals subjects_refusals configuration_of url_on_literals parts_of hex_on_literals is_utf8 chars
-longer_read = refl
-
-taken-the_small_one : configuration_no small small ≡ None
-unfolding configuration_no
-taken-the_small_one = ap (λ r. not_taken r (bytes_eq small small)) small_read
-
-not_taken-no_toml : configuration_no small (codes "version") ≡ Some (codes "NotToml")
-unfolding configuration_no registry_name
-not_taken-no_toml = ap (λ r. not_taken r (bytes_eq (codes "version") small)) other_refused
-
-not_taken-another : configuration_no small longer ≡ Some (codes "NotYet")
-unfolding configuration_no
-not_taken-another = ap (λ r. not_taken r (bytes_eq longer small)) longer_read
 
 abbrev words : List Text
 words = codes "replay" ∷ codes "config" ∷ codes "trace" ∷ []
@@ -158,41 +140,43 @@ token_words_read = refl
 
 -- ---- Statuses by the contents
 
-accepted-is_0 : status_for small (with small header) replaying ≡ Some 0
-unfolding answer_to trace_of decode_pairs
-accepted-is_0 = ap (λ (o : Option Text). Some (unless_refused o (trace_answer (trace_of header))).status) taken-the_small_one
+accepted-is_0 : status_for (with small header) replaying ≡ Some 0
+unfolding answer_to trace_told end_of play_of decode_pairs
+accepted-is_0 = ap (λ (r : Result Configuration RegNo). Some (replay_answer r header).status) small_read
 
-other_words-are_2 : status_for small (with small header) None ≡ Some 2
+other_words-are_2 : status_for (with small header) None ≡ Some 2
 other_words-are_2 = refl
 
-other_configuration-is_3 : status_for small (with longer header) replaying ≡ Some 3
+refused_configuration-is_3 : status_for (with (codes "version") header) replaying ≡ Some 3
 unfolding answer_to
-other_configuration-is_3 = ap (λ (o : Option Text). Some (unless_refused o (trace_answer (trace_of header))).status) not_taken-another
+refused_configuration-is_3 = ap (λ (r : Result Configuration RegNo). Some (replay_answer r header).status) other_refused
 
-refused_configuration-is_3 : status_for small (with (codes "version") header) replaying ≡ Some 3
-unfolding answer_to
-refused_configuration-is_3 = ap (λ (o : Option Text). Some (unless_refused o (trace_answer (trace_of header))).status) not_taken-no_toml
+refused-is_4 : status_for (with small (codes "hello\n")) replaying ≡ Some 4
+unfolding answer_to trace_told
+refused-is_4 = ap (λ (r : Result Configuration RegNo). Some (replay_answer r (codes "hello\n")).status) small_read
 
-refused-is_4 : status_for small (with small (codes "hello\n")) replaying ≡ Some 4
-unfolding answer_to trace_of
-refused-is_4 = ap (λ (o : Option Text). Some (unless_refused o (trace_answer (trace_of (codes "hello\n")))).status) taken-the_small_one
+broken-is_7 : end_status (end.Broken (Leaked 9)) ≡ 7
+broken-is_7 = refl
 
-absent-is_5 : status_for small ((codes "config", small) ∷ []) replaying ≡ Some 5
+full-is_8 : end_status (end.Journal 262145) ≡ 8
+full-is_8 = refl
+
+absent-is_5 : status_for ((codes "config", small) ∷ []) replaying ≡ Some 5
 absent-is_5 = refl
 
-opened-is_0 : status_for small (holding (codes "key\n") (sealed ++ 10 ∷ [])) opening ≡ Some 0
+opened-is_0 : status_for (holding (codes "key\n") (sealed ++ 10 ∷ [])) opening ≡ Some 0
 unfolding token_answer jws_on_literals
 opened-is_0 = refl
 
-no_secret-is_10 : status_for small (holding (codes "\n") sealed) opening ≡ Some 10
+no_secret-is_10 : status_for (holding (codes "\n") sealed) opening ≡ Some 10
 unfolding token_answer
 no_secret-is_10 = refl
 
-other_secret-is_10 : status_for small (holding (codes "kez") sealed) opening ≡ Some 10
+other_secret-is_10 : status_for (holding (codes "kez") sealed) opening ≡ Some 10
 unfolding token_answer jws_on_literals
 other_secret-is_10 = refl
 
-absent_token-is_5 : status_for small ((codes "secret", key) ∷ []) opening ≡ Some 5
+absent_token-is_5 : status_for ((codes "secret", key) ∷ []) opening ≡ Some 5
 absent_token-is_5 = refl
 
 -- ---- Ends
@@ -207,50 +191,69 @@ usage_not_shown shows = (let never : ◌≡◌ {A = Option Command} replaying No
 shelf_not_reported : ReportsShelf 3 3 words None None → ⊥
 shelf_not_reported reports = (let rose = reports.rose in absurd (omega arith))
 
-configuration_refused : RefusesConfiguration small (Some (with (codes "version") header)) words (Some []) (Some (codes "configuration NotToml\n"))
+configuration_refused : RefusesConfiguration (Some (with (codes "version") header)) words (Some []) (Some (codes "configuration NotToml\n"))
 unfolding configuration_text registry_name
 configuration_refused = record { command = Replay (codes "config") (codes "trace"); words_are = words_read; config_at = codes "config"; at = refl; config = codes "version"; there = refl; name = codes "NotToml"; why = inl (reg.NotToml, other_refused, refl); wrote = refl }
 
-another_refused : RefusesConfiguration small (Some (with longer header)) words (Some []) (Some (codes "configuration NotYet\n"))
-unfolding configuration_text
-another_refused = record { command = Replay (codes "config") (codes "trace"); words_are = words_read; config_at = codes "config"; at = refl; config = longer; there = refl; name = codes "NotYet"; why = inr (configuration, longer_read, (refl, refl)); wrote = refl }
-
-small_is_taken : (name : Text) → IsConfigurationNo small (Replay (codes "config") (codes "trace")) small name → ⊥
+small_is_taken : (name : Text) → IsConfigurationNo (Replay (codes "config") (codes "trace")) small name → ⊥
 small_is_taken name (inl refused) = (let never : ◌≡◌ {A = Result Configuration RegNo} (Ok configuration) (Err refused.0) = sym small_read ∙ refused.1 in cc)
-small_is_taken name (inr other) = (let never : ◌≡◌ {A = Bool} true false = other.2.0 in cc)
+small_is_taken name (inr other) = other.2
 
 -- the command and the name of its configuration are those of the words
-configuration_not_refused : RefusesConfiguration small (Some (with small header)) words None None → ⊥
+configuration_not_refused : RefusesConfiguration (Some (with small header)) words None None → ⊥
 configuration_not_refused refuses =
     let same : Replay (codes "config") (codes "trace") ≡ refuses.command = same_Some (Replay (codes "config") (codes "trace")) refuses.command (sym words_read ∙ refuses.words_are) in
     let At : Command → Type 0 = λ command. config_in command ≡ Some refuses.config_at in
     let config_is : codes "config" ≡ refuses.config_at = same_Some (codes "config") refuses.config_at (subst At (sym same) refuses.at) in
     let There : Text → Type 0 = λ name. content_of (with small header) name ≡ Some refuses.config in
     let small_is : small ≡ refuses.config = same_Some small refuses.config (subst There (sym config_is) refuses.there) in
-    let Refused : Command → Type 0 = λ command. IsConfigurationNo small command refuses.config refuses.name in
-    let Small : List ℕ → Type 0 = λ config. IsConfigurationNo small (Replay (codes "config") (codes "trace")) config refuses.name in
+    let Refused : Command → Type 0 = λ command. IsConfigurationNo command refuses.config refuses.name in
+    let Small : List ℕ → Type 0 = λ config. IsConfigurationNo (Replay (codes "config") (codes "trace")) config refuses.name in
     small_is_taken refuses.name (subst Small (sym small_is) (subst Refused (sym same) refuses.why))
 
-trace_refused : RefusesTrace small (Some (with small (codes "hello\n"))) words (Some []) (Some (codes "trace NotYet 1\n"))
-unfolding trace_of refused_text digits
+trace_refused : RefusesTrace (Some (with small (codes "hello\n"))) words (Some []) (Some (codes "trace Header\n"))
+unfolding trace_told refused_text trace_name
 trace_refused =
-    record { config_at = codes "config"; trace_at = codes "trace"; words_are = words_read; config_there = refl; configuration = configuration; read = small_read; trace = codes "hello\n"; trace_there = refl; why = no.NotYet 1; refused = refl; wrote = refl }
+    record { config_at = codes "config"; trace_at = codes "trace"; words_are = words_read; config = small; config_there = refl; configuration = configuration; read = small_read; trace = codes "hello\n"; trace_there = refl; why = no.Header; refused = refl; wrote = refl }
 
 -- the header alone is a trace of no line
 abbrev nothing_told : Told
 nothing_told = record { seed = seed; lines = [] }
 
-nothing_accepted : trace_of header ≡ Ok nothing_told
-unfolding trace_of decode_pairs
+nothing_accepted : trace_told configuration header ≡ Ok nothing_told
+unfolding trace_told decode_pairs
 nothing_accepted = refl
 
-replayed : Replays small (Some (with small header)) words (Some []) (Some (codes "premises met\n"))
-unfolding text_of play_of
+-- a world of no place has none in it
+no_place : (later earlier : World) (x : Place) → [] ≡ later ++ x ∷ earlier → ⊥
+no_place [] earlier x is = absurd (cc)
+no_place (y ∷ later) earlier x is = absurd (cc)
+
+nothing_is_bound : IsBound (own_site configuration) []
+nothing_is_bound =
+    record {
+      codes = λ n from request p later earlier id code is exchanged redeemed. absurd (no_place later earlier (Party n from request p) is);
+      access_tokens = λ n from request p later earlier id access is asks informed. absurd (no_place later earlier (Party n from request p) is);
+    }
+
+nothing_plays_well : PlaysWell configuration nothing_told
+unfolding play_of SignsOn
+nothing_plays_well =
+    record {
+      legal = record { provider = tt; parties = λ n. tt; asked = tt };
+      signs = λ unforged unleaked. tt;
+      binds = λ unforged unleaked hashes. nothing_is_bound;
+      met = λ is. (tt, nothing_is_bound);
+    }
+
+replayed : Replays (Some (with small header)) words 0 (Some []) (Some (codes "premises met\n"))
+unfolding text_of end_of play_of
 replayed =
     record {
       config_at = codes "config";
       trace_at = codes "trace";
       words_are = words_read;
+      config = small;
       config_there = refl;
       configuration = configuration;
       read = small_read;
@@ -258,9 +261,9 @@ replayed =
       trace_there = refl;
       told = nothing_told;
       accepted = nothing_accepted;
+      ends = refl;
       wrote = refl;
-      premises = play_meets nothing_told (told_read header nothing_told nothing_accepted);
-      signs = play_signs nothing_told (told_read header nothing_told nothing_accepted);
+      well = nothing_plays_well;
     }
 
 token_opened : OpensToken (Some (holding (codes "key\n") sealed)) token_words (Some []) (Some (codes "{}\n"))
@@ -362,7 +365,7 @@ not_described-too_long metadata long = rw (long) refl
 abbrev party_words : List Text
 party_words = codes "rp" ∷ codes "config" ∷ codes "shop" ∷ []
 
-no_party_refused : RefusesConfiguration small (Some (with small header)) party_words (Some []) (Some (codes "configuration NoParty\n"))
+no_party_refused : RefusesConfiguration (Some (with small header)) party_words (Some []) (Some (codes "configuration NoParty\n"))
 unfolding configuration_text command_of
 no_party_refused =
     record { command = Rp (codes "config") (codes "shop") None; words_are = refl; config_at = codes "config"; at = refl; config = small; there = refl; name = codes "NoParty"; why = inr (configuration, small_read, (refl, refl)); wrote = refl }

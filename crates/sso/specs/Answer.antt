@@ -1,6 +1,6 @@
 -- What the program answers to words that are no command, and to the contents that it fetched for `replay` and `token`: a status and
 -- a text.
-use Rattle.std.specs.Prelude.{ℕ, ◌-◌, Bool, true, false, Option, Some, None, ◌&&◌, nat_lt, nat_le, List, [], ◌∷◌, ◌++◌, length, take, drop, codes, Result, Ok, Err, if◌then◌else◌}
+use Rattle.std.specs.Prelude.{ℕ, ◌-◌, Bool, ◌&&◌, nat_lt, nat_le, List, [], ◌∷◌, ◌++◌, length, take, drop, codes, Result, Ok, Err, if◌then◌else◌}
 use Rattle.std.specs.Fmt.{decimal}
 use Rattle.std.specs.Str.{bytes_eq}
 use Rattle.sso_base.specs.Words.{Text}
@@ -12,10 +12,13 @@ use Rattle.configuration_rows.specs.declared.no.RegNo.{RegNo}
 use Rattle.configuration_rows.specs.declared.no.RegNo.TheVariants as reg
 use Rattle.client_registry.specs.Configuration.{Configuration}
 use Rattle.client_registry.specs.Reading.{registry_read}
-use Rattle.oidc_replay.specs.declared.trace.TraceNo.{TraceNo}
-use Rattle.oidc_replay.specs.declared.trace.TraceNo.TheVariants as no
-use Rattle.oidc_replay.specs.Trace.{Told, trace_of}
-use Rattle.oidc_replay.specs.Replay.{text_of}
+use Rattle.trace_lines.specs.declared.no.TraceNo.{TraceNo}
+use Rattle.trace_lines.specs.declared.no.TraceNo.TheVariants as no
+use Rattle.trace_lines.specs.Trace.{Told, trace_told}
+use Rattle.oidc_replay.specs.declared.replaying.ReplayEnd.{ReplayEnd}
+use Rattle.oidc_replay.specs.declared.replaying.ReplayEnd.TheVariants as end
+use Rattle.oidc_replay.specs.End.{end_of}
+use Rattle.oidc_replay.specs.Text.{text_of}
 
 pub record Answer : Type 0 where
   pub status : ℕ
@@ -47,37 +50,44 @@ registry_name (reg.SubjectClash client user other) = codes "SubjectClash " ++ cl
 unfoldable pub configuration_text : Text → Text
 configuration_text name = codes "configuration " ++ name ++ 10 ∷ []
 
--- why a configuration is not taken, if it is not: it is refused, or is another than the small one
-abbrev pub not_taken : Result Configuration RegNo → Bool → Option Text
-not_taken (Err why) is_small = Some (registry_name why)
-not_taken (Ok configuration) true = None
-not_taken (Ok configuration) false = Some (codes "NotYet")
-
-unfoldable pub configuration_no : List ℕ → List ℕ → Option Text
-configuration_no small config = not_taken (registry_read config) (bytes_eq config small)
-
--- the text of a trace that is refused
-unfoldable pub refused_text : TraceNo → Text
-refused_text no.NoMemory = []
-refused_text no.Size = codes "trace Size\n"
-refused_text (no.NotYet line) = codes "trace NotYet " ++ decimal line ++ 10 ∷ []
-
--- the answer to a trace
-abbrev pub trace_answer : Result Told TraceNo → Answer
-trace_answer (Ok told) = record { status = 0; text = text_of told }
-trace_answer (Err why) = record { status = 4; text = refused_text why }
-
 -- the answer to a configuration that is not taken, by the reason's name
 abbrev pub configuration_refusal : Text → Answer
 configuration_refusal name = record { status = 3; text = configuration_text name }
 
-abbrev pub unless_refused : Option Text → Answer → Answer
-unless_refused (Some name) answer = configuration_refusal name
-unless_refused None answer = answer
+-- the name of a refusal of a trace, and the number of its first bad line
+unfoldable pub trace_name : TraceNo → Text
+trace_name no.NoMemory = []
+trace_name no.Size = codes "Size"
+trace_name no.Header = codes "Header"
+trace_name (no.LineTooLong line) = codes "LineTooLong " ++ decimal line
+trace_name (no.Word line) = codes "Word " ++ decimal line
+trace_name (no.Number line) = codes "Number " ++ decimal line
+trace_name (no.Backwards line) = codes "Backwards " ++ decimal line
+trace_name (no.NoSuchReply line) = codes "NoSuchReply " ++ decimal line
+trace_name (no.NoSuchParty line) = codes "NoSuchParty " ++ decimal line
+
+-- the text of a trace that is refused
+unfoldable pub refused_text : TraceNo → Text
+refused_text why = codes "trace " ++ trace_name why ++ 10 ∷ []
+
+-- the status of a replay, by how its play ended
+abbrev pub end_status : ReplayEnd → ℕ
+end_status end.Met = 0
+end_status (end.Broken broken) = 7
+end_status (end.Journal place) = 8
+
+-- the answer to a trace that is played over a configuration
+abbrev pub trace_answer : Configuration → Result Told TraceNo → Answer
+trace_answer c (Ok told) = record { status = end_status (end_of c told); text = text_of c told }
+trace_answer c (Err why) = record { status = 4; text = refused_text why }
+
+abbrev pub replay_answer : Result Configuration RegNo → List ℕ → Answer
+replay_answer (Ok c) trace = trace_answer c (trace_told c trace)
+replay_answer (Err why) trace = configuration_refusal (registry_name why)
 
 -- the answer to a configuration and a trace
-unfoldable pub answer_to : List ℕ → List ℕ → List ℕ → Answer
-answer_to small config trace = unless_refused (configuration_no small config) (trace_answer (trace_of trace))
+unfoldable pub answer_to : List ℕ → List ℕ → Answer
+answer_to config trace = replay_answer (registry_read config) trace
 
 -- bytes without their last, where that is a line feed
 abbrev pub without_feed : List ℕ → List ℕ

@@ -1,7 +1,6 @@
 -- How a call of the program ends: for each status, what is then so. What a shelf holds and what a sink took is an option,
 -- since real files and a real output tell nothing.
-use Rattle.std.specs.Prelude.{◌≡◌, ◌⊎◌, ℕ, Bool, true, false, ◌||◌, ◌==◌, nat_le, List, [], ◌∷◌, ◌++◌, length, Option, Some, None, is_some, option_map, Result, Ok, Err, codes}
-use Rattle.std.specs.Str.{bytes_eq}
+use Rattle.std.specs.Prelude.{◌≡◌, ◌⊎◌, ℕ, Bool, true, false, ◌||◌, ◌==◌, nat_le, List, [], ◌∷◌, ◌++◌, length, Option, Some, None, option_map, Result, Ok, Err, codes}
 use Rattle.sso_base.specs.Words.{Text}
 use Rattle.sso_base.specs.Faults.{Rose}
 use Rattle.sso_base.specs.Outside.{Content, content_of, Takes, TakesFront}
@@ -30,8 +29,8 @@ use Rattle.server_desk.specs.declared.desk.Desk.{Desk}
 use Rattle.serving.specs.declared.summary.Summary.{Summary}
 use Rattle.serving.specs.Summaries.{Telling}
 use Rattle.sso_serve.specs.Servers.{ServesOp, ServesRp}
-use Rattle.oidc_replay.specs.declared.trace.TraceNo.{TraceNo}
-use Rattle.oidc_replay.specs.Trace.{trace_of}
+use Rattle.trace_lines.specs.declared.no.TraceNo.{TraceNo}
+use Rattle.trace_lines.specs.Trace.{trace_told}
 use Rattle.sso.specs.Answer.{Answer, usage_text, shelf_text, registry_name, configuration_text, refused_text, answer_to, without_feed, is_secret, token_text, token_answer}
 use Rattle.sso.specs.Asked.{metadata_name, metadata_text, trusted, op_asked, rp_asked, server_answer}
 use Rattle.sso.specs.Outcomes.{IsContent, IsContentIf, MayAnswer}
@@ -58,20 +57,19 @@ config_in (Op config) = Some config
 config_in (Rp config name metadata) = Some config
 config_in (Token secret token) = None
 
--- why a configuration that is no refused one is not taken by a command, by the reason's name: a trace is to be replayed over another
--- than the small one, or it has no party of the name
-abbrev pub IsFurtherNo : List ℕ → Command → List ℕ → Configuration → Text → Type 0
-IsFurtherNo small (Replay config_at trace_at) config c name = (bytes_eq config small ≡ false) × (name ≡ codes "NotYet")
-IsFurtherNo small (Rp config_at party metadata_at) config c name = (party_place party c.parties ≡ None) × (name ≡ codes "NoParty")
-IsFurtherNo small command config c name = ⊥
+-- the command names a party that the configuration has not, and this is the reason's name
+abbrev pub IsPartyNo : Command → Configuration → Text → Type 0
+IsPartyNo (Rp config_at party metadata_at) c name = (party_place party c.parties ≡ None) × (name ≡ codes "NoParty")
+IsPartyNo command c name = ⊥
 
-abbrev pub IsConfigurationNo : List ℕ → Command → List ℕ → Text → Type 0
-IsConfigurationNo small command config name =
+-- why a configuration is not taken by a command, by the reason's name: it is refused, or has no party of the name
+abbrev pub IsConfigurationNo : Command → List ℕ → Text → Type 0
+IsConfigurationNo command config name =
     ((why : RegNo) × (registry_read config ≡ Err why) × (name ≡ registry_name why))
-    ⊎ ((c : Configuration) × (registry_read config ≡ Ok c) × IsFurtherNo small command config c name)
+    ⊎ ((c : Configuration) × (registry_read config ≡ Ok c) × IsPartyNo command c name)
 
 -- The configuration is not taken, and why was written.
-pub record RefusesConfiguration (small : List ℕ) (contents : Option (List Content)) (words : List Text) (old new : Option (List ℕ)) : Type 0 where
+pub record RefusesConfiguration (contents : Option (List Content)) (words : List Text) (old new : Option (List ℕ)) : Type 0 where
   pub command : Command
   pub words_are : command_of words ≡ Some command
   pub config_at : Text
@@ -79,23 +77,24 @@ pub record RefusesConfiguration (small : List ℕ) (contents : Option (List Cont
   pub config : List ℕ
   pub there : IsContent contents config_at config
   pub name : Text
-  pub why : IsConfigurationNo small command config name
+  pub why : IsConfigurationNo command config name
   pub wrote : Takes old new (configuration_text name)
 
 -- ---- `replay`
 
--- The configuration is taken, the trace is not accepted, and why was written.
-pub record RefusesTrace (small : List ℕ) (contents : Option (List Content)) (words : List Text) (old new : Option (List ℕ)) : Type 0 where
+-- The configuration is accepted, the trace is not, and why was written.
+pub record RefusesTrace (contents : Option (List Content)) (words : List Text) (old new : Option (List ℕ)) : Type 0 where
   pub config_at : Text
   pub trace_at : Text
   pub words_are : command_of words ≡ Some (Replay config_at trace_at)
-  pub config_there : IsContent contents config_at small
+  pub config : List ℕ
+  pub config_there : IsContent contents config_at config
   pub configuration : Configuration
-  pub read : registry_read small ≡ Ok configuration
+  pub read : registry_read config ≡ Ok configuration
   pub trace : List ℕ
   pub trace_there : IsContent contents trace_at trace
   pub why : TraceNo
-  pub refused : trace_of trace ≡ Err why
+  pub refused : trace_told configuration trace ≡ Err why
   pub wrote : Takes old new (refused_text why)
 
 -- ---- `token`
@@ -201,10 +200,10 @@ module _ {D L C W S K : Type 0} (t : Telling D L C W S K) (olds news : List (Des
   -- ---- any answer, cut
 
   -- The sink failed in this call, and a front of what may be answered was written.
-  pub record StopsWriting (small : List ℕ) (contents : Option (List Content)) (shelf_before shelf_after : ℕ) (words : List Text) (before after : ℕ) (old new : Option (List ℕ)) : Type 0 where
+  pub record StopsWriting (contents : Option (List Content)) (shelf_before shelf_after : ℕ) (words : List Text) (before after : ℕ) (old new : Option (List ℕ)) : Type 0 where
     pub rose : Rose before after
     pub answer : Answer
-    pub may : MayAnswer t olds news small contents shelf_before shelf_after (command_of words) answer
+    pub may : MayAnswer t olds news contents shelf_before shelf_after (command_of words) answer
     pub wrote : TakesFront old new answer.text
 
 -- ---- which status comes
@@ -235,12 +234,12 @@ rp_status party (Some config) None = Some 5
 rp_status party (Some config) (Some metadata) = status_of_asked (rp_asked config party metadata)
 
 -- the status by the command of the words and by the contents of a shelf that tells them; none where something is served
-abbrev pub status_for : List ℕ → List Content → Option Command → Option ℕ
-status_for small contents None = Some 2
-status_for small contents (Some (Replay config trace)) = Some (status_of_both (answer_to small) (content_of contents config) (content_of contents trace))
-status_for small contents (Some (Token secret token)) = Some (status_of_both token_answer (content_of contents secret) (content_of contents token))
-status_for small contents (Some (Op config)) = op_status (content_of contents config)
-status_for small contents (Some (Rp config party metadata)) = rp_status party (content_of contents config) (content_if contents metadata)
+abbrev pub status_for : List Content → Option Command → Option ℕ
+status_for contents None = Some 2
+status_for contents (Some (Replay config trace)) = Some (status_of_both answer_to (content_of contents config) (content_of contents trace))
+status_for contents (Some (Token secret token)) = Some (status_of_both token_answer (content_of contents secret) (content_of contents token))
+status_for contents (Some (Op config)) = op_status (content_of contents config)
+status_for contents (Some (Rp config party metadata)) = rp_status party (content_of contents config) (content_if contents metadata)
 
 -- The status is this one, unless memory was wanting or the sink failed.
 abbrev pub IsStatus : ℕ → ℕ → Type 0
@@ -251,9 +250,9 @@ abbrev pub IsStatusOf : Option ℕ → ℕ → Type 0
 IsStatusOf (Some wanted) status = (status ≡ wanted) ⊎ (status ≡ 1) ⊎ (status ≡ 5) ⊎ (status ≡ 6)
 IsStatusOf None status = (status ≡ 0) ⊎ (status ≡ 9) ⊎ (status ≡ 1) ⊎ (status ≡ 5) ⊎ (status ≡ 6)
 
--- the status is one of those where nothing is served: for the words, for the shelf, or by a refusal
+-- the status is one of those where nothing is served: for the words, for the shelf, by a refusal, or of a play
 abbrev pub is_refusal : ℕ → Bool
-is_refusal status = status == 2 || status == 3 || status == 4 || status == 5 || status == 10
+is_refusal status = status == 2 || status == 3 || status == 4 || status == 5 || status == 7 || status == 8 || status == 10
 
 -- the command serves
 abbrev pub is_serving : Option Command → Bool

@@ -5,6 +5,7 @@ use Rattle.sso_base.specs.Words.{Text}
 use Rattle.sso_base.specs.Faults.{Rose}
 use Rattle.sso_base.specs.Outside.{Content, content_of, Fetches, Takes, TakesFront}
 use Rattle.client_registry.specs.Configuration.{Configuration}
+use Rattle.client_registry.specs.Reading.{registry_read}
 use Rattle.op_exchange.specs.declared.ask.OpAsk.{OpAsk}
 use Rattle.op_exchange.specs.declared.reply.OpReply.{OpReply}
 use Rattle.op_core.specs.Providing.{Providing}
@@ -18,10 +19,8 @@ use Rattle.server_desk.specs.declared.desk.Desk.{Desk}
 use Rattle.serving.specs.declared.summary.Summary.{Summary}
 use Rattle.serving.specs.Summaries.{Telling}
 use Rattle.sso_serve.specs.Servers.{ServesOp, ServesRp}
-use Rattle.oidc_replay.specs.Trace.{Told, trace_of}
-use Rattle.oidc_replay.specs.Replay.{play_of}
-use Rattle.sso_world.specs.Premises.{MeetsPremises}
-use Rattle.sso_world.specs.Agreement.{SignsOn}
+use Rattle.trace_lines.specs.Trace.{Told, trace_told}
+use Rattle.oidc_replay.specs.Theorem.{PlaysWell}
 use Rattle.sso.specs.Answer.{Answer, usage_text, shelf_text, answer_to, token_answer}
 use Rattle.sso.specs.Asked.{op_asked, rp_asked, server_answer}
 
@@ -54,27 +53,31 @@ shelf_answer = record { status = 5; text = shelf_text }
 
 -- ---- `replay` and `token`
 
--- the sign-on theorem for the play of these bytes, where they are an accepted trace
-unfoldable pub PlaysWell : List ℕ → Type 0
-PlaysWell trace = (told : Told) → trace_of trace ≡ Ok told → MeetsPremises (play_of told) × SignsOn (play_of told)
+-- the sign-on theorem for the play of these bytes over a registry, where they are an accepted trace
+abbrev pub PlaysOver : Configuration → List ℕ → Type 0
+PlaysOver c trace = (told : Told) → trace_told c trace ≡ Ok told → PlaysWell c told
+
+-- the same over the bytes of a configuration, where they are an accepted one
+unfoldable pub Plays : List ℕ → List ℕ → Type 0
+Plays config trace = (c : Configuration) → registry_read config ≡ Ok c → PlaysOver c trace
 
 -- the shelf failed in this call
 abbrev pub FailsAtShelf : ℕ → ℕ → Answer → Type 0
 FailsAtShelf before after answer = (answer ≡ shelf_answer) × Rose before after
 
 -- The answer is that to a configuration and a trace which stand under these names.
-pub record AnswersReplay (small : List ℕ) (contents : Option (List Content)) (config_at trace_at : Text) (answer : Answer) : Type 0 where
+pub record AnswersReplay (contents : Option (List Content)) (config_at trace_at : Text) (answer : Answer) : Type 0 where
   pub config : List ℕ
   pub trace : List ℕ
   pub config_there : IsContent contents config_at config
   pub trace_there : IsContent contents trace_at trace
-  pub answers : answer ≡ answer_to small config trace
-  pub well : answer.status ≡ 0 → PlaysWell trace
+  pub answers : answer ≡ answer_to config trace
+  pub well : Plays config trace
 
 -- what may be answered to `replay`: that the shelf failed, only where it did
-abbrev pub MayReplay : List ℕ → Option (List Content) → ℕ → ℕ → Text → Text → Answer → Type 0
-MayReplay small contents before after config_at trace_at answer =
-    FailsAtShelf before after answer ⊎ AnswersReplay small contents config_at trace_at answer
+abbrev pub MayReplay : Option (List Content) → ℕ → ℕ → Text → Text → Answer → Type 0
+MayReplay contents before after config_at trace_at answer =
+    FailsAtShelf before after answer ⊎ AnswersReplay contents config_at trace_at answer
 
 -- The answer is that to a secret and a token which stand under these names.
 pub record AnswersToken (contents : Option (List Content)) (secret_at token_at : Text) (answer : Answer) : Type 0 where
@@ -128,12 +131,12 @@ module _ {D L C W S K : Type 0} (t : Telling D L C W S K) (olds news : List (Des
   -- ---- any words
 
   -- what may be answered to the words of a command, or of none
-  abbrev pub MayAnswer : List ℕ → Option (List Content) → ℕ → ℕ → Option Command → Answer → Type 0
-  MayAnswer small contents before after None answer = answer ≡ usage_answer
-  MayAnswer small contents before after (Some (Replay config trace)) answer = MayReplay small contents before after config trace answer
-  MayAnswer small contents before after (Some (Token secret token)) answer = MayOpen contents before after secret token answer
-  MayAnswer small contents before after (Some (Op config)) answer = MayServeOp contents before after config answer
-  MayAnswer small contents before after (Some (Rp config name metadata)) answer = MayServeRp contents before after config name metadata answer
+  abbrev pub MayAnswer : Option (List Content) → ℕ → ℕ → Option Command → Answer → Type 0
+  MayAnswer contents before after None answer = answer ≡ usage_answer
+  MayAnswer contents before after (Some (Replay config trace)) answer = MayReplay contents before after config trace answer
+  MayAnswer contents before after (Some (Token secret token)) answer = MayOpen contents before after secret token answer
+  MayAnswer contents before after (Some (Op config)) answer = MayServeOp contents before after config answer
+  MayAnswer contents before after (Some (Rp config name metadata)) answer = MayServeRp contents before after config name metadata answer
 
 -- how an answer is written: all of it, and the status is its own; or a front of it, where the sink failed
 abbrev pub IsWritten : Option (List ℕ) → Option (List ℕ) → ℕ → ℕ → Answer → ℕ → Type 0

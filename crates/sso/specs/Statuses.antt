@@ -1,5 +1,5 @@
 -- How a call of the program ends, as one statement: what is so at each status. The clauses of the top call say it status by status.
-use Rattle.std.specs.Prelude.{◌≡◌, ◌⊎◌, ℕ, ◌≤◌, MatchBool, Bool, true, false, ◌==◌, List, Option}
+use Rattle.std.specs.Prelude.{◌≡◌, ◌⊎◌, ℕ, ◌≤◌, MatchBool, true, false, ◌==◌, List, Option}
 use Rattle.sso_base.specs.Words.{Text}
 use Rattle.sso_base.specs.Outside.{Content}
 use Rattle.server_desk.specs.declared.desk.Desk.{Desk}
@@ -12,7 +12,6 @@ pub record Call (D L C W S K : Type 0) : Type 0 where
   pub tells : Telling D L C W S K
   pub olds : List (Desk D L C W)
   pub news : List (Desk D L C W)
-  pub small : List ℕ
   pub contents : Option (List Content)
   pub shelf_before : ℕ
   pub shelf_after : ℕ
@@ -26,7 +25,7 @@ module _ {D L C W S K : Type 0} (call : Call D L C W S K) where
   -- a command was carried out
   abbrev pub Runs : Type 0
   Runs =
-      Replays call.small call.contents call.words call.old call.new
+      Replays call.contents call.words 0 call.old call.new
       ⊎ OpensToken call.contents call.words call.old call.new
       ⊎ RunsProvider call.tells call.olds call.news call.contents call.words false call.old call.new
       ⊎ RunsParty call.tells call.olds call.news call.contents call.words false call.old call.new
@@ -40,7 +39,7 @@ module _ {D L C W S K : Type 0} (call : Call D L C W S K) where
   Refuses = RefusesToken call.contents call.words call.old call.new ⊎ RefusesMetadata call.contents call.words call.old call.new
 
   abbrev pub Stops : Type 0
-  Stops = StopsWriting call.tells call.olds call.news call.small call.contents call.shelf_before call.shelf_after call.words call.before call.after call.old call.new
+  Stops = StopsWriting call.tells call.olds call.news call.contents call.shelf_before call.shelf_after call.words call.before call.after call.old call.new
 
   -- what is so at a status
   abbrev pub At : ℕ → Type 0
@@ -48,14 +47,16 @@ module _ {D L C W S K : Type 0} (call : Call D L C W S K) where
       MatchBool (status == 0) Runs
       (MatchBool (status == 1) (call.new ≡ call.old)
       (MatchBool (status == 2) (ShowsUsage call.words call.old call.new)
-      (MatchBool (status == 3) (RefusesConfiguration call.small call.contents call.words call.old call.new)
-      (MatchBool (status == 4) (RefusesTrace call.small call.contents call.words call.old call.new)
+      (MatchBool (status == 3) (RefusesConfiguration call.contents call.words call.old call.new)
+      (MatchBool (status == 4) (RefusesTrace call.contents call.words call.old call.new)
       (MatchBool (status == 5) (ReportsShelf call.shelf_before call.shelf_after call.words call.old call.new)
       (MatchBool (status == 6) Stops
+      (MatchBool (status == 7) (Replays call.contents call.words 7 call.old call.new)
+      (MatchBool (status == 8) (Replays call.contents call.words 8 call.old call.new)
       (MatchBool (status == 9) FailsAtDoor
-      (MatchBool (status == 10) Refuses ⊥))))))))
+      (MatchBool (status == 10) Refuses ⊥))))))))))
 
   pub record Ended (status : ℕ) : Type 0 where
     pub at : At status
-    pub range : (status ≤ 6) ⊎ (status ≡ 9) ⊎ (status ≡ 10)
+    pub range : status ≤ 10
     pub unserved : is_refusal status ≡ true → call.news ≡ call.olds

@@ -7,8 +7,8 @@ ghost use Rattle.command_line.specs.Commands.{command_of};
 ghost use Rattle.sso.specs.Ends.{is_serving};
 ghost use Rattle.sso.specs.Outcomes.{IsFetched, IsFetchedIf, MayReplay, MayOpen, MayServeOp, MayServeRp, MayAnswer};
 
-use crate::mini::MINI;
-use crate::outcome::{Outcome, answer_contents, answer_shelf, answer_usage};
+use crate::outcome::{Outcome, answer_shelf, answer_usage};
+use crate::replaying::answer_replay;
 use crate::servers::{answer_op, answer_rp};
 use crate::token::answer_token;
 use command_line::{Command, read_command};
@@ -23,7 +23,7 @@ use std::thread::Threads;
 const MOST_CONFIG: usize = 1_048_577;
 
 /// The same of a trace.
-const MOST_TRACE: usize = 65_537;
+const MOST_TRACE: usize = 4_194_305;
 
 /// The same of a provider's metadata.
 const MOST_METADATA: usize = 65_537;
@@ -81,12 +81,12 @@ fn replay_words<H: Shelf>(
     config: &Text,
     trace: &Text,
 ) -> Result<Outcome, NoMemory>
-    ensures may { IfOk result (λ outcome. MayReplay MINI.now (H.contents shelf.old) (H.faults shelf.old) (H.faults shelf.new) config.now trace.now outcome) }
+    ensures may { IfOk result (λ outcome. MayReplay (H.contents shelf.old) (H.faults shelf.old) (H.faults shelf.new) config.now trace.now outcome) }
     ensures kept { H.contents shelf.new ≡ H.contents shelf.old }
     ensures later { H.faults shelf.old ≤ H.faults shelf.new }
 {
     match fetch_both(alloc, shelf, config, MOST_CONFIG, trace, MOST_TRACE) {
-        Ok((config, trace)) => answer_contents(alloc, config.as_bytes(), trace.as_bytes()),
+        Ok((config, trace)) => answer_replay(alloc, config.as_bytes(), trace.as_bytes()),
         Err(ShelfNo::NoMemory) => Err(NoMemory),
         Err(ShelfNo::Failed) => answer_shelf(alloc),
     }
@@ -173,7 +173,7 @@ pub fn answer_words<R: Threads + Wait + Sync, H: Shelf, D: Door, L: Link, C: Clo
 ) -> Result<Outcome, NoMemory>
     requires few { length desks.old.items ≤ 64 }
     requires desks { All (λ desk. (desk.turns ≤ 2 ^ 56) × ((D.state desk.door).given < 2 ^ 63)) desks.old.items }
-    ensures may { IfOk result (λ outcome. MayAnswer ⟦<Desk<D, L, C, W> as Tells>⟧.telling desks.old.items desks.new.items MINI.now (H.contents shelf.old) (H.faults shelf.old) (H.faults shelf.new) (command_of words.now) outcome) }
+    ensures may { IfOk result (λ outcome. MayAnswer ⟦<Desk<D, L, C, W> as Tells>⟧.telling desks.old.items desks.new.items (H.contents shelf.old) (H.faults shelf.old) (H.faults shelf.new) (command_of words.now) outcome) }
     ensures idle { is_serving (command_of words.now) ≡ false → desks.new.items ≡ desks.old.items }
     ensures kept { H.contents shelf.new ≡ H.contents shelf.old }
     ensures later { H.faults shelf.old ≤ H.faults shelf.new }

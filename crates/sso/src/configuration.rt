@@ -1,11 +1,10 @@
 //! What is answered to a configuration that is not taken.
 
-ghost use Rattle.std.specs.Prelude.{◌≡◌, ◌∷◌, ◌++◌, Err, IfOk, IsErr, option_map, codes, string_bytes};
-ghost use Rattle.sso.specs.Answer.{registry_name, configuration_refusal, configuration_no, not_taken};
+ghost use Rattle.std.specs.Prelude.{◌≡◌, ◌∷◌, ◌++◌, IfOk, codes, string_bytes};
+ghost use Rattle.sso.specs.Answer.{registry_name, configuration_refusal};
 
-use crate::mini::MINI;
 use crate::outcome::Outcome;
-use client_registry::{RegNo, Registry, read_registry};
+use client_registry::RegNo;
 use sso_base::{Blob, NoMemory, Text};
 use std::alloc::Global;
 
@@ -35,9 +34,9 @@ fn subject_clash(
     Ok(text)
 }
 
-/// The name of a refusal and its values, as they are printed.
+// The name of a refusal and its values, as they are printed.
 #[tactic(auto, unfolding(crate::specs::Answer::registry_name))]
-pub fn name_of(alloc: Global, why: &RegNo) -> Result<String, NoMemory>
+fn name_of(alloc: Global, why: &RegNo) -> Result<String, NoMemory>
     ensures { IfOk result (λ text. string_bytes text ≡ registry_name why.now) }
 {
     match why {
@@ -57,33 +56,6 @@ pub fn name_of(alloc: Global, why: &RegNo) -> Result<String, NoMemory>
     }
 }
 
-// Why what was read of a configuration is not taken, if it is not.
-fn why_of(
-    alloc: Global,
-    read: &Result<Registry, RegNo>,
-    is_small: bool,
-) -> Result<Option<String>, NoMemory>
-    ensures why { IfOk result (λ why. option_map string_bytes why ≡ not_taken read.now is_small) }
-    ensures memory { read.now ≡ Err RegNo.NoMemory → IsErr result }
-{
-    match read {
-        Ok(_) if is_small => Ok(None),
-        Ok(_) => Ok(Some(String::from_str(alloc, "NotYet")?)),
-        Err(RegNo::NoMemory) => Err(NoMemory),
-        Err(why) => Ok(Some(name_of(alloc, why)?)),
-    }
-}
-
-/// Why a configuration is not taken, if it is not: the refusal's name and its values, or `NotYet` for any but the small
-/// one.
-#[tactic(auto, unfolding(crate::specs::Answer::configuration_no))]
-fn why_not(alloc: Global, config: &[u8]) -> Result<Option<String>, NoMemory>
-    ensures { IfOk result (λ why. option_map string_bytes why ≡ configuration_no MINI.now config.now) }
-{
-    let read = read_registry(alloc, config);
-    why_of(alloc, &read, config == MINI.as_bytes())
-}
-
 /// The answer to a configuration that is not taken, by the reason's name and its values.
 #[tactic(auto, unfolding(crate::specs::Answer::configuration_text))]
 pub fn refuse_configuration(alloc: Global, name: &str) -> Result<Outcome, NoMemory>
@@ -96,12 +68,10 @@ pub fn refuse_configuration(alloc: Global, name: &str) -> Result<Outcome, NoMemo
     })
 }
 
-/// The answer to a configuration over which no trace is replayed, and none to one that is taken.
-pub fn answer_configuration(alloc: Global, config: &[u8]) -> Result<Option<Outcome>, NoMemory>
-    ensures { IfOk result (λ answer. answer ≡ option_map configuration_refusal (configuration_no MINI.now config.now)) }
+/// The answer to a configuration that is refused.
+pub fn refuse_registry(alloc: Global, why: &RegNo) -> Result<Outcome, NoMemory>
+    ensures { IfOk result (λ outcome. outcome ≡ configuration_refusal (registry_name why.now)) }
 {
-    match why_not(alloc, config)? {
-        Some(name) => Ok(Some(refuse_configuration(alloc, name.as_str())?)),
-        None => Ok(None),
-    }
+    let name = name_of(alloc, why)?;
+    refuse_configuration(alloc, name.as_str())
 }

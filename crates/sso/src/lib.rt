@@ -5,20 +5,19 @@
 //! |---|---|---|
 //! | `top` | [`sso`], over any shelf, sink and desks | `Ends`, `SignOn` |
 //! | `command` | what the words ask for, with contents fetched for it | `Outcomes` |
-//! | `outcome` | the answers of `replay`, and those of no command | `Answer`, `Outcomes` |
+//! | `outcome` | the answers of no command | `Outcomes` |
+//! | `replaying` | the answers of `replay` | `Answer` |
 //! | `servers` | the answers of `op` and `rp` | `Asked`, `Outcomes` |
 //! | `configuration` | the answers to a configuration that is not taken | `Answer` |
 //! | `token` | the answers of `token` | `Answer` |
-//! | `mini` | [`MINI`], the small configuration | |
 #![tactic(auto)]
 
 mod command;
 mod configuration;
-mod mini;
 mod outcome;
+mod replaying;
 mod servers;
 mod token;
 mod top;
 
-pub use crate::mini::MINI;
 pub use crate::top::sso;

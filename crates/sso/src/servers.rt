@@ -4,12 +4,11 @@ ghost use Rattle.std.specs.Prelude.{◌≡◌, ◌^◌, ◌≤◌, ◌<◌, fals
 ghost use Rattle.std.specs.List.{All};
 ghost use Rattle.client_registry.specs.Rules.{party_place};
 ghost use Rattle.rp_accept.specs.Serving.{setup_of};
-ghost use Rattle.sso.specs.Answer.{registry_name, configuration_refusal};
 ghost use Rattle.sso.specs.Asked as spec;
 ghost use Rattle.sso.specs.Asked.{metadata_refusal, server_answer, op_asked, rp_asked, number_asked};
 ghost use Rattle.sso.specs.Outcomes.{ServedOp, ServedRp};
 
-use crate::configuration::{name_of, refuse_configuration};
+use crate::configuration::{refuse_configuration, refuse_registry};
 use crate::outcome::Outcome;
 use client_registry::{Provider, RegNo, Registry, read_registry};
 use discovery_doc::{DiscNo, read_discovery};
@@ -49,14 +48,6 @@ fn answer_server(alloc: Global, fault: bool, served: u64, entries: u64) -> Resul
     } else {
         answer_served(alloc, served, entries)
     }
-}
-
-/// What is answered where a configuration is refused.
-fn refuse_registry(alloc: Global, why: &RegNo) -> Result<Outcome, NoMemory>
-    ensures { IfOk result (λ outcome. outcome ≡ configuration_refusal (registry_name why.now)) }
-{
-    let name = name_of(alloc, why)?;
-    refuse_configuration(alloc, name.as_str())
 }
 
 /// Serves the provider of a registry.

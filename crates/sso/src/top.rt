@@ -10,7 +10,6 @@ ghost use Rattle.sso.specs.Outcomes.{IsWritten};
 ghost use Rattle.sso.specs.Statuses.{Ended};
 
 use crate::command::answer_words;
-use crate::mini::MINI;
 use crate::outcome::Outcome;
 use server_desk::{Clock, Desk, Door, Draw, Link};
 use serving::Tells;
@@ -41,9 +40,9 @@ fn run<R: Threads + Wait + Sync, H: Shelf, K: Sink, D: Door, L: Link, C: Clock, 
 ) -> u8
     requires few { length desks.old.items ≤ 64 }
     requires desks { All (λ desk. (desk.turns ≤ 2 ^ 56) × ((D.state desk.door).given < 2 ^ 63)) desks.old.items }
-    ensures ended { Ended (record { tells = ⟦<Desk<D, L, C, W> as Tells>⟧.telling; olds = desks.old.items; news = desks.new.items; small = MINI.now; contents = H.contents shelf.old; shelf_before = H.faults shelf.old; shelf_after = H.faults shelf.new; words = words.now; before = K.faults out.old; after = K.faults out.new; old = K.taken out.old; new = K.taken out.new }) result }
+    ensures ended { Ended (record { tells = ⟦<Desk<D, L, C, W> as Tells>⟧.telling; olds = desks.old.items; news = desks.new.items; contents = H.contents shelf.old; shelf_before = H.faults shelf.old; shelf_after = H.faults shelf.new; words = words.now; before = K.faults out.old; after = K.faults out.new; old = K.taken out.old; new = K.taken out.new }) result }
     ensures words { is_command words.now ≡ false → IsStatus 2 result }
-    ensures contents { (contents : List Content) → H.contents shelf.old ≡ Some contents → IsStatusOf (status_for MINI.now contents (command_of words.now)) result }
+    ensures contents { (contents : List Content) → H.contents shelf.old ≡ Some contents → IsStatusOf (status_for contents (command_of words.now)) result }
     ensures idle { is_serving (command_of words.now) ≡ false → desks.new.items ≡ desks.old.items }
     ensures kept { H.contents shelf.new ≡ H.contents shelf.old }
     ensures shelf_later { H.faults shelf.old ≤ H.faults shelf.new }
@@ -60,20 +59,22 @@ fn run<R: Threads + Wait + Sync, H: Shelf, K: Sink, D: Door, L: Link, C: Clock, 
 ///
 /// | Status | Comes exactly where | Text |
 /// |---|---|---|
-/// | 0 | `replay`: the trace was read to its last line, and all was written | the text of its play |
+/// | 0 | `replay`: the trace was played to its end and no premise failed, and all was written | the text of its play |
 /// | | `token`: the token is sealed under the secret, and all was written | its payload and a line feed |
 /// | | `op`, `rp`: each desk served its turns, or its door is closed, and all was written | `served`, the connections, `entries` and those of the history |
 /// | 1 | memory ran out | none |
 /// | 2 | the words are no command | the usage |
-/// | 3 | CONFIG is refused, or NAME is no party of it, or for `replay` it is not the small one | `configuration`, the refusal's name and its values, or `configuration NoParty`, or `configuration NotYet` |
-/// | 4 | TRACE is not an accepted trace | `trace Size`, or `trace NotYet` and the line |
+/// | 3 | CONFIG is refused, or NAME is no party of it | `configuration`, the refusal's name and its values, or `configuration NoParty` |
+/// | 4 | TRACE is not an accepted trace | `trace`, the refusal's name and the number of its line |
 /// | 5 | (only where) the shelf's faults rose | `shelf` |
 /// | 6 | (only where) the sink's faults rose | a front of one of these texts |
+/// | 7 | the trace was played to its end, a premise failed, and all was written | the text of its play, with the first place at which one fails |
+/// | 8 | a history would have passed its limit before the last line was played, and all was written | the text so far, and `journal` with the place |
 /// | 9 | (only where) a door's faults rose | `door` |
 /// | 10 | the secret has no byte or more than 128, or the token is not sealed under it | `token Secret`, or `token` and the refusal's name |
 /// | | DISCOVERY has more than 65,536 bytes, or is not the metadata of the configuration's issuer | `discovery Size`, or `discovery` and the refusal's name |
 ///
-/// The statuses are tried in the order 2, 5, 3, 10 for DISCOVERY, 4, 10, 9, 0. A secret and a token are their files' contents, each
+/// The statuses are tried in the order 2, 5, 3, 10 for DISCOVERY, 4, 8, 7, 10, 9, 0. A secret and a token are their files' contents, each
 /// without one line feed at its end, if there is one.
 ///
 /// There are at most 64 desks, each of at most 2^56 turns, whose doors gave fewer than 2^63 connections.
@@ -88,8 +89,10 @@ pub fn sso<R: Threads + Wait + Sync, H: Shelf, K: Sink, D: Door, L: Link, C: Clo
     requires few { length desks.old.items ≤ 64 }
     requires desks { All (λ desk. (desk.turns ≤ 2 ^ 56) × ((D.state desk.door).given < 2 ^ 63)) desks.old.items }
 
-    // The sign-on theorem is a part of this clause: it speaks of the very play whose text was written.
-    ensures replayed { result ≡ 0 → asks_replay (command_of words.now) ≡ true → Replays MINI.now (H.contents shelf.old) words.now (K.taken out.old) (K.taken out.new) }
+    // The sign-on theorem is a part of these three clauses: it speaks of the very play whose text was written.
+    ensures replayed { result ≡ 0 → asks_replay (command_of words.now) ≡ true → Replays (H.contents shelf.old) words.now 0 (K.taken out.old) (K.taken out.new) }
+    ensures broken { result ≡ 7 → Replays (H.contents shelf.old) words.now 7 (K.taken out.old) (K.taken out.new) }
+    ensures full { result ≡ 8 → Replays (H.contents shelf.old) words.now 8 (K.taken out.old) (K.taken out.new) }
     ensures opened { result ≡ 0 → asks_token (command_of words.now) ≡ true → OpensToken (H.contents shelf.old) words.now (K.taken out.old) (K.taken out.new) }
     ensures provider { result ≡ 0 → asks_op (command_of words.now) ≡ true → RunsProvider ⟦<Desk<D, L, C, W> as Tells>⟧.telling desks.old.items desks.new.items (H.contents shelf.old) words.now false (K.taken out.old) (K.taken out.new) }
     ensures party { result ≡ 0 → asks_rp (command_of words.now) ≡ true → RunsParty ⟦<Desk<D, L, C, W> as Tells>⟧.telling desks.old.items desks.new.items (H.contents shelf.old) words.now false (K.taken out.old) (K.taken out.new) }
@@ -97,17 +100,17 @@ pub fn sso<R: Threads + Wait + Sync, H: Shelf, K: Sink, D: Door, L: Link, C: Clo
 
     ensures memory { result ≡ 1 → K.taken out.new ≡ K.taken out.old }
     ensures usage { result ≡ 2 → ShowsUsage words.now (K.taken out.old) (K.taken out.new) }
-    ensures configuration { result ≡ 3 → RefusesConfiguration MINI.now (H.contents shelf.old) words.now (K.taken out.old) (K.taken out.new) }
-    ensures trace { result ≡ 4 → RefusesTrace MINI.now (H.contents shelf.old) words.now (K.taken out.old) (K.taken out.new) }
+    ensures configuration { result ≡ 3 → RefusesConfiguration (H.contents shelf.old) words.now (K.taken out.old) (K.taken out.new) }
+    ensures trace { result ≡ 4 → RefusesTrace (H.contents shelf.old) words.now (K.taken out.old) (K.taken out.new) }
     ensures shelf { result ≡ 5 → ReportsShelf (H.faults shelf.old) (H.faults shelf.new) words.now (K.taken out.old) (K.taken out.new) }
-    ensures sink { result ≡ 6 → StopsWriting ⟦<Desk<D, L, C, W> as Tells>⟧.telling desks.old.items desks.new.items MINI.now (H.contents shelf.old) (H.faults shelf.old) (H.faults shelf.new) words.now (K.faults out.old) (K.faults out.new) (K.taken out.old) (K.taken out.new) }
+    ensures sink { result ≡ 6 → StopsWriting ⟦<Desk<D, L, C, W> as Tells>⟧.telling desks.old.items desks.new.items (H.contents shelf.old) (H.faults shelf.old) (H.faults shelf.new) words.now (K.faults out.old) (K.faults out.new) (K.taken out.old) (K.taken out.new) }
     ensures door { result ≡ 9 → RunsProvider ⟦<Desk<D, L, C, W> as Tells>⟧.telling desks.old.items desks.new.items (H.contents shelf.old) words.now true (K.taken out.old) (K.taken out.new) ⊎ RunsParty ⟦<Desk<D, L, C, W> as Tells>⟧.telling desks.old.items desks.new.items (H.contents shelf.old) words.now true (K.taken out.old) (K.taken out.new) }
     ensures refused { result ≡ 10 → RefusesToken (H.contents shelf.old) words.now (K.taken out.old) (K.taken out.new) ⊎ RefusesMetadata (H.contents shelf.old) words.now (K.taken out.old) (K.taken out.new) }
 
     // Each status comes where it should: by the words alone, and by the contents of a shelf that tells them.
-    ensures range { (result ≤ 6) ⊎ (result ≡ 9) ⊎ (result ≡ 10) }
+    ensures range { result ≤ 10 }
     ensures words { is_command words.now ≡ false → IsStatus 2 result }
-    ensures contents { (contents : List Content) → H.contents shelf.old ≡ Some contents → IsStatusOf (status_for MINI.now contents (command_of words.now)) result }
+    ensures contents { (contents : List Content) → H.contents shelf.old ≡ Some contents → IsStatusOf (status_for contents (command_of words.now)) result }
 
     // The desks are as they were where nothing is served. The shelf keeps what it holds, and no count falls.
     ensures idle { is_serving (command_of words.now) ≡ false → desks.new.items ≡ desks.old.items }

@@ -1,5 +1,5 @@
 //! The sign-on machine: what a sign-on system may do, and what it holds after that. It has no keys, times, tokens or
-//! tables, so that a person can read it and agree. The reading of a world (crate `sso_world`) is shown to be one of its runs.
+//! tables, so that a person can read it and agree. The reading of a world (crate `sign_on`) is shown to be one of its runs.
 //!
 //! `specs/Rows.antt` has its rows and steps, `specs/Machine.antt` when a step may be taken and what it leaves.
 #![tactic(auto)]

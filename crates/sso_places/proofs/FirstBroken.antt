@@ -7,30 +7,30 @@ use Rattle.sso_places.specs.declared.types.Broken.TheVariants.{Forged, Leaked, H
 use Rattle.sso_places.specs.Site.{Site}
 use Rattle.sso_places.specs.World.{Place, World}
 use Rattle.sso_places.specs.Premises.{forges, leaks}
-use Rattle.sso_places.specs.FirstBroken.{or_else, first_clash, clash_at, broken_at, first_broken, IsUnbroken, IsFirst, IsFirstForged, IsFirstLeaked, IsFirstClash}
+use Rattle.sso_places.specs.FirstBroken.{or_else, first_clash, clash_at, verdict, broken_at, first_broken, IsUnbroken, IsFirst, IsFirstForged, IsFirstLeaked, IsFirstClash}
 use Rattle.sso_places.proofs.Clashes.{IsFirstOf, found_first, first_found, hashes_before, hashes_after}
 
 -- ---- one place
 
-abbrev verdict : ℕ → Bool → Bool → Option ℕ → Option Broken
-verdict n forged leaked other = cond forged (Some (Forged n)) (cond leaked (Some (Leaked n)) (clash_at n other))
+abbrev told : ℕ → Bool → Bool → Option ℕ → Option Broken
+told n forged leaked other = or_else (verdict n forged leaked) (clash_at n other)
 
 place_forged : (s : Site) (world : World) (x : Place) → forges s world x ≡ true → broken_at s world x ≡ Some (Forged (suc (length world)))
 place_forged s world x forged =
-    let F : Bool → Option Broken = λ b. verdict (suc (length world)) b (leaks world x) (first_clash x (x ∷ world)) in
+    let F : Bool → Option Broken = λ b. told (suc (length world)) b (leaks world x) (first_clash x (x ∷ world)) in
     ap F forged
 
 place_leaked : (s : Site) (world : World) (x : Place) → forges s world x ≡ false → leaks world x ≡ true → broken_at s world x ≡ Some (Leaked (suc (length world)))
 place_leaked s world x clean leaked =
-    let F : Bool → Option Broken = λ b. verdict (suc (length world)) b (leaks world x) (first_clash x (x ∷ world)) in
-    let L : Bool → Option Broken = λ b. verdict (suc (length world)) false b (first_clash x (x ∷ world)) in
+    let F : Bool → Option Broken = λ b. told (suc (length world)) b (leaks world x) (first_clash x (x ∷ world)) in
+    let L : Bool → Option Broken = λ b. told (suc (length world)) false b (first_clash x (x ∷ world)) in
     ap F clean ∙ ap L leaked
 
 place_clashes : (s : Site) (world : World) (x : Place) (o : Option ℕ) → forges s world x ≡ false → leaks world x ≡ false → first_clash x (x ∷ world) ≡ o → broken_at s world x ≡ clash_at (suc (length world)) o
 place_clashes s world x o clean tight clash =
-    let F : Bool → Option Broken = λ b. verdict (suc (length world)) b (leaks world x) (first_clash x (x ∷ world)) in
-    let L : Bool → Option Broken = λ b. verdict (suc (length world)) false b (first_clash x (x ∷ world)) in
-    let C : Option ℕ → Option Broken = λ k. verdict (suc (length world)) false false k in
+    let F : Bool → Option Broken = λ b. told (suc (length world)) b (leaks world x) (first_clash x (x ∷ world)) in
+    let L : Bool → Option Broken = λ b. told (suc (length world)) false b (first_clash x (x ∷ world)) in
+    let C : Option ℕ → Option Broken = λ k. told (suc (length world)) false false k in
     ap F clean ∙ ap L tight ∙ ap C clash
 
 -- ---- a world

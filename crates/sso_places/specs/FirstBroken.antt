@@ -35,11 +35,13 @@ abbrev pub clash_at : ℕ → Option ℕ → Option Broken
 clash_at number None = None
 clash_at number (Some first) = Some (HashClash first number)
 
+-- of a request, whose place has this number
+abbrev pub verdict : ℕ → Bool → Bool → Option Broken
+verdict number forged leaked = if forged then Some (Forged number) else if leaked then Some (Leaked number) else None
+
 abbrev pub broken_at : Site → World → Place → Option Broken
 broken_at s world x =
-    if forges s world x then Some (Forged (suc (length world)))
-    else if leaks world x then Some (Leaked (suc (length world)))
-    else clash_at (suc (length world)) (first_clash x (x ∷ world))
+    or_else (verdict (suc (length world)) (forges s world x) (leaks world x)) (clash_at (suc (length world)) (first_clash x (x ∷ world)))
 
 abbrev pub first_broken : Site → World → Option Broken
 first_broken s [] = None

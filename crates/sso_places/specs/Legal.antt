@@ -7,10 +7,17 @@ use Rattle.rp_answer.specs.Legal.{IsLegalRp}
 use Rattle.op_request.specs.Prepared.{prepared as op_prepared}
 use Rattle.rp_request.specs.Prepared.{prepared as rp_prepared, tokens_prepared, info_prepared}
 use Rattle.rp_exchange.specs.declared.ask.RpAsk.{RpAsk}
+use Rattle.sso_places.specs.declared.types.To.{To}
+use Rattle.sso_places.specs.declared.types.To.TheVariants as to
 use Rattle.sso_places.specs.declared.types.WorldAsk.{WorldAsk}
 use Rattle.sso_places.specs.declared.types.WorldAsk.TheVariants.{Http, Tokens, Info}
 use Rattle.sso_places.specs.Site.{Site, setup_at}
 use Rattle.sso_places.specs.World.{Place, Provider, Party, Nothing, World, op_past, rp_past}
+
+-- a role of the registry: its provider, or one of its parties
+abbrev pub IsRole : Configuration → To → Type 0
+IsRole c to.Provider = Unit {0}
+IsRole c (to.Party n) = n < length c.parties
 
 -- what the party of a number is asked
 abbrev pub party_prepared : Configuration → ℕ → WorldAsk → RpAsk

@@ -10,7 +10,11 @@ use Rattle.rp_exchange.specs.declared.reply.RpReply.{RpReply}
 use Rattle.rp_exchange.specs.declared.reply.RpReply.TheVariants as rp
 use Rattle.op_answer.specs.Past.{OpPair, OpPast}
 use Rattle.rp_answer.specs.Past.{RpPair, RpPast}
+use Rattle.sso_places.specs.declared.types.To.{To}
+use Rattle.sso_places.specs.declared.types.To.TheVariants as to
 use Rattle.sso_places.specs.declared.types.WorldAsk.{WorldAsk}
+use Rattle.sso_places.specs.declared.types.WorldReply.{WorldReply}
+use Rattle.sso_places.specs.declared.types.WorldReply.TheVariants as reply
 
 pub data Place : Type 0 where
   -- the provider was asked
@@ -34,6 +38,17 @@ abbrev pub from_of : Place → ℕ
 from_of (Provider from request p) = from
 from_of (Party number from request p) = from
 from_of Nothing = 0
+
+-- the role that was asked, and its reply
+abbrev pub role_at : Place → Option To
+role_at (Provider from request p) = Some to.Provider
+role_at (Party number from request p) = Some (to.Party number)
+role_at Nothing = None
+
+abbrev pub reply_at : Place → WorldReply
+reply_at (Provider from request p) = reply.Provider p.reply
+reply_at (Party number from request p) = reply.Party p.reply
+reply_at Nothing = reply.Nothing
 
 abbrev pub moment_of : Place → Option ℕ
 moment_of (Provider from request p) = Some p.entry.at

@@ -41,7 +41,7 @@ pub struct Jar {
 /// The premise of the sign-on theorem that fails first, and where. Places are counted from 1.
 #[derive(Clone, Copy, Debug, PartialEq, Eq)]
 pub enum Broken {
-    /// At this place a text passed the check of its MAC that nobody who holds the key had written before.
+    /// At this place a text passed the check of its MAC that no role had written for this client at an earlier place.
     Forged(u64),
     /// At this place a cookie was presented that a reply had set for another number.
     Leaked(u64),

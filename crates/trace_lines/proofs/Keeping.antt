@@ -27,7 +27,8 @@ use Rattle.trace_lines.specs.Verbs.{verb_of, fields_of}
 use Rattle.trace_lines.specs.Guilt.{moment_fault, place_fault, field_fault, fields_faults, verb_faults, words_faults, is_skipped, line_faults}
 use Rattle.trace_lines.specs.Said.{of_two, of_three, verb_said, by_verb, words_said, line_said}
 use Rattle.trace_lines.specs.Trace.{Told, added, lines_of, IsHeaded, trace_told}
-use Rattle.trace_lines.specs.Order.{IsBrowser, IsTaken, IsPartyOf, IsRoleOf, MayCome, AreInOrder, IsReadFor}
+use Rattle.sso_places.specs.Legal.{IsRole}
+use Rattle.trace_lines.specs.Order.{IsBrowser, IsTaken, IsPartyOf, MayCome, AreInOrder, IsReadFor}
 use Rattle.trace_lines.proofs.Cutting.{words_cut}
 use Rattle.trace_lines.proofs.Decimals.{number_below}
 use Rattle.trace_lines.proofs.Accepting.{Goes, accepted_goes}
@@ -87,12 +88,12 @@ party_below c (Some k) h = let less : k < 0 + length c.parties = h in let more :
 party_range : (c : Configuration) (word : Text) → IfSome (party_of c word) (IsPartyOf c)
 party_range c word = party_below c (party_of c word) (position_below (λ (p : Party). bytes_eq p.name word) 0 c.parties)
 
-role_step : (c : Configuration) (b : Bool) (o : Option ℕ) → IfSome o (IsPartyOf c) → IfSome (cond b (Some to.Provider) (option_map (λ party. to.Party party) o)) (IsRoleOf c)
+role_step : (c : Configuration) (b : Bool) (o : Option ℕ) → IfSome o (IsPartyOf c) → IfSome (cond b (Some to.Provider) (option_map (λ party. to.Party party) o)) (IsRole c)
 role_step c true o h = tt
 role_step c false None h = tt
 role_step c false (Some n) h = h
 
-role_range : (c : Configuration) (word : Text) → IfSome (role_of c word) (IsRoleOf c)
+role_range : (c : Configuration) (word : Text) → IfSome (role_of c word) (IsRole c)
 role_range c word = role_step c (bytes_eq word (codes "op")) (party_of c word) (party_range c word)
 
 part_step : (b : Bool) (word : Text) → IsVisibleWord word → IfSome (cond b None (Some word)) IsVisibleWord
@@ -171,7 +172,7 @@ verb_may c before Carry (place ∷ message ∷ []) none visible = two_may (λ p 
 verb_may c before Back (place ∷ answer ∷ []) none visible = two_may (λ p q. line.Back p q) (MayCome c before) (IsTaken before) (IsTaken before) (place_of place) (place_of answer) (taken_may before place none.0) (taken_may before answer none.1.0) (λ p q first second. (first, second))
 verb_may c before Raw (from ∷ to ∷ method ∷ target ∷ first ∷ second ∷ auth ∷ body ∷ []) none visible =
     two_may (λ b role. line.Raw b role (method_of method) (part_of target) (cookie_of first) (cookie_of second) (part_of auth) (part_of body))
-    (MayCome c before) (λ n. n ≤ 65535) (IsRoleOf c) (sender_of from) (role_of c to) (sender_range from) (role_range c to)
+    (MayCome c before) (λ n. n ≤ 65535) (IsRole c) (sender_of from) (role_of c to) (sender_range from) (role_range c to)
     (λ b role is of. (is, of, part_visible target visible.1.1.1.0, part_visible auth visible.1.1.1.1.1.1.0, part_visible body visible.1.1.1.1.1.1.1.0))
 verb_may c before verb words none visible = tt
 

@@ -4,8 +4,7 @@ use Rattle.sso_base.specs.Values.{IsWide, latest_moment}
 use Rattle.client_registry.specs.Configuration.{Configuration}
 use Rattle.trace_lines.specs.declared.line.Line.{Line}
 use Rattle.trace_lines.specs.declared.line.Line.TheVariants.{At, Steal, Show, Begin, Follow, Mix, Forge, Login, Consent, Visit, Leave, SignOut, Carry, Back, Raw}
-use Rattle.sso_places.specs.declared.types.To.{To}
-use Rattle.sso_places.specs.declared.types.To.TheVariants as to
+use Rattle.sso_places.specs.Legal.{IsRole}
 use Rattle.trace_lines.specs.Lines.{moment_after, places_after}
 use Rattle.trace_lines.specs.LineWords.{IsVisibleWord}
 use Rattle.trace_lines.specs.Trace.{Told}
@@ -21,11 +20,6 @@ IsTaken before place = (1 ≤ place) × (place ≤ places_after before)
 -- a party of the registry, by its number
 abbrev pub IsPartyOf : Configuration → ℕ → Type 0
 IsPartyOf c n = n < length c.parties
-
--- the provider, or a party of the registry
-abbrev pub IsRoleOf : Configuration → To → Type 0
-IsRoleOf c to.Provider = Unit {0}
-IsRoleOf c (to.Party n) = IsPartyOf c n
 
 -- a line may come after these
 abbrev pub MayCome : Configuration → List Line → Line → Type 0
@@ -45,7 +39,7 @@ MayCome c before (SignOut from) = IsBrowser from
 MayCome c before (Carry place message) = IsTaken before place × IsWide message
 MayCome c before (Back place answer) = IsTaken before place × IsTaken before answer
 MayCome c before (Raw from to method target first second auth body) =
-    (from ≤ 65535) × IsRoleOf c to × IfSome target IsVisibleWord × IfSome auth IsVisibleWord × IfSome body IsVisibleWord
+    (from ≤ 65535) × IsRole c to × IfSome target IsVisibleWord × IfSome auth IsVisibleWord × IfSome body IsVisibleWord
 
 -- each of these lines may come after those before it
 abbrev pub AreInOrder : Configuration → List Line → Type 0

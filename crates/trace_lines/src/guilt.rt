@@ -1,6 +1,6 @@
 // What a line is guilty of.
 
-ghost use Rattle.std.specs.Prelude.{◌≡◌, length, map, not};
+ghost use Rattle.std.specs.Prelude.{◌≡◌, length, map};
 ghost use Rattle.trace_lines.specs.Faults as faults;
 ghost use Rattle.trace_lines.specs.Guilt as spec;
 

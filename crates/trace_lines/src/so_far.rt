@@ -18,7 +18,7 @@ pub(crate) struct SoFar {
 }
 
 impl Model for SoFar {
-    ghost use Rattle.std.specs.Prelude.{◌≡◌, ◌≤◌, List, reverse, length};
+    ghost use Rattle.std.specs.Prelude.{◌≡◌, List, reverse, length};
     ghost use Rattle.trace_lines.specs.declared.line.Line.{Line};
     ghost use Rattle.trace_lines.specs.Lines.{moment_after, places_after};
 

@@ -1,6 +1,6 @@
 // What single words of a line say.
 
-ghost use Rattle.std.specs.Prelude.{◌≡◌, ◌<◌, length, IfOk, IfSome};
+ghost use Rattle.std.specs.Prelude.{◌≡◌, IfOk};
 ghost use Rattle.trace_lines.specs.Values as spec;
 
 use crate::line::Shown;

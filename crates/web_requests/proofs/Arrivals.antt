@@ -1,5 +1,5 @@
 -- What follows a location, and what is carried, arrives at a role of the registry; what is handed back, at the party that waits.
-use Rattle.std.proofs.Common.{◌≡◌, ◌<◌, ◌++◌, ℕ, List, [], length, Bool, true, false, cond, Option, Some, None, is_some, option_map, option_and_then, unwrap_or, slice_get, refl, ap, subst}
+use Rattle.std.proofs.Common.{◌≡◌, ◌++◌, ℕ, List, [], Bool, true, false, cond, Option, Some, None, is_some, option_map, option_and_then, unwrap_or, slice_get, refl, ap, subst}
 use Rattle.std.specs.Str.{bytes_eq}
 use Rattle.sso_base.specs.Words.{Text}
 use Rattle.sso_base.specs.declared.http.HttpReply.{HttpReply}

@@ -20,15 +20,14 @@ use Rattle.id_token.specs.Reading.{id_read}
 use Rattle.id_token.specs.Sealing.{id_text, HasTexts, IsSealable}
 use Rattle.id_token.proofs.Written.{id_read-id_text}
 use Rattle.auth_answer.specs.declared.answer.Answer.{Answer}
-use Rattle.auth_answer.specs.Printing.{answer_form}
 use Rattle.auth_answer.specs.Sent.{answer_heard}
 use Rattle.op_exchange.specs.declared.reply.OpReply.TheVariants as op
 use Rattle.rp_exchange.specs.declared.ask.RpAsk.TheVariants as rp_ask
 use Rattle.sso_places.specs.declared.types.Jar.{Jar}
 use Rattle.sso_places.specs.declared.types.WorldReply.TheVariants.{Provider as ProviderReply}
 use Rattle.web_requests.specs.declared.location.Location.{Location}
-use Rattle.web_requests.specs.Locations.{location_at, location_of}
-use Rattle.web_requests.specs.Following.{followed, reply_followed}
+use Rattle.web_requests.specs.Locations.{answer_at, location_of}
+use Rattle.web_requests.specs.Following.{followed}
 use Rattle.web_requests.specs.Forging.{may_be_sealed, resealed, forged_id, secret_at, forged_in, with_id, forged}
 use Rattle.web_requests.specs.Asked.{AsksParty, has_part}
 use Rattle.web_requests.proofs.RegistryRows.{some_row, client_found}
@@ -82,19 +81,16 @@ module _ (c : Configuration) (n : ℕ) (r : IsRegistry c) (low : n < length c.pa
         ∙ ap (option_and_then (forged_id user (id_text secret claims))) (secret_there answer.redirect is)
         ∙ opened secret user claims s
 
-    abbrev there : Answer → Location
-    there a = location_at c a.redirect a.fragment (answer_form a)
-
-    answer_forged : (given : Option Word) → forged c (ProviderReply (op.Answered answer given)) user ≡ option_map there (option_map (with_id answer) (resealed secret user claims))
+    answer_forged : (given : Option Word) → forged c (ProviderReply (op.Answered answer given)) user ≡ option_map (answer_at c) (option_map (with_id answer) (resealed secret user claims))
     unfolding forged
-    answer_forged given = ap (λ o. option_map there (option_map (with_id answer) o)) token_forged
+    answer_forged given = ap (λ o. option_map (answer_at c) (option_map (with_id answer) o)) token_forged
 
     one_location : (l m : Location) → Some l ≡ Some m → l ≡ m
     one_location l m h = cc
 
-    sealed_at : (b : Bool) (l : Location) → may_be_sealed other ≡ b → option_map there (option_map (with_id answer) (cond b (Some (id_text secret other)) None)) ≡ Some l
-        → (may_be_sealed other ≡ true) × (there forged_so ≡ l)
-    sealed_at true l may h = (may, one_location (there forged_so) l h)
+    sealed_at : (b : Bool) (l : Location) → may_be_sealed other ≡ b → option_map (answer_at c) (option_map (with_id answer) (cond b (Some (id_text secret other)) None)) ≡ Some l
+        → (may_be_sealed other ≡ true) × (answer_at c forged_so ≡ l)
+    sealed_at true l may h = (may, one_location (answer_at c forged_so) l h)
     sealed_at false l may h = absurd (cc)
 
     pub forged_followed_read : (given : Option Word) (from : ℕ) (jar : Jar) (l : Location) → IfSome answer.state IsUtf8 → forged c (ProviderReply (op.Answered answer given)) user ≡ Some l
@@ -103,7 +99,7 @@ module _ (c : Configuration) (n : ℕ) (r : IsRegistry c) (low : n < length c.pa
     forged_followed_read given from jar l state h =
         let so = sealed_at (may_be_sealed other) l refl (sym (answer_forged given) ∙ h) in
         let read : id_read secret (id_text secret other) ≡ Ok other = id_read-id_text secret other (with_subject claims user t s so.0) in
-        let asked : AsksParty c from n (followed c from (there forged_so) jar) (rp_ask.Callback (Ok (answer_heard forged_so (option_and_then word_of_text answer.state))) (Some (id_read secret (id_text secret other))) jar.first)
+        let asked : AsksParty c from n (followed c from (answer_at c forged_so) jar) (rp_ask.Callback (Ok (answer_heard forged_so (option_and_then word_of_text answer.state))) (Some (id_read secret (id_text secret other))) jar.first)
         = answer_followed_read c n r low from given jar forged_so is (has_id answer (id_text secret other)) state (token_is_text secret other) in
         subst (λ m. AsksParty c from n (followed c from m jar) (rp_ask.Callback (Ok (answer_heard forged_so (option_and_then word_of_text answer.state))) (Some (Ok other)) jar.first)) so.1
-        (subst (λ i. AsksParty c from n (followed c from (there forged_so) jar) (rp_ask.Callback (Ok (answer_heard forged_so (option_and_then word_of_text answer.state))) (Some i) jar.first)) read asked)
+        (subst (λ i. AsksParty c from n (followed c from (answer_at c forged_so) jar) (rp_ask.Callback (Ok (answer_heard forged_so (option_and_then word_of_text answer.state))) (Some i) jar.first)) read asked)

@@ -1,5 +1,5 @@
 -- The place of the first element that passes a test is one of the list, and the element there passes it.
-use Rattle.std.proofs.Common.{◌≡◌, ◌<◌, ◌+◌, ℕ, suc, List, [], ◌∷◌, length, Bool, true, false, cond, Option, Some, None, unwrap_or, slice_get, refl, arith}
+use Rattle.std.proofs.Common.{◌≡◌, ◌<◌, ◌+◌, ℕ, suc, List, [], ◌∷◌, length, Bool, true, false, cond, Some, unwrap_or, slice_get, refl, arith}
 use Rattle.std.specs.List.{position_from}
 
 pub record FoundAt {X : Type 0} (test : X → Bool) (xs : List X) (d : X) (i k : ℕ) : Type 0 where

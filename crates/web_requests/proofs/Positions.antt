@@ -1,5 +1,5 @@
 -- The place of the first element that passes a test, one step on; and whether a party's client has a logout URI.
-use Rattle.std.proofs.Common.{◌≡◌, ◌<◌, ◌+◌, ℕ, List, drop, length, Bool, true, false, cond, Option, Some, None, is_some, option_map, slice_get, refl, sym, ap, ◌∙◌}
+use Rattle.std.proofs.Common.{◌≡◌, ◌<◌, ◌+◌, ℕ, List, drop, length, Bool, true, false, cond, Option, Some, is_some, option_map, slice_get, sym, ap, ◌∙◌}
 use Rattle.std.specs.Borrow.{Bor}
 use Rattle.std.specs.List.{position_from}
 use Rattle.sso_base.specs.Words.{Text}

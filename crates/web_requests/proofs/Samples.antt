@@ -50,15 +50,17 @@ use Rattle.sso_places.specs.declared.types.WorldAsk.TheVariants as asked
 use Rattle.sso_places.specs.declared.types.WorldReply.{WorldReply}
 use Rattle.sso_places.specs.declared.types.WorldReply.TheVariants as reply
 use Rattle.web_requests.specs.declared.location.Location.TheVariants as location
-use Rattle.web_requests.specs.Sending.{no_jar, got, posted, sent}
-use Rattle.web_requests.specs.Locations.{location_at, location_of}
+use Rattle.sso_places.specs.Cookies.{no_jar}
+use Rattle.web_requests.specs.Sending.{got, posted, sent}
+use Rattle.web_requests.specs.Locations.{answer_at, location_of}
 use Rattle.web_requests.specs.Following.{receiver, followed, reply_followed}
 use Rattle.web_requests.specs.Mixing.{mixed}
 use Rattle.web_requests.specs.Forging.{may_be_sealed, forged_id, with_id, forged}
 use Rattle.web_requests.specs.Posting.{login_posted, consent_posted}
 use Rattle.web_requests.specs.Visiting.{login_begun, party_visited, party_left, signed_out}
 use Rattle.web_requests.specs.Carrying.{carried}
-use Rattle.web_requests.specs.Handing.{IsRole, printed, handed_back}
+use Rattle.sso_places.specs.Legal.{IsRole}
+use Rattle.web_requests.specs.Handing.{printed, handed_back}
 use Rattle.web_requests.specs.Raw.{raw_sent}
 use Rattle.web_requests.specs.Asked.{AsksProvider, AsksParty, AnswersTokens, whole_params, has_part}
 use Rattle.web_requests.proofs.ForgedTokens.{opened}
@@ -208,12 +210,12 @@ token-for_no_subject = opened mail.secret [] alice alice_is_sealable
 forged-for_bob : forged small (answered (Some alices_token)) (codes "bob") ≡ Some (location.Client (codes "https://c.d/cb") true (answer_form (answered_to (codes "https://c.d/cb") (Some (id_text mail.secret bob)))))
 unfolding forged
 forged-for_bob =
-    ap (λ id. option_map (λ (a : Answer). location_at small a.redirect a.fragment (answer_form a)) (option_map (with_id (answered_to (codes "https://c.d/cb") (Some alices_token))) id)) token-for_bob
+    ap (λ id. option_map (answer_at small) (option_map (with_id (answered_to (codes "https://c.d/cb") (Some alices_token))) id)) token-for_bob
 
 forged-for_no_subject : forged small (answered (Some alices_token)) [] ≡ None
 unfolding forged
 forged-for_no_subject =
-    ap (λ id. option_map (λ (a : Answer). location_at small a.redirect a.fragment (answer_form a)) (option_map (with_id (answered_to (codes "https://c.d/cb") (Some alices_token))) id)) token-for_no_subject
+    ap (λ id. option_map (answer_at small) (option_map (with_id (answered_to (codes "https://c.d/cb") (Some alices_token))) id)) token-for_no_subject
 
 forged-without_an_id_token : forged small (answered None) (codes "bob") ≡ None
 unfolding forged

@@ -6,7 +6,7 @@ use Rattle.sso_places.specs.declared.types.To.{To}
 use Rattle.sso_places.specs.declared.types.To.TheVariants as to
 use Rattle.web_requests.specs.declared.sent.Sent.{Sent}
 use Rattle.web_requests.specs.Sending.{sent}
-use Rattle.web_requests.specs.Handing.{IsRole}
+use Rattle.sso_places.specs.Legal.{IsRole}
 
 -- a request that is sent under this number, to a role of the registry
 pub record Arrives (c : Configuration) (from : ℕ) (s : Sent) : Type 0 where

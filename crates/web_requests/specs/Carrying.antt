@@ -20,7 +20,8 @@ use Rattle.sso_places.specs.declared.types.To.TheVariants as to
 use Rattle.sso_places.specs.declared.types.WorldReply.{WorldReply}
 use Rattle.sso_places.specs.declared.types.WorldReply.TheVariants as replied
 use Rattle.web_requests.specs.declared.sent.Sent.{Sent}
-use Rattle.web_requests.specs.Sending.{no_jar, asking, sent}
+use Rattle.sso_places.specs.Cookies.{no_jar}
+use Rattle.web_requests.specs.Sending.{asking, sent}
 
 -- the messages that a reply sends to other servers
 abbrev pub messages_of : WorldReply → List Message

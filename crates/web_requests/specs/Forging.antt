@@ -12,13 +12,12 @@ use Rattle.id_token.specs.Claims.{id_members, id_names, is_subject}
 use Rattle.id_token.specs.Reading.{id_read}
 use Rattle.id_token.specs.Sealing.{id_text}
 use Rattle.auth_answer.specs.declared.answer.Answer.{Answer}
-use Rattle.auth_answer.specs.Printing.{answer_form}
 use Rattle.op_exchange.specs.declared.reply.OpReply.TheVariants as op
 use Rattle.sso_places.specs.Written.{client_of_uri}
 use Rattle.sso_places.specs.declared.types.WorldReply.{WorldReply}
 use Rattle.sso_places.specs.declared.types.WorldReply.TheVariants.{Provider}
 use Rattle.web_requests.specs.declared.location.Location.{Location}
-use Rattle.web_requests.specs.Locations.{location_at}
+use Rattle.web_requests.specs.Locations.{answer_at}
 
 -- the claims have a subject that is one, and are short enough to be sealed
 abbrev pub may_be_sealed : IdClaims → Bool
@@ -45,13 +44,13 @@ forged_in c answer user = option_and_then (λ id. option_and_then (forged_id use
 abbrev pub with_id : Answer → Text → Answer
 with_id answer id = record answer { id = Some id }
 
+-- the answer with one for this subject
 abbrev pub forged_answer : Configuration → Answer → Text → Option Answer
 forged_answer c answer user = option_map (with_id answer) (forged_in c answer user)
 
 -- where an answer sends a browser on whose ID Token is forged for this subject
 unfoldable pub forged : Configuration → WorldReply → Text → Option Location
-forged c (Provider (op.Answered answer given)) user =
-    option_map (λ (other : Answer). location_at c other.redirect other.fragment (answer_form other)) (forged_answer c answer user)
+forged c (Provider (op.Answered answer given)) user = option_map (answer_at c) (forged_answer c answer user)
 forged c reply user = None
 
 -- what is so of claims that were read, and is asked of those that are sealed

@@ -1,5 +1,5 @@
 -- The printed reply of one role, handed to the party that waits for it.
-use Rattle.std.specs.Prelude.{◌<◌, ℕ, length, Option, Some, None, option_and_then}
+use Rattle.std.specs.Prelude.{ℕ, Option, Some, None, option_and_then}
 use Rattle.sso_base.specs.declared.http.HttpReply.{HttpReply}
 use Rattle.sso_base.specs.declared.message.Answered.{Answered}
 use Rattle.client_registry.specs.Configuration.{Configuration}
@@ -12,11 +12,6 @@ use Rattle.sso_places.specs.declared.types.WorldAsk.TheVariants.{Tokens, Info}
 use Rattle.sso_places.specs.declared.types.WorldReply.{WorldReply}
 use Rattle.sso_places.specs.declared.types.WorldReply.TheVariants.{Provider, Party}
 use Rattle.web_requests.specs.declared.sent.Sent.{Sent}
-
--- a role of the registry
-abbrev pub IsRole : Configuration → To → Type 0
-IsRole c to.Provider = Unit {0}
-IsRole c (to.Party n) = n < length c.parties
 
 -- the reply of a role in HTTP; what is no reply of the role has none
 unfoldable pub printed : Configuration → To → WorldReply → Option HttpReply

@@ -1,5 +1,5 @@
 -- Where a reply sends a browser on (RFC 9110, 10.2.2): a party to the provider, with an authorization request; the provider to a
--- redirection URI, with an authorization response. A login that entered sends it to the party's own first page, which is a visit
+-- redirection URI, with an authorization response. A login that entered sends it to the party's own home page, which is a visit
 -- of its own and no location here.
 use Rattle.std.specs.Prelude.{ℕ, ◌==◌, Bool, true, false, List, ◌++◌, codes, Option, Some, None, option_and_then, slice_get}
 use Rattle.std.specs.List.{after_first, position_from}
@@ -9,6 +9,8 @@ use Rattle.registered_url.specs.declared.web_url.WebUrl.{WebUrl}
 use Rattle.client_registry.specs.declared.records.Client.{Client}
 use Rattle.client_registry.specs.Configuration.{Configuration}
 use Rattle.client_registry.specs.Numbers.{client_at}
+use Rattle.oidc_words.specs.declared.errors.Refusal.{Refusal}
+use Rattle.auth_answer.specs.declared.answer.Answer.{Answer}
 use Rattle.auth_answer.specs.Printing.{answer_form, refusal_form}
 use Rattle.op_exchange.specs.declared.reply.OpReply.TheVariants as op
 use Rattle.rp_exchange.specs.declared.reply.RpReply.TheVariants as rp
@@ -44,13 +46,20 @@ abbrev pub location_at : Configuration → Text → Bool → List ℕ → Locati
 location_at c uri true form = location.Client uri true form
 location_at c uri false form = location.Client uri false (behind (registered_query c uri) form)
 
+-- an answer and a refusal, at their redirection URIs
+abbrev pub answer_at : Configuration → Answer → Location
+answer_at c answer = location_at c answer.redirect answer.fragment (answer_form answer)
+
+abbrev pub refusal_at : Configuration → Refusal → Location
+refusal_at c refusal = location_at c refusal.redirect refusal.fragment (refusal_form refusal)
+
 -- the mark before a query (RFC 3986, 3.4)
 abbrev pub is_question : ℕ → Bool
 is_question b = b == 63
 
 -- where a reply sends a browser on
 unfoldable pub location_of : Configuration → WorldReply → Option Location
-location_of c (Provider (op.Answered answer given)) = Some (location_at c answer.redirect answer.fragment (answer_form answer))
-location_of c (Provider (op.Refused refusal given)) = Some (location_at c refusal.redirect refusal.fragment (refusal_form refusal))
+location_of c (Provider (op.Answered answer given)) = Some (answer_at c answer)
+location_of c (Provider (op.Refused refusal given)) = Some (refusal_at c refusal)
 location_of c (Party (rp.Ask to browser)) = Some (location.Provider (after_first is_question to))
 location_of c reply = None

@@ -10,8 +10,6 @@ use Rattle.sso_places.specs.declared.types.WorldAsk.TheVariants.{Http}
 use Rattle.web_requests.specs.declared.sent.Sent.{Sent}
 
 -- no cookie
-abbrev pub no_jar : Jar
-no_jar = record { first = None; second = None }
 
 -- a request with the cookies of this jar
 abbrev pub asking : Method → Text → List ℕ → Option (List ℕ) → Option Text → Jar → Ask

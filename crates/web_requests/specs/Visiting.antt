@@ -12,7 +12,7 @@ use Rattle.web_requests.specs.Sending.{got, posted, sent}
 abbrev pub login_begun : ℕ → ℕ → Jar → Sent
 login_begun from n jar = sent from (to.Party n) (got begin_path [] jar)
 
--- the party's first page
+-- the party's home page
 abbrev pub party_visited : ℕ → ℕ → Jar → Sent
 party_visited from n jar = sent from (to.Party n) (got home_path [] jar)
 

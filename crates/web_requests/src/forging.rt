@@ -5,7 +5,7 @@ ghost use Rattle.std.specs.Result.{result_ok};
 ghost use Rattle.id_token.specs.Reading.{id_read};
 ghost use Rattle.web_requests.specs.Forging as spec;
 
-use crate::location::{Location, answer_location, client_of_uri};
+use crate::location::{Location, answer_location};
 use auth_answer::Answer;
 use client_registry::Registry;
 use id_token::{IdClaims, IdNo, is_subject, read_id, seal_id, written_len};
@@ -66,7 +66,7 @@ fn forged_id(alloc: Global, user: &Text, id: &Text, secret: &Text) -> Result<Opt
 fn secret_at<'a>(registry: &'a Registry, uri: &str) -> Option<&'a Text>
     ensures { option_map (λ t. t.now) result ≡ spec.secret_at registry.now uri.now }
 {
-    let number = client_of_uri(registry, uri)?;
+    let number = registry.client_of_uri(uri)?;
     Some(&registry.client(number).secret)
 }
 

@@ -1,6 +1,7 @@
 // The printed reply of one role, handed to the party that waits for it.
 
 ghost use Rattle.std.specs.Prelude.{◌≡◌, IfOk};
+ghost use Rattle.sso_places.specs.Legal.{IsRole};
 ghost use Rattle.web_requests.specs.Handing as spec;
 
 use crate::sent::Sent;
@@ -22,7 +23,7 @@ pub fn printed(
     role: &To,
     reply: &WorldReply,
 ) -> Result<Option<HttpReply>, NoMemory>
-    requires { spec.IsRole registry.now role.now }
+    requires { IsRole registry.now role.now }
     ensures { IfOk result (λ o. o ≡ spec.printed registry.now role.now reply.now) }
 {
     match (role, reply) {
@@ -78,7 +79,7 @@ pub fn handed_back(
     other: &To,
     answer: &WorldReply,
 ) -> Result<Option<Sent>, NoMemory>
-    requires { spec.IsRole registry.now other.now }
+    requires { IsRole registry.now other.now }
     ensures { IfOk result (λ o. o ≡ spec.handed_back registry.now from role.now reply.now other.now answer.now) }
 {
     match printed(alloc, registry, other, answer)? {

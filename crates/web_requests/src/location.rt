@@ -1,11 +1,10 @@
 // Where a reply sends a browser on.
 
-ghost use Rattle.std.specs.Prelude.{◌≡◌, ◌<◌, length, drop, option_map, IfOk, IfSome};
+ghost use Rattle.std.specs.Prelude.{◌≡◌, drop, option_map, IfOk};
 ghost use Rattle.std.specs.Option.{option_copied};
 ghost use Rattle.std.specs.List.{after_first, position_from};
 ghost use Rattle.std.specs.Str.{bytes_eq};
 ghost use Rattle.auth_answer.specs.Printing.{answer_form, refusal_form};
-ghost use Rattle.sso_places.specs.Written.{client_of_uri};
 ghost use Rattle.web_requests.specs.Locations as spec;
 
 use auth_answer::{Answer, print_answer, print_refusal};
@@ -39,19 +38,6 @@ pub enum Location {
 
 // ---- redirection URIs, as they are registered
 
-// The client that has a redirection URI.
-pub(crate) fn client_of_uri(registry: &Registry, uri: &str) -> Option<u32>
-    ensures client { result ≡ client_of_uri registry.now uri.now }
-    ensures below { IfSome result (λ n. n < length registry.now.clients) }
-{
-    for number in 0..registry.clients() {
-        if registry.client(number).redirects.has(uri) {
-            return Some(number);
-        }
-    }
-    None
-}
-
 // The place of a text in a list, from 0.
 fn place_of(texts: &Texts, text: &str) -> Option<usize>
     ensures { result ≡ position_from (λ t. bytes_eq t text.now) 0 texts.now }
@@ -76,7 +62,7 @@ fn kept_url<'a>(uri: &str, client: &'a Client) -> Option<&'a WebUrl>
 fn registered_query<'a>(registry: &'a Registry, uri: &str) -> Option<&'a Text>
     ensures { option_map (λ t. t.now) result ≡ spec.registered_query registry.now uri.now }
 {
-    let number = client_of_uri(registry, uri)?;
+    let number = registry.client_of_uri(uri)?;
     let url = kept_url(uri, registry.client(number))?;
     url.query.as_ref()
 }
@@ -156,7 +142,7 @@ pub(crate) fn answer_location(
     registry: &Registry,
     answer: &Answer,
 ) -> Result<Location, NoMemory>
-    ensures { IfOk result (λ l. l ≡ spec.location_at registry.now answer.now.redirect answer.now.fragment (answer_form answer.now)) }
+    ensures { IfOk result (λ l. l ≡ spec.answer_at registry.now answer.now) }
 {
     let form = answer_form(alloc, answer)?;
     location_at(alloc, registry, &answer.redirect, answer.fragment, form)
@@ -167,7 +153,7 @@ fn refusal_location(
     registry: &Registry,
     refusal: &Refusal,
 ) -> Result<Location, NoMemory>
-    ensures { IfOk result (λ l. l ≡ spec.location_at registry.now refusal.now.redirect refusal.now.fragment (refusal_form refusal.now)) }
+    ensures { IfOk result (λ l. l ≡ spec.refusal_at registry.now refusal.now) }
 {
     let form = refusal_form(alloc, refusal)?;
     location_at(alloc, registry, &refusal.redirect, refusal.fragment, form)

@@ -7,7 +7,8 @@ use Rattle.std.proofs.lemmas.Map.Text.{is_eq-slice_cmp}
 use Rattle.sso_base.specs.Words.{Word, Text}
 use Rattle.sso_base.proofs.RowLaws.{bool_cases, bytes_same}
 use Rattle.world_index.specs.declared.halves.Issued.{Issued}
-use Rattle.world_index.specs.Issuing.{half_digest, issued_of, first_of, issued_as}
+use Rattle.sso_places.specs.Premises.{half_digest}
+use Rattle.world_index.specs.Issuing.{issued_of, first_of, issued_as}
 
 first_none : (o : Option Issued) → o ≡ first_of o None
 first_none None = refl

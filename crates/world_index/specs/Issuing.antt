@@ -4,12 +4,9 @@ use Rattle.std.specs.Map.{lookup}
 use Rattle.std.specs.Ordering.{is_eq, nat_cmp}
 use Rattle.std.specs.Cmp.Lexicographic.{slice_cmp}
 use Rattle.std.specs.Str.{bytes_eq}
-use Rattle.sso_base.specs.Words.{Word, Text, word_text}
-use Rattle.id_token.specs.HalfHash.{half_hash_of}
+use Rattle.sso_base.specs.Words.{Word, Text}
+use Rattle.sso_places.specs.Premises.{half_digest}
 use Rattle.world_index.specs.declared.halves.Issued.{Issued}
-
-abbrev pub half_digest : Word → Text
-half_digest w = half_hash_of (word_text w)
 
 -- what was noted first of a half digest
 abbrev pub issued_of : List (Text × Issued) → Text → Option Issued

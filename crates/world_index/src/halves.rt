@@ -2,7 +2,8 @@
 
 ghost use Rattle.std.specs.Prelude.{◌≡◌, None, OnOk, OnErr};
 ghost use Rattle.sso_base.specs.Words.{Text as TextOf};
-ghost use Rattle.world_index.specs.Issuing.{half_digest, issued_of, first_of, issued_as, other_place};
+ghost use Rattle.sso_places.specs.Premises.{half_digest};
+ghost use Rattle.world_index.specs.Issuing.{issued_of, first_of, issued_as, other_place};
 
 use id_token::half_hash;
 use sso_base::{NoMemory, Word};

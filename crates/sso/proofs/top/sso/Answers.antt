@@ -4,6 +4,12 @@ use Rattle.sso.proofs.top.sso.Goals as goal
 pub returns-clause-replayed : goal.returns-clause-replayed
 returns-clause-replayed g c = ending.replayed _ _ c.run.ensures.ended
 
+pub returns-clause-broken : goal.returns-clause-broken
+returns-clause-broken g c = ending.broken _ _ c.run.ensures.ended
+
+pub returns-clause-full : goal.returns-clause-full
+returns-clause-full g c = ending.full _ _ c.run.ensures.ended
+
 pub returns-clause-opened : goal.returns-clause-opened
 returns-clause-opened g c = ending.opened _ _ c.run.ensures.ended
 

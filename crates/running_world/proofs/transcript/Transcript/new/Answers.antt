@@ -1,7 +1,7 @@
 use Rattle.std.proofs.Common.{◌≡◌, false, List, [], reverse, None, sym, ap, ◌∙◌, subst}
 use Rattle.std.specs.Vec.{vec_capacity}
 use Rattle.running_world.specs.declared.kept.Kept.{Kept}
-use Rattle.running_world.specs.JarsFound.{Jarred}
+use Rattle.cookie_jars.specs.JarsFound.{Jarred}
 use Rattle.running_world.specs.Transcribed.{IsTranscript}
 use Rattle.running_world.proofs.Transcribing.{begun}
 use Rattle.running_world.proofs.transcript.Transcript.new.Goals as goal

@@ -7,9 +7,9 @@ use Rattle.sso_places.specs.FirstBroken.{or_else}
 use Rattle.running_world.specs.declared.kept.Kept.{Kept}
 use Rattle.running_world.specs.Breaking.{judged_asked, clash_told}
 use Rattle.running_world.specs.Foreknowing.{IsKnown, IsForeknownAt}
-use Rattle.running_world.specs.JarsFound.{Jarred}
+use Rattle.cookie_jars.specs.JarsFound.{Jarred}
 use Rattle.running_world.specs.Running.{places_of}
-use Rattle.running_world.specs.Stepping.{IsRole}
+use Rattle.sso_places.specs.Legal.{IsRole}
 use Rattle.running_world.specs.Transcribed.{Transcribed, IsTranscript}
 use Rattle.running_world.proofs.Transcribing.{none_behind, put, pushed}
 use Rattle.running_world.proofs.transcript.Transcript.put.Goals as goal

@@ -1,7 +1,7 @@
 use Rattle.std.proofs.Common.{Option, option_map, sym, ap, ◌∙◌}
 use Rattle.sso_places.specs.declared.types.WorldReply.{WorldReply}
-use Rattle.sso_places.specs.World.{Place, place_at}
-use Rattle.running_world.specs.Running.{Running, world_of, kept_at, reply_at}
+use Rattle.sso_places.specs.World.{Place, place_at, reply_at}
+use Rattle.running_world.specs.Running.{Running, world_of, kept_at}
 use Rattle.running_world.specs.Transcribed.{Transcribed}
 use Rattle.running_world.proofs.Keeping.{place_kept, replies}
 use Rattle.running_world.proofs.world.World.reply.Goals as goal

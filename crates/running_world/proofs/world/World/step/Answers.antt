@@ -2,10 +2,10 @@ use Rattle.std.proofs.Common.{◌≡◌, ℕ, ◌<◌, ◌+◌, length, sym, ◌
 use Rattle.sso_base.specs.Journal.{most_weight}
 use Rattle.sso_places.specs.declared.types.To.{To}
 use Rattle.sso_places.specs.declared.types.To.TheVariants as to
-use Rattle.running_world.specs.Running.{Running, places_of, world_of}
-use Rattle.running_world.specs.Stepping.{IsRole, role_weight, asked_weight}
+use Rattle.running_world.specs.Running.{Running, world_of}
+use Rattle.sso_places.specs.Legal.{IsRole}
+use Rattle.running_world.specs.Stepping.{role_weight, asked_weight}
 use Rattle.running_world.specs.Worlds.{shown}
-use Rattle.running_world.proofs.Signing.{signs_on}
 use Rattle.running_world.proofs.Steps.{op_keeps, rp_keeps, rp_found, rp_weighs}
 use Rattle.running_world.proofs.world.World.step.Goals as goal
 
@@ -14,15 +14,6 @@ use Rattle.running_world.proofs.world.World.step.Goals as goal
 pub invariant_of-self : goal.invariant_of-self
 invariant_of-self c =
     op_keeps c.ask_provider.result c.self.inside.provider c.ask_provider.new.provider c.self.inside.parties.items c.self.inside.transcript c.ask_provider.new.transcript c.args.from c.args.at c.args.fresh c.in-Http.request c.self.invariant c.ask_provider.ensures.ok c.ask_provider.ensures.provider c.ask_provider.ensures.transcript
-
-pub returns-in-Http-clause-legal : goal.returns-in-Http-clause-legal
-returns-in-Http-clause-legal c =
-    (op_keeps c.ask_provider.result c.self.inside.provider c.ask_provider.new.provider c.self.inside.parties.items c.self.inside.transcript c.ask_provider.new.transcript c.args.from c.args.at c.args.fresh c.in-Http.request c.self.invariant c.ask_provider.ensures.ok c.ask_provider.ensures.provider c.ask_provider.ensures.transcript).legal
-
-pub returns-in-Http-clause-signs : goal.returns-in-Http-clause-signs
-returns-in-Http-clause-signs c =
-    signs_on c.ask_provider.new.transcript.registry c.ask_provider.new.provider c.self.inside.parties.items (places_of c.ask_provider.new.transcript.registry c.ask_provider.new.transcript.kept)
-    (op_keeps c.ask_provider.result c.self.inside.provider c.ask_provider.new.provider c.self.inside.parties.items c.self.inside.transcript c.ask_provider.new.transcript c.args.from c.args.at c.args.fresh c.in-Http.request c.self.invariant c.ask_provider.ensures.ok c.ask_provider.ensures.provider c.ask_provider.ensures.transcript)
 
 -- ---- a party was
 
@@ -36,15 +27,6 @@ party_low inside now role n view is low =
 pub invariant_of-self-in-Party : goal.invariant_of-self-in-Party
 invariant_of-self-in-Party c =
     rp_keeps c.ask_party.result c.self.inside.provider c.self.inside.parties.items c.ask_party.new.parties.items c.self.inside.transcript c.ask_party.new.transcript c.args.from c.in-Party.party c.args.at c.args.fresh c.args.ask (party_low (shown c.self.inside.transcript) c.args.self.now c.args.to c.in-Party.party c.self.view_is c.in-Party.is c.requires.role) c.self.invariant c.ask_party.ensures.ok c.ask_party.ensures.parties c.ask_party.ensures.transcript
-
-pub returns-in-Party-clause-legal : goal.returns-in-Party-clause-legal
-returns-in-Party-clause-legal c =
-    (rp_keeps c.ask_party.result c.self.inside.provider c.self.inside.parties.items c.ask_party.new.parties.items c.self.inside.transcript c.ask_party.new.transcript c.args.from c.in-Party.party c.args.at c.args.fresh c.args.ask (party_low (shown c.self.inside.transcript) c.args.self.now c.args.to c.in-Party.party c.self.view_is c.in-Party.is c.requires.role) c.self.invariant c.ask_party.ensures.ok c.ask_party.ensures.parties c.ask_party.ensures.transcript).legal
-
-pub returns-in-Party-clause-signs : goal.returns-in-Party-clause-signs
-returns-in-Party-clause-signs c =
-    signs_on c.ask_party.new.transcript.registry c.self.inside.provider c.ask_party.new.parties.items (places_of c.ask_party.new.transcript.registry c.ask_party.new.transcript.kept)
-    (rp_keeps c.ask_party.result c.self.inside.provider c.self.inside.parties.items c.ask_party.new.parties.items c.self.inside.transcript c.ask_party.new.transcript c.args.from c.in-Party.party c.args.at c.args.fresh c.args.ask (party_low (shown c.self.inside.transcript) c.args.self.now c.args.to c.in-Party.party c.self.view_is c.in-Party.is c.requires.role) c.self.invariant c.ask_party.ensures.ok c.ask_party.ensures.parties c.ask_party.ensures.transcript)
 
 pub returns-in-Party-clause-full : goal.returns-in-Party-clause-full
 returns-in-Party-clause-full c =

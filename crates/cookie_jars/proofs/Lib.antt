@@ -1,0 +1,2 @@
+mod Jarring
+mod Samples

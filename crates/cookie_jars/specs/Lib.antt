@@ -1,0 +1,3 @@
+pub mod JarMaps
+pub mod Jars
+pub mod JarsFound

@@ -1,0 +1,21 @@
+// What changes the jars of browsers.
+
+use sso_places::{Jar, To};
+
+/// What changed the jars of browsers.
+#[derive(Drop)]
+pub enum JarNote {
+    /// A reply of this role set these cookies for the browser.
+    Set { browser: u32, to: To, set: Jar },
+    /// The thief has copies of the owner's jars, in place of its own.
+    Stolen { thief: u32, owner: u32 },
+}
+
+/// A browser and a role: the jar for whose next change there is room.
+#[derive(Clone, Copy)]
+pub struct Slot {
+    /// The number of the browser.
+    pub browser: u32,
+    /// The role.
+    pub to: To,
+}

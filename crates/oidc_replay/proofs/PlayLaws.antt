@@ -1,0 +1,116 @@
+-- The play of a trace, line by line; its words are distinct and it is joined, so that the sign-on theorem needs no more of it than that
+-- no text is forged and no cookie leaks.
+use Rattle.std.proofs.Common.{◌≡◌, ℕ, suc, ◌^◌, ◌<◌, ◌≤◌, List, [], ◌∷◌, ◌++◌, length, get_or, min, reverse, take, Option, Some, None, refl, sym, ap, ◌∙◌, subst, arith}
+use Rattle.std.proofs.lemmas.List.{length-reverse, length-take, reverse-append, take_all}
+use Rattle.std.proofs.Math.Seq.{take-suc}
+use Rattle.sso_base.specs.Words.{Text}
+use Rattle.client_registry.specs.Configuration.{Configuration}
+use Rattle.sso_places.specs.declared.types.Broken.{Broken}
+use Rattle.sso_places.specs.FirstBroken.{first_broken, IsUnbroken}
+use Rattle.sso_places.specs.Premises.{HasDistinctWords, IsJoined}
+use Rattle.sso_places.specs.Site.{own_site}
+use Rattle.sso_places.specs.World.{World}
+use Rattle.sso_places.proofs.FirstBroken.{none_broken}
+use Rattle.running_world.specs.Running.{world_of}
+use Rattle.running_world.specs.Theorem.{TheoremHolds}
+use Rattle.trace_lines.specs.declared.line.Line.{Line}
+use Rattle.trace_lines.specs.Trace.{Told}
+use Rattle.oidc_replay.specs.declared.replaying.ReplayEnd.{ReplayEnd}
+use Rattle.oidc_replay.specs.declared.replaying.ReplayEnd.TheVariants as end
+use Rattle.oidc_replay.specs.Play.{Played, Playing, played_of, play_on, play_lines, play_of}
+use Rattle.oidc_replay.specs.End.{ended_by, play_end, end_of}
+use Rattle.oidc_replay.specs.Text.{line_told, lines_told, end_line, text_of}
+use Rattle.oidc_replay.specs.Theorem.{PlaysWell}
+use Rattle.oidc_replay.proofs.Played.{HasPlayed, lines_played}
+use Rattle.oidc_replay.proofs.Distinct.{play_distinct}
+use Rattle.oidc_replay.proofs.Joined.{play_joined}
+
+pub distinct : (c : Configuration) (seed : List ℕ) (lines : List Line) → length lines < 2 ^ 60 → HasDistinctWords (play_lines c seed lines).world
+distinct c seed lines room =
+    let played : HasPlayed c seed (length lines) (play_lines c seed lines).world = lines_played c seed lines in
+    let few : length (play_lines c seed lines).world ≤ length lines = played.few in
+    play_distinct c seed (play_lines c seed lines).world played.places (omega arith)
+
+pub joined : (c : Configuration) (seed : List ℕ) (lines : List Line) → length lines < 2 ^ 60 → IsJoined (play_lines c seed lines).world
+joined c seed lines room = play_joined c seed (play_lines c seed lines).world (lines_played c seed lines).places (distinct c seed lines room)
+
+-- ---- line by line; here the lines of the trace stand with the oldest first
+
+next_line : (lines : List Line) (i : ℕ) (line : Line) → i < length lines → line ≡ get_or lines i line → reverse (take (suc i) lines) ≡ line ∷ reverse (take i lines)
+next_line lines i line here is =
+    ap reverse (take-suc lines i line here) ∙ reverse-append (take i lines) (get_or lines i line ∷ []) ∙ ap (λ (x : Line). x ∷ reverse (take i lines)) (sym is)
+
+module _ (c : Configuration) (seed : List ℕ) (lines : List Line) where
+  pub play_next : (i : ℕ) (line : Line) (before after : Played) → i < length lines → line ≡ get_or lines i line → before ≡ play_lines c seed (reverse (take i lines)) → after ≡ play_on c seed before line
+      → after ≡ play_lines c seed (reverse (take (suc i) lines))
+  play_next i line before after here is was now =
+      now ∙ ap (λ (p : Played). play_on c seed p line) was ∙ sym (ap (play_lines c seed) (next_line lines i line here is))
+
+  pub text_next : (i : ℕ) (line : Line) (after : Played) (old new : Text) → i < length lines → line ≡ get_or lines i line → after ≡ play_lines c seed (reverse (take (suc i) lines))
+      → old ≡ lines_told c seed (reverse (take i lines)) → new ≡ old ++ line_told c after line → new ≡ lines_told c seed (reverse (take (suc i) lines))
+  text_next i line after old new here is played was now =
+      let P : List Line → Played = λ ls. play_lines c seed ls in
+      let now_played : after ≡ P (line ∷ reverse (take i lines)) = played ∙ ap P (next_line lines i line here is) in
+      now
+      ∙ ap (λ (t : Text). t ++ line_told c after line) was
+      ∙ ap (λ (p : Played). lines_told c seed (reverse (take i lines)) ++ line_told c p line) now_played
+      ∙ sym (ap (lines_told c seed) (next_line lines i line here is))
+
+  -- there is room for one more place
+  pub places_few : (i count : ℕ) (play : Played) → length (reverse lines) ≤ count → play ≡ play_lines c seed (reverse (take i lines)) → length play.world ≤ count
+  places_few i count play few is =
+      let front : List Line = reverse (take i lines) in
+      let same : length play.world ≡ length (play_lines c seed front).world = ap (λ (p : Played). length p.world) is in
+      let played : length (play_lines c seed front).world ≤ length front = (lines_played c seed front).few in
+      let turned : length front ≡ length (take i lines) = length-reverse (take i lines) in
+      let cut : length (take i lines) ≡ min i (length lines) = length-take i lines in
+      let whole : length (reverse lines) ≡ length lines = length-reverse lines in
+      omega (arith, same, played, turned, cut, whole, few)
+
+-- ---- all lines were played
+
+module _ (c : Configuration) (told : Told) (lines : List Line) (i : ℕ) (over : length lines ≤ i) (are : reverse lines ≡ told.lines) where
+  all_taken : reverse (take i lines) ≡ told.lines
+  all_taken = ap reverse (take_all i lines over) ∙ are
+
+  pub all_played : (p : Played) → p ≡ play_lines c told.seed (reverse (take i lines)) → p ≡ play_lines c told.seed told.lines
+  all_played p is = is ∙ ap (play_lines c told.seed) all_taken
+
+  pub end_is : (registry : Configuration) (p : Played) → registry ≡ c → p ≡ play_lines c told.seed (reverse (take i lines)) → play_end registry p ≡ end_of c told
+  unfolding end_of play_of
+  end_is registry p own is = ap (λ (d : Configuration). play_end d p) own ∙ ap (play_end c) (all_played p is)
+
+  pub text_is : (registry : Configuration) (p : Played) (text : Text) → registry ≡ c → p ≡ play_lines c told.seed (reverse (take i lines)) → text ≡ lines_told c told.seed (reverse (take i lines))
+      → text ++ end_line (play_end registry p) ≡ text_of c told
+  unfolding text_of
+  text_is registry p text own is was =
+      ap (λ (t : Text). t ++ end_line (play_end registry p)) (was ∙ ap (lines_told c told.seed) all_taken)
+      ∙ ap (λ (e : ReplayEnd). lines_told c told.seed told.lines ++ end_line e) (end_is registry p own is)
+
+-- ---- the theorem of the running world is that of its play
+
+-- where the play ends with no premise that fails, none does
+none_fails : (ended : Option ℕ) (broken : Option Broken) → ended_by ended broken ≡ end.Met → broken ≡ None
+none_fails None None is = refl
+none_fails None (Some broken) is = absurd (cc)
+none_fails (Some place) broken is = absurd (cc)
+
+pub plays_well : (c : Configuration) (told : Told) (play : Playing) → TheoremHolds (own_site play.running.registry) (world_of play.running) → play.running.registry ≡ c → played_of play ≡ play_lines c told.seed told.lines
+    → length told.lines < 2 ^ 60 → PlaysWell c told
+unfolding play_of end_of
+plays_well c told play holds registry played few =
+    let whole : Played = play_lines c told.seed told.lines in
+    let W : World = whole.world in
+    let world : world_of play.running ≡ W = ap (λ (p : Played). p.world) played in
+    let own : TheoremHolds (own_site c) (world_of play.running) = subst (λ (d : Configuration). TheoremHolds (own_site d) (world_of play.running)) registry holds in
+    let theorem : TheoremHolds (own_site c) W = subst (TheoremHolds (own_site c)) world own in
+    let apart : HasDistinctWords W = distinct c told.seed told.lines few in
+    let answered : IsJoined W = joined c told.seed told.lines few in
+    record {
+      legal = theorem.legal;
+      signs = λ unforged unleaked. theorem.signs apart unleaked unforged answered;
+      binds = λ unforged unleaked hashes. theorem.binds apart unleaked unforged answered hashes;
+      met = λ is.
+          (let unbroken : IsUnbroken (own_site c) W = none_broken (own_site c) W (none_fails whole.ended (first_broken (own_site c) W) is) in
+          (theorem.signs apart unbroken.unleaked unbroken.unforged answered, theorem.binds apart unbroken.unleaked unbroken.unforged answered unbroken.hashes));
+    }

@@ -1,0 +1,104 @@
+// The replay of a trace.
+
+ghost use Rattle.std.specs.Prelude.{◌≡◌, ◌<◌, ◌^◌, ◌++◌, length, string_bytes, IfOk, OnOk};
+ghost use Rattle.running_world.specs.Running.{world_of};
+ghost use Rattle.trace_lines.specs.Order.{IsReadFor};
+ghost use Rattle.oidc_replay.specs.End as ends;
+ghost use Rattle.oidc_replay.specs.Play as plays;
+ghost use Rattle.oidc_replay.specs.Sending.{NamesRole};
+ghost use Rattle.oidc_replay.specs.Text as text;
+ghost use Rattle.oidc_replay.specs.Theorem.{PlaysWell};
+
+use crate::play::Play;
+use crate::text::{push_end, push_line};
+use client_registry::Registry;
+use sso_base::{Blob, NoMemory};
+use sso_places::Broken;
+use std::alloc::Global;
+use trace_lines::{Line, Trace};
+
+/// How a play ends. A place is counted from 1.
+#[derive(Clone, Copy, Debug, PartialEq, Eq)]
+pub enum ReplayEnd {
+    /// After the last line, and no premise of the sign-on theorem failed.
+    Met,
+    /// After the last line, and this premise failed first.
+    Broken(Broken),
+    /// Before this place: the history of the role that was to be asked had no room for the request.
+    Journal(u64),
+}
+
+/// What a replay gives.
+#[derive(Drop)]
+pub struct Replayed {
+    /// A line for each place and each `show`, and a last line for the end.
+    pub text: Blob,
+    /// How the play ended.
+    pub end: ReplayEnd,
+}
+
+// How the play of all lines ended.
+fn end_of(play: &Play) -> ReplayEnd
+    ensures { result ≡ ends.play_end play.now.running.registry (plays.played_of play.now) }
+{
+    if let Some(place) = play.ended() {
+        return ReplayEnd::Journal(place);
+    }
+    match play.premises() {
+        Ok(()) => ReplayEnd::Met,
+        Err(broken) => ReplayEnd::Broken(broken),
+    }
+}
+
+// One more line is played, and what it prints is added.
+fn replay_line(
+    alloc: Global,
+    play: &mut Play,
+    out: &mut String,
+    line: &Line,
+) -> Result<(), NoMemory>
+    requires few { length (world_of play.old.running) < 2 ^ 59 }
+    requires role { NamesRole play.old.running.registry line.now }
+    ensures registry { play.new.running.registry ≡ play.old.running.registry }
+    ensures seed { play.new.seed ≡ play.old.seed }
+    ensures play { OnOk result (plays.played_of play.new ≡ plays.play_on play.old.running.registry play.old.seed (plays.played_of play.old) line.now) }
+    ensures text { OnOk result (string_bytes out.new ≡ string_bytes out.old ++ text.line_told play.old.running.registry (plays.played_of play.new) line.now) }
+{
+    play.line(alloc, line)?;
+    push_line(alloc, out, play, line)
+}
+
+// What is told when all lines were played: the text so far with its last line, and how the play ended.
+fn finish(alloc: Global, play: &Play, mut out: String) -> Result<Replayed, NoMemory>
+    ensures text { IfOk result (λ r. r.text ≡ string_bytes out ++ text.end_line (ends.play_end play.now.running.registry (plays.played_of play.now))) }
+    ensures end { IfOk result (λ r. r.end ≡ ends.play_end play.now.running.registry (plays.played_of play.now)) }
+{
+    let end = end_of(play);
+    push_end(alloc, &mut out, &end)?;
+    Ok(Replayed {
+        text: Blob::from_vec(out.into_bytes()),
+        end,
+    })
+}
+
+/// Plays a trace over the provider and the relying parties of a registry, each party trusting that provider, and tells it line by
+/// line. The trace was read for this registry.
+///
+/// The text has a line for each place, one for each place that is shown, and a last one for the end. The reading of the world that
+/// is played is a run of the sign-on machine at every prefix, and its live rows are the sessions of the parties, wherever no token
+/// text is forged in it and no cookie leaks, also where half digests clash or a history had no more room.
+#[tactic(auto, unfolding(crate::specs::Play::play_of, crate::specs::End::end_of, crate::specs::Text::text_of))]
+pub fn replay(alloc: Global, registry: Registry, trace: &Trace) -> Result<Replayed, NoMemory>
+    requires { IsReadFor registry trace.now }
+    ensures text { IfOk result (λ r. r.text ≡ text.text_of registry trace.now) }
+    ensures end { IfOk result (λ r. r.end ≡ ends.end_of registry trace.now) }
+    ensures well { IfOk result (λ r. PlaysWell registry trace.now) }
+{
+    let mut play = Play::new(alloc, registry, trace.seed())?;
+    let mut out = String::new(alloc);
+    for line in trace.lines() {
+        replay_line(alloc, &mut play, &mut out, line)?;
+    }
+    play.theorem();
+    finish(alloc, &play, out)
+}

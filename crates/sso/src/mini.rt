@@ -1,5 +1,0 @@
-//! The small configuration.
-
-/// The one configuration that is taken, byte for byte.
-pub const MINI: &str =
-    "version = 1\n[provider]\nissuer = \"http://127.0.0.1:8080\"\nlisten = \"127.0.0.1:8080\"\nsalt = \"00112233445566778899aabbccddeeff\"\n[[user]]\nid = \"alice\"\nsalt = \"73616c74\"\nrounds = 1\nproof = \"120fb6cffcf8b32c43e7225256c4f837a86548c92ccc35480805987cb70be17b\"\n[user.claims]\nname = \"Alice Adams\"\nemail = \"alice@example.org\"\nemail_verified = true\n[[user]]\nid = \"bob\"\nsalt = \"73616c74\"\nrounds = 2\nproof = \"ae4d0c95af6b46d32d0adff928f06dd02a303f8ef3c251dfd6e2d85a95474c43\"\n[[client]]\nid = \"news-client\"\nsecret = \"news-secret-news-secret-news-secret\"\nredirect_uris = [\"http://127.0.0.1:8082/cb\"]\nresponse_types = [\"id_token token\"]\nconsent = \"given\"\nlogout_uri = \"http://127.0.0.1:8082/logout\"\n[[party]]\nname = \"news\"\nclient = \"news-client\"\nredirect_uri = \"http://127.0.0.1:8082/cb\"\nlisten = \"127.0.0.1:8082\"\nresponse_type = \"id_token token\"\n";

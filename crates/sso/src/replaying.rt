@@ -1,0 +1,104 @@
+//! What is answered to a configuration and a trace.
+
+ghost use Rattle.std.specs.Prelude.{◌≡◌, ◌++◌, Ok, IfOk, string_bytes};
+ghost use Rattle.std.specs.Fmt.{decimal};
+ghost use Rattle.trace_lines.specs.Trace.{trace_told};
+ghost use Rattle.trace_lines.specs.Order.{IsReadFor};
+ghost use Rattle.oidc_replay.specs.Theorem.{PlaysWell};
+ghost use Rattle.sso.specs.Answer as spec;
+ghost use Rattle.sso.specs.Answer.{trace_answer, answer_to, refused_text};
+ghost use Rattle.sso.specs.Outcomes.{PlaysOver, Plays};
+
+use crate::configuration::refuse_registry;
+use crate::outcome::Outcome;
+use client_registry::{RegNo, Registry, read_registry};
+use oidc_replay::{ReplayEnd, Trace, TraceNo, read_trace, replay};
+use sso_base::{Blob, NoMemory};
+use std::alloc::Global;
+
+// The status of a replay, by how its play ended.
+fn end_status(end: &ReplayEnd) -> u8
+    ensures { result ≡ spec.end_status end.now }
+{
+    match end {
+        ReplayEnd::Met => 0,
+        ReplayEnd::Broken(_) => 7,
+        ReplayEnd::Journal(_) => 8,
+    }
+}
+
+// The name of a refusal, with the number of its line.
+fn with_line(alloc: Global, name: &str, line: u64) -> Result<String, NoMemory>
+    ensures { IfOk result (λ text. string_bytes text ≡ name.now ++ decimal line) }
+{
+    Ok(format!(in alloc; "{name}{line}")?)
+}
+
+// The name of a refusal of a trace, and the number of its first bad line, as they are printed.
+#[tactic(auto, unfolding(crate::specs::Answer::trace_name))]
+fn name_of(alloc: Global, why: &TraceNo) -> Result<String, NoMemory>
+    ensures { IfOk result (λ text. string_bytes text ≡ spec.trace_name why.now) }
+{
+    match why {
+        TraceNo::NoMemory => Ok(String::new(alloc)),
+        TraceNo::Size => Ok(String::from_str(alloc, "Size")?),
+        TraceNo::Header => Ok(String::from_str(alloc, "Header")?),
+        TraceNo::LineTooLong(line) => with_line(alloc, "LineTooLong ", *line),
+        TraceNo::Word(line) => with_line(alloc, "Word ", *line),
+        TraceNo::Number(line) => with_line(alloc, "Number ", *line),
+        TraceNo::Backwards(line) => with_line(alloc, "Backwards ", *line),
+        TraceNo::NoSuchReply(line) => with_line(alloc, "NoSuchReply ", *line),
+        TraceNo::NoSuchParty(line) => with_line(alloc, "NoSuchParty ", *line),
+    }
+}
+
+// The answer to a trace that is refused.
+#[tactic(auto, unfolding(crate::specs::Answer::refused_text))]
+fn refuse_trace(alloc: Global, why: &TraceNo) -> Result<Outcome, NoMemory>
+    ensures { IfOk result (λ outcome. outcome ≡ record { status = 4; text = refused_text why.now }) }
+{
+    let name = name_of(alloc, why)?;
+    let text = format!(in alloc; "trace {name}\n")?;
+    Ok(Outcome {
+        status: 4,
+        text: Blob::new(alloc, text.as_bytes())?,
+    })
+}
+
+// The answer to a trace that was read for the registry.
+fn answer_play(alloc: Global, registry: Registry, trace: &Trace) -> Result<Outcome, NoMemory>
+    requires { IsReadFor registry trace.now }
+    ensures answer { IfOk result (λ outcome. outcome ≡ trace_answer registry (Ok trace.now)) }
+    ensures well { IfOk result (λ outcome. PlaysWell registry trace.now) }
+{
+    let played = replay(alloc, registry, trace)?;
+    Ok(Outcome {
+        status: end_status(&played.end),
+        text: played.text,
+    })
+}
+
+// The answer to a trace that is to be played over a registry.
+fn answer_trace(alloc: Global, registry: Registry, trace: &[u8]) -> Result<Outcome, NoMemory>
+    ensures answer { IfOk result (λ outcome. outcome ≡ trace_answer registry (trace_told registry trace.now)) }
+    ensures well { IfOk result (λ outcome. PlaysOver registry trace.now) }
+{
+    match read_trace(alloc, &registry, trace) {
+        Ok(trace) => answer_play(alloc, registry, &trace),
+        Err(TraceNo::NoMemory) => Err(NoMemory),
+        Err(why) => refuse_trace(alloc, &why),
+    }
+}
+
+/// The answer to a configuration and a trace.
+#[tactic(auto, unfolding(crate::specs::Answer::answer_to, crate::specs::Outcomes::Plays))]
+pub fn answer_replay(alloc: Global, config: &[u8], trace: &[u8]) -> Result<Outcome, NoMemory>
+    ensures answer { IfOk result (λ outcome. outcome ≡ answer_to config.now trace.now) }
+    ensures well { IfOk result (λ outcome. Plays config.now trace.now) }
+{
+    match read_registry(alloc, config) {
+        Ok(registry) => answer_trace(alloc, registry, trace),
+        Err(RegNo::NoMemory) => Err(NoMemory),
+        Err(why) => refuse_registry(alloc, &why),
+    }
+}
