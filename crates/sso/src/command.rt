@@ -86,7 +86,7 @@ fn replay_words<H: Shelf>(
     ensures later { H.faults shelf.old ≤ H.faults shelf.new }
 {
     match fetch_both(alloc, shelf, config, MOST_CONFIG, trace, MOST_TRACE) {
-        Ok((config, trace)) => answer_replay(alloc, config.as_bytes(), trace.as_bytes()),
+        Ok((config, trace)) => answer_replay(alloc, config, trace),
         Err(ShelfNo::NoMemory) => Err(NoMemory),
         Err(ShelfNo::Failed) => answer_shelf(alloc),
     }

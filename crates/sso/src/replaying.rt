@@ -78,12 +78,14 @@ fn answer_play(alloc: Global, registry: Registry, trace: &Trace) -> Result<Outco
     })
 }
 
-// The answer to a trace that is to be played over a registry.
-fn answer_trace(alloc: Global, registry: Registry, trace: &[u8]) -> Result<Outcome, NoMemory>
-    ensures answer { IfOk result (λ outcome. outcome ≡ trace_answer registry (trace_told registry trace.now)) }
-    ensures well { IfOk result (λ outcome. PlaysOver registry trace.now) }
+// The answer to a trace that is to be played over a registry. Its bytes are given up before it is played, which takes memory.
+fn answer_trace(alloc: Global, registry: Registry, trace: Blob) -> Result<Outcome, NoMemory>
+    ensures answer { IfOk result (λ outcome. outcome ≡ trace_answer registry (trace_told registry trace)) }
+    ensures well { IfOk result (λ outcome. PlaysOver registry trace) }
 {
-    match read_trace(alloc, &registry, trace) {
+    let told = read_trace(alloc, &registry, trace.as_bytes());
+    drop(trace);
+    match told {
         Ok(trace) => answer_play(alloc, registry, &trace),
         Err(TraceNo::NoMemory) => Err(NoMemory),
         Err(why) => refuse_trace(alloc, &why),
@@ -92,11 +94,11 @@ fn answer_trace(alloc: Global, registry: Registry, trace: &[u8]) -> Result<Outco
 
 /// The answer to a configuration and a trace.
 #[tactic(auto, unfolding(crate::specs::Answer::answer_to, crate::specs::Outcomes::Plays))]
-pub fn answer_replay(alloc: Global, config: &[u8], trace: &[u8]) -> Result<Outcome, NoMemory>
-    ensures answer { IfOk result (λ outcome. outcome ≡ answer_to config.now trace.now) }
-    ensures well { IfOk result (λ outcome. Plays config.now trace.now) }
+pub fn answer_replay(alloc: Global, config: Blob, trace: Blob) -> Result<Outcome, NoMemory>
+    ensures answer { IfOk result (λ outcome. outcome ≡ answer_to config trace) }
+    ensures well { IfOk result (λ outcome. Plays config trace) }
 {
-    match read_registry(alloc, config) {
+    match read_registry(alloc, config.as_bytes()) {
         Ok(registry) => answer_trace(alloc, registry, trace),
         Err(RegNo::NoMemory) => Err(NoMemory),
         Err(why) => refuse_registry(alloc, &why),
