@@ -3,7 +3,7 @@
 //!
 //! | Module | What it has | Its definitions, in `specs/` |
 //! |---|---|---|
-//! | `top` | [`sso`], over any shelf, sink and desks | `Ends`, `SignOn` |
+//! | `top` | [`sso`], over any shelf, sink and desks | `Ends`, `SignOn`, `Statuses` |
 //! | `command` | what the words ask for, with contents fetched for it | `Outcomes` |
 //! | `outcome` | the answers of no command | `Outcomes` |
 //! | `replaying` | the answers of `replay` | `Answer` |
