@@ -1,5 +1,5 @@
 -- The numbers of refusals: those of records are from 7 to 11, and those of subjects are 12.
-use Rattle.std.proofs.Common.{◌||◌, ℕ, List, [], ◌∷◌, length, nat_lt, codes, Option, Some, None, slice_get, arith}
+use Rattle.std.proofs.Common.{◌==◌, ◌||◌, ℕ, List, [], ◌∷◌, length, nat_lt, codes, Option, Some, None, slice_get, arith}
 use Rattle.std.specs.Str.{bytes_eq}
 use Rattle.configuration_rows.specs.declared.no.RegNo.{RegNo}
 use Rattle.configuration_rows.specs.declared.no.RegNo.TheVariants as no
@@ -41,8 +41,8 @@ of_party clients parties i p = of_two 7 11 _ _ (of_note 7 11 _ _ (omega arith) (
 of_secret : (i : ℕ) (k : Client) → OfRecords (rule.short_secret i k)
 of_secret i k = of_note 7 11 _ _ (omega arith) (omega arith)
 
-of_claims : (i : ℕ) (u : User) → OfRecords (rule.long_claims i u)
-of_claims i u = of_note 7 11 _ _ (omega arith) (omega arith)
+of_size : (i : ℕ) (u : User) → OfRecords (rule.user_size i u)
+of_size i u = of_two 7 11 _ _ (of_note 7 11 (i == 512) (no.TooMany (codes "user")) (omega arith) (omega arith)) (of_note 7 11 (nat_lt 2048 (length u.claims)) (no.TooMany (codes "claims")) (omega arith) (omega arith))
 
 of_hosts : (i : ℕ) (k : Client) → OfRecords (rule.mixed_hosts i k)
 of_hosts i k = of_note 7 11 _ _ (omega arith) (omega arith)
@@ -61,13 +61,11 @@ of_records issuer users clients parties =
     (of_two 7 11 _ _
     (of_two 7 11 _ _
     (of_two 7 11 _ _
-    (of_two 7 11 _ _
     (of_each 7 11 (rule.user_twice users) 0 users (of_user users))
     (of_each 7 11 (rule.client_twice issuer clients) 0 clients (of_client issuer clients)))
     (of_each 7 11 (rule.party_twice clients parties) 0 parties (of_party clients parties)))
     (of_each 7 11 rule.short_secret 0 clients of_secret))
-    (of_note 7 11 (nat_lt 512 (length users)) (no.TooMany (codes "user")) (omega arith) (omega arith)))
-    (of_each 7 11 rule.long_claims 0 users of_claims))
+    (of_each 7 11 rule.user_size 0 users of_size))
     (of_note 7 11 (nat_lt 128 (length clients)) (no.TooMany (codes "client")) (omega arith) (omega arith)))
     (of_note 7 11 (nat_lt 64 (length parties)) (no.TooMany (codes "party")) (omega arith) (omega arith)))
     (of_each 7 11 rule.mixed_hosts 0 clients of_hosts))

@@ -227,6 +227,23 @@ rows_apart salt users clients h =
 
 -- ---- all together
 
+-- where no row stands at the place m, there are at most m rows
+rows_before : {A : Type 0} (m n : ℕ) (xs : List A) → n ≤ m → AllFrom (λ i x. (i == m) ≡ false) n xs → n + length xs ≤ m
+rows_before m n [] le h = omega (arith, le)
+rows_before m n (x ∷ xs) le h =
+    let less : n < m = below n m le h.0 in
+    let rest : n + 1 + length xs ≤ m = rows_before m (n + 1) xs (omega (arith, less)) h.1 in
+    omega (arith, rest)
+
+at_most_512 : (users : List User) → each rule.user_size users ≡ [] → length users ≤ 512
+at_most_512 users h =
+    let most : 0 + length users ≤ 512 =
+    rows_before 512 0 users (omega arith)
+    (all_weaker (λ i u. rule.user_size i u ≡ []) (λ i u. (i == 512) ≡ false) 0 users
+    (λ i u le e. unmet (i == 512) (no.TooMany (codes "user")) (front_nil (note_if (i == 512) (no.TooMany (codes "user"))) (note_if (nat_lt 2048 (length u.claims)) (no.TooMany (codes "claims"))) e))
+    (each_nil rule.user_size 0 users h)) in
+    omega (arith, most)
+
 record Guiltless (issuer : List ℕ) (users : List User) (clients : List Client) (parties : List Party) : Type 0 where
   pub user_twice : each (rule.user_twice users) users ≡ []
   pub client_twice : each (rule.client_twice issuer clients) clients ≡ []
@@ -236,7 +253,7 @@ record Guiltless (issuer : List ℕ) (users : List User) (clients : List Client)
   pub few_parties : length parties ≤ 64
   pub unknown : each (rule.unknown_client (length clients)) parties ≡ []
   pub short_secrets : each rule.short_secret clients ≡ []
-  pub long_claims : each rule.long_claims users ≡ []
+  pub user_sizes : each rule.user_size users ≡ []
   pub mixed_hosts : each rule.mixed_hosts clients ≡ []
 
 guiltless : (issuer : List ℕ) (users : List User) (clients : List Client) (parties : List Party) → rule.records_refusals issuer users clients parties ≡ [] → Guiltless issuer users clients parties
@@ -246,12 +263,11 @@ guiltless issuer users clients parties h =
     let n2 : List RegNo = each (rule.client_twice issuer clients) clients in
     let n3 : List RegNo = each (rule.party_twice clients parties) parties in
     let n4 : List RegNo = each rule.short_secret clients in
-    let n5 : List RegNo = note_if (nat_lt 512 (length users)) (no.TooMany (codes "user")) in
-    let n6 : List RegNo = each rule.long_claims users in
-    let n7 : List RegNo = note_if (nat_lt 128 (length clients)) (no.TooMany (codes "client")) in
-    let n8 : List RegNo = note_if (nat_lt 64 (length parties)) (no.TooMany (codes "party")) in
-    let n9 : List RegNo = each rule.mixed_hosts clients in
-    let n10 : List RegNo = each (rule.unknown_client (length clients)) parties in
+    let n5 : List RegNo = each rule.user_size users in
+    let n6 : List RegNo = note_if (nat_lt 128 (length clients)) (no.TooMany (codes "client")) in
+    let n7 : List RegNo = note_if (nat_lt 64 (length parties)) (no.TooMany (codes "party")) in
+    let n8 : List RegNo = each rule.mixed_hosts clients in
+    let n9 : List RegNo = each (rule.unknown_client (length clients)) parties in
     let m2 : List RegNo = n1 ++ n2 in
     let m3 : List RegNo = m2 ++ n3 in
     let m4 : List RegNo = m3 ++ n4 in
@@ -259,9 +275,7 @@ guiltless issuer users clients parties h =
     let m6 : List RegNo = m5 ++ n6 in
     let m7 : List RegNo = m6 ++ n7 in
     let m8 : List RegNo = m7 ++ n8 in
-    let m9 : List RegNo = m8 ++ n9 in
-    let h9 : m9 ≡ [] = front_nil m9 n10 h in
-    let h8 : m8 ≡ [] = front_nil m8 n9 h9 in
+    let h8 : m8 ≡ [] = front_nil m8 n9 h in
     let h7 : m7 ≡ [] = front_nil m7 n8 h8 in
     let h6 : m6 ≡ [] = front_nil m6 n7 h7 in
     let h5 : m5 ≡ [] = front_nil m5 n6 h6 in
@@ -272,13 +286,13 @@ guiltless issuer users clients parties h =
       user_twice = front_nil n1 n2 h2;
       client_twice = back_nil n1 n2 h2;
       party_twice = back_nil m2 n3 h3;
-      few_users = ltb-false 512 (length users) (unmet _ _ (back_nil m4 n5 h5));
-      few_clients = ltb-false 128 (length clients) (unmet _ _ (back_nil m6 n7 h7));
-      few_parties = ltb-false 64 (length parties) (unmet _ _ (back_nil m7 n8 h8));
-      unknown = back_nil m9 n10 h;
+      few_users = at_most_512 users (back_nil m4 n5 h5);
+      few_clients = ltb-false 128 (length clients) (unmet _ _ (back_nil m5 n6 h6));
+      few_parties = ltb-false 64 (length parties) (unmet _ _ (back_nil m6 n7 h7));
+      unknown = back_nil m8 n9 h;
       short_secrets = back_nil m3 n4 h4;
-      long_claims = back_nil m5 n6 h6;
-      mixed_hosts = back_nil m8 n9 h9;
+      user_sizes = back_nil m4 n5 h5;
+      mixed_hosts = back_nil m7 n8 h8;
     }
 
 -- what is kept of the issuer is of its URL
@@ -299,7 +313,7 @@ registered root f r h s =
     let w : RowsKeep root = rows_keep_rules root r in
     let i : ProviderKept (provider_table root) = provider_kept (provider_table root) w.provider in
     let g : Guiltless (issuer_of root) (users_of root) (clients_of root) (parties_of root) = guiltless (issuer_of root) (users_of root) (clients_of root) (parties_of root) h in
-    let us : AllByRecursion IsUser (users_of root) = users_keep (rows_at (codes "user") root) w.users g.long_claims in
+    let us : AllByRecursion IsUser (users_of root) = users_keep (rows_at (codes "user") root) w.users g.user_sizes in
     let cs : AllFrom (ClientOnce (issuer_of root) (clients_of root)) 0 (clients_of root) = clients_once (issuer_of root) (clients_of root) g.client_twice in
     let known : AllByRecursion (λ (p : Party). p.client < length (clients_of root)) (parties_of root) = clients_known (clients_of root) (parties_of root) (parties_within (clients_of root) (rows_at (codes "party") root)) g.unknown in
     let ps : AllFrom (PartyOnce (parties_of root)) 0 (parties_of root) = parties_once (clients_of root) (parties_of root) g.party_twice known in

@@ -14,7 +14,7 @@ use Rattle.configuration_rows.specs.declared.row.Row.TheVariants as row
 use Rattle.configuration_rows.specs.declared.kind.Kind.TheVariants as kind
 use Rattle.configuration_rows.specs.declared.kind.TextRule.TheVariants as text
 use Rattle.configuration_rows.specs.declared.kind.Alphabet.TheVariants.{UserId, ClientId, PartyName, Visible}
-use Rattle.configuration_rows.specs.Refusals.{each}
+use Rattle.configuration_rows.specs.Refusals.{note_if, each}
 use Rattle.configuration_rows.specs.Paths.{path_text}
 use Rattle.configuration_rows.specs.Kinds.{is_within, is_name, are_urls}
 use Rattle.sso_base.specs.Texts.{has_text}
@@ -254,12 +254,17 @@ rows_keep f g P rows keep h =
 records_keep : {A : Type 0} (f : ℕ → A → List RegNo) (P : A → Type 0) (xs : List A) → ((i : ℕ) (x : A) → f i x ≡ [] → P x) → each f xs ≡ [] → AllByRecursion P xs
 records_keep f P xs keep h = all_rows P 0 xs (all_weaker (λ i x. f i x ≡ []) (λ i x. P x) 0 xs (λ i x le e. keep i x e) (each_nil f 0 xs h))
 
-pub users_keep : (rows : List Data) → each version.user_row rows ≡ [] → each rule.long_claims (map user_of rows) ≡ [] → AllByRecursion IsUser (map user_of rows)
+short_claims : (i : ℕ) (u : User) → rule.user_size i u ≡ [] → length u.claims ≤ 2048
+short_claims i u h =
+    let long : List RegNo = note_if (nat_lt 2048 (length u.claims)) (no.TooMany (codes "claims")) in
+    ltb-false 2048 (length u.claims) (unmet (nat_lt 2048 (length u.claims)) (no.TooMany (codes "claims")) (back_nil (note_if (i == 512) (no.TooMany (codes "user"))) long h))
+
+pub users_keep : (rows : List Data) → each version.user_row rows ≡ [] → each rule.user_size (map user_of rows) ≡ [] → AllByRecursion IsUser (map user_of rows)
 users_keep rows h c =
     joined UserRow (λ u. length u.claims ≤ 2048) IsUser (map user_of rows)
     (λ u r s. record { id = r.id; salt = r.salt; salt_bytes = r.salt_bytes; rounds = r.rounds; proof = r.proof; proof_bytes = r.proof_bytes; claims = s })
     (rows_keep version.user_row user_of UserRow rows user_row h)
-    (records_keep rule.long_claims (λ u. length u.claims ≤ 2048) (map user_of rows) (λ i u e. ltb-false 2048 (length u.claims) (unmet (nat_lt 2048 (length u.claims)) (no.TooMany (codes "claims")) e)) c)
+    (records_keep rule.user_size (λ u. length u.claims ≤ 2048) (map user_of rows) short_claims c)
 
 record ClientRules (k : Client) : Type 0 where
   pub long_secret : 32 ≤ length k.secret

@@ -26,7 +26,7 @@ use Rattle.registered_url.specs.declared.web_url.WebUrl.{WebUrl}
 use Rattle.registered_url.specs.Rule.{parts_of, url_of}
 use Rattle.configuration_rows.specs.declared.no.RegNo.{RegNo}
 use Rattle.configuration_rows.specs.declared.no.RegNo.TheVariants as no
-use Rattle.configuration_rows.specs.Refusals.{least, IsLeast, each}
+use Rattle.configuration_rows.specs.Refusals.{least, IsLeast, each_from, each}
 use Rattle.oidc_words.specs.Types.{spellings, types_of_number}
 use Rattle.configuration_rows.specs.Version1.{rows_refusals, lacks_type}
 use Rattle.configuration_rows.proofs.Order.{least_is}
@@ -35,7 +35,7 @@ use Rattle.client_registry.specs.declared.records.User.{User}
 use Rattle.client_registry.specs.declared.records.Client.{Client}
 use Rattle.client_registry.specs.declared.records.Party.{Party}
 use Rattle.client_registry.specs.Records.{without_slash, endpoint, provider_of, rounds_of, proof_of, user_of, types_of, client_of_row, client_place, client_number, party_of, users_of, clients_of, parties_of}
-use Rattle.client_registry.specs.Rules.{is_again, user_twice, client_twice, party_twice, short_secret, long_claims, mixed_hosts, unknown_client, has_two_hosts, sector_of, text_place, records_refusals, pairwise_subject, subject_of, clashes, subjects_refusals}
+use Rattle.client_registry.specs.Rules.{is_again, user_twice, client_twice, party_twice, short_secret, user_size, mixed_hosts, unknown_client, has_two_hosts, sector_of, text_place, records_refusals, pairwise_subject, subject_of, clashes, subjects_refusals}
 use Rattle.client_registry.specs.Registered.{AreApart, NumbersAreApart, HasNoneOf, AreDisjoint, IsUser, HoldsClaims, AllHoldClaims, IsClient, IsParty, IsLogoutOf, FitsClient, IsSubject, IsIssuerUrl, AreSubjectsBy, IsRegistry}
 use Rattle.client_registry.specs.ClaimKinds.{has_kind}
 use Rattle.client_registry.specs.Configuration.{Configuration, subject_at, configuration_of, provider_table, issuer_of, salt_of}
@@ -207,11 +207,18 @@ short-of_31 = refl
 short-not_of_32 : short_secret 0 shop ≡ []
 short-not_of_32 = refl
 
-long-claims : long_claims 0 (alice_of (replicate 2049 32)) ≡ no.TooMany (codes "claims") ∷ []
-long-claims = refl
+size-of_long_claims : user_size 0 (alice_of (replicate 2049 32)) ≡ no.TooMany (codes "claims") ∷ []
+size-of_long_claims = refl
 
-long-not_at_the_bound : long_claims 0 (alice_of (replicate 2048 32)) ≡ []
-long-not_at_the_bound = refl
+size-of_the_513th_user : user_size 512 alice ≡ no.TooMany (codes "user") ∷ []
+size-of_the_513th_user = refl
+
+size-not_at_the_bounds : user_size 511 (alice_of (replicate 2048 32)) ≡ []
+size-not_at_the_bounds = refl
+
+-- long claims of the first of two rows come before the second row's being one too many
+size-row_by_row : each_from user_size 511 (alice_of (replicate 2049 32) ∷ alice ∷ []) ≡ no.TooMany (codes "claims") ∷ no.TooMany (codes "user") ∷ []
+size-row_by_row = refl
 
 mixed-hosts_of_a_pairwise_client : mixed_hosts 0 (client true (codes "shop") long (at_host (codes "a") ∷ at_host (codes "b") ∷ [])) ≡ no.MixedHosts (codes "shop") ∷ []
 mixed-hosts_of_a_pairwise_client = refl

@@ -72,8 +72,9 @@ party_twice clients parties n p =
 abbrev pub short_secret : ℕ → Client → List RegNo
 short_secret n k = note_if (nat_lt (length k.secret) 32) (no.ShortSecret k.id)
 
-abbrev pub long_claims : ℕ → User → List RegNo
-long_claims n u = note_if (nat_lt 2048 (length u.claims)) (no.TooMany (codes "claims"))
+-- the 513th user is one too many; the claims of a user have at most 2,048 bytes
+abbrev pub user_size : ℕ → User → List RegNo
+user_size n u = note_if (n == 512) (no.TooMany (codes "user")) ++ note_if (nat_lt 2048 (length u.claims)) (no.TooMany (codes "claims"))
 
 -- the sector of a client: the host of its redirection URIs (OpenID Connect Core 1.0, 8.1)
 abbrev pub sector_of : List WebUrl → List ℕ
@@ -96,8 +97,7 @@ records_refusals issuer users clients parties =
     ++ each (client_twice issuer clients) clients
     ++ each (party_twice clients parties) parties
     ++ each short_secret clients
-    ++ note_if (nat_lt 512 (length users)) (no.TooMany (codes "user"))
-    ++ each long_claims users
+    ++ each user_size users
     ++ note_if (nat_lt 128 (length clients)) (no.TooMany (codes "client"))
     ++ note_if (nat_lt 64 (length parties)) (no.TooMany (codes "party"))
     ++ each mixed_hosts clients

@@ -151,11 +151,19 @@ fn short_secrets(refusals: &mut Refusals, clients: &[Client]) -> Result<(), NoMe
     Ok(())
 }
 
-fn long_claims(refusals: &mut Refusals, users: &[User]) -> Result<(), NoMemory>
-    ensures { OnOk result (refusals.new ≡ refusals.old ++ each spec.long_claims users.now) }
+// Notes that the user at this place is one too many, and that its claims are too long, where they are.
+fn user_size(refusals: &mut Refusals, place: usize, user: &User) -> Result<(), NoMemory>
+    ensures { OnOk result (refusals.new ≡ refusals.old ++ spec.user_size place user.now) }
 {
-    for user in users {
-        note_size(refusals, "claims", user.claims.as_bytes().len() > 2048)?;
+    note_size(refusals, "user", place == 512)?;
+    note_size(refusals, "claims", user.claims.as_bytes().len() > 2048)
+}
+
+fn user_sizes(refusals: &mut Refusals, users: &[User]) -> Result<(), NoMemory>
+    ensures { OnOk result (refusals.new ≡ refusals.old ++ each spec.user_size users.now) }
+{
+    for (place, user) in users.iter().enumerate() {
+        user_size(refusals, place, user)?;
     }
     Ok(())
 }
@@ -225,8 +233,7 @@ pub(crate) fn judge_records(
     clients_twice(refusals, issuer, clients)?;
     parties_twice(refusals, clients, parties)?;
     short_secrets(refusals, clients)?;
-    note_size(refusals, "user", users.len() > 512)?;
-    long_claims(refusals, users)?;
+    user_sizes(refusals, users)?;
     note_size(refusals, "client", clients.len() > 128)?;
     note_size(refusals, "party", parties.len() > 64)?;
     mixed_hosts(refusals, clients)?;

@@ -97,6 +97,14 @@ fn push_rows(alloc: Global, file: &mut String, row: &str, count: &str) -> Result
     Ok(())
 }
 
+/// `users|COUNT|TEXT`: a file with this text, and behind it so many users. ` / ` stands for a line feed.
+pub fn users(alloc: Global, count: &str, text: &str) -> Result<String, NoMemory> {
+    let first = written(alloc, text.replace(alloc, " / ", "\n")?.as_str())?;
+    let mut file = [ALONE, first.as_str(), "\n"].concat(alloc)?;
+    push_rows(alloc, &mut file, USER, count)?;
+    read(alloc, file.as_bytes())
+}
+
 /// `rows|USERS|CLIENTS|PARTIES`: a file with so many rows of each kind.
 pub fn rows(alloc: Global, users: &str, clients: &str, parties: &str) -> Result<String, NoMemory> {
     let mut file = String::from_str(alloc, ALONE)?;

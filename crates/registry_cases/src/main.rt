@@ -8,7 +8,7 @@
 //! |---|---|
 //! | `sample` | none; the configuration that the other cases ask, and texts with names |
 //! | `urls` | `url`, `same_server`, `query_names` and `urls` |
-//! | `configurations` | `registry`, `file` and `rows` read configurations |
+//! | `configurations` | `registry`, `file`, `users` and `rows` read configurations |
 //! | `registered` | `provider`, `find`, `row` and `subject` ask the sample's registry |
 //! | `discovery` | `document`, `discovery` and `less` |
 #![tactic(auto)]
@@ -39,6 +39,7 @@ impl Cases for RegistryCases {
             ["urls", one, other] => urls::urls(alloc, one, other),
             ["registry", old, new] => configurations::registry(alloc, old, new),
             ["file", text] => configurations::file(alloc, text),
+            ["users", count, text] => configurations::users(alloc, count, text),
             ["rows", users, clients, parties] => {
                 configurations::rows(alloc, users, clients, parties)
             }
