@@ -1,5 +1,4 @@
 pub mod Forms
-pub mod Texts
 pub mod Standing
 pub mod Refused
 pub mod Objects

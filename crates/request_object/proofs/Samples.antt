@@ -1,5 +1,5 @@
 -- The definitions computed on small cases: what each accepts, and what it refuses.
-use Rattle.std.proofs.Common.{◌≡◌, ◌≤◌, inr, ℕ, List, [], ◌∷◌, true, false, codes, Option, Some, None, Result, Ok, Err, nat_lt, refl, sym, ◌∙◌, true≢false, length, arith}
+use Rattle.std.proofs.Common.{◌≡◌, ◌≤◌, ◌^◌, inr, ℕ, List, [], ◌∷◌, true, false, codes, Option, Some, None, Result, Ok, Err, nat_lt, refl, sym, ◌∙◌, true≢false, length, arith}
 use Rattle.std.specs.Prelude.{negsuc}
 use Rattle.std.specs.Str.{is_utf8}
 use Rattle.std.specs.List.{list_all}
@@ -72,9 +72,15 @@ a_number_is_its_digits : text_or digits_in (number (unsigned 86400)) ≡ Some (c
 unfolding claims_on_literals
 a_number_is_its_digits = refl
 
-a_negative_number_is_its_digits : text_or digits_in (number (negative (negsuc 4))) ≡ Some (codes "-5")
+the_largest_age : text_or digits_in (number (unsigned 1099511627775)) ≡ Some (codes "1099511627775")
 unfolding claims_on_literals
-a_negative_number_is_its_digits = refl
+the_largest_age = refl
+
+an_age_is_below_2_to_the_40th : text_or digits_in (number (unsigned (2 ^ 40))) ≡ None
+an_age_is_below_2_to_the_40th = refl
+
+a_negative_number_is_no_age : text_or digits_in (number (negative (negsuc 4))) ≡ None
+a_negative_number_is_no_age = refl
 
 an_object_is_its_text : text_or object_text (object (member (codes "userinfo") (object no_members) no_members)) ≡ Some (codes "{\"userinfo\":{}}")
 unfolding claims_on_literals

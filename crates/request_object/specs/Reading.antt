@@ -1,12 +1,11 @@
 -- The parameters that a request object gives, or why it is refused (OpenID Connect Core 1.0, 6.1 and 6.3).
-use Rattle.std.specs.Prelude.{ℕ, List, Bool, true, false, not, ◌||◌, Option, Some, None, option_map, is_some, Result, Ok, Err, codes}
+use Rattle.std.specs.Prelude.{ℕ, List, Bool, true, false, not, ◌||◌, Option, Some, None, option_map, is_some, Result, Ok, Err, codes, decimal}
 use Rattle.std.specs.Str.{bytes_eq}
 use Rattle.serde_json.specs.Data.{Data, Members}
-use Rattle.serde_json.specs.Find.{get_member, as_str, as_number, as_object}
-use Rattle.serde_json.specs.Written.{number_text}
+use Rattle.serde_json.specs.Find.{get_member, as_str, as_object}
 use Rattle.sso_base.specs.Refusals.{and_then, forbid}
 use Rattle.sso_base.specs.Texts.{has_text}
-use Rattle.claim_set.specs.Kinds.{of_kind, text_claim, texts_claim}
+use Rattle.claim_set.specs.Kinds.{of_kind, small_number, text_claim, texts_claim}
 use Rattle.claim_set.specs.Reading.{claims_read, claims_text}
 use Rattle.claim_set.specs.declared.no.ClaimNo.{ClaimNo}
 use Rattle.claim_set.specs.declared.no.ClaimNo.TheVariants as claims
@@ -24,9 +23,9 @@ use Rattle.request_object.specs.declared.no.ObjNo.TheVariants.{NoMemory, Jws, Cl
 
 -- ---- the claims, each of its kind
 
--- the digits of a number, and the JSON text of an object
+-- a number of a claim set in decimal, and the JSON text of an object
 abbrev pub digits_in : Data → Option (List ℕ)
-digits_in d = option_map number_text (as_number d)
+digits_in d = option_map decimal (small_number d)
 
 abbrev pub object_text : Data → Option (List ℕ)
 object_text d = option_map claims_text (as_object d)

@@ -13,8 +13,8 @@ pub enum ObjNo {
     /// It is no sealed text under the client's secret, for this reason. It is never [`JwsNo::NoMemory`].
     Jws(JwsNo),
     /// Its payload is no claim set, or a claim is of another kind, the first in the order of their names: a parameter
-    /// or `iss` that is not a string, but for a `max_age` that is a number and a `claims` that is an object, or an `aud`
-    /// that is neither a string nor an array of strings. It is never [`ClaimNo::NoMemory`].
+    /// or `iss` that is not a string, but for a `max_age` that is a number from 0 to 2^40 - 1 and a `claims` that is an
+    /// object, or an `aud` that is neither a string nor an array of strings. It is never [`ClaimNo::NoMemory`].
     Claims(ClaimNo),
     /// `iss` is there and is not the client (6.1).
     Issuer,

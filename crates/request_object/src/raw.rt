@@ -1,13 +1,10 @@
 // The claims of a request object, as far as they are there, each of its kind.
 
-ghost use Rattle.std.specs.Prelude.{◌≡◌, ◌⊎◌, Ok, Err, IfOk, IfErr, false, option_and_then, codes};
+ghost use Rattle.std.specs.Prelude.{◌≡◌, ◌⊎◌, Ok, Err, IfOk, IfErr, option_and_then, decimal, codes};
 ghost use Rattle.serde_json.specs.Find.{get_member};
-ghost use Rattle.serde_json.specs.View.{view};
-ghost use Rattle.serde_json.specs.Written.{has_float};
-ghost use Rattle.request_object.specs.Reading.{digits_in, object_text, age_claim, claims_claim, first_in, last_in, raw_in};
+ghost use Rattle.request_object.specs.Reading.{object_text, age_claim, claims_claim, first_in, last_in, raw_in};
 
-use claim_set::{ClaimNo, ClaimSet, claims_text, write_claims};
-use serde_json::Value;
+use claim_set::{ClaimNo, ClaimSet, claims_text};
 use sso_base::{NoMemory, Text, Texts};
 use std::alloc::Global;
 
@@ -43,51 +40,28 @@ pub(crate) struct RawRequest {
     pub(crate) last: LastClaims,
 }
 
-// The digits of a number.
-#[tactic(auto, using(crate::proofs::Texts::digits_of, crate::proofs::Texts::no_digits_of))]
-fn digits(alloc: Global, value: &Value) -> Result<Option<Text>, NoMemory>
-    requires { has_float (view value.now) ≡ false }
-    ensures { IfOk result (λ o. o ≡ digits_in (view value.now)) }
+fn decimal_text(alloc: Global, number: u64) -> Result<Text, NoMemory>
+    ensures { IfOk result (λ t. t ≡ decimal number) }
 {
-    if value.is_number() {
-        Ok(Some(Text::from_string(value.to_string(alloc)?)))
-    } else {
-        Ok(None)
-    }
+    Ok(Text::from_string(number.to_string(alloc)?))
 }
 
-// The digits of the number that `max_age` is, where it is one. A claim set tells only numbers below 2^40, so the number
-// is looked up in the set's text.
-fn age_digits(alloc: Global, claims: &ClaimSet) -> Result<Option<Text>, NoMemory>
-    ensures { IfOk result (λ o. o ≡ option_and_then digits_in (get_member (codes "max_age") claims.now)) }
-{
-    let written = write_claims(claims)?;
-    // What was written is read, so that memory alone can be wanting.
-    let Ok(value) = Value::from_slice(alloc, written.as_bytes()) else {
-        return Err(NoMemory);
-    };
-    match value.get("max_age") {
-        Some(age) => digits(alloc, age),
-        None => Ok(None),
-    }
-}
-
-// `max_age`: a string, or a number in decimal.
+// `max_age`: a string, or a number of a claim set in decimal.
 fn age(alloc: Global, claims: &ClaimSet) -> Result<Option<Text>, ClaimNo>
     ensures ok { IfOk result (λ o. age_claim claims.now ≡ Ok o) }
     ensures err { IfErr result (λ e. (e ≡ ClaimNo.NoMemory) ⊎ (age_claim claims.now ≡ Err e)) }
 {
     match claims.text("max_age") {
-        Err(ClaimNo::WrongKind(name)) => match age_digits(alloc, claims)? {
-            Some(digits) => Ok(Some(digits)),
-            None => Err(ClaimNo::WrongKind(name)),
+        Err(ClaimNo::WrongKind(_)) => match claims.number("max_age")? {
+            Some(seconds) => Ok(Some(decimal_text(alloc, seconds)?)),
+            None => Ok(None),
         },
         answer => answer,
     }
 }
 
 // The JSON text of the object that `claims` is, where it is one.
-fn claims_object(alloc: Global, claims: &ClaimSet) -> Result<Option<Text>, NoMemory>
+fn claims_object(claims: &ClaimSet) -> Result<Option<Text>, NoMemory>
     ensures { IfOk result (λ o. o ≡ option_and_then object_text (get_member (codes "claims") claims.now)) }
 {
     match claims.member("claims") {
@@ -99,12 +73,12 @@ fn claims_object(alloc: Global, claims: &ClaimSet) -> Result<Option<Text>, NoMem
 }
 
 // `claims`: a string, or the JSON text of an object.
-fn asked_claims(alloc: Global, claims: &ClaimSet) -> Result<Option<Text>, ClaimNo>
+fn asked_claims(claims: &ClaimSet) -> Result<Option<Text>, ClaimNo>
     ensures ok { IfOk result (λ o. claims_claim claims.now ≡ Ok o) }
     ensures err { IfErr result (λ e. (e ≡ ClaimNo.NoMemory) ⊎ (claims_claim claims.now ≡ Err e)) }
 {
     match claims.text("claims") {
-        Err(ClaimNo::WrongKind(name)) => match claims_object(alloc, claims)? {
+        Err(ClaimNo::WrongKind(name)) => match claims_object(claims)? {
             Some(text) => Ok(Some(text)),
             None => Err(ClaimNo::WrongKind(name)),
         },
@@ -119,7 +93,7 @@ fn first_claims(alloc: Global, claims: &ClaimSet) -> Result<FirstClaims, ClaimNo
     ensures err { IfErr result (λ e. (e ≡ ClaimNo.NoMemory) ⊎ (first_in claims.now ≡ Err e)) }
 {
     let aud = claims.texts("aud")?;
-    let asked = asked_claims(alloc, claims)?;
+    let asked = asked_claims(claims)?;
     let client_id = claims.text("client_id")?;
     let iss = claims.text("iss")?;
     let max_age = age(alloc, claims)?;
