@@ -40,6 +40,7 @@ pub(crate) struct RawRequest {
     pub(crate) last: LastClaims,
 }
 
+// The number in decimal.
 fn decimal_text(alloc: Global, number: u64) -> Result<Text, NoMemory>
     ensures { IfOk result (λ t. t ≡ decimal number) }
 {

@@ -100,8 +100,8 @@ fn opened(alloc: Global, client: &Client, issuer: &Text, text: &[u8]) -> Result<
 /// Core 1.0, 6.1 and 6.3).
 ///
 /// A parameter is a string. `max_age` may also be a whole number from 0 to 2^40 - 1, which is read in decimal, and
-/// `claims` an object, which is read as its JSON text. An empty string is a value. `iss` and `aud` may be absent; `exp`, `iat`, `nbf`, `jti` and all
-/// other claims are ignored.
+/// `claims` an object, which is read as its JSON text. An empty string is a value. `iss` and `aud` may be absent; `exp`,
+/// `iat`, `nbf`, `jti` and all other claims are ignored.
 ///
 /// Exactly the request objects of this client for this issuer are read. Of any other text the first refusal that fits is
 /// answered, in the order of [`ObjNo`]. A refusal has no want of memory inside.

@@ -45,6 +45,13 @@ impl Word {
         self.bytes
     }
 
+    /// Its bytes, where they stand.
+    pub fn as_bytes(&self) -> &[u8]
+        ensures { result.now ≡ self.now }
+    {
+        &self.bytes
+    }
+
     /// Whether its bytes are these.
     pub fn is(&self, bytes: &[u8]) -> bool
         ensures { result ≡ bytes_eq self.now bytes.now }
