@@ -24,7 +24,7 @@ impl Change<CodeRow> for Spent {
         code.spent = true;
     }
 
-    ghost names_stay = { λ c code. refl };
+    ghost keys_stay = { λ c code by. refl };
 
     ghost moments_stay = { λ c code. refl };
 

@@ -1,11 +1,11 @@
 // The rows of the provider's tables.
 
-ghost use Rattle.std.specs.Prelude.{◌≡◌, ◌<◌};
-ghost use Rattle.std.specs.Str.{bytes_eq};
+ghost use Rattle.std.specs.Prelude.{◌≡◌, ◌<◌, Some, None, option_map, refl};
+ghost use Rattle.held_rows.specs.Held.{one_of};
 
 use auth_request::Wish;
 use client_registry::ClientSet;
-use held_rows::Row;
+use held_rows::{By, Row};
 use oidc_words::{ACCESS_LIFE, CODE_LIFE, SESSION_LIFE, Scopes, TURN_LIFE};
 use sso_base::{Moment, Texts, Word};
 
@@ -77,6 +77,8 @@ impl Row for TurnRow {
 
     ghost name = { λ row. row.word };
 
+    ghost key = { λ by row. one_of (Some row.word) (Some row.browser) None by };
+
     ghost begun = { λ row. row.begun };
 
     ghost IsSound = { λ row. row.wish.client < 128 };
@@ -85,19 +87,27 @@ impl Row for TurnRow {
 
     const LIFE: u32 = TURN_LIFE;
 
-    fn is_named(&self, given: &[u8]) -> bool {
-        self.word.is(given)
+    fn key(&self, by: By) -> Option<&[u8]> {
+        match by {
+            By::Name => Some(self.word.as_bytes()),
+            By::First => Some(self.browser.as_bytes()),
+            By::Second => None,
+        }
     }
 
     fn begun(&self) -> Moment {
         self.begun
     }
+
+    ghost named = { λ row. refl };
 }
 
 impl Row for SessionRow {
     ghost use Rattle.oidc_words.specs.Lives.{session_life};
 
     ghost name = { λ row. row.word };
+
+    ghost key = { λ by row. one_of (Some row.word) None None by };
 
     ghost begun = { λ row. row.auth_time };
 
@@ -107,19 +117,26 @@ impl Row for SessionRow {
 
     const LIFE: u32 = SESSION_LIFE;
 
-    fn is_named(&self, given: &[u8]) -> bool {
-        self.word.is(given)
+    fn key(&self, by: By) -> Option<&[u8]> {
+        match by {
+            By::Name => Some(self.word.as_bytes()),
+            By::First | By::Second => None,
+        }
     }
 
     fn begun(&self) -> Moment {
         self.auth_time
     }
+
+    ghost named = { λ row. refl };
 }
 
 impl Row for CodeRow {
     ghost use Rattle.oidc_words.specs.Lives.{code_life};
 
     ghost name = { λ row. row.word };
+
+    ghost key = { λ by row. one_of (Some row.word) None None by };
 
     ghost begun = { λ row. row.issued };
 
@@ -129,19 +146,26 @@ impl Row for CodeRow {
 
     const LIFE: u32 = CODE_LIFE;
 
-    fn is_named(&self, given: &[u8]) -> bool {
-        self.word.is(given)
+    fn key(&self, by: By) -> Option<&[u8]> {
+        match by {
+            By::Name => Some(self.word.as_bytes()),
+            By::First | By::Second => None,
+        }
     }
 
     fn begun(&self) -> Moment {
         self.issued
     }
+
+    ghost named = { λ row. refl };
 }
 
 impl Row for TokenRow {
     ghost use Rattle.oidc_words.specs.Lives.{access_life};
 
     ghost name = { λ row. row.word };
+
+    ghost key = { λ by row. one_of (Some row.word) row.code None by };
 
     ghost begun = { λ row. row.issued };
 
@@ -151,11 +175,27 @@ impl Row for TokenRow {
 
     const LIFE: u32 = ACCESS_LIFE;
 
-    fn is_named(&self, given: &[u8]) -> bool {
-        self.word.is(given)
+    fn key(&self, by: By) -> Option<&[u8]> {
+        match by {
+            By::Name => Some(self.word.as_bytes()),
+            By::First => word_bytes_if(&self.code),
+            By::Second => None,
+        }
     }
 
     fn begun(&self) -> Moment {
         self.issued
+    }
+
+    ghost named = { λ row. refl };
+}
+
+// The bytes of a word, where there is one.
+fn word_bytes_if(word: &Option<Word>) -> Option<&[u8]>
+    ensures { option_map (λ b. b.now) result ≡ word.now }
+{
+    match word {
+        Some(word) => Some(word.as_bytes()),
+        None => None,
     }
 }

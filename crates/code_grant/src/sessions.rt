@@ -36,7 +36,7 @@ impl Change<SessionRow> for WithClient {
         session.clients.add(self.client);
     }
 
-    ghost names_stay = { λ c session. refl };
+    ghost keys_stay = { λ c session by. refl };
 
     ghost moments_stay = { λ c session. refl };
 

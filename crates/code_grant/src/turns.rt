@@ -1,19 +1,22 @@
 // The turns of the provider.
 
-ghost use Rattle.std.specs.Prelude.{◌≡◌, ◌<◌, true, length, None, IfSome, refl};
+ghost use Rattle.std.specs.Prelude.{◌≡◌, ◌<◌, true, length, Some, None, IfSome, refl};
 ghost use Rattle.std.specs.List.{list_any};
 ghost use Rattle.std.specs.Option.{option_copied};
 ghost use Rattle.std.specs.Str.{bytes_eq};
+ghost use Rattle.std.proofs.Common.{ap};
 ghost use Rattle.sso_base.specs.Rows.{row_of, live_rows};
+ghost use Rattle.sso_base.proofs.RowLaws.{bytes_same};
 ghost use Rattle.code_grant.specs.declared.rows.TurnRow.{TurnRow};
 ghost use Rattle.held_rows.specs.Held.{none_after, most_rows};
+ghost use Rattle.held_rows.specs.declared.row.By.TheVariants.{First};
 ghost use Rattle.code_grant.specs.Rows.{turn_name, turn_begun};
 ghost use Rattle.oidc_words.specs.Lives.{turn_life};
 ghost use Rattle.code_grant.specs.Tables as spec;
 
 use crate::grants::Grants;
 use crate::rows::TurnRow;
-use held_rows::{Change, Test};
+use held_rows::{By, Change, Test};
 use sso_base::{Moment, Word};
 
 // The turns of one browser.
@@ -25,9 +28,23 @@ struct OfBrowser {
 impl Test<TurnRow> for OfBrowser {
     ghost passes = { λ t turn. bytes_eq turn.browser t.browser };
 
+    ghost by = { λ t. First };
+
+    ghost key = { λ t. t.browser };
+
     fn passes(&self, turn: &TurnRow) -> bool {
         turn.browser == self.browser
     }
+
+    fn by(&self) -> By {
+        By::First
+    }
+
+    fn key(&self) -> &[u8] {
+        self.browser.as_bytes()
+    }
+
+    ghost are_found = { λ t turn passes. ap Some (bytes_same turn.browser t.browser passes) };
 }
 
 // A turn gets this session.
@@ -45,7 +62,7 @@ impl Change<TurnRow> for WithSession {
         turn.in_turn = self.in_turn;
     }
 
-    ghost names_stay = { λ c turn. refl };
+    ghost keys_stay = { λ c turn by. refl };
 
     ghost moments_stay = { λ c turn. refl };
 

@@ -8,7 +8,6 @@ use Rattle.sso_base.specs.Rows.{without, row_of}
 use Rattle.sso_base.specs.Stands.{IsDistinct}
 use Rattle.sso_base.proofs.RowLaws.{bool_cases, bytes_same, bytes_true, row_has_name, row_of-without_same, row_of-without_other, distinct_push}
 use Rattle.sso_base.proofs.Removing.{filter-without}
-use Rattle.held_rows.proofs.Kept.{all_filtered}
 use Rattle.held_rows.specs.Held.{IsHeld, IsInOrder, none_after, most_rows}
 
 -- ---- rows left out
@@ -156,19 +155,6 @@ shorter {R} name w (r ∷ rs) row e =
 
 -- ---- the row of a name moved to the end
 
-pub held_moved : {R : Type 0} (name : R → Word) (begun : R → ℕ) (IsSound : R → Type 0) (w : Word) (row moved : R) (rows : List R)
-    → IsHeld name begun IsSound rows → row_of name w rows ≡ Some row → none_after begun (begun moved) rows ≡ true → name moved ≡ name row → IsSound moved
-    → IsHeld name begun IsSound (without name (name moved) rows ++ moved ∷ [])
-held_moved {R} name begun IsSound w row moved rows h found latest named here =
-    let L : Word → Type 0 = λ v. length (without name v rows) < length rows in
-    let fewer : length (without name (name moved) rows) < length rows = subst L (sym named) (shorter name w rows row found) in
-    let few : length rows ≤ 65536 = h.few in
-    let N : List R → Type 0 = λ xs. none_after begun (begun moved) xs ≡ true in
-    let p : R → Bool = λ x. not (bytes_eq (name x) (name moved)) in
-    held_push name begun IsSound moved (without name (name moved) rows) (held_without name begun IsSound (name moved) rows h)
-    (omega arith) (row_of-without_same name (name moved) rows)
-    (subst N (filter-without name (name moved) rows) (all_filtered (λ (r : R). nat_le (begun r) (begun moved)) p rows latest)) here
-
 -- where a row of the name stands, it may be replaced by one at the end
 row_there : {R : Type 0} (o : Option R) → IsSome o → (row : R) × (o ≡ Some row)
 row_there None there = cc
@@ -179,10 +165,3 @@ shorter_there {R} name w rows there =
     let found = row_there (row_of name w rows) there in
     let L : Word → Type 0 = λ v. length (without name v rows) < length rows in
     subst L (row_has_name name w rows found.0 found.1) (shorter name w rows found.0 found.1)
-
-pub held_put : {R : Type 0} (name : R → Word) (begun : R → ℕ) (IsSound : R → Type 0) (w : Word) (row : R) (rows : List R)
-    → IsHeld name begun IsSound rows → IsSome (row_of name w rows) → name row ≡ w → none_after begun (begun row) rows ≡ true → IsSound row
-    → IsHeld name begun IsSound (without name (name row) rows ++ row ∷ [])
-held_put name begun IsSound w row rows h there named latest sound =
-    let found = row_there (row_of name w rows) there in
-    held_moved name begun IsSound w found.0 row rows h found.1 latest (named ∙ sym (row_has_name name w rows found.0 found.1)) sound

@@ -6,3 +6,18 @@ pub mod Found
 pub mod Kept
 pub mod Added
 mod Samples
+pub mod Ascents
+pub mod Counts
+pub mod Ends
+pub mod Finding
+pub mod FreeSlots
+pub mod Hits
+pub mod Indexing
+pub mod Middles
+pub mod Parts
+pub mod Ranks
+pub mod Serials
+pub mod StoredAdd
+pub mod StoredChange
+pub mod StoredRemove
+pub mod FoundBy

@@ -1,33 +1,15 @@
 -- Room in a table: fewer rows live than it may hold, unless it is full of rows that live.
-use Rattle.std.proofs.Common.{◌≡◌, ◌<◌, ◌≤◌, ℕ, suc, Bool, true, false, not, cond, ◌&&◌, List, [], ◌∷◌, filter, length, inl, inr, refl, sym, ◌∙◌, ap, subst, arith}
-use Rattle.std.specs.List.{list_all}
+use Rattle.std.proofs.Common.{◌≡◌, ◌<◌, ◌≤◌, ℕ, Bool, true, false, List, ◌∷◌, ◌++◌, length, Option, None, Some, IsSome, IfSome, IfNone, is_some, inl, inr, refl, sym, ◌∙◌, ap, subst, arith}
+use Rattle.std.specs.List.{filter_map}
 use Rattle.std.proofs.lemmas.Bool.{lt-ltb, le-ltb}
 use Rattle.sso_base.specs.Rows.{lives, live_rows}
-use Rattle.sso_base.proofs.RowLaws.{bool_cases}
+use Rattle.sso_base.proofs.RowLaws.{option_cases}
 use Rattle.held_rows.specs.Held.{most_rows, has_room_for_one, IsFull}
+use Rattle.held_rows.specs.Counts.{Lists}
+use Rattle.held_rows.proofs.Counts.{length-middle}
+use Rattle.held_rows.proofs.Ends.{filter_middle}
+use Rattle.held_rows.proofs.Finding.{rows_around}
 use Rattle.held_rows.proofs.HeldLaws.{filter_short}
-
--- a filter that leaves out nothing, and one that leaves out something
-filter_all : {R : Type 0} (p : R → Bool) (rows : List R) → list_all p rows ≡ true → filter p rows ≡ rows
-filter_all p [] h = refl
-filter_all {R} p (r ∷ rs) h =
-    let A : Bool → Bool = λ b. b && list_all p rs in
-    let F : Bool → List R = λ b. cond b (r ∷ filter p rs) (filter p rs) in
-    let push : List R → List R = λ xs. r ∷ xs in
-    elim (bool_cases (p r)) [
-      | inl e ↦ ap F e ∙ ap push (filter_all p rs (sym (ap A e) ∙ h))
-      | inr e ↦ (let k : A false ≡ true = sym (ap A e) ∙ h in cc)
-    ]
-
-filter_some : {R : Type 0} (p : R → Bool) (rows : List R) → list_all p rows ≡ false → length (filter p rows) < length rows
-filter_some p [] h = cc
-filter_some {R} p (r ∷ rs) h =
-    let A : Bool → Bool = λ b. b && list_all p rs in
-    let L : Bool → Type 0 = λ b. length (cond b (r ∷ filter p rs) (filter p rs)) < suc (length rs) in
-    elim (bool_cases (p r)) [
-      | inl e ↦ (let low : length (filter p rs) < length rs = filter_some p rs (sym (ap A e) ∙ h) in subst L (sym e) (omega arith))
-      | inr e ↦ (let low : length (filter p rs) ≤ length rs = filter_short p rs in subst L (sym e) (omega arith))
-    ]
 
 abbrev lives_at : {R : Type 0} → ℕ → (R → ℕ) → ℕ → R → Bool
 lives_at life begun at row = lives life (begun row) at
@@ -39,39 +21,59 @@ room_of_few life begun at rows few =
     let less : length rows < 65536 = few in
     lt-ltb (length (live_rows life begun at rows)) 65536 (omega arith)
 
--- a table in which a row's life has ended has room
-pub room_of_ended : {R : Type 0} (life : ℕ) (begun : R → ℕ) (at : ℕ) (rows : List R) → length rows ≤ most_rows → list_all (λ (row : R). lives life (begun row) at) rows ≡ false
-    → has_room_for_one life begun at rows ≡ true
-room_of_ended life begun at rows few ended =
-    let low : length (live_rows life begun at rows) < length rows = filter_some (lives_at life begun at) rows ended in
-    let less : length rows ≤ 65536 = few in
-    lt-ltb (length (live_rows life begun at rows)) 65536 (omega arith)
-
--- a table with as many rows as it may hold, all of which live, has none
-pub full_of_live : {R : Type 0} (life : ℕ) (begun : R → ℕ) (at : ℕ) (rows : List R) → length rows ≤ most_rows → most_rows ≤ length rows → list_all (λ (row : R). lives life (begun row) at) rows ≡ true
-    → IsFull life begun at rows
-full_of_live life begun at rows few many all =
-    let less : length rows ≤ 65536 = few in
-    let more : 65536 ≤ length rows = many in
-    record { most = omega arith; live = filter_all (lives_at life begun at) rows all }
-
 pub no_room : {R : Type 0} (life : ℕ) (begun : R → ℕ) (at : ℕ) (rows : List R) → IsFull life begun at rows → has_room_for_one life begun at rows ≡ false
 no_room {R} life begun at rows full =
     let long : List R → ℕ = λ xs. length xs in
     let most : length (live_rows life begun at rows) ≡ 65536 = ap long full.live ∙ full.most in
     le-ltb (length (live_rows life begun at rows)) 65536 (omega arith)
 
--- ---- the test that is made of a table: whether as many rows are held as it may hold, and all of them live
+-- ---- by a row whose life has ended, or none
 
-abbrev pub all_live : {R : Type 0} → ℕ → (R → ℕ) → ℕ → List R → Bool
-all_live life begun at rows = list_all (λ row. lives life (begun row) at) rows
+-- a table with a row whose life has ended has room
+room_of_dead : {R : Type 0} (life : ℕ) (begun : R → ℕ) (at : ℕ) (before : List R) (row : R) (behind : List R) → lives life (begun row) at ≡ false → length (before ++ row ∷ behind) ≤ most_rows
+    → has_room_for_one life begun at (before ++ row ∷ behind) ≡ true
+room_of_dead life begun at before row behind dead few =
+    let less : length (before ++ row ∷ behind) ≤ 65536 = few in
+    let p = lives_at life begun at in
+    let kept = ap length (filter_middle p before row behind dead) in
+    let short = filter_short p (before ++ behind) in
+    let long = length-middle before row behind in
+    lt-ltb (length (live_rows life begun at (before ++ row ∷ behind))) 65536 (omega (arith, less, kept, short, long))
 
-pub room_by_test : {R : Type 0} (life : ℕ) (begun : R → ℕ) (at : ℕ) (rows : List R) (all : Bool) → length rows ≤ most_rows → most_rows ≤ length rows
-    → all ≡ all_live life begun at rows → not all ≡ has_room_for_one life begun at rows
-room_by_test life begun at rows true few many e = sym (no_room life begun at rows (full_of_live life begun at rows few many (sym e)))
-room_by_test life begun at rows false few many e = sym (room_of_ended life begun at rows few (sym e))
+pub room_of_ended : {R : Type 0} (life : ℕ) (begun : R → ℕ) (at : ℕ) (f : ℕ → Option R) (by_issue : List ℕ) (slot : ℕ) → Lists f by_issue → length (filter_map f by_issue) ≤ most_rows → IsSome (f slot) → IfSome (f slot) (λ row. lives life (begun row) at ≡ false)
+    → has_room_for_one life begun at (filter_map f by_issue) ≡ true
+room_of_ended {R} life begun at f by_issue slot lists few some dead =
+    let I : Option R → Type 0 = λ o. IfSome o (λ row. lives life (begun row) at ≡ false) in
+    elim (option_cases (f slot)) [
+      | inl none ↦ (let clash : false ≡ true = sym (ap is_some none) ∙ some in cc)
+      | inr row ↦
+          (let around = rows_around f by_issue lists slot row.0 row.1 in
+          let H : List R → Type 0 = λ rows. has_room_for_one life begun at rows ≡ true in
+          let F : List R → Type 0 = λ rows. length rows ≤ most_rows in
+          subst H (sym around.rows) (room_of_dead life begun at (filter_map f around.before) row.0 (filter_map f around.behind) (subst I row.1 dead) (subst F around.rows few)))
+    ]
 
-pub full_by_test : {R : Type 0} (life : ℕ) (begun : R → ℕ) (at : ℕ) (rows : List R) (all : Bool) → length rows ≤ most_rows → most_rows ≤ length rows
-    → all ≡ all_live life begun at rows → not all ≡ false → IsFull life begun at rows
-full_by_test life begun at rows true few many e h = full_of_live life begun at rows few many (sym e)
-full_by_test life begun at rows false few many e h = (let k : true ≡ false = h in cc)
+-- what an answer says of the room
+pub record Judged {R : Type 0} (life : ℕ) (begun : R → ℕ) (at : ℕ) (rows : List R) (answer : Bool) : Type 0 where
+  pub room : answer ≡ has_room_for_one life begun at rows
+  pub full : answer ≡ false → IsFull life begun at rows
+  pub most : IsFull life begun at rows → answer ≡ false
+
+-- fewer rows than the most
+pub judged_few : {R : Type 0} (life : ℕ) (begun : R → ℕ) (at : ℕ) (rows : List R) → length rows < most_rows → Judged life begun at rows true
+judged_few life begun at rows few =
+    let room : true ≡ has_room_for_one life begun at rows = sym (room_of_few life begun at rows few) in
+    record { room = room; full = λ h. (let clash : true ≡ false = h in cc); most = λ full. room ∙ no_room life begun at rows full }
+
+-- the most, of which one's life has ended, or none's
+pub judged_by_ended : {R : Type 0} (life : ℕ) (begun : R → ℕ) (at : ℕ) (f : ℕ → Option R) (by_issue : List ℕ) (ended : Option ℕ) → Lists f by_issue → length (filter_map f by_issue) ≤ most_rows → most_rows ≤ length (filter_map f by_issue)
+    → IfSome ended (λ slot. IsSome (f slot) × IfSome (f slot) (λ row. lives life (begun row) at ≡ false)) → IfNone ended (live_rows life begun at (filter_map f by_issue) ≡ filter_map f by_issue)
+    → Judged life begun at (filter_map f by_issue) (is_some ended)
+judged_by_ended life begun at f by_issue None lists few many some none =
+    let less : length (filter_map f by_issue) ≤ 65536 = few in
+    let more : 65536 ≤ length (filter_map f by_issue) = many in
+    let full : IsFull life begun at (filter_map f by_issue) = record { most = omega arith; live = none } in
+    record { room = sym (no_room life begun at (filter_map f by_issue) full); full = λ h. full; most = λ h. refl }
+judged_by_ended life begun at f by_issue (Some slot) lists few many some none =
+    let room : true ≡ has_room_for_one life begun at (filter_map f by_issue) = sym (room_of_ended life begun at f by_issue slot lists few some.0 some.1) in
+    record { room = room; full = λ h. (let clash : true ≡ false = h in cc); most = λ full. room ∙ no_room life begun at (filter_map f by_issue) full }

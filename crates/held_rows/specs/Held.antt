@@ -1,11 +1,19 @@
 -- The held rows of one table: what they keep, how they change, and when there is room for one more. A word or a text names a
 -- row.
-use Rattle.std.specs.Prelude.{◌≡◌, ◌<◌, ◌≤◌, ℕ, Bool, true, not, ◌||◌, nat_le, nat_lt, List, [], ◌∷◌, map, length, None, option_map, is_some, if◌then◌else◌}
+use Rattle.std.specs.Prelude.{◌≡◌, ◌<◌, ◌≤◌, ℕ, Bool, true, not, ◌||◌, nat_le, nat_lt, List, [], ◌∷◌, map, length, Option, None, option_map, is_some, if◌then◌else◌}
 use Rattle.std.specs.Str.{bytes_eq}
 use Rattle.std.specs.List.{list_all, AllByRecursion}
 use Rattle.sso_base.specs.Words.{Word}
 use Rattle.sso_base.specs.Rows.{put, row_of, live_rows}
 use Rattle.sso_base.specs.Stands.{IsDistinct}
+use Rattle.held_rows.specs.declared.row.By.{By}
+use Rattle.held_rows.specs.declared.row.By.TheVariants.{Name, First, Second}
+
+-- what a row is found by: its name, and two other things, where it has them
+abbrev pub one_of : Option (List ℕ) → Option (List ℕ) → Option (List ℕ) → By → Option (List ℕ)
+one_of name first second Name = name
+one_of name first second First = first
+one_of name first second Second = second
 
 -- how many rows a table holds at most
 abbrev pub most_rows : ℕ

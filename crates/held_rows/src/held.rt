@@ -1,108 +1,35 @@
 // The held rows of one table.
 
 ghost use Rattle.std.specs.Prelude.{◌≡◌, ℕ, ◌<◌, ◌≤◌, true, false, not, List, [], ◌∷◌, ◌++◌, length, filter, None, Some, Option, IsSome, IfSome, OnOk};
-ghost use Rattle.std.specs.List.{list_all, list_any, position_from};
+ghost use Rattle.std.specs.List.{list_any};
 ghost use Rattle.std.specs.Option.{option_copied};
-ghost use Rattle.std.specs.Str.{bytes_eq};
-ghost use Rattle.sso_base.specs.Rows.{without, put, row_of, lives, live_rows};
+ghost use Rattle.sso_base.specs.Rows.{without, put, row_of, live_rows};
 ghost use Rattle.held_rows.specs.Held as spec;
 
 use crate::row::{Change, Row, Test};
-use sso_base::{Moment, NoMemory, is_live};
+use crate::stored::{Stored, row_in};
+use sso_base::{Moment, NoMemory};
 use std::alloc::Global;
 use std::marker::Model;
 
 // How many rows a table holds at most.
 const MOST_ROWS: usize = 65_536;
 
-// The row of a name; None exactly where no row has it.
-fn find_named<'a, R: Row>(rows: &'a [R], name: &[u8]) -> Option<&'a R>
-    ensures { option_copied result ≡ row_of R.name name.now rows.now }
-{
-    for row in rows {
-        if row.is_named(name) {
-            return Some(row);
-        }
-    }
-    None
-}
-
-// The place of the row of a name, from 0.
-fn place_of<R: Row>(rows: &[R], name: &[u8]) -> Option<usize>
-    ensures { result ≡ position_from (λ row. bytes_eq (R.name row) name.now) 0 rows.now }
-{
-    for (place, row) in rows.iter().enumerate() {
-        if row.is_named(name) {
-            return Some(place);
-        }
-    }
-    None
-}
-
-// Whether all the rows live at the moment.
-fn all_live<R: Row>(rows: &[R], at: Moment) -> bool
-    ensures { result ≡ list_all (λ row. lives R.LIFE (R.begun row) at) rows.now }
-{
-    for row in rows {
-        if !is_live(R::LIFE, row.begun(), at) {
-            return false;
-        }
-    }
-    true
-}
-
-// Whether a row that lives at the moment passes the test.
-fn any_live<R: Row, T: Test<R>>(rows: &[R], test: &T, at: Moment) -> bool
-    ensures { result ≡ list_any (T.passes test.now) (live_rows R.LIFE R.begun at rows.now) }
-{
-    for row in rows {
-        if is_live(R::LIFE, row.begun(), at) && test.passes(row) {
-            return true;
-        }
-    }
-    false
-}
-
-// How many rows live at the moment and pass the test.
-fn count_live<R: Row, T: Test<R>>(rows: &[R], test: &T, at: Moment) -> u32
-    requires { length rows.now ≤ spec.most_rows }
-    ensures { result ≡ length (filter (T.passes test.now) (live_rows R.LIFE R.begun at rows.now)) }
-{
-    let mut count = 0;
-    for row in rows {
-        if test.passes(row) && is_live(R::LIFE, row.begun(), at) {
-            count += 1;
-        }
-    }
-    count
-}
-
-// Whether fewer of a table's rows live at the moment than it may hold.
-fn has_room<R: Row>(rows: &[R], at: Moment) -> bool
-    requires { length rows.now ≤ spec.most_rows }
-    ensures room { result ≡ spec.has_room_for_one R.LIFE R.begun at rows.now }
-    ensures full { result ≡ false → spec.IsFull R.LIFE R.begun at rows.now }
-    ensures most { spec.IsFull R.LIFE R.begun at rows.now → result ≡ false }
-{
-    rows.len() < MOST_ROWS || !all_live(rows, at)
-}
-
 /// The held rows of a table: at most 65,536, no two of one name, in the order of the moments from which they live.
 #[derive(Drop)]
 pub struct Held<R: Row> {
-    rows: Vec<R>,
+    stored: Stored<R>,
 }
 
 impl<R: Row> Model for Held<R> {
-    ghost use Rattle.std.specs.Prelude.{List, ℕ};
-    ghost use Rattle.std.specs.Vec.{vec_capacity};
-    ghost use Rattle.held_rows.specs.Held.{Rows, IsHeld};
+    ghost use Rattle.held_rows.specs.Held.{Rows};
+    ghost use Rattle.held_rows.specs.Index.{IsStored, stored_rows, stored_capacity};
 
     ghost Value = { Rows R };
 
-    ghost view = { λ h. record { rows = h.rows.items; capacity = vec_capacity h.rows } };
+    ghost view = { λ h. record { rows = stored_rows h.stored; capacity = stored_capacity h.stored } };
 
-    ghost invariant = { λ h. IsHeld R.name R.begun R.IsSound h.rows.items };
+    ghost invariant = { λ h. IsStored R.name R.key R.begun R.IsSound h.stored };
 }
 
 impl<R: Row + Drop> Held<R> {
@@ -111,18 +38,17 @@ impl<R: Row + Drop> Held<R> {
         ensures { result.rows ≡ [] }
     {
         Held {
-            rows: Vec::new(alloc),
+            stored: Stored::new(alloc),
         }
     }
 
-    /// Makes room for one more row.
+    /// Makes room for one more row. No other call takes memory.
     pub fn reserve(&mut self) -> Result<(), NoMemory>
         ensures rows { self.new.rows ≡ self.old.rows }
         ensures room { OnOk result (length self.new.rows < self.new.capacity) }
         ensures capacity { self.old.capacity ≤ self.new.capacity }
     {
-        self.rows.reserve(1)?;
-        Ok(())
+        self.stored.reserve()
     }
 
     /// The row of a name; None exactly where no row has it. Its life may have ended.
@@ -131,7 +57,10 @@ impl<R: Row + Drop> Held<R> {
         ensures sound { IfSome (option_copied result) R.IsSound }
         ensures held { spec.IsHeld R.name R.begun R.IsSound self.now.rows }
     {
-        find_named(&self.rows, name)
+        match self.stored.slot_of(name) {
+            Some(slot) => row_in(&self.stored.slots, slot),
+            None => None,
+        }
     }
 
     /// Adds a row of a new name at the end.
@@ -143,7 +72,7 @@ impl<R: Row + Drop> Held<R> {
         requires sound { R.IsSound row }
         ensures { self.new ≡ record self.old { rows = self.old.rows ++ row ∷ [] } }
     {
-        self.rows.push_reserved(row);
+        self.stored.add(row);
     }
 
     /// Changes the row of a name where it stands. Where no row has it, nothing changes.
@@ -151,8 +80,8 @@ impl<R: Row + Drop> Held<R> {
         ensures rows { self.new ≡ record self.old { rows = spec.changed R.name name.now (C.changed change.now) self.old.rows } }
         ensures bound { length self.new.rows ≤ length self.old.rows }
     {
-        if let Some(place) = place_of(&self.rows, name) {
-            change.change(&mut self.rows[place]);
+        if let Some(slot) = self.stored.slot_of(name) {
+            self.stored.change(slot, change);
         }
     }
 
@@ -165,8 +94,11 @@ impl<R: Row + Drop> Held<R> {
         ensures rows { self.new ≡ record self.old { rows = put R.name (Some row) self.old.rows } }
         ensures bound { length self.new.rows ≤ length self.old.rows }
     {
-        self.rows.retain(|row| !row.is_named(name));
-        self.rows.push_reserved(row);
+        let Some(slot) = self.stored.slot_of(name) else {
+            unreachable!()
+        };
+        self.stored.remove(slot);
+        self.add(row);
     }
 
     /// Takes out the row of a name, if there is one.
@@ -174,7 +106,9 @@ impl<R: Row + Drop> Held<R> {
         ensures rows { self.new ≡ record self.old { rows = without R.name name.now self.old.rows } }
         ensures bound { length self.new.rows ≤ length self.old.rows }
     {
-        self.rows.retain(|row| !row.is_named(name));
+        if let Some(held) = self.stored.slot_of(name) {
+            self.stored.remove(held);
+        }
     }
 
     /// Takes out the rows that pass the test, and answers their number.
@@ -183,9 +117,7 @@ impl<R: Row + Drop> Held<R> {
         ensures bound { length self.new.rows ≤ length self.old.rows }
         ensures count { result ≡ length (filter (T.passes test.now) self.old.rows) }
     {
-        let before = self.rows.len();
-        self.rows.retain(|row| !test.passes(row));
-        (before - self.rows.len()) as u32
+        self.stored.take_out(test)
     }
 
     /// Takes out the rows that do not live at the moment.
@@ -193,21 +125,28 @@ impl<R: Row + Drop> Held<R> {
         ensures rows { self.new ≡ record self.old { rows = live_rows R.LIFE R.begun at self.old.rows } }
         ensures bound { length self.new.rows ≤ length self.old.rows }
     {
-        self.rows.retain(|row| is_live(R::LIFE, row.begun(), at));
+        self.stored.purge(at);
     }
 
     /// Whether a row that lives at the moment passes the test.
     pub fn any_live<T: Test<R>>(&self, test: &T, at: Moment) -> bool
         ensures { result ≡ list_any (T.passes test.now) (live_rows R.LIFE R.begun at self.now.rows) }
     {
-        any_live(&self.rows, test, at)
+        self.stored.any_live(test, at)
     }
 
     /// How many rows live at the moment and pass the test.
     pub fn count_live<T: Test<R>>(&self, test: &T, at: Moment) -> u32
         ensures { result ≡ length (filter (T.passes test.now) (live_rows R.LIFE R.begun at self.now.rows)) }
     {
-        count_live(&self.rows, test, at)
+        self.stored.count_live(test, at)
+    }
+
+    /// How many rows live at the moment.
+    pub fn count_all_live(&self, at: Moment) -> u32
+        ensures { result ≡ length (live_rows R.LIFE R.begun at self.now.rows) }
+    {
+        self.stored.count_all_live(at)
     }
 
     /// Whether fewer rows live at the moment than a table may hold: false exactly where 65,536 rows are held and all of them
@@ -217,6 +156,6 @@ impl<R: Row + Drop> Held<R> {
         ensures full { result ≡ false → spec.IsFull R.LIFE R.begun at self.now.rows }
         ensures most { spec.IsFull R.LIFE R.begun at self.now.rows → result ≡ false }
     {
-        has_room(&self.rows, at)
+        self.stored.by_issue.len() < MOST_ROWS || self.stored.ended(at).is_some()
     }
 }

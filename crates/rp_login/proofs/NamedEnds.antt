@@ -1,5 +1,5 @@
 -- The sessions that equal each given part end, and no others.
-use Rattle.std.proofs.Common.{◌≡◌, ◌+◌, Bool, true, not, cond, List, ◌++◌, filter, length, Option, Some, None, option_and_then, IfSome, inl, inr, refl, sym, ◌∙◌, ap}
+use Rattle.std.proofs.Common.{◌≡◌, ◌+◌, Bool, true, not, cond, List, [], ◌∷◌, ◌++◌, filter, length, Option, Some, None, option_and_then, IfSome, inl, inr, refl, sym, ◌∙◌, ap}
 use Rattle.std.proofs.lemmas.Bool.{and_parts, and_from}
 use Rattle.std.proofs.lemmas.List.Elements.{filter-append}
 use Rattle.std.proofs.lemmas.List.Filters.{length-filter_both}
@@ -41,6 +41,11 @@ meant_equals sub sid visit h =
 pub equals_meant : (sub sid : Option Text) (visit : SessionRow) → IsMeant sub sid visit → is_meant sub sid visit ≡ true
 equals_meant sub sid visit h =
     and_from (fits_text sub (Some visit.sub)) (fits_text sid visit.sid) (subject_fits sub visit.sub h.subject) (session_fits sid visit.sid h.session)
+
+-- where no part is given, every session is meant
+pub all_meant : (visits : List SessionRow) → filter (is_meant None None) visits ≡ visits
+all_meant [] = refl
+all_meant (visit ∷ visits) = ap (λ (rest : List SessionRow). visit ∷ rest) (all_meant visits)
 
 -- ---- what ends, and what stays
 

@@ -1,10 +1,11 @@
 // The rows of a relying party's tables.
 
-ghost use Rattle.held_rows.specs.Held.{AnyRow};
+ghost use Rattle.std.specs.Prelude.{Some, None, refl};
+ghost use Rattle.held_rows.specs.Held.{AnyRow, one_of};
 
-use held_rows::Row;
+use held_rows::{By, Row};
 use oidc_words::{LOGIN_LIFE, PENDING_LIFE, SEEN_LIFE, VISIT_LIFE};
-use sso_base::{Moment, Text, Word};
+use sso_base::{Moment, Text, Word, bytes_if};
 
 /// A login that a browser began, until its callback (OpenID Connect Core 1.0, 3.1.2.1). It lives for 600 seconds.
 #[derive(Clone, Copy, PartialEq, Eq)]
@@ -85,6 +86,8 @@ impl Row for LoginRow {
 
     ghost name = { λ row. row.state };
 
+    ghost key = { λ by row. one_of (Some row.state) (Some row.browser) None by };
+
     ghost begun = { λ row. row.begun };
 
     ghost IsSound = { AnyRow };
@@ -93,19 +96,27 @@ impl Row for LoginRow {
 
     const LIFE: u32 = LOGIN_LIFE;
 
-    fn is_named(&self, given: &[u8]) -> bool {
-        self.state.is(given)
+    fn key(&self, by: By) -> Option<&[u8]> {
+        match by {
+            By::Name => Some(self.state.as_bytes()),
+            By::First => Some(self.browser.as_bytes()),
+            By::Second => None,
+        }
     }
 
     fn begun(&self) -> Moment {
         self.begun
     }
+
+    ghost named = { λ row. refl };
 }
 
 impl Row for PendingRow {
     ghost use Rattle.oidc_words.specs.Lives.{pending_life};
 
     ghost name = { λ row. row.word };
+
+    ghost key = { λ by row. one_of (Some row.word) None None by };
 
     ghost begun = { λ row. row.since };
 
@@ -115,19 +126,26 @@ impl Row for PendingRow {
 
     const LIFE: u32 = PENDING_LIFE;
 
-    fn is_named(&self, given: &[u8]) -> bool {
-        self.word.is(given)
+    fn key(&self, by: By) -> Option<&[u8]> {
+        match by {
+            By::Name => Some(self.word.as_bytes()),
+            By::First | By::Second => None,
+        }
     }
 
     fn begun(&self) -> Moment {
         self.since
     }
+
+    ghost named = { λ row. refl };
 }
 
 impl Row for SessionRow {
     ghost use Rattle.oidc_words.specs.Lives.{visit_life};
 
     ghost name = { λ row. row.word };
+
+    ghost key = { λ by row. one_of (Some row.word) (Some row.sub) row.sid by };
 
     ghost begun = { λ row. row.entered };
 
@@ -137,19 +155,27 @@ impl Row for SessionRow {
 
     const LIFE: u32 = VISIT_LIFE;
 
-    fn is_named(&self, given: &[u8]) -> bool {
-        self.word.is(given)
+    fn key(&self, by: By) -> Option<&[u8]> {
+        match by {
+            By::Name => Some(self.word.as_bytes()),
+            By::First => Some(self.sub.as_str().as_bytes()),
+            By::Second => bytes_if(&self.sid),
+        }
     }
 
     fn begun(&self) -> Moment {
         self.entered
     }
+
+    ghost named = { λ row. refl };
 }
 
 impl Row for SeenRow {
     ghost use Rattle.oidc_words.specs.Lives.{seen_life};
 
     ghost name = { λ row. row.jti };
+
+    ghost key = { λ by row. one_of (Some row.jti) None None by };
 
     ghost begun = { λ row. row.accepted };
 
@@ -159,11 +185,16 @@ impl Row for SeenRow {
 
     const LIFE: u32 = SEEN_LIFE;
 
-    fn is_named(&self, given: &[u8]) -> bool {
-        self.jti.as_str().as_bytes() == given
+    fn key(&self, by: By) -> Option<&[u8]> {
+        match by {
+            By::Name => Some(self.jti.as_str().as_bytes()),
+            By::First | By::Second => None,
+        }
     }
 
     fn begun(&self) -> Moment {
         self.accepted
     }
+
+    ghost named = { λ row. refl };
 }

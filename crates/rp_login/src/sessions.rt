@@ -1,16 +1,22 @@
 // The sessions of a relying party.
 
-ghost use Rattle.std.specs.Prelude.{◌≡◌, ◌<◌, true, ◌||◌, length, None, is_some, option_map};
+ghost use Rattle.std.specs.Prelude.{◌≡◌, ◌<◌, true, ◌||◌, length, Some, None, is_some, option_map, refl};
 ghost use Rattle.std.specs.Option.{option_copied};
+ghost use Rattle.std.specs.Str.{bytes_eq};
+ghost use Rattle.std.proofs.Common.{sym, ap};
+ghost use Rattle.std.proofs.lemmas.Bool.{and_parts};
 ghost use Rattle.sso_base.specs.Rows.{row_of};
+ghost use Rattle.sso_base.proofs.RowLaws.{bytes_same};
+ghost use Rattle.held_rows.proofs.FoundBy.{found_by};
 ghost use Rattle.held_rows.specs.Held.{none_after, most_rows};
+ghost use Rattle.held_rows.specs.declared.row.By.TheVariants.{First, Second};
 ghost use Rattle.rp_login.specs.Named.{fits_text, is_meant};
 ghost use Rattle.rp_login.specs.Rows.{visit_name, visit_begun};
 ghost use Rattle.rp_login.specs.Tables as spec;
 
 use crate::rows::SessionRow;
 use crate::tables::Logins;
-use held_rows::Test;
+use held_rows::{By, Test};
 use sso_base::{Moment, Text, Word};
 
 // Whether the part is not given, or is this text.
@@ -31,19 +37,61 @@ fn is_named(visit: &SessionRow, sub: Option<&[u8]>, sid: Option<&[u8]>) -> bool
     fits(sub, Some(&visit.sub)) && fits(sid, visit.sid.as_ref())
 }
 
-// The sessions that equal each given part.
+// The sessions of a `sid`, with the subject that is given besides, if one is.
 #[derive(Clone, Copy)]
-struct Meant<'a> {
+struct OfSid<'a> {
     sub: Option<&'a [u8]>,
-    sid: Option<&'a [u8]>,
+    sid: &'a [u8],
 }
 
-impl Test<SessionRow> for Meant<'_> {
-    ghost passes = { λ t visit. is_meant (option_map (λ p. p.now) t.sub) (option_map (λ p. p.now) t.sid) visit };
+impl Test<SessionRow> for OfSid<'_> {
+    ghost passes = { λ t visit. is_meant (option_map (λ p. p.now) t.sub) (Some t.sid.now) visit };
+
+    ghost by = { λ t. Second };
+
+    ghost key = { λ t. t.sid.now };
 
     fn passes(&self, visit: &SessionRow) -> bool {
-        is_named(visit, self.sub, self.sid)
+        is_named(visit, self.sub, Some(self.sid))
     }
+
+    fn by(&self) -> By {
+        By::Second
+    }
+
+    fn key(&self) -> &[u8] {
+        self.sid
+    }
+
+    ghost are_found = { λ t visit passes. found_by t.sid.now (fits_text (Some t.sid.now)) refl (λ held fits. sym (bytes_same t.sid.now held fits)) visit.sid (and_parts (fits_text (option_map (λ p. p.now) t.sub) (Some visit.sub)) (fits_text (Some t.sid.now) visit.sid) passes).1 };
+}
+
+// The sessions of a subject.
+#[derive(Clone, Copy)]
+struct OfSub<'a> {
+    sub: &'a [u8],
+}
+
+impl Test<SessionRow> for OfSub<'_> {
+    ghost passes = { λ t visit. is_meant (Some t.sub.now) None visit };
+
+    ghost by = { λ t. First };
+
+    ghost key = { λ t. t.sub.now };
+
+    fn passes(&self, visit: &SessionRow) -> bool {
+        is_named(visit, Some(self.sub), None)
+    }
+
+    fn by(&self) -> By {
+        By::First
+    }
+
+    fn key(&self) -> &[u8] {
+        self.sub
+    }
+
+    ghost are_found = { λ t visit passes. ap Some (sym (bytes_same t.sub.now visit.sub (and_parts (bytes_eq t.sub.now visit.sub) (fits_text None visit.sid) passes).0)) };
 }
 
 impl Logins {
@@ -82,7 +130,11 @@ impl Logins {
     pub fn count_named(&self, sub: Option<&[u8]>, sid: Option<&[u8]>, at: Moment) -> u32
         ensures { result ≡ spec.live_named_count (option_map (λ p. p.now) sub.entry) (option_map (λ p. p.now) sid.entry) at self.now }
     {
-        self.visits.count_live(&Meant { sub, sid }, at)
+        match (sub, sid) {
+            (_, Some(sid)) => self.visits.count_live(&OfSid { sub, sid }, at),
+            (Some(sub), None) => self.visits.count_live(&OfSub { sub }, at),
+            (None, None) => self.visits.count_all_live(at),
+        }
     }
 
     /// Takes out the sessions that equal each given part, a subject or a `sid`, and answers their number (OpenID Connect
@@ -92,6 +144,10 @@ impl Logins {
         ensures count { result ≡ spec.named_count (option_map (λ p. p.now) sub.entry) (option_map (λ p. p.now) sid.entry) self.old }
         ensures rows { self.new ≡ spec.named_ended (option_map (λ p. p.now) sub.entry) (option_map (λ p. p.now) sid.entry) self.old }
     {
-        self.visits.take_out(&Meant { sub, sid })
+        match (sub, sid) {
+            (_, Some(sid)) => self.visits.take_out(&OfSid { sub, sid }),
+            (Some(sub), None) => self.visits.take_out(&OfSub { sub }),
+            (None, None) => unreachable!(),
+        }
     }
 }

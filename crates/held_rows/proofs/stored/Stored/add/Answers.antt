@@ -1,0 +1,68 @@
+use Rattle.std.proofs.Common.{◌<◌, length, refl, arith}
+use Rattle.held_rows.specs.Index.{stored_rows}
+use Rattle.held_rows.specs.SlotList.{value_count}
+use Rattle.held_rows.proofs.Parts.{as_many, names_short, firsts_short, seconds_short}
+use Rattle.held_rows.proofs.StoredAdd.{rows_added, stored_added}
+use Rattle.held_rows.proofs.stored.Stored.add.Goals as goal
+
+pub insert_reserved-slot-requires-clause-reserved : goal.insert_reserved-slot-requires-clause-reserved
+insert_reserved-slot-requires-clause-reserved g c =
+    let long = as_many g.R.Row.name g.R.Row.key g.R.Row.begun g.R.Row.IsSound c.args.self.now c.requires.stored in
+    let counted = c.requires.stored.counted in
+    let room = c.requires.reserved in
+    omega (arith, long, counted, room)
+
+pub insert_reserved-slot-requires-clause-few : goal.insert_reserved-slot-requires-clause-few
+insert_reserved-slot-requires-clause-few g c =
+    let long = as_many g.R.Row.name g.R.Row.key g.R.Row.begun g.R.Row.IsSound c.args.self.now c.requires.stored in
+    let counted = c.requires.stored.counted in
+    let few : length (stored_rows c.args.self.now) < 65536 = c.requires.few in
+    let low : value_count c.args.self.now.slots < 4294967296 = omega (arith, long, counted, few) in
+    low
+
+pub push_back_reserved-requires : goal.push_back_reserved-requires
+push_back_reserved-requires g c =
+    let long = as_many g.R.Row.name g.R.Row.key g.R.Row.begun g.R.Row.IsSound c.args.self.now c.requires.stored in
+    let as_long = c.args.self.now.by_issue.ok.0 in
+    let room = c.requires.reserved in
+    omega (arith, long, as_long, room)
+
+pub put_in-requires-clause-reserved : goal.put_in-requires-clause-reserved
+put_in-requires-clause-reserved g c =
+    let long = as_many g.R.Row.name g.R.Row.key g.R.Row.begun g.R.Row.IsSound c.args.self.now c.requires.stored in
+    let short = names_short g.R.Row.name g.R.Row.key g.R.Row.begun g.R.Row.IsSound c.args.self.now c.requires.stored in
+    let room = c.requires.reserved in
+    omega (arith, long, short, room)
+
+pub put_in-requires-2-clause-reserved : goal.put_in-requires-2-clause-reserved
+put_in-requires-2-clause-reserved g c =
+    let long = as_many g.R.Row.name g.R.Row.key g.R.Row.begun g.R.Row.IsSound c.args.self.now c.requires.stored in
+    let short = firsts_short g.R.Row.name g.R.Row.key g.R.Row.begun g.R.Row.IsSound c.args.self.now c.requires.stored in
+    let room = c.requires.reserved in
+    omega (arith, long, short, room)
+
+pub put_in-requires-3-clause-reserved : goal.put_in-requires-3-clause-reserved
+put_in-requires-3-clause-reserved g c =
+    let long = as_many g.R.Row.name g.R.Row.key g.R.Row.begun g.R.Row.IsSound c.args.self.now c.requires.stored in
+    let short = seconds_short g.R.Row.name g.R.Row.key g.R.Row.begun g.R.Row.IsSound c.args.self.now c.requires.stored in
+    let room = c.requires.reserved in
+    omega (arith, long, short, room)
+
+pub returns-clause-stored : goal.returns-clause-stored
+returns-clause-stored g c =
+    let e = c.insert_reserved-slot.ensures in
+    let next = c.saturating_add-self.ensures in
+    stored_added g.R.Row.name g.R.Row.key g.R.Row.begun g.R.Row.IsSound c.args.self.now c.requires.stored
+    (record { slots = c.insert_reserved-slot.new.self; by_issue = c.push_back_reserved.new.self; by_name = c.put_in.new.index; by_first = c.put_in-2.new.index; by_second = c.put_in-3.new.index; next = c.saturating_add-self.result })
+    c.insert_reserved-slot.result (record { serial = c.args.self.now.next; row = c.args.row })
+    e.was_free e.changes c.push_back_reserved.ensures.items refl (omega (arith, next)) e.count
+    c.put_in.ensures.index c.put_in-2.ensures.index c.put_in-3.ensures.index c.requires.few c.requires.unnamed c.requires.latest c.requires.sound c.requires.reserved
+    (rw (e.capacity, c.push_back_reserved.ensures.capacity, c.put_in.ensures.capacity, c.put_in-2.ensures.capacity, c.put_in-3.ensures.capacity) refl)
+
+pub returns-clause-rows : goal.returns-clause-rows
+returns-clause-rows g c =
+    let e = c.insert_reserved-slot.ensures in
+    rows_added g.R.Row.name g.R.Row.key g.R.Row.begun g.R.Row.IsSound c.args.self.now c.requires.stored
+    (record { slots = c.insert_reserved-slot.new.self; by_issue = c.push_back_reserved.new.self; by_name = c.put_in.new.index; by_first = c.put_in-2.new.index; by_second = c.put_in-3.new.index; next = c.saturating_add-self.result })
+    c.insert_reserved-slot.result (record { serial = c.args.self.now.next; row = c.args.row })
+    e.was_free e.changes c.push_back_reserved.ensures.items

@@ -1,0 +1,10 @@
+use Rattle.std.proofs.Common.{◌≡◌, ◌&&◌, false, take}
+use Rattle.std.specs.List.{list_any}
+use Rattle.sso_base.specs.Rows.{lives}
+use Rattle.held_rows.specs.Index.{row_at}
+use Rattle.held_rows.proofs.Hits.{hit}
+use Rattle.held_rows.proofs.stored.Stored.any_live.Given as goal
+
+-- no slot so far has a row that lives and passes
+abbrev pub invariant-loop-place : goal.invariant-loop-place
+invariant-loop-place g l = list_any (hit (λ row. lives g.R.Row.LIFE (g.R.Row.begun row) l.at && g.T.Test.passes l.test row) (row_at l.self.slots)) (take l.place l.index) ≡ false

@@ -1,0 +1,127 @@
+-- Rows in slots, and slot numbers over them: a deque of them in order of issue, and for each thing that rows are found by a vector
+-- in the order of its bytes.
+use Rattle.std.specs.Prelude.{◌≡◌, ◌<◌, ◌≤◌, ◌==◌, ℕ, suc, List, [], ◌∷◌, ◌++◌, map, length, slice_index, slice_index_or, Option, Some, None, option_map, option_and_then, unwrap_or, min, if◌then◌else◌}
+use Rattle.std.specs.List.{AllByRecursion, filter_map}
+use Rattle.std.specs.Cmp.Lexicographic.{slice_cmp}
+use Rattle.std.specs.Ordering.{nat_cmp}
+use Rattle.std.specs.Vec.{vec_capacity}
+use Rattle.std.specs.VecDeque.{deque_capacity}
+use Rattle.std.specs.declared.cmp.Ordering.TheVariants.{Less, Greater}
+use Rattle.held_rows.specs.declared.row.By.{By}
+use Rattle.held_rows.specs.declared.row.By.TheVariants.{Name, First, Second}
+use Rattle.held_rows.specs.declared.stored.Issued.{Issued}
+use Rattle.held_rows.specs.declared.stored.Stored.{Stored}
+use Rattle.held_rows.specs.Counts.{Lists}
+use Rattle.held_rows.specs.Held.{IsHeld}
+use Rattle.held_rows.specs.SlotList.{SlotList, get, value_count}
+
+-- ---- what stands in slots: rows with serial numbers
+
+abbrev pub issued_row : {R : Type 0} → Option (Issued R) → Option R
+issued_row issued = option_map (λ i. i.row) issued
+
+-- 0 where nothing stands
+abbrev pub issued_serial : {R : Type 0} → Option (Issued R) → ℕ
+issued_serial None = 0
+issued_serial (Some issued) = issued.serial
+
+module _ {R : Type 0} (slots : SlotList (Issued R)) where
+  abbrev pub row_at : ℕ → Option R
+  row_at slot = issued_row (get slots slot)
+
+  abbrev pub serial_at : ℕ → ℕ
+  serial_at slot = issued_serial (get slots slot)
+
+  -- the rows in these slots, in their order
+  abbrev pub rows_at : List ℕ → List R
+  rows_at numbers = filter_map row_at numbers
+
+-- the rows in slots, but for one slot
+abbrev pub all_but : {R : Type 0} → ℕ → (ℕ → Option R) → ℕ → Option R
+all_but slot row other = if other == slot then None else row other
+
+-- ---- an index: `row` gives the row in each slot, and `key` the bytes that a row is found by
+
+-- a rank rises with the bytes, and for the same bytes with the slot; no byte is 0 there, which ends them
+abbrev pub rank : List ℕ → ℕ → List ℕ
+rank bytes slot = map suc bytes ++ 0 ∷ slot ∷ []
+
+-- each is below those behind it
+abbrev pub IsAscending : List (List ℕ) → Type 0
+IsAscending [] = Unit {0}
+IsAscending (r ∷ rs) = AllByRecursion (λ later. slice_cmp nat_cmp r later ≡ Less) rs × IsAscending rs
+
+module _ {R : Type 0} (key : R → Option (List ℕ)) (row : ℕ → Option R) where
+  abbrev pub key_in : ℕ → Option (List ℕ)
+  key_in slot = option_and_then key (row slot)
+
+  abbrev pub rank_in : ℕ → List ℕ
+  rank_in slot = rank (unwrap_or (key_in slot) []) slot
+
+  -- the slots of the rows that have such bytes, each once, in the order of their ranks
+  pub record IsIndex (index : List ℕ) : Type 0 where
+    pub listed : Lists key_in index
+    pub ascending : IsAscending (map rank_in index)
+
+  -- the slots of the rows with these bytes, where there are any, stand from this place on
+  pub record IsStart (index bytes : List ℕ) (place : ℕ) : Type 0 where
+    pub in_range : place ≤ length index
+    pub before : (k d : ℕ) → k < place → key_in (slice_index_or index k d) ≡ Some bytes → ⊥
+    pub run : (j k d : ℕ) → place ≤ j → j ≤ k → k < length index → key_in (slice_index_or index k d) ≡ Some bytes → key_in (slice_index_or index j d) ≡ Some bytes
+
+  -- a rank stands at this place, or would go there
+  pub record IsPlace (index wanted : List ℕ) (place : ℕ) : Type 0 where
+    pub in_range : place < length index
+    pub same : rank_in (slice_index index place) ≡ wanted
+
+  pub record IsGap (index wanted : List ℕ) (place : ℕ) : Type 0 where
+    pub in_range : place ≤ length index
+    pub before : (k d : ℕ) → k < place → slice_cmp nat_cmp (rank_in (slice_index_or index k d)) wanted ≡ Less
+    pub after : (k d : ℕ) → place ≤ k → k < length index → slice_cmp nat_cmp (rank_in (slice_index_or index k d)) wanted ≡ Greater
+
+-- ---- order of issue
+
+-- no number is below one in front of it
+abbrev pub IsRising : List ℕ → Type 0
+IsRising [] = Unit {0}
+IsRising (n ∷ ns) = AllByRecursion (λ later. n ≤ later) ns × IsRising ns
+
+-- no serial number is above this one
+abbrev pub IsBounded : (ℕ → ℕ) → List ℕ → ℕ → Type 0
+IsBounded serial by_issue next = AllByRecursion (λ n. n ≤ next) (map serial by_issue)
+
+-- ---- all together
+
+abbrev pub stored_rows : {R : Type 0} → Stored R → List R
+stored_rows s = rows_at s.slots s.by_issue.items
+
+-- for how many rows there is memory
+abbrev pub stored_capacity : {R : Type 0} → Stored R → ℕ
+stored_capacity s = min s.slots.capacity (min (deque_capacity s.by_issue) (min (vec_capacity s.by_name) (min (vec_capacity s.by_first) (vec_capacity s.by_second))))
+
+pub record IsStored {R : Type 0} (name : R → List ℕ) (key : By → R → Option (List ℕ)) (begun : R → ℕ) (IsSound : R → Type 0) (s : Stored R) : Type 0 where
+  pub issued : Lists (row_at s.slots) s.by_issue.items
+  pub rising : IsRising (map (serial_at s.slots) s.by_issue.items)
+  pub bounded : IsBounded (serial_at s.slots) s.by_issue.items s.next
+  pub counted : value_count s.slots ≡ length s.by_issue.items
+  pub names : IsIndex (key Name) (row_at s.slots) s.by_name.items
+  pub firsts : IsIndex (key First) (row_at s.slots) s.by_first.items
+  pub seconds : IsIndex (key Second) (row_at s.slots) s.by_second.items
+  pub held : IsHeld name begun IsSound (stored_rows s)
+  pub fits : length (stored_rows s) ≤ stored_capacity s
+
+-- ---- one row among others
+
+-- the row was taken out
+pub record IsRemoved {R : Type 0} (old new : List R) (row : R) : Type 0 where
+  pub before : List R
+  pub behind : List R
+  pub was : old ≡ before ++ row ∷ behind
+  pub is : new ≡ before ++ behind
+
+-- another took its place
+pub record IsReplaced {R : Type 0} (old new : List R) (row other : R) : Type 0 where
+  pub before : List R
+  pub behind : List R
+  pub was : old ≡ before ++ row ∷ behind
+  pub is : new ≡ before ++ other ∷ behind

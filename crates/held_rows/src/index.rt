@@ -1,0 +1,110 @@
+// The slots of the rows that are found by something, each once, in the order of its bytes.
+
+ghost use Rattle.std.specs.Prelude.{◌≡◌, ◌<◌, length, map, true, Some, None, unwrap_or, option_and_then, option_map, IfOk, IfErr, IsSome, vec_capacity};
+ghost use Rattle.std.specs.Str.{bytes_eq};
+ghost use Rattle.std.specs.Cmp.Lexicographic.{slice_cmp};
+ghost use Rattle.std.specs.Ordering.{nat_cmp};
+ghost use Rattle.held_rows.specs.Index.{row_at, all_but, key_in, rank, rank_in, IsAscending, IsIndex, IsStart, IsPlace, IsGap};
+
+use crate::row::{By, Row};
+use crate::slot_vec::SlotVec;
+use crate::stored::Issued;
+use std::cmp::Ordering;
+
+// The bytes by which the row in a slot is found; None where there is no row, or none of that kind.
+pub(crate) fn key_at<R: Row>(slots: &SlotVec<Issued<R>>, by: By, slot: u32) -> Option<&[u8]>
+    ensures { option_map (λ k. k.now) result ≡ key_in (R.key by) (row_at slots.now) slot }
+{
+    match slots.get(slot) {
+        Some(issued) => issued.row.key(by),
+        None => None,
+    }
+}
+
+// Whether the row in a slot is found by these bytes.
+pub(crate) fn is_at<R: Row>(slots: &SlotVec<Issued<R>>, by: By, slot: u32, key: &[u8]) -> bool
+    ensures yes { result ≡ true → key_in (R.key by) (row_at slots.now) slot ≡ Some key.now }
+    ensures no { key_in (R.key by) (row_at slots.now) slot ≡ Some key.now → result ≡ true }
+{
+    match key_at(slots, by, slot) {
+        Some(found) => found == key,
+        None => false,
+    }
+}
+
+// How the rank of a slot stands to another rank.
+fn compare<R: Row>(
+    slots: &SlotVec<Issued<R>>,
+    by: By,
+    slot: u32,
+    key: &[u8],
+    other: u32,
+) -> Ordering
+    ensures { result ≡ slice_cmp nat_cmp (rank_in (R.key by) (row_at slots.now) slot) (rank key.now other) }
+{
+    let found = match key_at(slots, by, slot) {
+        Some(found) => found,
+        None => &[],
+    };
+    match found.cmp(key) {
+        Ordering::Equal => slot.cmp(&other),
+        unequal => unequal,
+    }
+}
+
+// Where the rank of these bytes and this slot stands, or would go.
+fn search<R: Row>(
+    slots: &SlotVec<Issued<R>>,
+    index: &[u32],
+    by: By,
+    key: &[u8],
+    slot: u32,
+) -> Result<usize, usize>
+    requires { IsAscending (map (rank_in (R.key by) (row_at slots.now)) index.now) }
+    ensures found { IfOk result (IsPlace (R.key by) (row_at slots.now) index.now (rank key.now slot)) }
+    ensures absent { IfErr result (IsGap (R.key by) (row_at slots.now) index.now (rank key.now slot)) }
+{
+    index.binary_search_by(|&other| compare(slots, by, other, key, slot))
+}
+
+// Where the slots of the rows with these bytes begin.
+pub(crate) fn start<R: Row>(slots: &SlotVec<Issued<R>>, index: &[u32], by: By, key: &[u8]) -> usize
+    requires { IsIndex (R.key by) (row_at slots.now) index.now }
+    ensures { IsStart (R.key by) (row_at slots.now) index.now key.now result }
+{
+    match search(slots, index, by, key, 0) {
+        Ok(place) => place,
+        Err(place) => place,
+    }
+}
+
+// Puts a slot in, where its row has such bytes.
+pub(crate) fn put_in<R: Row>(slots: &SlotVec<Issued<R>>, index: &mut Vec<u32>, by: By, slot: u32)
+    requires index { IsIndex (R.key by) (all_but slot (row_at slots.now)) index.old.items }
+    requires reserved { length index.old.items < vec_capacity index.old }
+    ensures index { IsIndex (R.key by) (row_at slots.now) index.new.items }
+    ensures capacity { vec_capacity index.new ≡ vec_capacity index.old }
+{
+    let Some(key) = key_at(slots, by, slot) else {
+        return;
+    };
+    let Err(place) = search(slots, index, by, key, slot) else {
+        unreachable!()
+    };
+    let _ = index.insert(place, slot);
+}
+
+// Takes a slot out, where its row has such bytes.
+pub(crate) fn take_from<R: Row>(slots: &SlotVec<Issued<R>>, index: &mut Vec<u32>, by: By, slot: u32)
+    requires { IsIndex (R.key by) (row_at slots.now) index.old.items }
+    ensures index { IsIndex (R.key by) (all_but slot (row_at slots.now)) index.new.items }
+    ensures capacity { vec_capacity index.new ≡ vec_capacity index.old }
+{
+    let Some(key) = key_at(slots, by, slot) else {
+        return;
+    };
+    let Ok(place) = search(slots, index, by, key, slot) else {
+        unreachable!()
+    };
+    index.remove(place);
+}

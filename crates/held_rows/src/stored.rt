@@ -1,0 +1,320 @@
+// Rows in slots, and slot numbers over them: a deque of them in order of issue, and for each thing that rows are found by a vector
+// in the order of its bytes.
+
+ghost use Rattle.std.specs.Prelude.{◌≡◌, ◌<◌, ◌≤◌, ℕ, List, [], ◌∷◌, ◌++◌, length, map, filter, not, slice_get, slice_index, Some, None, true, false, option_copied, OnOk, IfSome, IfNone, IsSome, is_some};
+ghost use Rattle.std.specs.List.{list_any};
+ghost use Rattle.sso_base.specs.Rows.{row_of, lives, live_rows};
+ghost use Rattle.held_rows.specs.Held as spec;
+ghost use Rattle.held_rows.specs.Counts.{Lists};
+ghost use Rattle.held_rows.specs.Index.{row_at, serial_at, key_in, IsIndex, IsRising, IsStored, IsRemoved, IsReplaced, stored_rows, stored_capacity};
+ghost use Rattle.held_rows.specs.SlotList.{HasValue};
+
+use crate::index::{is_at, put_in, start, take_from};
+use crate::row::{By, Change, Row, Test};
+use crate::slot_vec::SlotVec;
+use sso_base::{Moment, NoMemory, is_live};
+use std::alloc::Global;
+use std::collections::VecDeque;
+
+// A row and its place in the order of issue.
+#[derive(Drop)]
+pub(crate) struct Issued<R> {
+    // Of two rows the one with the lower number was added first. It stands still at its type's end.
+    pub(crate) serial: u64,
+    pub(crate) row: R,
+}
+
+// Rows in slots, and what stands over them.
+#[derive(Drop)]
+pub(crate) struct Stored<R> {
+    pub(crate) slots: SlotVec<Issued<R>>,
+    // The slots of the rows, in order of issue. Rows mostly leave from its front.
+    pub(crate) by_issue: VecDeque<u32>,
+    // The slots of the rows, in the order of their names.
+    pub(crate) by_name: Vec<u32>,
+    // The slots of those that are found by another thing, in the order of its bytes.
+    pub(crate) by_first: Vec<u32>,
+    pub(crate) by_second: Vec<u32>,
+    // The serial number of the next row.
+    pub(crate) next: u64,
+}
+
+// The row in a slot.
+pub(crate) fn row_in<R>(slots: &SlotVec<Issued<R>>, slot: u32) -> Option<&R>
+    ensures { option_copied result ≡ row_at slots.now slot }
+{
+    match slots.get(slot) {
+        Some(issued) => Some(&issued.row),
+        None => None,
+    }
+}
+
+// The serial number of the row in a slot.
+fn serial_in<R>(slots: &SlotVec<Issued<R>>, slot: u32) -> u64
+    ensures { result ≡ serial_at slots.now slot }
+{
+    match slots.get(slot) {
+        Some(issued) => issued.serial,
+        None => 0,
+    }
+}
+
+// Where a slot stands in order of issue, which is the order of serial numbers. Rows have one number only at the end
+// of its type, so the loop ends at its first step.
+fn place_of<R>(slots: &SlotVec<Issued<R>>, by_issue: &VecDeque<u32>, slot: u32) -> usize
+    requires issued { Lists (row_at slots.now) by_issue.now.items }
+    requires numbered { IsRising (map (serial_at slots.now) by_issue.now.items) }
+    requires row { HasValue slots.now slot }
+    ensures in_range { result < length by_issue.now.items }
+    ensures slot { slice_index by_issue.now.items result ≡ slot }
+{
+    let serial = serial_in(slots, slot);
+    let first = by_issue.partition_point(|&other| serial_in(slots, other) < serial);
+    for place in first..by_issue.len() {
+        if by_issue[place] == slot {
+            return place;
+        }
+    }
+    unreachable!()
+}
+
+impl<R: Row + Drop> Stored<R> {
+    // No rows.
+    pub(crate) fn new(alloc: Global) -> Stored<R>
+        ensures stored { IsStored R.name R.key R.begun R.IsSound result }
+        ensures rows { stored_rows result ≡ [] }
+    {
+        Stored {
+            slots: SlotVec::new(alloc),
+            by_issue: VecDeque::new(alloc),
+            by_name: Vec::new(alloc),
+            by_first: Vec::new(alloc),
+            by_second: Vec::new(alloc),
+            next: 0,
+        }
+    }
+
+    // Makes room for one more row.
+    pub(crate) fn reserve(&mut self) -> Result<(), NoMemory>
+        requires { IsStored R.name R.key R.begun R.IsSound self.old }
+        ensures stored { IsStored R.name R.key R.begun R.IsSound self.new }
+        ensures rows { stored_rows self.new ≡ stored_rows self.old }
+        ensures room { OnOk result (length (stored_rows self.new) < stored_capacity self.new) }
+        ensures capacity { stored_capacity self.old ≤ stored_capacity self.new }
+    {
+        self.slots.reserve()?;
+        self.by_issue.reserve(1)?;
+        let most = self.by_issue.len() + 1;
+        self.by_name.reserve(most - self.by_name.len())?;
+        self.by_first.reserve(most - self.by_first.len())?;
+        self.by_second.reserve(most - self.by_second.len())?;
+        Ok(())
+    }
+
+    // Adds a row of a new name at the end.
+    pub(crate) fn add(&mut self, row: R)
+        requires stored { IsStored R.name R.key R.begun R.IsSound self.old }
+        requires reserved { length (stored_rows self.old) < stored_capacity self.old }
+        requires few { length (stored_rows self.old) < spec.most_rows }
+        requires unnamed { row_of R.name (R.name row) (stored_rows self.old) ≡ None }
+        requires latest { spec.none_after R.begun (R.begun row) (stored_rows self.old) ≡ true }
+        requires sound { R.IsSound row }
+        ensures stored { IsStored R.name R.key R.begun R.IsSound self.new }
+        ensures rows { stored_rows self.new ≡ stored_rows self.old ++ row ∷ [] }
+        ensures capacity { stored_capacity self.new ≡ stored_capacity self.old }
+    {
+        let serial = self.next;
+        self.next = serial.saturating_add(1);
+        let slot = self.slots.insert_reserved(Issued { serial, row });
+        self.by_issue.push_back_reserved(slot);
+        put_in(&self.slots, &mut self.by_name, By::Name, slot);
+        put_in(&self.slots, &mut self.by_first, By::First, slot);
+        put_in(&self.slots, &mut self.by_second, By::Second, slot);
+    }
+
+    // Takes out the row in a slot.
+    pub(crate) fn remove(&mut self, slot: u32)
+        requires stored { IsStored R.name R.key R.begun R.IsSound self.old }
+        requires there { IsSome (row_at self.old.slots slot) }
+        ensures stored { IsStored R.name R.key R.begun R.IsSound self.new }
+        ensures row { IfSome (row_at self.old.slots slot) (IsRemoved (stored_rows self.old) (stored_rows self.new)) }
+        ensures capacity { stored_capacity self.new ≡ stored_capacity self.old }
+    {
+        take_from(&self.slots, &mut self.by_name, By::Name, slot);
+        take_from(&self.slots, &mut self.by_first, By::First, slot);
+        take_from(&self.slots, &mut self.by_second, By::Second, slot);
+        let place = place_of(&self.slots, &self.by_issue, slot);
+        let _ = self.by_issue.remove(place);
+        self.slots.remove(slot);
+    }
+
+    // Changes the row in a slot.
+    pub(crate) fn change<C: Change<R>>(&mut self, slot: u32, change: &C)
+        requires stored { IsStored R.name R.key R.begun R.IsSound self.old }
+        requires there { IsSome (row_at self.old.slots slot) }
+        ensures stored { IsStored R.name R.key R.begun R.IsSound self.new }
+        ensures row { IfSome (row_at self.old.slots slot) (λ row. IsReplaced (stored_rows self.old) (stored_rows self.new) row (C.changed change.now row)) }
+        ensures capacity { stored_capacity self.new ≡ stored_capacity self.old }
+    {
+        let issued = self.slots.value_mut(slot);
+        change.change(&mut issued.row);
+    }
+
+    // The slot of the row of a name.
+    pub(crate) fn slot_of(&self, name: &[u8]) -> Option<u32>
+        requires { IsStored R.name R.key R.begun R.IsSound self.now }
+        ensures some { IfSome result (λ slot. IsSome (row_at self.now.slots slot) × (row_at self.now.slots slot ≡ row_of R.name name.now (stored_rows self.now))) }
+        ensures none { IfNone result (row_of R.name name.now (stored_rows self.now) ≡ None) }
+    {
+        let place = start(&self.slots, &self.by_name, By::Name, name);
+        let slot = *self.by_name.get(place)?;
+        if is_at(&self.slots, By::Name, slot, name) {
+            Some(slot)
+        } else {
+            None
+        }
+    }
+
+    // The slots of the rows that are found by something, in the order of its bytes.
+    fn index(&self, by: By) -> &[u32]
+        requires { IsStored R.name R.key R.begun R.IsSound self.now }
+        ensures { IsIndex (R.key by) (row_at self.now.slots) result.now }
+    {
+        match by {
+            By::Name => &self.by_name,
+            By::First => &self.by_first,
+            By::Second => &self.by_second,
+        }
+    }
+
+    // The slot of a row that passes the test, if one does.
+    pub(crate) fn passing<T: Test<R>>(&self, test: &T) -> Option<u32>
+        requires { IsStored R.name R.key R.begun R.IsSound self.now }
+        ensures some { IfSome result (λ slot. IsSome (row_at self.now.slots slot) × IfSome (row_at self.now.slots slot) (λ row. T.passes test.now row ≡ true)) }
+        ensures none { IfNone result (list_any (T.passes test.now) (stored_rows self.now) ≡ false) }
+    {
+        let by = test.by();
+        let key = test.key();
+        let index = self.index(by);
+        let first = start(&self.slots, index, by, key);
+        for place in first..index.len() {
+            let slot = index[place];
+            if !is_at(&self.slots, by, slot, key) {
+                return None;
+            }
+            if let Some(row) = row_in(&self.slots, slot)
+                && test.passes(row)
+            {
+                return Some(slot);
+            }
+        }
+        None
+    }
+
+    // Whether a row that lives at the moment passes the test.
+    pub(crate) fn any_live<T: Test<R>>(&self, test: &T, at: Moment) -> bool
+        requires { IsStored R.name R.key R.begun R.IsSound self.now }
+        ensures { result ≡ list_any (T.passes test.now) (live_rows R.LIFE R.begun at (stored_rows self.now)) }
+    {
+        let by = test.by();
+        let key = test.key();
+        let index = self.index(by);
+        let first = start(&self.slots, index, by, key);
+        for place in first..index.len() {
+            let slot = index[place];
+            if !is_at(&self.slots, by, slot, key) {
+                return false;
+            }
+            if let Some(row) = row_in(&self.slots, slot)
+                && is_live(R::LIFE, row.begun(), at)
+                && test.passes(row)
+            {
+                return true;
+            }
+        }
+        false
+    }
+
+    // How many rows live at the moment and pass the test.
+    pub(crate) fn count_live<T: Test<R>>(&self, test: &T, at: Moment) -> u32
+        requires { IsStored R.name R.key R.begun R.IsSound self.now }
+        ensures { result ≡ length (filter (T.passes test.now) (live_rows R.LIFE R.begun at (stored_rows self.now))) }
+    {
+        let by = test.by();
+        let key = test.key();
+        let index = self.index(by);
+        let first = start(&self.slots, index, by, key);
+        let mut count = 0;
+        for place in first..index.len() {
+            let slot = index[place];
+            if !is_at(&self.slots, by, slot, key) {
+                return count;
+            }
+            if let Some(row) = row_in(&self.slots, slot)
+                && is_live(R::LIFE, row.begun(), at)
+                && test.passes(row)
+            {
+                count += 1;
+            }
+        }
+        count
+    }
+
+    // How many rows live at the moment.
+    pub(crate) fn count_all_live(&self, at: Moment) -> u32
+        requires { IsStored R.name R.key R.begun R.IsSound self.now }
+        ensures { result ≡ length (live_rows R.LIFE R.begun at (stored_rows self.now)) }
+    {
+        let mut count = 0;
+        for &slot in &self.by_issue {
+            if let Some(row) = row_in(&self.slots, slot)
+                && is_live(R::LIFE, row.begun(), at)
+            {
+                count += 1;
+            }
+        }
+        count
+    }
+
+    // The slot of a row whose life has ended at the moment, if one's has: that of the first row.
+    pub(crate) fn ended(&self, at: Moment) -> Option<u32>
+        requires { IsStored R.name R.key R.begun R.IsSound self.now }
+        ensures some { IfSome result (λ slot. IsSome (row_at self.now.slots slot) × IfSome (row_at self.now.slots slot) (λ row. lives R.LIFE (R.begun row) at ≡ false)) }
+        ensures none { IfNone result (live_rows R.LIFE R.begun at (stored_rows self.now) ≡ stored_rows self.now) }
+    {
+        let slot = *self.by_issue.front()?;
+        match row_in(&self.slots, slot) {
+            Some(row) if is_live(R::LIFE, row.begun(), at) => None,
+            Some(_) => Some(slot),
+            None => None,
+        }
+    }
+
+    // Takes out the rows that pass the test, and answers their number.
+    pub(crate) fn take_out<T: Test<R>>(&mut self, test: &T) -> u32
+        requires { IsStored R.name R.key R.begun R.IsSound self.old }
+        ensures stored { IsStored R.name R.key R.begun R.IsSound self.new }
+        ensures rows { stored_rows self.new ≡ filter (λ row. not (T.passes test.now row)) (stored_rows self.old) }
+        ensures count { result ≡ length (filter (T.passes test.now) (stored_rows self.old)) }
+        ensures capacity { stored_capacity self.new ≡ stored_capacity self.old }
+    {
+        let mut count = 0;
+        while let Some(slot) = self.passing(test) {
+            self.remove(slot);
+            count += 1;
+        }
+        count
+    }
+
+    // Takes out the rows that do not live at the moment.
+    pub(crate) fn purge(&mut self, at: Moment)
+        requires { IsStored R.name R.key R.begun R.IsSound self.old }
+        ensures stored { IsStored R.name R.key R.begun R.IsSound self.new }
+        ensures rows { stored_rows self.new ≡ live_rows R.LIFE R.begun at (stored_rows self.old) }
+        ensures capacity { stored_capacity self.new ≡ stored_capacity self.old }
+    {
+        while let Some(slot) = self.ended(at) {
+            self.remove(slot);
+        }
+    }
+}
