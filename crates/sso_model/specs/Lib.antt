@@ -1,4 +1,5 @@
 pub mod Founded
 pub mod Lists
 pub mod Machine
+pub mod Named
 pub mod Rows

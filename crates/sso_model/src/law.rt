@@ -1,9 +1,11 @@
 //! Laws of every run of the machine.
 
-ghost use Rattle.std.specs.Prelude.{List};
-ghost use Rattle.sso_model.specs.Rows.{Step};
-ghost use Rattle.sso_model.specs.Machine.{start, after_all, IsRun};
+ghost use Rattle.std.specs.Prelude.{ℕ, List};
+ghost use Rattle.sso_model.specs.Lists.{Has};
+ghost use Rattle.sso_model.specs.Rows.{Live, Machine, Sent, Step, end};
+ghost use Rattle.sso_model.specs.Machine.{start, after, after_all, IsRun};
 ghost use Rattle.sso_model.specs.Founded.{HoldsOnlyFounded, OnceEach};
+ghost use Rattle.sso_model.specs.Named.{IsNamed};
 
 /// After any run, a relying party holds a session for a browser only where that browser began that login there, and the
 /// provider answered its nonce for that session's user, in a browser that had signed in as that user by password.
@@ -15,4 +17,11 @@ pub fn begun_answered_signed()
 /// accepted at most once.
 pub fn once_each()
     ensures { (steps : List Step) → IsRun start steps → OnceEach (after_all start steps) }
+{}
+
+/// A logout message that is accepted ends exactly the sessions that it names: none of those is left, and every other one stays,
+/// also those of other clients and of other users.
+pub fn named_sessions_end()
+    ensures ended { (m : Machine) (message : Sent) (count : ℕ) (row : Live) → IsNamed message row → Has (after m (end message count)).live row → ⊥ }
+    ensures others { (m : Machine) (message : Sent) (count : ℕ) (row : Live) → (IsNamed message row → ⊥) → Has m.live row → Has (after m (end message count)).live row }
 {}

@@ -6,4 +6,4 @@
 
 mod law;
 
-pub use law::{begun_answered_signed, once_each};
+pub use law::{begun_answered_signed, named_sessions_end, once_each};
