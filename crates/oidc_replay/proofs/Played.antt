@@ -45,6 +45,7 @@ use Rattle.web_requests.specs.Arriving.{Arrives}
 use Rattle.web_requests.proofs.Arrivals.{followed_arrives, carried_arrives}
 use Rattle.oidc_replay.specs.Words.{words_after}
 use Rattle.oidc_replay.specs.Sending.{NamesRole, reply_of, location_in, mixed_in, forged_in, followed_on, handed_between, line_sent}
+use Rattle.oidc_replay.specs.Text.{http_at}
 use Rattle.oidc_replay.specs.Play.{Played, with_place, has_room, asked, asked_if, line_played, play_on, play_lines}
 
 -- ---- answers of servers are to questions of the play
@@ -62,9 +63,23 @@ IsHanded world from (Http request) = Unit {0}
 IsHanded world from (Tokens w answer) = Questioned world from w
 IsHanded world from (Info w answer) = Questioned world from w
 
+-- it is what a place of the play printed
+pub record WasPrinted (c : Configuration) (world : World) (answer : Answered) : Type 0 where
+  pub place : Place
+  pub has : Has world place
+  pub told : HttpReply
+  pub printed_is : http_at c place ≡ Some told
+  pub answer_is : answer_in told ≡ answer
+
+abbrev pub IsPrinted : Configuration → World → WorldAsk → Type 0
+IsPrinted c world (Http request) = Unit {0}
+IsPrinted c world (Tokens w answer) = WasPrinted c world answer
+IsPrinted c world (Info w answer) = WasPrinted c world answer
+
 -- What is sent is such, and what its receiver may be asked; and where what is known of the line is so, the receiver is a role.
 pub record IsSent (known : Type 0) (c : Configuration) (world : World) (s : Sent) : Type 0 where
   pub handed : IsHanded world s.from s.ask
+  pub printed : IsPrinted c world s.ask
   pub asks : IsForRole s.to s.ask
   pub role : known → IsRole c s.to
 
@@ -89,7 +104,7 @@ module _ (known : Type 0) (c : Configuration) (world : World) (jars : List JarNo
   Sends o = IfSome o (IsSent known c world)
 
   requested : (from : ℕ) (role : To) (request : Ask) → (known → IsRole c role) → IsSent known c world (sent from role request)
-  requested from role request is_role = record { handed = tt; asks = asks_any role request; role = is_role }
+  requested from role request is_role = record { handed = tt; printed = tt; asks = asks_any role request; role = is_role }
 
   arrived : (from : ℕ) (s : Sent) → Arrives c from s → IsSent known c world s
   arrived from s there = subst (IsSent known c world) (sym there.is) (requested from s.to there.request (λ k. there.role))
@@ -112,7 +127,7 @@ module _ (known : Type 0) (c : Configuration) (world : World) (jars : List JarNo
 
   login_at : (from : ℕ) (user password : Text) (jar : Jar) (o : Option Word) → Sends (option_map (λ turn. form_posted c from login_path (login_form turn user password) jar) o)
   login_at from user password jar None = tt
-  login_at from user password jar (Some turn) = record { handed = tt; asks = tt; role = λ k. tt }
+  login_at from user password jar (Some turn) = record { handed = tt; printed = tt; asks = tt; role = λ k. tt }
 
   login_of : (from : ℕ) (user password : Text) (jar : Jar) (o : Option WorldReply) → Sends (option_and_then (λ told. login_posted c from told user password jar) o)
   unfolding login_posted
@@ -121,7 +136,7 @@ module _ (known : Type 0) (c : Configuration) (world : World) (jars : List JarNo
 
   consent_at : (from : ℕ) (agree : Bool) (jar : Jar) (o : Option Word) → Sends (option_map (λ turn. form_posted c from consent_path (consent_form turn agree) jar) o)
   consent_at from agree jar None = tt
-  consent_at from agree jar (Some turn) = record { handed = tt; asks = tt; role = λ k. tt }
+  consent_at from agree jar (Some turn) = record { handed = tt; printed = tt; asks = tt; role = λ k. tt }
 
   consent_of : (from : ℕ) (agree : Bool) (jar : Jar) (o : Option WorldReply) → Sends (option_and_then (λ told. consent_posted c from told agree jar) o)
   unfolding consent_posted
@@ -143,24 +158,27 @@ module _ (known : Type 0) (c : Configuration) (world : World) (jars : List JarNo
   questioned n from request p w told has is asks =
       record { place = Party n from request p; has = has; holds = ap (asks_under w) is ∙ asks; from_is = refl }
 
-  handed_by : (n from : ℕ) (request : WorldAsk) (p : RpPair) (answer : Answered) (told : RpReply) → Has world (Party n from request p) → p.reply ≡ told → (known → n < length c.parties)
+  handed_by : (n from : ℕ) (request : WorldAsk) (p : RpPair) (answer : Answered) (told : RpReply) → Has world (Party n from request p) → WasPrinted c world answer → p.reply ≡ told → (known → n < length c.parties)
       → Sends (handed from (to.Party n) (reply.Party told) answer)
-  handed_by n from request p answer (rp.Exchange w message) has is low =
-      record { handed = questioned n from request p w (rp.Exchange w message) has is (same w w refl); asks = tt; role = low }
-  handed_by n from request p answer (rp.Fetch w message) has is low =
-      record { handed = questioned n from request p w (rp.Fetch w message) has is (same w w refl); asks = tt; role = low }
-  handed_by n from request p answer told has is low = tt
+  handed_by n from request p answer (rp.Exchange w message) has was is low =
+      record { handed = questioned n from request p w (rp.Exchange w message) has is (same w w refl); printed = was; asks = tt; role = low }
+  handed_by n from request p answer (rp.Fetch w message) has was is low =
+      record { handed = questioned n from request p w (rp.Fetch w message) has is (same w w refl); printed = was; asks = tt; role = low }
+  handed_by n from request p answer told has was is low = tt
 
-  handed_http : (n from : ℕ) (request : WorldAsk) (p : RpPair) (o : Option HttpReply) → Has world (Party n from request p) → (known → n < length c.parties)
-      → Sends (option_and_then (λ h. handed from (to.Party n) (reply.Party p.reply) (answer_in h)) o)
-  handed_http n from request p None has low = tt
-  handed_http n from request p (Some h) has low = handed_by n from request p (answer_in h) p.reply has refl low
+  handed_http : (n from : ℕ) (request : WorldAsk) (p : RpPair) (answering : Place) (o : Option HttpReply) → Has world (Party n from request p) → Has world answering → http_at c answering ≡ o
+      → (known → n < length c.parties) → Sends (option_and_then (λ h. handed from (to.Party n) (reply.Party p.reply) (answer_in h)) o)
+  handed_http n from request p answering None has there is low = tt
+  handed_http n from request p answering (Some h) has there is low =
+      handed_by n from request p (answer_in h) p.reply has (record { place = answering; has = there; told = h; printed_is = is; answer_is = refl }) refl low
 
-  handed_other : (n from : ℕ) (request : WorldAsk) (p : RpPair) (answering : Place) (other : Option To) → Has world (Party n from request p) → (known → n < length c.parties)
-      → Sends (option_and_then (λ role. handed_back c from (to.Party n) (reply.Party p.reply) role (reply_at answering)) other)
+  handed_other : (n from : ℕ) (request : WorldAsk) (p : RpPair) (answering : Place) (other : Option To) → Has world (Party n from request p) → Has world answering → role_at answering ≡ other
+      → (known → n < length c.parties) → Sends (option_and_then (λ role. handed_back c from (to.Party n) (reply.Party p.reply) role (reply_at answering)) other)
   unfolding handed_back
-  handed_other n from request p answering None has low = tt
-  handed_other n from request p answering (Some role) has low = handed_http n from request p (printed c role (reply_at answering)) has low
+  handed_other n from request p answering None has there is low = tt
+  handed_other n from request p answering (Some role) has there is low =
+      let P : Option To → Option HttpReply = λ o. option_and_then (λ r. printed c r (reply_at answering)) o in
+      handed_http n from request p answering (printed c role (reply_at answering)) has there (ap P is) low
 
   no_hand : (from : ℕ) (told : WorldReply) (o : Option HttpReply) → Sends (option_and_then (λ h. handed from to.Provider told (answer_in h)) o)
   no_hand from told None = tt
@@ -171,21 +189,21 @@ module _ (known : Type 0) (c : Configuration) (world : World) (jars : List JarNo
   provider_hands from told answering None = tt
   provider_hands from told answering (Some role) = no_hand from told (printed c role (reply_at answering))
 
-  handed_from : (asking answering : Place) → Has world asking → (known → IsAsked c asking) → Sends (handed_between c asking answering)
-  handed_from (Provider from request p) answering has prepared = provider_hands from (reply.Provider p.reply) answering (role_at answering)
-  handed_from (Party n from request p) answering has prepared = handed_other n from request p answering (role_at answering) has (λ k. (prepared k).0)
-  handed_from Nothing answering has prepared = tt
+  handed_from : (asking answering : Place) → Has world asking → Has world answering → (known → IsAsked c asking) → Sends (handed_between c asking answering)
+  handed_from (Provider from request p) answering has there prepared = provider_hands from (reply.Provider p.reply) answering (role_at answering)
+  handed_from (Party n from request p) answering has there prepared = handed_other n from request p answering (role_at answering) has there refl (λ k. (prepared k).0)
+  handed_from Nothing answering has there prepared = tt
 
-  handed_to : (asking : Place) (o : Option Place) → Has world asking → (known → IsAsked c asking) → Sends (option_and_then (handed_between c asking) o)
-  handed_to asking None has prepared = tt
-  handed_to asking (Some answering) has prepared = handed_from asking answering has prepared
+  handed_to : (asking : Place) (answer : ℕ) (o : Option Place) → Has world asking → place_at world answer ≡ o → (known → IsAsked c asking) → Sends (option_and_then (handed_between c asking) o)
+  handed_to asking answer None has is prepared = tt
+  handed_to asking answer (Some answering) has is prepared = handed_from asking answering has (found world answer answering is) prepared
 
   handed_of : (place answer : ℕ) (o : Option Place) → (known → AllByRecursion (IsAsked c) world) → place_at world place ≡ o
       → Sends (option_and_then (λ asking. option_and_then (handed_between c asking) (place_at world answer)) o)
   handed_of place answer None prepared is = tt
   handed_of place answer (Some asking) prepared is =
       let has : Has world asking = found world place asking is in
-      handed_to asking (place_at world answer) has (λ k. all_has (IsAsked c) world asking (prepared k) has)
+      handed_to asking answer (place_at world answer) has refl (λ k. all_has (IsAsked c) world asking (prepared k) has)
 
 -- ---- all lines
 
@@ -195,10 +213,10 @@ IsKnown c world line = NamesRole c line × AllByRecursion (IsAsked c) world
 
 pub lines_send : (c : Configuration) (world : World) (jars : List JarNote) (line : Line) → IfSome (line_sent c world jars line) (IsSent (IsKnown c world line) c world)
 unfolding raw_sent
-lines_send c world jars (Begin from party) = record { handed = tt; asks = tt; role = λ k. k.0 }
-lines_send c world jars (Visit from party) = record { handed = tt; asks = tt; role = λ k. k.0 }
-lines_send c world jars (Leave from party) = record { handed = tt; asks = tt; role = λ k. k.0 }
-lines_send c world jars (SignOut from) = record { handed = tt; asks = tt; role = λ k. tt }
+lines_send c world jars (Begin from party) = record { handed = tt; printed = tt; asks = tt; role = λ k. k.0 }
+lines_send c world jars (Visit from party) = record { handed = tt; printed = tt; asks = tt; role = λ k. k.0 }
+lines_send c world jars (Leave from party) = record { handed = tt; printed = tt; asks = tt; role = λ k. k.0 }
+lines_send c world jars (SignOut from) = record { handed = tt; printed = tt; asks = tt; role = λ k. tt }
 lines_send c world jars (Follow from place) = led (IsKnown c world (Follow from place)) c world jars from (location_in c world place)
 lines_send c world jars (Mix from place name other) = led (IsKnown c world (Mix from place name other)) c world jars from (mixed_in c world place name other)
 lines_send c world jars (Forge from place user) = led (IsKnown c world (Forge from place user)) c world jars from (forged_in c world place user)
@@ -207,7 +225,7 @@ lines_send c world jars (Login from place user password) =
 lines_send c world jars (Consent from place agree) = consent_of (IsKnown c world (Consent from place agree)) c world jars from agree (jar_of jars from to.Provider) (reply_of world place)
 lines_send c world jars (Carry place message) = carried_of (IsKnown c world (Carry place message)) c world jars message (reply_of world place)
 lines_send c world jars (Back place answer) = handed_of (IsKnown c world (Back place answer)) c world jars place answer (place_at world place) (λ k. k.1) refl
-lines_send c world jars (Raw from role method target first second auth body) = record { handed = tt; asks = asks_any role _; role = λ k. k.0 }
+lines_send c world jars (Raw from role method target first second auth body) = record { handed = tt; printed = tt; asks = asks_any role _; role = λ k. k.0 }
 lines_send c world jars (At seconds) = tt
 lines_send c world jars (Steal thief owner) = tt
 lines_send c world jars (Show place) = tt
@@ -220,6 +238,7 @@ pub record IsPartyPlace (c : Configuration) (seed : List ℕ) (world : World) (n
   pub asked : p.entry.ask ≡ party_prepared c n request
   pub answered : p.reply ≡ rp_answer (setup_at (own_site c) n) (rp_past n world) p.entry
   pub handed : IsHanded world from request
+  pub printed : IsPrinted c world request
 
 abbrev pub IsPlaced : Configuration → List ℕ → World → Place → Type 0
 IsPlaced c seed world (Provider from request p) = p.entry.fresh ≡ words_after seed (length world)
@@ -246,11 +265,11 @@ no_more c seed count world old =
     let few : length world ≤ count = old.few in
     record { places = old.places; few = omega arith }
 
-stepped_placed : (c : Configuration) (seed : List ℕ) (from : ℕ) (role : To) (at : ℕ) (ask : WorldAsk) (world : World) → IsHanded world from ask → IsPlaced c seed world (stepped (own_site c) from role at (words_after seed (length world)) ask world)
-stepped_placed c seed from to.Provider at (Http request) world handed = refl
-stepped_placed c seed from to.Provider at (Tokens w answer) world handed = tt
-stepped_placed c seed from to.Provider at (Info w answer) world handed = tt
-stepped_placed c seed from (to.Party n) at ask world handed = record { fresh = refl; asked = refl; answered = refl; handed = handed }
+stepped_placed : (c : Configuration) (seed : List ℕ) (from : ℕ) (role : To) (at : ℕ) (ask : WorldAsk) (world : World) → IsHanded world from ask → IsPrinted c world ask → IsPlaced c seed world (stepped (own_site c) from role at (words_after seed (length world)) ask world)
+stepped_placed c seed from to.Provider at (Http request) world handed was = refl
+stepped_placed c seed from to.Provider at (Tokens w answer) world handed was = tt
+stepped_placed c seed from to.Provider at (Info w answer) world handed was = tt
+stepped_placed c seed from (to.Party n) at ask world handed was = record { fresh = refl; asked = refl; answered = refl; handed = handed; printed = was }
 
 module _ (c : Configuration) (seed : List ℕ) (count : ℕ) where
   asked_played : (known : Type 0) (play : Played) (s : Sent) → HasPlayed c seed count play.world → IsSent known c play.world s → HasPlayed c seed (suc count) (asked c seed play s).world
@@ -258,7 +277,7 @@ module _ (c : Configuration) (seed : List ℕ) (count : ℕ) where
       let x : Place = stepped (own_site c) s.from s.to play.at (words_after seed (length play.world)) s.ask play.world in
       let H : Bool → Type 0 = λ b. HasPlayed c seed (suc count) (cond b (with_place play x) (record play { ended = Some (suc (length play.world)) })).world in
       elim (bool_cases (has_room c play.world s)) [
-        | inl room ↦ subst H (sym room) (one_more c seed count play.world x old (stepped_placed c seed s.from s.to play.at s.ask play.world is.handed))
+        | inl room ↦ subst H (sym room) (one_more c seed count play.world x old (stepped_placed c seed s.from s.to play.at s.ask play.world is.handed is.printed))
         | inr full ↦ subst H (sym full) (no_more c seed count play.world old)
       ]
 

@@ -1,3 +1,4 @@
+pub mod Bound
 pub mod End
 pub mod Play
 pub mod Sending

@@ -22,6 +22,9 @@ mod sending;
 mod text;
 mod words;
 
-pub use law::{plays_are_distinct_and_joined, plays_have_the_places_of_their_lines};
+pub use law::{
+    plays_are_distinct_and_joined, plays_have_the_places_of_their_lines, tokens_that_are_read_were_given,
+    user_info_is_asked_for_with_hashed_tokens,
+};
 pub use replaying::{ReplayEnd, Replayed, replay};
 pub use trace_lines::{Trace, TraceNo, read_trace};
