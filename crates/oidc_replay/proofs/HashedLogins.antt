@@ -35,13 +35,13 @@ use Rattle.rp_answer.specs.Setup.{PartySetup}
 use Rattle.rp_answer.proofs.Hashes.{access_tokens_have_their_hash}
 use Rattle.sso_places.specs.declared.types.WorldAsk.{WorldAsk}
 use Rattle.sso_places.specs.declared.types.WorldReply.TheVariants as reply
-use Rattle.sso_places.specs.Binding.{AsksForInfo, AccessTokensAreBound}
+use Rattle.sso_places.specs.Binding.{AsksForInfo, AccessTokensAreBound, IsBound}
 use Rattle.sso_places.specs.Legal.{IsLegalWorld}
 use Rattle.sso_places.specs.Site.{own_site, setup_at, types_at}
 use Rattle.sso_places.specs.World.{Place, Provider, Party, Nothing, World, op_past, rp_past, reply_at}
 use Rattle.sign_on.proofs.AskKinds.{IsTokens, as_tokens}
 use Rattle.web_requests.specs.Handing.{answer_in, printed}
-use Rattle.oidc_replay.specs.Bound.{GivesTokens, AsksWithToken, EachAccessTokenIsBound}
+use Rattle.oidc_replay.specs.Bound.{GivesTokens, AsksWithToken, EachAccessTokenIsBound, IsWhollyBound}
 use Rattle.oidc_replay.specs.Text.{http_at}
 use Rattle.oidc_replay.proofs.IssuedHashes.{tokens_have_hash}
 use Rattle.oidc_replay.proofs.Played.{WasPrinted, IsPrinted, IsPartyPlace, IsPlaced, IsPlayed}
@@ -178,8 +178,11 @@ module _ (c : Configuration) (seed : List ℕ) (world : World) (registry : IsReg
       let found : IsHashed c n p = asked_hashed n from request p asks.word asks.message has asks.replied in
       record { came = asks.came; claims = found.claims; judged = found.judged; hash = found.hash; word = asks.word; message = asks.message; replied = asks.replied }
 
-  pub each_bound : AccessTokensAreBound (own_site c) world → EachAccessTokenIsBound (own_site c) world
+  each_bound : AccessTokensAreBound (own_site c) world → EachAccessTokenIsBound (own_site c) world
   each_bound bound n from request p later earlier id access parts asks informed =
       let H : World → Type 0 = λ z. Has z (Party n from request p) in
       let has : Has world (Party n from request p) = subst H (sym parts) (has_append_right later (Party n from request p ∷ earlier) (Party n from request p) (inl refl)) in
       bound n from request p later earlier id access parts (asks_hashed n from request p id access has asks) informed
+
+  pub wholly_bound : IsBound (own_site c) world → IsWhollyBound (own_site c) world
+  wholly_bound bound = record { codes = bound.codes; access_tokens = each_bound bound.access_tokens }

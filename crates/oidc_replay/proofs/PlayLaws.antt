@@ -5,7 +5,9 @@ use Rattle.std.proofs.lemmas.List.{length-reverse, length-take, reverse-append, 
 use Rattle.std.proofs.Math.Seq.{take-suc}
 use Rattle.sso_base.specs.Words.{Text}
 use Rattle.client_registry.specs.Configuration.{Configuration}
+use Rattle.client_registry.specs.Registered.{IsRegistry}
 use Rattle.sso_places.specs.declared.types.Broken.{Broken}
+use Rattle.sso_places.specs.Binding.{IsBound}
 use Rattle.sso_places.specs.FirstBroken.{first_broken, IsUnbroken}
 use Rattle.sso_places.specs.Premises.{HasDistinctWords, IsJoined}
 use Rattle.sso_places.specs.Site.{own_site}
@@ -17,12 +19,14 @@ use Rattle.trace_lines.specs.declared.line.Line.{Line}
 use Rattle.trace_lines.specs.Trace.{Told}
 use Rattle.oidc_replay.specs.declared.replaying.ReplayEnd.{ReplayEnd}
 use Rattle.oidc_replay.specs.declared.replaying.ReplayEnd.TheVariants as end
+use Rattle.oidc_replay.specs.Bound.{IsWhollyBound}
 use Rattle.oidc_replay.specs.Play.{Played, Playing, played_of, play_on, play_lines, play_of}
 use Rattle.oidc_replay.specs.End.{ended_by, play_end, end_of}
 use Rattle.oidc_replay.specs.Text.{line_told, lines_told, end_line, text_of}
 use Rattle.oidc_replay.specs.Theorem.{PlaysWell}
 use Rattle.oidc_replay.proofs.Played.{HasPlayed, lines_played}
 use Rattle.oidc_replay.proofs.Distinct.{play_distinct}
+use Rattle.oidc_replay.proofs.HashedLogins.{wholly_bound}
 use Rattle.oidc_replay.proofs.Joined.{play_joined}
 
 pub distinct : (c : Configuration) (seed : List ℕ) (lines : List Line) → length lines < 2 ^ 60 → HasDistinctWords (play_lines c seed lines).world
@@ -96,9 +100,9 @@ none_fails None (Some broken) is = absurd (cc)
 none_fails (Some place) broken is = absurd (cc)
 
 pub plays_well : (c : Configuration) (told : Told) (play : Playing) → TheoremHolds (own_site play.running.registry) (world_of play.running) → play.running.registry ≡ c → played_of play ≡ play_lines c told.seed told.lines
-    → length told.lines < 2 ^ 60 → PlaysWell c told
+    → length told.lines < 2 ^ 60 → IsRegistry c → PlaysWell c told
 unfolding play_of end_of
-plays_well c told play holds registry played few =
+plays_well c told play holds registry played few read =
     let whole : Played = play_lines c told.seed told.lines in
     let W : World = whole.world in
     let world : world_of play.running ≡ W = ap (λ (p : Played). p.world) played in
@@ -106,11 +110,12 @@ plays_well c told play holds registry played few =
     let theorem : TheoremHolds (own_site c) W = subst (TheoremHolds (own_site c)) world own in
     let apart : HasDistinctWords W = distinct c told.seed told.lines few in
     let answered : IsJoined W = joined c told.seed told.lines few in
+    let wholly : IsBound (own_site c) W → IsWhollyBound (own_site c) W = wholly_bound c told.seed W read theorem.legal (lines_played c told.seed told.lines).places in
     record {
       legal = theorem.legal;
       signs = λ unforged unleaked. theorem.signs apart unleaked unforged answered;
-      binds = λ unforged unleaked hashes. theorem.binds apart unleaked unforged answered hashes;
+      binds = λ unforged unleaked hashes. wholly (theorem.binds apart unleaked unforged answered hashes);
       met = λ is.
           (let unbroken : IsUnbroken (own_site c) W = none_broken (own_site c) W (none_fails whole.ended (first_broken (own_site c) W) is) in
-          (theorem.signs apart unbroken.unleaked unbroken.unforged answered, theorem.binds apart unbroken.unleaked unbroken.unforged answered unbroken.hashes));
+          (theorem.signs apart unbroken.unleaked unbroken.unforged answered, wholly (theorem.binds apart unbroken.unleaked unbroken.unforged answered unbroken.hashes)));
     }

@@ -1,5 +1,5 @@
--- Access tokens in a play are bound to the ID Tokens beside which they came: in a play each of these ID Tokens has an `at_hash`, so
--- no claim of them is asked for (OpenID Connect Core 1.0, 3.1.3.6, 3.1.3.8 and 3.2.2.9).
+-- In a play codes are bound, and each access token is, whatever claims the ID Token has beside which it came: in a play that ID Token
+-- always has an `at_hash` (OpenID Connect Core 1.0, 3.1.3.6, 3.1.3.8 and 3.2.2.9).
 use Rattle.std.specs.Prelude.{◌≡◌, ℕ, ◌∷◌, ◌++◌}
 use Rattle.sso_base.specs.Words.{Word, Text, word_text}
 use Rattle.sso_base.specs.declared.message.Message.{Message}
@@ -10,7 +10,7 @@ use Rattle.rp_answer.specs.Past.{RpPair}
 use Rattle.sso_places.specs.declared.types.WorldAsk.{WorldAsk}
 use Rattle.sso_places.specs.declared.types.WorldReply.{WorldReply}
 use Rattle.sso_places.specs.declared.types.WorldReply.TheVariants.{Provider as ProviderReply}
-use Rattle.sso_places.specs.Binding.{HasAccessBeside, IsReplied, CameTogether, IsInformed}
+use Rattle.sso_places.specs.Binding.{HasAccessBeside, IsReplied, CodesAreBound, CameTogether, IsInformed}
 use Rattle.sso_places.specs.Site.{Site, setup_at}
 use Rattle.sso_places.specs.World.{World, Party}
 
@@ -32,3 +32,7 @@ EachAccessTokenIsBound s world =
     (n from : ℕ) (request : WorldAsk) (p : RpPair) (later earlier : World) (id access : Text)
     → world ≡ later ++ Party n from request p ∷ earlier
     → AsksWithToken s n p id access → IsInformed world access → IsReplied (HasAccessBeside id access) earlier
+
+pub record IsWhollyBound (s : Site) (world : World) : Type 0 where
+  pub codes : CodesAreBound s world
+  pub access_tokens : EachAccessTokenIsBound s world

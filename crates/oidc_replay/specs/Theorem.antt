@@ -1,17 +1,17 @@
 -- The sign-on theorem of a play: its world is legal, and where no token text is forged in it and no cookie leaks, its reading is a run
 -- of the sign-on machine at every prefix, and the machine's live rows are the sessions of the parties. Where also no two half digests
--- are the same, codes and access tokens are bound. That its words are distinct and its answers joined is so of every play. A play that
+-- are the same, codes and all access tokens are bound. That its words are distinct and its answers joined is so of every play. A play that
 -- ends with no premise that fails needs none.
 use Rattle.std.specs.Prelude.{◌≡◌}
 use Rattle.client_registry.specs.Configuration.{Configuration}
 use Rattle.sso_places.specs.Agreement.{SignsOn}
-use Rattle.sso_places.specs.Binding.{IsBound}
 use Rattle.sso_places.specs.Legal.{IsLegalWorld}
 use Rattle.sso_places.specs.Premises.{HasDistinctHashes, IsUnforged, IsUnleaked}
 use Rattle.sso_places.specs.Site.{own_site}
 use Rattle.sso_places.specs.World.{World}
 use Rattle.trace_lines.specs.Trace.{Told}
 use Rattle.oidc_replay.specs.declared.replaying.ReplayEnd.TheVariants as end
+use Rattle.oidc_replay.specs.Bound.{IsWhollyBound}
 use Rattle.oidc_replay.specs.End.{end_of}
 use Rattle.oidc_replay.specs.Play.{play_of}
 
@@ -23,5 +23,5 @@ pub record PlaysWell (c : Configuration) (told : Told) : Type 0 where
   pub legal : IsLegalWorld (own_site c) (world_played c told)
   pub signs : IsUnforged (own_site c) (world_played c told) → IsUnleaked (world_played c told) → SignsOn (own_site c) (world_played c told)
   pub binds : IsUnforged (own_site c) (world_played c told) → IsUnleaked (world_played c told) → HasDistinctHashes (world_played c told)
-      → IsBound (own_site c) (world_played c told)
-  pub met : end_of c told ≡ end.Met → SignsOn (own_site c) (world_played c told) × IsBound (own_site c) (world_played c told)
+      → IsWhollyBound (own_site c) (world_played c told)
+  pub met : end_of c told ≡ end.Met → SignsOn (own_site c) (world_played c told) × IsWhollyBound (own_site c) (world_played c told)

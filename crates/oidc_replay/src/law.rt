@@ -14,7 +14,6 @@ ghost use Rattle.rp_exchange.specs.declared.reply.RpReply.TheVariants as rp;
 ghost use Rattle.rp_answer.specs.Past.{RpPair};
 ghost use Rattle.rp_answer.specs.Asked.{claims_judged};
 ghost use Rattle.sso_places.specs.declared.types.WorldAsk.{WorldAsk};
-ghost use Rattle.sso_places.specs.Binding.{AccessTokensAreBound};
 ghost use Rattle.sso_places.specs.Legal.{IsLegalWorld};
 ghost use Rattle.sso_places.specs.Premises.{HasDistinctWords, IsJoined};
 ghost use Rattle.sso_places.specs.Site.{own_site, types_at};
@@ -22,7 +21,7 @@ ghost use Rattle.sso_places.specs.World.{Place, Party, World, reply_at};
 ghost use Rattle.trace_lines.specs.Lines.{places_after};
 ghost use Rattle.trace_lines.specs.Trace.{Told};
 ghost use Rattle.web_requests.specs.Handing.{answer_in};
-ghost use Rattle.oidc_replay.specs.Bound.{GivesTokens, EachAccessTokenIsBound};
+ghost use Rattle.oidc_replay.specs.Bound.{GivesTokens};
 ghost use Rattle.oidc_replay.specs.Play.{play_of};
 ghost use Rattle.oidc_replay.specs.Text.{http_at};
 
@@ -47,8 +46,7 @@ pub fn tokens_that_are_read_were_given()
 
 /// In a play the last ID Token of a login that asks for UserInfo has an `at_hash`: that of an authorization response must have it
 /// (OpenID Connect Core 1.0, 3.2.2.9), and that of a token response is the provider's own, which always has it (3.1.3.6), since in a
-/// play a party is handed what was printed. So access tokens are bound whatever claims their ID Tokens have.
+/// play a party is handed what was printed.
 pub fn user_info_is_asked_for_with_hashed_tokens()
-    ensures hashed { (c : Configuration) (told : Told) → IsRegistry c → IsLegalWorld (own_site c) (play_of c told).world → (n from : ℕ) (request : WorldAsk) (p : RpPair) (word : Word) (message : Message) (claims : IdClaims) → Has (play_of c told).world (Party n from request p) → p.reply ≡ rp.Fetch word message → claims_judged (types_at (own_site c) n) p.entry.ask ≡ Some claims → is_some claims.at_hash ≡ true }
-    ensures bound { (c : Configuration) (told : Told) → IsRegistry c → IsLegalWorld (own_site c) (play_of c told).world → AccessTokensAreBound (own_site c) (play_of c told).world → EachAccessTokenIsBound (own_site c) (play_of c told).world }
+    ensures { (c : Configuration) (told : Told) → IsRegistry c → IsLegalWorld (own_site c) (play_of c told).world → (n from : ℕ) (request : WorldAsk) (p : RpPair) (word : Word) (message : Message) (claims : IdClaims) → Has (play_of c told).world (Party n from request p) → p.reply ≡ rp.Fetch word message → claims_judged (types_at (own_site c) n) p.entry.ask ≡ Some claims → is_some claims.at_hash ≡ true }
 {}

@@ -1,6 +1,7 @@
 // The play of a trace.
 
 ghost use Rattle.std.specs.Prelude.{◌≡◌, ◌<◌, ◌^◌, length, option_copied, option_map, option_and_then, None, Some, IfOk, IfErr, IfSome, OnOk};
+ghost use Rattle.client_registry.specs.Registered.{IsRegistry};
 ghost use Rattle.sso_places.specs.FirstBroken.{first_broken};
 ghost use Rattle.sso_places.specs.Site.{own_site};
 ghost use Rattle.sso_places.specs.World.{Nothing, place_at, role_at, reply_at};
@@ -45,7 +46,10 @@ impl Play {
         ensures registry { IfOk result (λ p. p.running.registry ≡ registry) }
         ensures seed { IfOk result (λ p. p.seed ≡ seed) }
         ensures played { IfOk result (λ p. spec.played_of p ≡ spec.nothing_played) }
+        ensures read { IsRegistry registry }
     {
+        // What every registry keeps is known where a part of it is read.
+        let _parties = registry.parties();
         Ok(Play {
             seed,
             world: World::new(alloc, registry)?,

@@ -25,7 +25,6 @@ use Rattle.jws_compact.proofs.OnLiterals.{jws_on_literals}
 use Rattle.jws_compact.specs.Names.{jws_name}
 use Rattle.sso_places.specs.declared.types.Broken.TheVariants.{Leaked}
 use Rattle.sso_places.specs.Agreement.{SignsOn}
-use Rattle.sso_places.specs.Binding.{IsBound}
 use Rattle.sso_places.specs.Site.{own_site}
 use Rattle.sso_places.specs.World.{Place, Party, World}
 use Rattle.trace_lines.specs.declared.no.TraceNo.TheVariants as no
@@ -34,6 +33,7 @@ use Rattle.oidc_replay.specs.declared.replaying.ReplayEnd.TheVariants as end
 use Rattle.oidc_replay.specs.Play.{play_of}
 use Rattle.oidc_replay.specs.End.{end_of}
 use Rattle.oidc_replay.specs.Text.{text_of}
+use Rattle.oidc_replay.specs.Bound.{IsWhollyBound}
 use Rattle.oidc_replay.specs.Theorem.{PlaysWell}
 use Rattle.discovery_doc.specs.Reading.{discovery_read}
 use Rattle.op_exchange.specs.declared.ask.OpAsk.{OpAsk}
@@ -229,7 +229,7 @@ no_place : (later earlier : World) (x : Place) → [] ≡ later ++ x ∷ earlier
 no_place [] earlier x is = absurd (cc)
 no_place (y ∷ later) earlier x is = absurd (cc)
 
-nothing_is_bound : IsBound (own_site configuration) []
+nothing_is_bound : IsWhollyBound (own_site configuration) []
 nothing_is_bound =
     record {
       codes = λ n from request p later earlier id code is exchanged redeemed. absurd (no_place later earlier (Party n from request p) is);

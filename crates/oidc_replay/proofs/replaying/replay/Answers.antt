@@ -75,4 +75,4 @@ returns-clause-well c =
     always c.finish.result (plays_well c.args.registry c.args.trace.now c.loop-line.play c.theorem.ensures c.loop-line.invariant.registry
     (all_played c.args.registry c.args.trace.now c.lines-line-items.result.now c.loop-line.line-index (omega (arith, c.loop-line-test.false)) c.lines-line-items.ensures
     (played_of c.loop-line.play) c.loop-line.invariant.played)
-    (omega (arith, few)))
+    (omega (arith, few)) c.in_ok-play.ensures.read)
