@@ -1,13 +1,29 @@
 -- The definitions of a play, computed on short traces over a small registry.
-use Rattle.std.proofs.Common.{◌≡◌, ℕ, List, [], ◌∷◌, ◌++◌, Some, None, codes, refl}
+use Rattle.std.proofs.Common.{◌≡◌, ℕ, List, [], ◌∷◌, ◌++◌, Some, None, Ok, codes, inl, inr, refl, sym, subst}
 use Rattle.std.specs.Fmt.{digits}
+use Rattle.sso_base.specs.Words.{Text, word_text}
+use Rattle.sso_base.specs.declared.http.Ask.{Ask}
 use Rattle.sso_base.specs.declared.http.Method.TheVariants.{Get}
+use Rattle.sso_base.specs.declared.message.Message.{Message}
+use Rattle.token_endpoint.specs.declared.reading.Tokens.{Tokens}
+use Rattle.userinfo.specs.declared.header.Bearer.TheVariants.{Given}
+use Rattle.op_exchange.specs.declared.ask.OpAsk.TheVariants as op_ask
+use Rattle.op_exchange.specs.declared.reply.OpReply.TheVariants as op
+use Rattle.rp_exchange.specs.declared.ask.RpAsk.TheVariants as rp_ask
+use Rattle.rp_exchange.specs.declared.reply.RpReply.{RpReply}
+use Rattle.rp_exchange.specs.declared.reply.RpReply.TheVariants as rp
 use Rattle.rp_request.specs.Prepared.{prepared}
 use Rattle.rp_response.specs.Lines.{line_of as rp_line}
 use Rattle.rp_answer.specs.Answering.{rp_answer}
-use Rattle.rp_answer.proofs.Sample.{sample}
+use Rattle.rp_answer.specs.Past.{RpPair}
+use Rattle.rp_answer.proofs.Sample.{sample, word, words, entry_at, pair_of}
 use Rattle.sso_places.specs.declared.types.Broken.TheVariants.{Forged, Leaked, HashClash}
 use Rattle.sso_places.specs.declared.types.To.TheVariants as to
+use Rattle.sso_places.specs.declared.types.WorldAsk.TheVariants.{Http}
+use Rattle.sso_places.specs.declared.types.WorldReply.TheVariants as reply
+use Rattle.sso_places.specs.Binding.{HasAccessBeside, IsInformed, IsReplied}
+use Rattle.sso_places.specs.Site.{own_site}
+use Rattle.sso_places.specs.World.{Place, Provider, Party, Nothing, World}
 use Rattle.trace_lines.specs.declared.line.Line.{Line}
 use Rattle.trace_lines.specs.declared.line.Line.TheVariants.{At, Steal, Show, Begin, Follow, Visit, Carry, Back, Raw}
 use Rattle.trace_lines.specs.declared.line.Shown.TheVariants as shown
@@ -18,6 +34,7 @@ use Rattle.web_requests.specs.Locations.{location_of}
 use Rattle.web_requests.specs.Raw.{raw_sent}
 use Rattle.oidc_replay.specs.declared.replaying.ReplayEnd.TheVariants as end
 use Rattle.oidc_replay.specs.Words.{word_at, words_after}
+use Rattle.oidc_replay.specs.Bound.{GivesTokens, AsksWithToken, EachAccessTokenIsBound}
 use Rattle.oidc_replay.specs.Play.{Played, play_on, play_of}
 use Rattle.oidc_replay.specs.End.{end_of}
 use Rattle.oidc_replay.specs.Text.{end_line, text_of}
@@ -96,3 +113,71 @@ over = record { world = []; jars = []; at = 0; ended = Some 1 }
 
 nothing_more : play_on sample zeros over (Visit 1 0) ≡ over
 nothing_more = refl
+
+-- ---- tokens that a reply gives
+
+abbrev came : Text → Tokens
+came id = record { access = word_text (word 21); id = id }
+
+gives_its_own : GivesTokens (reply.Provider (op.Tokens (word 21) (codes "id"))) (came (codes "id"))
+gives_its_own = (refl, refl)
+
+gives_no_other : GivesTokens (reply.Provider (op.Tokens (word 21) (codes "id"))) (came []) → ⊥
+gives_no_other h = let never : codes "id" ≡ [] = h.1 in absurd (cc)
+
+keys_give_none : GivesTokens (reply.Provider op.Keys) (came (codes "id")) → ⊥
+keys_give_none h = h
+
+-- ---- an access token with which UserInfo is asked for
+
+abbrev got : Ask
+got = record { method = Get; path = codes "/"; query = []; first = None; second = None; auth = None; body = None }
+
+abbrev message : Message
+message = record { to = codes "/userinfo"; auth = None; body = None }
+
+abbrev answered : RpReply → RpPair
+answered told = pair_of (entry_at 1000 25 (rp_ask.Tokens (word 17) (Ok (came (codes "id"))) None)) told
+
+asks : AsksWithToken (own_site sample) 0 (answered (rp.Fetch (word 17) message)) (codes "id") (word_text (word 21))
+asks = record { came = (refl, refl); word = word 17; message = message; replied = refl }
+
+enters : AsksWithToken (own_site sample) 0 (answered (rp.Entered (word 26) (codes "alice"))) (codes "id") (word_text (word 21)) → ⊥
+enters h = let never : rp.Entered (word 26) (codes "alice") ≡ rp.Fetch h.word h.message = h.replied in absurd (cc)
+
+-- UserInfo is answered for it, and it stood in no reply
+abbrev informing : Place
+informing = Provider 0 got (record { entry = record { at = 1000; fresh = words 29; ask = op_ask.Info (Given (word 21)) }; reply = op.Info (codes "{}") })
+
+abbrev unanswered : World
+unanswered = Party 0 1 (Http got) (answered (rp.Fetch (word 17) message)) ∷ informing ∷ []
+
+informed : IsInformed unanswered (word_text (word 21))
+informed =
+    record {
+      from = 0;
+      request = got;
+      pair = record { entry = record { at = 1000; fresh = words 29; ask = op_ask.Info (Given (word 21)) }; reply = op.Info (codes "{}") };
+      has = inr (inl refl);
+      w = word 21;
+      asked = refl;
+      access_is = refl;
+      claims = codes "{}";
+      replied = refl;
+    }
+
+abbrev StandsBeside : Place → Type 0
+StandsBeside (Provider from request p) = HasAccessBeside (codes "id") (word_text (word 21)) p.reply
+StandsBeside (Party n from request p) = ⊥
+StandsBeside Nothing = ⊥
+
+not_beside : IsReplied (HasAccessBeside (codes "id") (word_text (word 21))) (informing ∷ []) → ⊥
+not_beside h =
+    elim h.has [
+      | inl same ↦ subst StandsBeside (sym same) h.replied
+      | inr has ↦ has
+    ]
+
+unbound : EachAccessTokenIsBound (own_site sample) unanswered → ⊥
+unbound bound =
+    not_beside (bound 0 1 (Http got) (answered (rp.Fetch (word 17) message)) [] (informing ∷ []) (codes "id") (word_text (word 21)) refl asks informed)

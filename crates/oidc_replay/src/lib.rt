@@ -11,7 +11,7 @@
 //! | `sending` | what a line sends | `Sending` |
 //! | `play` | the play of lines | `Play` |
 //! | `text` | what lines print | `Text` |
-//! | `replaying` | [`replay`], and how a play ends | `End`, `Theorem` |
+//! | `replaying` | [`replay`], and how a play ends | `End`, `Theorem`, `Bound` |
 //! | `law` | what holds of every play, for the crates above | |
 #![tactic(auto)]
 
@@ -23,8 +23,8 @@ mod text;
 mod words;
 
 pub use law::{
-    plays_are_distinct_and_joined, plays_have_the_places_of_their_lines, tokens_that_are_read_were_given,
-    user_info_is_asked_for_with_hashed_tokens,
+    plays_are_distinct_and_joined, plays_have_the_places_of_their_lines,
+    tokens_that_are_read_were_given, user_info_is_asked_for_with_hashed_tokens,
 };
 pub use replaying::{ReplayEnd, Replayed, replay};
 pub use trace_lines::{Trace, TraceNo, read_trace};

@@ -87,7 +87,7 @@ fn finish(alloc: Global, play: &Play, mut out: String) -> Result<Replayed, NoMem
 /// The text has a line for each place, one for each place that is shown, and a last one for the end. The world that is played is
 /// legal. Its reading is a run of the sign-on machine at every prefix, and its live rows are the sessions of the parties, wherever no
 /// token text is forged in it and no cookie leaks, also where half digests clash or a history had no more room. Where none clash,
-/// codes and access tokens are bound. All this is so where the play ends as [`ReplayEnd::Met`].
+/// codes and all access tokens are bound. All this is so where the play ends as [`ReplayEnd::Met`].
 #[tactic(auto, unfolding(crate::specs::Play::play_of, crate::specs::End::end_of, crate::specs::Text::text_of))]
 pub fn replay(alloc: Global, registry: Registry, trace: &Trace) -> Result<Replayed, NoMemory>
     requires { IsReadFor registry trace.now }
