@@ -1,3 +1,4 @@
+pub mod Decimals
 pub mod Flat
 pub mod Laws
 mod Samples

@@ -1,8 +1,10 @@
 -- The definitions computed on small cases: what each accepts, and what it refuses.
-use Rattle.std.proofs.Common.{◌≡◌, true, false, [], ◌∷◌, Some, None, codes, refl}
+use Rattle.std.proofs.Common.{◌≡◌, true, false, List, [], ◌∷◌, Some, None, codes, refl, ◌≤◌, arith}
+use Rattle.std.specs.Fmt.{digits}
 use Rattle.std.specs.List.{list_all}
-use Rattle.command_line.specs.declared.command.Command.TheVariants.{Replay, Op, Rp, Token}
-use Rattle.command_line.specs.Commands.{is_plain, command_of, is_command, asks_replay, asks_op, asks_rp, asks_token, words_of}
+use Rattle.sso_base.specs.Words.{Text}
+use Rattle.command_line.specs.declared.command.Command.TheVariants.{Replay, Op, Rp, Storm, Token}
+use Rattle.command_line.specs.Commands.{is_plain, command_of, is_command, asks_replay, asks_op, asks_rp, asks_storm, asks_token, words_of, IsInRange}
 
 -- ---- each list of words that is accepted
 
@@ -25,6 +27,14 @@ rp_with_discovery = refl
 token : command_of (codes "token" ∷ codes "secret" ∷ codes "id.jwt" ∷ []) ≡ Some (Token (codes "secret") (codes "id.jwt"))
 unfolding command_of
 token = refl
+
+storm : command_of (codes "storm" ∷ codes "4294967295" ∷ codes "10000" ∷ []) ≡ Some (Storm 4294967295 10000)
+unfolding command_of digits
+storm = refl
+
+least_storm : command_of (codes "storm" ∷ codes "0" ∷ codes "1" ∷ []) ≡ Some (Storm 0 1)
+unfolding command_of digits
+least_storm = refl
 
 -- ---- lists of words that are none
 
@@ -60,9 +70,37 @@ a_word_too_few : command_of (codes "replay" ∷ codes "sample.toml" ∷ []) ≡ 
 unfolding command_of
 a_word_too_few = refl
 
-no_storm_yet : command_of (codes "storm" ∷ codes "1" ∷ codes "2" ∷ []) ≡ None
+-- a storm of no login, of too many, of a number out of range, with a leading zero, a sign, or no number
+abbrev storm_words : Text → Text → List Text
+storm_words number count = codes "storm" ∷ number ∷ count ∷ []
+
+no_login : command_of (storm_words (codes "1") (codes "0")) ≡ None
+unfolding command_of digits
+no_login = refl
+
+too_many_logins : command_of (storm_words (codes "1") (codes "10001")) ≡ None
+unfolding command_of digits
+too_many_logins = refl
+
+too_great : command_of (storm_words (codes "4294967296") (codes "1")) ≡ None
+unfolding command_of digits
+too_great = refl
+
+leading_zero : command_of (storm_words (codes "01") (codes "1")) ≡ None
+unfolding command_of digits
+leading_zero = refl
+
+sign : command_of (storm_words (codes "+1") (codes "1")) ≡ None
+unfolding command_of digits
+sign = refl
+
+no_number : command_of (storm_words (codes "one") (codes "1")) ≡ None
+unfolding command_of digits
+no_number = refl
+
+storm_alone : command_of (codes "storm" ∷ codes "1" ∷ []) ≡ None
 unfolding command_of
-no_storm_yet = refl
+storm_alone = refl
 
 -- ---- the small tests
 
@@ -101,6 +139,12 @@ asked_rp = refl
 asked_other_than_rp : asks_rp (Some (Op (codes "c"))) ≡ false
 asked_other_than_rp = refl
 
+asked_storm : asks_storm (Some (Storm 1 2)) ≡ true
+asked_storm = refl
+
+asked_other_than_storm : asks_storm (Some (Op (codes "c"))) ≡ false
+asked_other_than_storm = refl
+
 asked_token : asks_token (Some (Token (codes "s") (codes "t"))) ≡ true
 asked_token = refl
 
@@ -113,3 +157,10 @@ plain_words = refl
 
 no_plain_words : list_all is_plain (words_of (Op [])) ≡ false
 no_plain_words = refl
+
+-- so is the premise on the numbers of a storm
+numbers_fit : IsInRange (Storm 7 2000)
+numbers_fit = (omega arith, omega arith, omega arith)
+
+numbers_do_not : IsInRange (Storm 7 0) → ⊥
+numbers_do_not range = (let few : 1 ≤ 0 = range.1 in omega arith)

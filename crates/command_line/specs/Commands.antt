@@ -1,10 +1,12 @@
 -- What the program is asked for by the words after its name.
-use Rattle.std.specs.Prelude.{Bool, false, true, not, ◌==◌, List, [], ◌∷◌, Option, Some, None, is_some, codes, if◌then◌else◌}
+use Rattle.std.specs.Prelude.{◌≤◌, ℕ, Bool, false, true, not, ◌==◌, List, [], ◌∷◌, Option, Some, None, is_some, codes, if◌then◌else◌}
+use Rattle.std.specs.Fmt.{decimal}
 use Rattle.std.specs.List.{list_all}
 use Rattle.std.specs.Str.{bytes_eq}
 use Rattle.sso_base.specs.Words.{Text}
 use Rattle.command_line.specs.declared.command.Command.{Command}
-use Rattle.command_line.specs.declared.command.Command.TheVariants.{Replay, Op, Rp, Token}
+use Rattle.command_line.specs.declared.command.Command.TheVariants.{Replay, Op, Rp, Storm, Token}
+use Rattle.command_line.specs.Numbers.{number_in}
 
 -- the word has a byte, and does not begin with `-`
 abbrev pub is_plain : Text → Bool
@@ -15,11 +17,17 @@ is_plain (first ∷ rest) = not (first == 45)
 abbrev pub of_two : Text → Text → Option Command
 of_two name config = if bytes_eq name (codes "op") then Some (Op config) else None
 
--- the commands of three words
+-- a storm of these numbers, where both are there
+abbrev pub storm_of : Option ℕ → Option ℕ → Option Command
+storm_of (Some number) (Some count) = Some (Storm number count)
+storm_of number count = None
+
+-- the commands of three words; a storm has a number below 2^32, and 1 to 10,000 logins
 abbrev pub of_three : Text → Text → Text → Option Command
 of_three name first second =
     if bytes_eq name (codes "replay") then Some (Replay first second)
     else if bytes_eq name (codes "rp") then Some (Rp first second None)
+    else if bytes_eq name (codes "storm") then storm_of (number_in 0 4294967295 first) (number_in 1 10000 second)
     else if bytes_eq name (codes "token") then Some (Token first second)
     else None
 
@@ -58,6 +66,11 @@ abbrev pub asks_rp : Option Command → Bool
 asks_rp (Some (Rp config name discovery)) = true
 asks_rp command = false
 
+-- a storm is to be played
+abbrev pub asks_storm : Option Command → Bool
+asks_storm (Some (Storm number count)) = true
+asks_storm command = false
+
 -- a token is to be opened
 abbrev pub asks_token : Option Command → Bool
 asks_token (Some (Token secret token)) = true
@@ -69,4 +82,10 @@ words_of (Replay config trace) = codes "replay" ∷ config ∷ trace ∷ []
 words_of (Op config) = codes "op" ∷ config ∷ []
 words_of (Rp config name None) = codes "rp" ∷ config ∷ name ∷ []
 words_of (Rp config name (Some discovery)) = codes "rp" ∷ config ∷ name ∷ discovery ∷ []
+words_of (Storm number count) = codes "storm" ∷ decimal number ∷ decimal count ∷ []
 words_of (Token secret token) = codes "token" ∷ secret ∷ token ∷ []
+
+-- the numbers of a storm are in their ranges
+abbrev pub IsInRange : Command → Type 0
+IsInRange (Storm number count) = (number ≤ 4294967295) × (1 ≤ count) × (count ≤ 10000)
+IsInRange command = Unit {0}

@@ -5,11 +5,16 @@ ghost use Rattle.std.specs.List.{list_all};
 ghost use Rattle.std.specs.Option.{option_copied};
 ghost use Rattle.command_line.specs.Commands as spec;
 ghost use Rattle.command_line.specs.Commands.{command_of};
+ghost use Rattle.command_line.specs.Numbers.{number_in};
 ghost use Rattle.command_line.specs.Positionals.{command_at};
 
+use crate::number::read_number;
 use crate::positionals::{Positionals, read_positionals};
 use sso_base::{NoMemory, Text};
 use std::alloc::Global;
+
+/// The most logins of a storm.
+const MOST_LOGINS: u32 = 10_000;
 
 /// What the words ask for.
 #[derive(Drop)]
@@ -34,6 +39,13 @@ pub enum Command {
         name: Text,
         /// The name of the file with the provider's discovery document, where one is given.
         discovery: Option<Text>,
+    },
+    /// `storm NUMBER COUNT`: many logins, made up from two numbers, are played.
+    Storm {
+        /// The number that the users are chosen by, at most 4,294,967,295.
+        number: u32,
+        /// How many logins, from 1 to 10,000.
+        count: u32,
     },
     /// `token SECRETFILE TOKENFILE`: a token is opened.
     Token {
@@ -87,6 +99,19 @@ fn of_two(alloc: Global, name: &str, config: &str) -> Result<Option<Command>, No
     }))
 }
 
+// The command of the words `storm` and these.
+fn storm_of(alloc: Global, number: &str, count: &str) -> Result<Option<Command>, NoMemory>
+    ensures { IfOk result (λ c. c ≡ spec.storm_of (number_in 0 4294967295 number.now) (number_in 1 10000 count.now)) }
+{
+    let Some(number) = read_number(alloc, number, 0, u32::MAX)? else {
+        return Ok(None);
+    };
+    let Some(count) = read_number(alloc, count, 1, MOST_LOGINS)? else {
+        return Ok(None);
+    };
+    Ok(Some(Command::Storm { number, count }))
+}
+
 // The command of three words.
 fn of_three(
     alloc: Global,
@@ -96,6 +121,9 @@ fn of_three(
 ) -> Result<Option<Command>, NoMemory>
     ensures { IfOk result (λ c. c ≡ spec.of_three name.now first.now second.now) }
 {
+    if name == "storm" {
+        return storm_of(alloc, first, second);
+    }
     let first = Text::new(alloc, first)?;
     let second = Text::new(alloc, second)?;
     Ok(match name {
@@ -168,7 +196,7 @@ fn read_plain(alloc: Global, words: &[Text]) -> Result<Option<Command>, NoMemory
 }
 
 /// The command of these words, those after the program's name; None exactly where they are none. A word that is empty or
-/// begins with `-` is a word of no command.
+/// begins with `-` is a word of no command, and so is a number of `storm` that is out of range or has leading zeros.
 #[tactic(auto, using(crate::proofs::Laws::too_few, crate::proofs::Laws::too_many, crate::proofs::Laws::not_plain))]
 pub fn read_command(alloc: Global, words: &[Text]) -> Result<Option<Command>, NoMemory>
     ensures { IfOk result (λ c. c ≡ command_of words.now) }

@@ -4,11 +4,13 @@ ghost use Rattle.std.specs.Prelude.{◌≡◌, true, List, Some};
 ghost use Rattle.std.specs.List.{list_all};
 ghost use Rattle.sso_base.specs.Words.{Text};
 ghost use Rattle.command_line.specs.declared.command.Command.{Command};
-ghost use Rattle.command_line.specs.Commands.{command_of, is_plain, words_of};
+ghost use Rattle.command_line.specs.Commands.{command_of, is_plain, words_of, IsInRange};
 
-/// Words are a command exactly where they are the words that it is written in, and each is plain.
+/// Words are a command exactly where they are the words that it is written in, each is plain, and the numbers of a storm are in their
+/// ranges.
 pub fn commands_are_read_as_they_are_written()
     ensures words { (words : List Text) (c : Command) → command_of words ≡ Some c → words ≡ words_of c }
     ensures plain { (words : List Text) (c : Command) → command_of words ≡ Some c → list_all is_plain words ≡ true }
-    ensures read { (c : Command) → list_all is_plain (words_of c) ≡ true → command_of (words_of c) ≡ Some c }
+    ensures range { (words : List Text) (c : Command) → command_of words ≡ Some c → IsInRange c }
+    ensures read { (c : Command) → list_all is_plain (words_of c) ≡ true → IsInRange c → command_of (words_of c) ≡ Some c }
 {}

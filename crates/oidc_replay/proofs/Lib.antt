@@ -1,3 +1,4 @@
+mod Counting
 mod Distinct
 mod DrawnWords
 mod HashedLogins

@@ -22,6 +22,7 @@ use Rattle.oidc_replay.specs.declared.replaying.ReplayEnd.TheVariants as end
 use Rattle.oidc_replay.specs.Bound.{IsWhollyBound}
 use Rattle.oidc_replay.specs.Play.{Played, Playing, played_of, play_on, play_lines, play_of}
 use Rattle.oidc_replay.specs.End.{ended_by, play_end, end_of}
+use Rattle.oidc_replay.specs.Storm.{counts_text, storm_text}
 use Rattle.oidc_replay.specs.Text.{line_told, lines_told, end_line, text_of}
 use Rattle.oidc_replay.specs.Theorem.{PlaysWell}
 use Rattle.oidc_replay.proofs.Played.{HasPlayed, lines_played}
@@ -90,6 +91,19 @@ module _ (c : Configuration) (told : Told) (lines : List Line) (i : ℕ) (over :
   text_is registry p text own is was =
       ap (λ (t : Text). t ++ end_line (play_end registry p)) (was ∙ ap (lines_told c told.seed) all_taken)
       ∙ ap (λ (e : ReplayEnd). lines_told c told.seed told.lines ++ end_line e) (end_is registry p own is)
+
+-- ---- the same of a whole play
+
+module _ (c : Configuration) (told : Told) (registry : Configuration) (p : Played) (own : registry ≡ c) (is : p ≡ play_of c told) where
+  pub end_played : play_end registry p ≡ end_of c told
+  unfolding end_of
+  end_played = ap (λ (d : Configuration). play_end d p) own ∙ ap (play_end c) is
+
+  pub summary_is : (number count : ℕ) (text : Text) → text ≡ counts_text number count p.world → text ++ end_line (play_end registry p) ≡ storm_text c told number count
+  unfolding storm_text
+  summary_is number count text was =
+      ap (λ (t : Text). t ++ end_line (play_end registry p)) (was ∙ ap (λ (q : Played). counts_text number count q.world) is)
+      ∙ ap (λ (e : ReplayEnd). counts_text number count (play_of c told).world ++ end_line e) end_played
 
 -- ---- the theorem of the running world is that of its play
 

@@ -1,5 +1,5 @@
 -- The definitions of a play, computed on short traces over a small registry.
-use Rattle.std.proofs.Common.{◌≡◌, ℕ, List, [], ◌∷◌, ◌++◌, Some, None, Ok, codes, inl, inr, refl, sym, subst}
+use Rattle.std.proofs.Common.{◌≡◌, ℕ, true, false, List, [], ◌∷◌, ◌++◌, Some, None, Ok, codes, inl, inr, refl, sym, subst}
 use Rattle.std.specs.Fmt.{digits}
 use Rattle.sso_base.specs.Words.{Text, word_text}
 use Rattle.sso_base.specs.declared.http.Ask.{Ask}
@@ -11,6 +11,8 @@ use Rattle.op_exchange.specs.declared.ask.OpAsk.TheVariants as op_ask
 use Rattle.op_exchange.specs.declared.reply.OpReply.TheVariants as op
 use Rattle.rp_exchange.specs.declared.ask.RpAsk.TheVariants as rp_ask
 use Rattle.rp_exchange.specs.declared.reply.RpReply.{RpReply}
+use Rattle.auth_request.specs.declared.wish.PageNo.TheVariants as page
+use Rattle.rp_exchange.specs.declared.no.RpNo.TheVariants as no
 use Rattle.rp_exchange.specs.declared.reply.RpReply.TheVariants as rp
 use Rattle.rp_request.specs.Prepared.{prepared}
 use Rattle.rp_response.specs.Lines.{line_of as rp_line}
@@ -37,6 +39,8 @@ use Rattle.oidc_replay.specs.Words.{word_at, words_after}
 use Rattle.oidc_replay.specs.Bound.{GivesTokens, AsksWithToken, EachAccessTokenIsBound}
 use Rattle.oidc_replay.specs.Play.{Played, play_on, play_of}
 use Rattle.oidc_replay.specs.End.{end_of}
+use Rattle.oidc_replay.specs.declared.tally.Kind.TheVariants.{Entered, Stale, WrongBrowser, Turn}
+use Rattle.oidc_replay.specs.Storm.{is_of, storm_line, count_line, counts_text, storm_text}
 use Rattle.oidc_replay.specs.Text.{end_line, text_of}
 
 -- ---- words: the seed, then the number, greatest byte first
@@ -181,3 +185,34 @@ not_beside h =
 unbound : EachAccessTokenIsBound (own_site sample) unanswered → ⊥
 unbound bound =
     not_beside (bound 0 1 (Http got) (answered (rp.Fetch (word 17) message)) [] (informing ∷ []) (codes "id") (word_text (word 21)) refl asks informed)
+
+-- ---- the summary of a storm
+
+summary : storm_text sample (told (Follow 1 1 ∷ Visit 1 0 ∷ [])) 7 1 ≡
+    codes "storm 7 1\nplaces 2\nentered 0\nstale 0\nwrong_browser 0\nturn 0\npremises met\n"
+unfolding storm_text counts_text storm_line count_line end_of play_of location_of prepared rp_answer digits
+summary = refl
+
+session-is_entered : is_of Entered (reply.Party (rp.Entered [] (codes "alice"))) ≡ true
+session-is_entered = refl
+
+user-is_not : is_of Entered (reply.Party (rp.User (codes "alice"))) ≡ false
+user-is_not = refl
+
+stale-is_so : is_of Stale (reply.Party (rp.Refused no.StaleLogin)) ≡ true
+stale-is_so = refl
+
+other_refusal-is_not : is_of Stale (reply.Party (rp.Refused no.WrongBrowser)) ≡ false
+other_refusal-is_not = refl
+
+wrong_browser-is_so : is_of WrongBrowser (reply.Party (rp.Refused no.WrongBrowser)) ≡ true
+wrong_browser-is_so = refl
+
+stale-is_no_wrong_browser : is_of WrongBrowser (reply.Party (rp.Refused no.StaleLogin)) ≡ false
+stale-is_no_wrong_browser = refl
+
+turn-is_so : is_of Turn (reply.Provider (op.ErrorPage page.Turn)) ≡ true
+turn-is_so = refl
+
+other_page-is_not : is_of Turn (reply.Provider (op.ErrorPage page.Browser)) ≡ false
+other_page-is_not = refl

@@ -3,7 +3,8 @@
 //!
 //! [`read_trace`] reads a trace for a registry; its grammar is that of the crate `trace_lines`. [`replay`] plays it. Each request
 //! takes the next place, from 1, and the role that it is sent to replies there. The words that the roles draw come from the seed of
-//! the trace: place p draws the words 4p - 3 to 4p, and word i is the seed followed by i in 8 bytes, greatest first.
+//! the trace: place p draws the words 4p - 3 to 4p, and word i is the seed followed by i in 8 bytes, greatest first. [`storm`] plays a
+//! trace too, and tells it in a summary.
 //!
 //! | Module | What it has | Its definitions, in `specs/` |
 //! |---|---|---|
@@ -12,6 +13,7 @@
 //! | `play` | the play of lines | `Play` |
 //! | `text` | what lines print | `Text` |
 //! | `replaying` | [`replay`], and how a play ends | `End`, `Theorem`, `Bound` |
+//! | `tally`, `summary` | [`storm`], and what is counted in it | `Storm` |
 //! | `law` | what holds of every play, for the crates above | |
 #![tactic(auto)]
 
@@ -19,6 +21,8 @@ mod law;
 mod play;
 mod replaying;
 mod sending;
+mod summary;
+mod tally;
 mod text;
 mod words;
 
@@ -27,4 +31,5 @@ pub use law::{
     tokens_that_are_read_were_given, user_info_is_asked_for_with_hashed_tokens,
 };
 pub use replaying::{ReplayEnd, Replayed, replay};
+pub use summary::storm;
 pub use trace_lines::{Trace, TraceNo, read_trace};

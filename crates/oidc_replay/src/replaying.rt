@@ -69,7 +69,7 @@ fn replay_line(
 }
 
 // What is told when all lines were played: the text so far with its last line, and how the play ended.
-fn finish(alloc: Global, play: &Play, mut out: String) -> Result<Replayed, NoMemory>
+pub(crate) fn finish(alloc: Global, play: &Play, mut out: String) -> Result<Replayed, NoMemory>
     ensures text { IfOk result (λ r. r.text ≡ string_bytes out ++ text.end_line (ends.play_end play.now.running.registry (plays.played_of play.now))) }
     ensures end { IfOk result (λ r. r.end ≡ ends.play_end play.now.running.registry (plays.played_of play.now)) }
 {

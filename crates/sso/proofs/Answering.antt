@@ -17,18 +17,20 @@ use Rattle.discovery_doc.specs.Reading.{discovery_read}
 use Rattle.rp_accept.specs.Serving.{setup_of}
 use Rattle.rp_answer.specs.Setup.{PartySetup}
 use Rattle.command_line.specs.declared.command.Command.{Command}
-use Rattle.command_line.specs.declared.command.Command.TheVariants.{Replay, Op, Rp, Token}
+use Rattle.command_line.specs.declared.command.Command.TheVariants.{Replay, Op, Rp, Storm, Token}
 use Rattle.command_line.specs.Commands.{command_of, is_command}
 use Rattle.trace_lines.specs.declared.no.TraceNo.{TraceNo}
 use Rattle.trace_lines.specs.Trace.{Told, trace_told}
+use Rattle.storm_texts.specs.Config.{config_text}
+use Rattle.storm_texts.specs.Trace.{trace_text}
 use Rattle.oidc_replay.specs.declared.replaying.ReplayEnd.{ReplayEnd}
 use Rattle.oidc_replay.specs.declared.replaying.ReplayEnd.TheVariants as end
 use Rattle.oidc_replay.specs.End.{end_of}
-use Rattle.sso.specs.Answer.{Answer, registry_name, configuration_refusal, end_status, trace_answer, replay_answer, answer_to, without_feed, is_secret, token_refusal, verdict_answer, token_answer}
+use Rattle.sso.specs.Answer.{Answer, registry_name, configuration_refusal, end_status, trace_answer, replay_answer, answer_to, storm_told, storm_over, storm_answer, without_feed, is_secret, token_refusal, verdict_answer, token_answer}
 use Rattle.sso.specs.Asked.{provider_asked, op_asked, metadata_refusal, metadata_name, provider_read, described, trusted, setup_asked, number_asked, party_asked, rp_asked, server_answer}
 use Rattle.sso.specs.Ends.{IsConfigurationNo, IsTokenNo, IsMetadataNo, status_of_both, status_of_asked, op_status, content_if, rp_status, status_for, IsStatus, IsStatusOf, is_serving}
-use Rattle.sso.specs.Outcomes.{IsContent, IsContentIf, Plays, FailsAtShelf, AnswersReplay, AnswersToken, ServedOp, ServedRp, MayReplay, MayOpen, MayServeOp, MayServeRp, MayAnswer, IsWritten, usage_answer, shelf_answer}
-use Rattle.sso.specs.SignOn.{Replays}
+use Rattle.sso.specs.Outcomes.{IsContent, IsContentIf, Plays, FailsAtShelf, AnswersReplay, AnswersStorm, AnswersToken, ServedOp, ServedRp, MayReplay, MayOpen, MayServeOp, MayServeRp, MayAnswer, IsWritten, usage_answer, shelf_answer}
+use Rattle.sso.specs.SignOn.{Replays, Storms}
 use Rattle.sso.specs.Statuses.{Call, Ended}
 use Rattle.sso.proofs.Endings.{runs_end, usage_ends, configuration_ends, trace_ends, shelf_ends, broken_ends, full_ends, sink_ends, door_ends, refusal_ends}
 
@@ -62,8 +64,6 @@ module _ {D L C W S K : Type 0} (call : Call D L C W S K) where
       (record {
         command = Replay config_at trace_at;
         words_are = words_are;
-        config_at = config_at;
-        at = refl;
         config = a.config;
         there = a.config_there;
         name = registry_name why;
@@ -74,8 +74,8 @@ module _ {D L C W S K : Type 0} (call : Call D L C W S K) where
   -- the status of a play, by how it ended
   play_ends : call.news ≡ call.olds → (end : ReplayEnd) → Replays call.contents call.words (end_status end) call.old call.new → Ended call (end_status end)
   play_ends idle end.Met replays = runs_end call (inl replays)
-  play_ends idle (end.Broken broken) replays = broken_ends call idle replays
-  play_ends idle (end.Journal place) replays = full_ends call idle replays
+  play_ends idle (end.Broken broken) replays = broken_ends call idle (inl replays)
+  play_ends idle (end.Journal place) replays = full_ends call idle (inl replays)
 
   -- the configuration is accepted
   traced_ends : (config_at trace_at : Text) (answer : Answer) → command_of call.words ≡ Some (Replay config_at trace_at) → call.news ≡ call.olds
@@ -105,8 +105,7 @@ module _ {D L C W S K : Type 0} (call : Call D L C W S K) where
       ended_as answer (trace_answer c (Err why)) is
       (trace_ends call idle
       (record {
-        config_at = config_at;
-        trace_at = trace_at;
+        command = Replay config_at trace_at;
         words_are = words_are;
         config = a.config;
         config_there = a.config_there;
@@ -132,6 +131,80 @@ module _ {D L C W S K : Type 0} (call : Call D L C W S K) where
   replay_ends config_at trace_at answer words_are idle (inl failed) wrote = shelf_failed (Replay config_at trace_at) answer words_are idle failed wrote
   replay_ends config_at trace_at answer words_are idle (inr a) wrote =
       replay_by config_at trace_at answer words_are idle a wrote (registry_read a.config) refl a.answers
+
+  -- ---- `storm`
+
+  -- the configuration is refused
+  storm_unread : (number count : ℕ) (answer : Answer) → command_of call.words ≡ Some (Storm number count) → call.news ≡ call.olds
+      → (why : RegNo) → registry_read config_text ≡ Err why → answer ≡ configuration_refusal (registry_name why) → Whole answer → Ended call answer.status
+  storm_unread number count answer words_are idle why refused is wrote =
+      ended_as answer (configuration_refusal (registry_name why)) is
+      (configuration_ends call idle
+      (record {
+        command = Storm number count;
+        words_are = words_are;
+        config = config_text;
+        there = refl;
+        name = registry_name why;
+        why = inl (why, refused, refl);
+        wrote = whole_as answer (configuration_refusal (registry_name why)) wrote is;
+      }))
+
+  -- the status of a play, by how it ended
+  storm_played : call.news ≡ call.olds → (end : ReplayEnd) → Storms call.words (end_status end) call.old call.new → Ended call (end_status end)
+  storm_played idle end.Met storms = runs_end call (inr (inr (inr (inr storms))))
+  storm_played idle (end.Broken broken) storms = broken_ends call idle (inr storms)
+  storm_played idle (end.Journal place) storms = full_ends call idle (inr storms)
+
+  -- the configuration is accepted
+  storm_traced : (number count : ℕ) (answer : Answer) → command_of call.words ≡ Some (Storm number count) → call.news ≡ call.olds
+      → AnswersStorm number count answer → (c : Configuration) → registry_read config_text ≡ Ok c → Whole answer
+      → (told : Result Told TraceNo) → trace_told c (trace_text number count) ≡ told → answer ≡ storm_told c number count told → Ended call answer.status
+  unfolding Plays
+  storm_traced number count answer words_are idle a c read wrote (Ok told) accepted is =
+      ended_as answer (storm_told c number count (Ok told)) is
+      (storm_played idle (end_of c told)
+      (record {
+        number = number;
+        count = count;
+        words_are = words_are;
+        configuration = c;
+        read = read;
+        told = told;
+        accepted = accepted;
+        ends = refl;
+        wrote = whole_as answer (storm_told c number count (Ok told)) wrote is;
+        well = a.well c read told accepted;
+      }))
+  storm_traced number count answer words_are idle a c read wrote (Err why) refused is =
+      ended_as answer (storm_told c number count (Err why)) is
+      (trace_ends call idle
+      (record {
+        command = Storm number count;
+        words_are = words_are;
+        config = config_text;
+        config_there = refl;
+        configuration = c;
+        read = read;
+        trace = trace_text number count;
+        trace_there = refl;
+        why = why;
+        refused = refused;
+        wrote = whole_as answer (storm_told c number count (Err why)) wrote is;
+      }))
+
+  storm_by : (number count : ℕ) (answer : Answer) → command_of call.words ≡ Some (Storm number count) → call.news ≡ call.olds
+      → AnswersStorm number count answer → Whole answer
+      → (read : Result Configuration RegNo) → registry_read config_text ≡ read → answer ≡ storm_over read number count → Ended call answer.status
+  storm_by number count answer words_are idle a wrote (Err why) read is = storm_unread number count answer words_are idle why read is wrote
+  storm_by number count answer words_are idle a wrote (Ok c) read is =
+      storm_traced number count answer words_are idle a c read wrote (trace_told c (trace_text number count)) refl is
+
+  storm_ends : (number count : ℕ) (answer : Answer) → command_of call.words ≡ Some (Storm number count) → call.news ≡ call.olds
+      → AnswersStorm number count answer → Whole answer → Ended call answer.status
+  unfolding storm_answer
+  storm_ends number count answer words_are idle a wrote =
+      storm_by number count answer words_are idle a wrote (registry_read config_text) refl a.answers
 
   -- ---- `token`
 
@@ -201,8 +274,6 @@ module _ {D L C W S K : Type 0} (call : Call D L C W S K) where
       (record {
         command = Op config_at;
         words_are = words_are;
-        config_at = config_at;
-        at = refl;
         config = config;
         there = there;
         name = registry_name why;
@@ -247,8 +318,6 @@ module _ {D L C W S K : Type 0} (call : Call D L C W S K) where
       (record {
         command = Rp config_at party metadata_at;
         words_are = given.words_are;
-        config_at = config_at;
-        at = refl;
         config = config;
         there = given.config_there;
         name = name;
@@ -298,8 +367,8 @@ module _ {D L C W S K : Type 0} (call : Call D L C W S K) where
         | inr well ↦
             let so : answer ≡ server_answer false s.served s.entries = is ∙ ap (λ (b : Bool). server_answer b s.served s.entries) well in
             ended_as answer (server_answer false s.served s.entries) so
-            (runs_end call (inr (inr (inr
-            (record { config_at = config_at; party = party; metadata_at = metadata_at; words_are = given.words_are; config = config; config_there = given.config_there; metadata = metadata; metadata_there = given.metadata_there; configuration = c; read = read; number = number; known = known; provider = provider; trusts = trusts; summary = s; served = serves; ended = well; wrote = whole_as answer (server_answer false s.served s.entries) wrote so })))))
+            (runs_end call (inr (inr (inr (inl
+            (record { config_at = config_at; party = party; metadata_at = metadata_at; words_are = given.words_are; config = config; config_there = given.config_there; metadata = metadata; metadata_there = given.metadata_there; configuration = c; read = read; number = number; known = known; provider = provider; trusts = trusts; summary = s; served = serves; ended = well; wrote = whole_as answer (server_answer false s.served s.entries) wrote so }))))))
       ]
 
   -- the document was read
@@ -383,6 +452,7 @@ module _ {D L C W S K : Type 0} (call : Call D L C W S K) where
   whole_ends None answer words_are idle is wrote =
       ended_as answer usage_answer is (usage_ends call (idle refl) (record { words_are_none = words_are; wrote = whole_as answer usage_answer wrote is }))
   whole_ends (Some (Replay config trace)) answer words_are idle may wrote = replay_ends config trace answer words_are (idle refl) may wrote
+  whole_ends (Some (Storm number count)) answer words_are idle may wrote = storm_ends number count answer words_are (idle refl) may wrote
   whole_ends (Some (Token secret token)) answer words_are idle may wrote = token_ends secret token answer words_are (idle refl) may wrote
   whole_ends (Some (Op config)) answer words_are idle may wrote = op_ends config answer words_are may wrote
   whole_ends (Some (Rp config party metadata)) answer words_are idle may wrote = rp_ends config party metadata answer words_are may wrote
@@ -409,6 +479,16 @@ module _ {D L C W S K : Type 0} (call : Call D L C W S K) where
 
   pub words_tell : (answer : Answer) (status : ℕ) → May (command_of call.words) answer → Written answer status → is_command call.words ≡ false → IsStatus 2 status
   words_tell answer status may written is_not = by_words (command_of call.words) answer status is_not may written
+
+  by_storm : (number count : ℕ) (answer : Answer) (status : ℕ) → AnswersStorm number count answer → Written answer status → IsStatus (storm_answer number count).status status
+  by_storm number count answer status a (inl whole) = inl (whole.0 ∙ ap (λ (v : Answer). v.status) a.answers)
+  by_storm number count answer status a (inr front) = inr (inr front.0)
+
+  pub storm_tells : (answer : Answer) (status : ℕ) → May (command_of call.words) answer → Written answer status
+      → (number count : ℕ) → command_of call.words ≡ Some (Storm number count) → IsStatus (storm_answer number count).status status
+  storm_tells answer status may written number count is =
+      let M : Option Command → Type 0 = λ command. May command answer in
+      by_storm number count answer status (subst M is may) written
 
   -- ---- Statuses by the contents
 
@@ -464,6 +544,7 @@ module _ {D L C W S K : Type 0} (call : Call D L C W S K) where
   whole_told held is (Some (Replay config trace)) answer (inr a) =
       inl (ap (λ (v : Answer). v.status) a.answers
       ∙ sym (both_told answer_to held config trace a.config a.trace (told_at held config a.config is a.config_there) (told_at held trace a.trace is a.trace_there)))
+  whole_told held is (Some (Storm number count)) answer a = inl (ap (λ (v : Answer). v.status) a.answers)
   whole_told held is (Some (Token secret token)) answer (inl failed) = failed_told (status_for held (Some (Token secret token))) answer failed.0
   whole_told held is (Some (Token secret token)) answer (inr a) =
       inl (ap (λ (v : Answer). v.status) a.answers

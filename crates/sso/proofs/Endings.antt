@@ -1,10 +1,14 @@
 -- How a call ends: one lemma for each status, and the clauses of the top call, which are read off.
-use Rattle.std.proofs.Common.{◌≡◌, ℕ, Bool, true, false, Option, is_some, inl, inr, arith, refl, ap, sym, ◌∙◌, subst}
+use Rattle.std.proofs.Common.{◌≡◌, ◌⊎◌, ℕ, Bool, true, false, List, Option, Some, is_some, is_ok, inl, inr, arith, refl, ap, sym, ◌∙◌, subst}
+use Rattle.sso_base.specs.Words.{Text}
+use Rattle.client_registry.specs.Reading.{registry_read}
 use Rattle.command_line.specs.declared.command.Command.{Command}
-use Rattle.command_line.specs.Commands.{command_of, is_command, asks_replay, asks_op, asks_rp, asks_token}
-use Rattle.sso.specs.Ends.{ShowsUsage, ReportsShelf, RefusesConfiguration, RefusesTrace, OpensToken, RunsProvider, RunsParty}
-use Rattle.sso.specs.SignOn.{Replays}
-use Rattle.sso.specs.Statuses.{Call, Runs, FailsAtDoor, Refuses, Stops, At, Ended}
+use Rattle.command_line.specs.declared.command.Command.TheVariants.{Replay, Op, Rp, Storm, Token}
+use Rattle.command_line.specs.Commands.{command_of, is_command, asks_replay, asks_op, asks_rp, asks_storm, asks_token}
+use Rattle.sso.specs.Ends.{asks_play, ShowsUsage, ReportsShelf, IsConfigOf, IsConfigurationNo, RefusesConfiguration, RefusesTrace, OpensToken, RunsProvider, RunsParty}
+use Rattle.sso.specs.SignOn.{Replays, Storms}
+use Rattle.sso.proofs.StormConfigured.{storm_configured}
+use Rattle.sso.specs.Statuses.{Call, Runs, Played, FailsAtDoor, Refuses, Stops, At, Ended}
 
 module _ {D L C W S K : Type 0} (call : Call D L C W S K) where
   -- ---- the statuses
@@ -27,11 +31,11 @@ module _ {D L C W S K : Type 0} (call : Call D L C W S K) where
   pub shelf_ends : call.news ≡ call.olds → ReportsShelf call.shelf_before call.shelf_after call.words call.old call.new → Ended call 5
   shelf_ends idle reports = record { at = reports; range = omega arith; unserved = λ _. idle }
 
-  pub broken_ends : call.news ≡ call.olds → Replays call.contents call.words 7 call.old call.new → Ended call 7
-  broken_ends idle replays = record { at = replays; range = omega arith; unserved = λ _. idle }
+  pub broken_ends : call.news ≡ call.olds → Played call 7 → Ended call 7
+  broken_ends idle plays = record { at = plays; range = omega arith; unserved = λ _. idle }
 
-  pub full_ends : call.news ≡ call.olds → Replays call.contents call.words 8 call.old call.new → Ended call 8
-  full_ends idle replays = record { at = replays; range = omega arith; unserved = λ _. idle }
+  pub full_ends : call.news ≡ call.olds → Played call 8 → Ended call 8
+  full_ends idle plays = record { at = plays; range = omega arith; unserved = λ _. idle }
 
   pub sink_ends : Stops call → Ended call 6
   sink_ends stops = record { at = stops; range = omega arith; unserved = λ never. absurd (cc) }
@@ -58,42 +62,96 @@ module _ {D L C W S K : Type 0} (call : Call D L C W S K) where
   replayed_of (inl replays) is_so = replays
   replayed_of (inr (inl opens)) is_so = not_both asks_replay _ is_so opens.words_are refl
   replayed_of (inr (inr (inl serves))) is_so = not_both asks_replay _ is_so serves.words_are refl
-  replayed_of (inr (inr (inr serves))) is_so = not_both asks_replay _ is_so serves.words_are refl
+  replayed_of (inr (inr (inr (inl serves)))) is_so = not_both asks_replay _ is_so serves.words_are refl
+  replayed_of (inr (inr (inr (inr storms)))) is_so = not_both asks_replay _ is_so storms.words_are refl
 
   opened_of : Runs call → asks_token (command_of call.words) ≡ true → OpensToken call.contents call.words call.old call.new
   opened_of (inl replays) is_so = not_both asks_token _ is_so replays.words_are refl
   opened_of (inr (inl opens)) is_so = opens
   opened_of (inr (inr (inl serves))) is_so = not_both asks_token _ is_so serves.words_are refl
-  opened_of (inr (inr (inr serves))) is_so = not_both asks_token _ is_so serves.words_are refl
+  opened_of (inr (inr (inr (inl serves)))) is_so = not_both asks_token _ is_so serves.words_are refl
+  opened_of (inr (inr (inr (inr storms)))) is_so = not_both asks_token _ is_so storms.words_are refl
 
   provider_of : Runs call → asks_op (command_of call.words) ≡ true
       → RunsProvider call.tells call.olds call.news call.contents call.words false call.old call.new
   provider_of (inl replays) is_so = not_both asks_op _ is_so replays.words_are refl
   provider_of (inr (inl opens)) is_so = not_both asks_op _ is_so opens.words_are refl
   provider_of (inr (inr (inl serves))) is_so = serves
-  provider_of (inr (inr (inr serves))) is_so = not_both asks_op _ is_so serves.words_are refl
+  provider_of (inr (inr (inr (inl serves)))) is_so = not_both asks_op _ is_so serves.words_are refl
+  provider_of (inr (inr (inr (inr storms)))) is_so = not_both asks_op _ is_so storms.words_are refl
 
   party_of : Runs call → asks_rp (command_of call.words) ≡ true
       → RunsParty call.tells call.olds call.news call.contents call.words false call.old call.new
   party_of (inl replays) is_so = not_both asks_rp _ is_so replays.words_are refl
   party_of (inr (inl opens)) is_so = not_both asks_rp _ is_so opens.words_are refl
   party_of (inr (inr (inl serves))) is_so = not_both asks_rp _ is_so serves.words_are refl
-  party_of (inr (inr (inr serves))) is_so = serves
+  party_of (inr (inr (inr (inl serves)))) is_so = serves
+  party_of (inr (inr (inr (inr storms)))) is_so = not_both asks_rp _ is_so storms.words_are refl
+
+  stormed_of : Runs call → asks_storm (command_of call.words) ≡ true → Storms call.words 0 call.old call.new
+  stormed_of (inl replays) is_so = not_both asks_storm _ is_so replays.words_are refl
+  stormed_of (inr (inl opens)) is_so = not_both asks_storm _ is_so opens.words_are refl
+  stormed_of (inr (inr (inl serves))) is_so = not_both asks_storm _ is_so serves.words_are refl
+  stormed_of (inr (inr (inr (inl serves)))) is_so = not_both asks_storm _ is_so serves.words_are refl
+  stormed_of (inr (inr (inr (inr storms)))) is_so = storms
+
+  -- a play that ended with this status is of one of two commands
+  replay_of : (status : ℕ) → Played call status → asks_replay (command_of call.words) ≡ true → Replays call.contents call.words status call.old call.new
+  replay_of status (inl replays) is_so = replays
+  replay_of status (inr storms) is_so = not_both asks_replay _ is_so storms.words_are refl
+
+  storm_of : (status : ℕ) → Played call status → asks_storm (command_of call.words) ≡ true → Storms call.words status call.old call.new
+  storm_of status (inl replays) is_so = not_both asks_storm _ is_so replays.words_are refl
+  storm_of status (inr storms) is_so = storms
+
+  play_in : (status : ℕ) → Played call status → asks_play (command_of call.words) ≡ true
+  play_in status (inl replays) = ap asks_play replays.words_are
+  play_in status (inr storms) = ap asks_play storms.words_are
 
   command_in : Runs call → is_command call.words ≡ true
   command_in (inl replays) = ap is_some replays.words_are
   command_in (inr (inl opens)) = ap is_some opens.words_are
   command_in (inr (inr (inl serves))) = ap is_some serves.words_are
-  command_in (inr (inr (inr serves))) = ap is_some serves.words_are
+  command_in (inr (inr (inr (inl serves)))) = ap is_some serves.words_are
+  command_in (inr (inr (inr (inr storms)))) = ap is_some storms.words_are
+
+  -- no configuration of a storm is refused
+  none_refused : (command : Command) (config : List ℕ) (name : Text) → IsConfigOf call.contents command config → IsConfigurationNo command config name → asks_storm (Some command) ≡ false
+  none_refused (Storm number count) config name is (inl (why, refused, called)) =
+      (let never : ◌≡◌ {A = Bool} true false = sym storm_configured ∙ ap (λ (bytes : List ℕ). is_ok (registry_read bytes)) (sym is) ∙ ap is_ok refused in cc)
+  none_refused (Storm number count) config name is (inr (c, read, never)) = absurd (never)
+  none_refused (Replay config_at trace_at) config name is why = refl
+  none_refused (Op config_at) config name is why = refl
+  none_refused (Rp config_at party metadata_at) config name is why = refl
+  none_refused (Token secret_at token_at) config name is why = refl
+
+  no_storm : RefusesConfiguration call.contents call.words call.old call.new → asks_storm (command_of call.words) ≡ false
+  no_storm refuses = ap asks_storm refuses.words_are ∙ none_refused refuses.command refuses.config refuses.name refuses.there refuses.why
 
   pub replayed : (status : ℕ) → Ended call status → status ≡ 0 → asks_replay (command_of call.words) ≡ true → Replays call.contents call.words 0 call.old call.new
   replayed status ended is = replayed_of (at_status status 0 ended is)
 
-  pub broken : (status : ℕ) → Ended call status → status ≡ 7 → Replays call.contents call.words 7 call.old call.new
-  broken status ended is = at_status status 7 ended is
+  pub configured : (status : ℕ) → Ended call status → status ≡ 3 → asks_storm (command_of call.words) ≡ false
+  configured status ended is = no_storm (at_status status 3 ended is)
 
-  pub full : (status : ℕ) → Ended call status → status ≡ 8 → Replays call.contents call.words 8 call.old call.new
-  full status ended is = at_status status 8 ended is
+  pub broken : (status : ℕ) → Ended call status → status ≡ 7 → asks_replay (command_of call.words) ≡ true → Replays call.contents call.words 7 call.old call.new
+  broken status ended is = replay_of 7 (at_status status 7 ended is)
+
+  pub full : (status : ℕ) → Ended call status → status ≡ 8 → asks_replay (command_of call.words) ≡ true → Replays call.contents call.words 8 call.old call.new
+  full status ended is = replay_of 8 (at_status status 8 ended is)
+
+  pub stormed : (status : ℕ) → Ended call status → status ≡ 0 → asks_storm (command_of call.words) ≡ true → Storms call.words 0 call.old call.new
+  stormed status ended is = stormed_of (at_status status 0 ended is)
+
+  pub storm_broken : (status : ℕ) → Ended call status → status ≡ 7 → asks_storm (command_of call.words) ≡ true → Storms call.words 7 call.old call.new
+  storm_broken status ended is = storm_of 7 (at_status status 7 ended is)
+
+  pub storm_full : (status : ℕ) → Ended call status → status ≡ 8 → asks_storm (command_of call.words) ≡ true → Storms call.words 8 call.old call.new
+  storm_full status ended is = storm_of 8 (at_status status 8 ended is)
+
+  pub play : (status : ℕ) → Ended call status → (status ≡ 7) ⊎ (status ≡ 8) → asks_play (command_of call.words) ≡ true
+  play status ended (inl is) = play_in 7 (at_status status 7 ended is)
+  play status ended (inr is) = play_in 8 (at_status status 8 ended is)
 
   pub opened : (status : ℕ) → Ended call status → status ≡ 0 → asks_token (command_of call.words) ≡ true → OpensToken call.contents call.words call.old call.new
   opened status ended is = opened_of (at_status status 0 ended is)

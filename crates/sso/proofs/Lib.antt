@@ -3,4 +3,5 @@ pub mod Endings
 pub mod Fetched
 pub mod Known
 pub mod Samples
+mod StormConfigured
 pub mod Told

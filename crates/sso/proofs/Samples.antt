@@ -29,6 +29,9 @@ use Rattle.sso_places.specs.Site.{own_site}
 use Rattle.sso_places.specs.World.{Place, Party, World}
 use Rattle.trace_lines.specs.declared.no.TraceNo.TheVariants as no
 use Rattle.trace_lines.specs.Trace.{Told, trace_told}
+use Rattle.storm_texts.specs.Config.{config_text}
+use Rattle.storm_texts.specs.Trace.{trace_text}
+use Rattle.oidc_replay.specs.Storm.{storm_text}
 use Rattle.oidc_replay.specs.declared.replaying.ReplayEnd.TheVariants as end
 use Rattle.oidc_replay.specs.Play.{play_of}
 use Rattle.oidc_replay.specs.End.{end_of}
@@ -40,15 +43,15 @@ use Rattle.op_exchange.specs.declared.ask.OpAsk.{OpAsk}
 use Rattle.op_exchange.specs.declared.reply.OpReply.{OpReply}
 use Rattle.op_core.specs.Providing.{Providing}
 use Rattle.command_line.specs.declared.command.Command.{Command}
-use Rattle.command_line.specs.declared.command.Command.TheVariants.{Replay, Rp, Token}
+use Rattle.command_line.specs.declared.command.Command.TheVariants.{Replay, Rp, Storm, Token}
 use Rattle.command_line.specs.Commands.{command_of}
 use Rattle.serving.specs.declared.summary.Summary.{Summary}
 use Rattle.serving.specs.Summaries.{Telling}
 use Rattle.sso_serve.specs.Servers.{ServesOp}
 use Rattle.sso.specs.Answer.{configuration_refusal, end_status, answer_to, replay_answer, registry_name, configuration_text, usage_text, trace_name, refused_text, without_feed, token_text, token_answer}
 use Rattle.sso.specs.Asked.{provider_asked, op_asked, metadata_refusal, described, party_asked, rp_asked, served_text}
-use Rattle.sso.specs.Ends.{config_in, ShowsUsage, ReportsShelf, IsConfigurationNo, RefusesConfiguration, RefusesTrace, RefusesToken, OpensToken, RunsProvider, IsTokenNo, op_status, rp_status, status_of_asked, status_for}
-use Rattle.sso.specs.SignOn.{Replays}
+use Rattle.sso.specs.Ends.{IsConfigOf, IsTraceOf, asks_play, ShowsUsage, ReportsShelf, IsConfigurationNo, RefusesConfiguration, RefusesTrace, RefusesToken, OpensToken, RunsProvider, IsTokenNo, op_status, rp_status, status_of_asked, status_for}
+use Rattle.sso.specs.SignOn.{Replays, Storms}
 
 -- a small configuration, and what is read of it
 abbrev small : List ℕ
@@ -193,7 +196,7 @@ shelf_not_reported reports = (let rose = reports.rose in absurd (omega arith))
 
 configuration_refused : RefusesConfiguration (Some (with (codes "version") header)) words (Some []) (Some (codes "configuration NotToml\n"))
 unfolding configuration_text registry_name
-configuration_refused = record { command = Replay (codes "config") (codes "trace"); words_are = words_read; config_at = codes "config"; at = refl; config = codes "version"; there = refl; name = codes "NotToml"; why = inl (reg.NotToml, other_refused, refl); wrote = refl }
+configuration_refused = record { command = Replay (codes "config") (codes "trace"); words_are = words_read; config = codes "version"; there = refl; name = codes "NotToml"; why = inl (reg.NotToml, other_refused, refl); wrote = refl }
 
 small_is_taken : (name : Text) → IsConfigurationNo (Replay (codes "config") (codes "trace")) small name → ⊥
 small_is_taken name (inl refused) = (let never : ◌≡◌ {A = Result Configuration RegNo} (Ok configuration) (Err refused.0) = sym small_read ∙ refused.1 in cc)
@@ -203,10 +206,8 @@ small_is_taken name (inr other) = other.2
 configuration_not_refused : RefusesConfiguration (Some (with small header)) words None None → ⊥
 configuration_not_refused refuses =
     let same : Replay (codes "config") (codes "trace") ≡ refuses.command = same_Some (Replay (codes "config") (codes "trace")) refuses.command (sym words_read ∙ refuses.words_are) in
-    let At : Command → Type 0 = λ command. config_in command ≡ Some refuses.config_at in
-    let config_is : codes "config" ≡ refuses.config_at = same_Some (codes "config") refuses.config_at (subst At (sym same) refuses.at) in
-    let There : Text → Type 0 = λ name. content_of (with small header) name ≡ Some refuses.config in
-    let small_is : small ≡ refuses.config = same_Some small refuses.config (subst There (sym config_is) refuses.there) in
+    let There : Command → Type 0 = λ command. IsConfigOf (Some (with small header)) command refuses.config in
+    let small_is : small ≡ refuses.config = same_Some small refuses.config (subst There (sym same) refuses.there) in
     let Refused : Command → Type 0 = λ command. IsConfigurationNo command refuses.config refuses.name in
     let Small : List ℕ → Type 0 = λ config. IsConfigurationNo (Replay (codes "config") (codes "trace")) config refuses.name in
     small_is_taken refuses.name (subst Small (sym small_is) (subst Refused (sym same) refuses.why))
@@ -214,7 +215,7 @@ configuration_not_refused refuses =
 trace_refused : RefusesTrace (Some (with small (codes "hello\n"))) words (Some []) (Some (codes "trace Header\n"))
 unfolding trace_told refused_text trace_name
 trace_refused =
-    record { config_at = codes "config"; trace_at = codes "trace"; words_are = words_read; config = small; config_there = refl; configuration = configuration; read = small_read; trace = codes "hello\n"; trace_there = refl; why = no.Header; refused = refl; wrote = refl }
+    record { command = Replay (codes "config") (codes "trace"); words_are = words_read; config = small; config_there = refl; configuration = configuration; read = small_read; trace = codes "hello\n"; trace_there = refl; why = no.Header; refused = refl; wrote = refl }
 
 -- the header alone is a trace of no line
 abbrev nothing_told : Told
@@ -265,6 +266,39 @@ replayed =
       wrote = refl;
       well = nothing_plays_well;
     }
+
+abbrev storm_words : List Text
+storm_words = codes "storm" ∷ codes "0" ∷ codes "1" ∷ []
+
+storming : command_of storm_words ≡ Some (Storm 0 1)
+unfolding command_of digits
+storming = refl
+
+-- the answer over a configuration that is accepted, where the trace is too
+stormed : (c : Configuration) (told : Told) → registry_read config_text ≡ Ok c → trace_told c (trace_text 0 1) ≡ Ok told → PlaysWell c told
+    → Storms storm_words (end_status (end_of c told)) (Some []) (Some (storm_text c told 0 1))
+stormed c told read accepted well =
+    record { number = 0; count = 1; words_are = storming; configuration = c; read = read; told = told; accepted = accepted; ends = refl; wrote = refl; well = well }
+
+-- other words are no storm
+not_stormed : Storms words 0 None None → ⊥
+not_stormed storms = (let never : ◌≡◌ {A = Option Command} replaying (Some (Storm storms.number storms.count)) = sym words_read ∙ storms.words_are in cc)
+
+-- no shelf gives a storm its configuration
+storm_config-is_its_own : IsConfigOf (Some (with small header)) (Storm 0 1) config_text
+storm_config-is_its_own = refl
+
+storm_trace-is_its_own : IsTraceOf None (Storm 0 1) (trace_text 0 1)
+storm_trace-is_its_own = refl
+
+token_has_no_trace : IsTraceOf None (Token (codes "secret") (codes "token")) [] → ⊥
+token_has_no_trace never = never
+
+replay-plays : asks_play replaying ≡ true
+replay-plays = refl
+
+token-does_not : asks_play opening ≡ false
+token-does_not = refl
 
 token_opened : OpensToken (Some (holding (codes "key\n") sealed)) token_words (Some []) (Some (codes "{}\n"))
 unfolding jws_on_literals
@@ -368,7 +402,7 @@ party_words = codes "rp" ∷ codes "config" ∷ codes "shop" ∷ []
 no_party_refused : RefusesConfiguration (Some (with small header)) party_words (Some []) (Some (codes "configuration NoParty\n"))
 unfolding configuration_text command_of
 no_party_refused =
-    record { command = Rp (codes "config") (codes "shop") None; words_are = refl; config_at = codes "config"; at = refl; config = small; there = refl; name = codes "NoParty"; why = inr (configuration, small_read, (refl, refl)); wrote = refl }
+    record { command = Rp (codes "config") (codes "shop") None; words_are = refl; config = small; there = refl; name = codes "NoParty"; why = inr (configuration, small_read, (refl, refl)); wrote = refl }
 
 -- ---- Servers without desks
 

@@ -1,5 +1,5 @@
--- What the program answers to words that are no command, and to the contents that it fetched for `replay` and `token`: a status and
--- a text.
+-- What the program answers to words that are no command, to the contents that it fetched for `replay` and `token`, and to the numbers
+-- of a `storm`: a status and a text.
 use Rattle.std.specs.Prelude.{ℕ, ◌-◌, Bool, ◌&&◌, nat_lt, nat_le, List, [], ◌∷◌, ◌++◌, length, take, drop, codes, Result, Ok, Err, if◌then◌else◌}
 use Rattle.std.specs.Fmt.{decimal}
 use Rattle.std.specs.Str.{bytes_eq}
@@ -15,9 +15,12 @@ use Rattle.client_registry.specs.Reading.{registry_read}
 use Rattle.trace_lines.specs.declared.no.TraceNo.{TraceNo}
 use Rattle.trace_lines.specs.declared.no.TraceNo.TheVariants as no
 use Rattle.trace_lines.specs.Trace.{Told, trace_told}
+use Rattle.storm_texts.specs.Config.{config_text}
+use Rattle.storm_texts.specs.Trace.{trace_text}
 use Rattle.oidc_replay.specs.declared.replaying.ReplayEnd.{ReplayEnd}
 use Rattle.oidc_replay.specs.declared.replaying.ReplayEnd.TheVariants as end
 use Rattle.oidc_replay.specs.End.{end_of}
+use Rattle.oidc_replay.specs.Storm.{storm_text}
 use Rattle.oidc_replay.specs.Text.{text_of}
 
 pub record Answer : Type 0 where
@@ -88,6 +91,19 @@ replay_answer (Err why) trace = configuration_refusal (registry_name why)
 -- the answer to a configuration and a trace
 unfoldable pub answer_to : List ℕ → List ℕ → Answer
 answer_to config trace = replay_answer (registry_read config) trace
+
+-- the answer to a storm of two numbers, whose trace is played over a configuration
+abbrev pub storm_told : Configuration → ℕ → ℕ → Result Told TraceNo → Answer
+storm_told c number count (Ok told) = record { status = end_status (end_of c told); text = storm_text c told number count }
+storm_told c number count (Err why) = record { status = 4; text = refused_text why }
+
+abbrev pub storm_over : Result Configuration RegNo → ℕ → ℕ → Answer
+storm_over (Ok c) number count = storm_told c number count (trace_told c (trace_text number count))
+storm_over (Err why) number count = configuration_refusal (registry_name why)
+
+-- the answer to a storm of two numbers
+unfoldable pub storm_answer : ℕ → ℕ → Answer
+storm_answer number count = storm_over (registry_read config_text) number count
 
 -- bytes without their last, where that is a line feed
 abbrev pub without_feed : List ℕ → List ℕ

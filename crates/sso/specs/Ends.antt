@@ -23,7 +23,7 @@ use Rattle.rp_exchange.specs.declared.reply.RpReply.{RpReply}
 use Rattle.rp_accept.specs.Serving.{setup_of}
 use Rattle.rp_core.specs.Relying.{Relying}
 use Rattle.command_line.specs.declared.command.Command.{Command}
-use Rattle.command_line.specs.declared.command.Command.TheVariants.{Replay, Op, Rp, Token}
+use Rattle.command_line.specs.declared.command.Command.TheVariants.{Replay, Op, Rp, Storm, Token}
 use Rattle.command_line.specs.Commands.{command_of, is_command}
 use Rattle.server_desk.specs.declared.desk.Desk.{Desk}
 use Rattle.serving.specs.declared.summary.Summary.{Summary}
@@ -31,7 +31,9 @@ use Rattle.serving.specs.Summaries.{Telling}
 use Rattle.sso_serve.specs.Servers.{ServesOp, ServesRp}
 use Rattle.trace_lines.specs.declared.no.TraceNo.{TraceNo}
 use Rattle.trace_lines.specs.Trace.{trace_told}
-use Rattle.sso.specs.Answer.{Answer, usage_text, shelf_text, registry_name, configuration_text, refused_text, answer_to, without_feed, is_secret, token_text, token_answer}
+use Rattle.storm_texts.specs.Config.{config_text}
+use Rattle.storm_texts.specs.Trace.{trace_text}
+use Rattle.sso.specs.Answer.{Answer, usage_text, shelf_text, registry_name, configuration_text, refused_text, answer_to, storm_answer, without_feed, is_secret, token_text, token_answer}
 use Rattle.sso.specs.Asked.{metadata_name, metadata_text, trusted, op_asked, rp_asked, server_answer}
 use Rattle.sso.specs.Outcomes.{IsContent, IsContentIf, MayAnswer}
 
@@ -50,12 +52,19 @@ pub record ReportsShelf (before after : ℕ) (words : List Text) (old new : Opti
 
 -- ---- a configuration
 
--- the name of the configuration that a command has
-abbrev pub config_in : Command → Option Text
-config_in (Replay config trace) = Some config
-config_in (Op config) = Some config
-config_in (Rp config name metadata) = Some config
-config_in (Token secret token) = None
+-- the configuration of a command: it stands under the name that the command has, or is that of every storm
+abbrev pub IsConfigOf : Option (List Content) → Command → List ℕ → Type 0
+IsConfigOf contents (Replay config_at trace_at) config = IsContent contents config_at config
+IsConfigOf contents (Op config_at) config = IsContent contents config_at config
+IsConfigOf contents (Rp config_at party metadata_at) config = IsContent contents config_at config
+IsConfigOf contents (Storm number count) config = config ≡ config_text
+IsConfigOf contents (Token secret_at token_at) config = ⊥
+
+-- the trace of a command: it stands under the name that the command has, or is made of the numbers of a storm
+abbrev pub IsTraceOf : Option (List Content) → Command → List ℕ → Type 0
+IsTraceOf contents (Replay config_at trace_at) trace = IsContent contents trace_at trace
+IsTraceOf contents (Storm number count) trace = trace ≡ trace_text number count
+IsTraceOf contents command trace = ⊥
 
 -- the command names a party that the configuration has not, and this is the reason's name
 abbrev pub IsPartyNo : Command → Configuration → Text → Type 0
@@ -72,27 +81,24 @@ IsConfigurationNo command config name =
 pub record RefusesConfiguration (contents : Option (List Content)) (words : List Text) (old new : Option (List ℕ)) : Type 0 where
   pub command : Command
   pub words_are : command_of words ≡ Some command
-  pub config_at : Text
-  pub at : config_in command ≡ Some config_at
   pub config : List ℕ
-  pub there : IsContent contents config_at config
+  pub there : IsConfigOf contents command config
   pub name : Text
   pub why : IsConfigurationNo command config name
   pub wrote : Takes old new (configuration_text name)
 
--- ---- `replay`
+-- ---- `replay` and `storm`
 
 -- The configuration is accepted, the trace is not, and why was written.
 pub record RefusesTrace (contents : Option (List Content)) (words : List Text) (old new : Option (List ℕ)) : Type 0 where
-  pub config_at : Text
-  pub trace_at : Text
-  pub words_are : command_of words ≡ Some (Replay config_at trace_at)
+  pub command : Command
+  pub words_are : command_of words ≡ Some command
   pub config : List ℕ
-  pub config_there : IsContent contents config_at config
+  pub config_there : IsConfigOf contents command config
   pub configuration : Configuration
   pub read : registry_read config ≡ Ok configuration
   pub trace : List ℕ
-  pub trace_there : IsContent contents trace_at trace
+  pub trace_there : IsTraceOf contents command trace
   pub why : TraceNo
   pub refused : trace_told configuration trace ≡ Err why
   pub wrote : Takes old new (refused_text why)
@@ -237,6 +243,7 @@ rp_status party (Some config) (Some metadata) = status_of_asked (rp_asked config
 abbrev pub status_for : List Content → Option Command → Option ℕ
 status_for contents None = Some 2
 status_for contents (Some (Replay config trace)) = Some (status_of_both answer_to (content_of contents config) (content_of contents trace))
+status_for contents (Some (Storm number count)) = Some (storm_answer number count).status
 status_for contents (Some (Token secret token)) = Some (status_of_both token_answer (content_of contents secret) (content_of contents token))
 status_for contents (Some (Op config)) = op_status (content_of contents config)
 status_for contents (Some (Rp config party metadata)) = rp_status party (content_of contents config) (content_if contents metadata)
@@ -253,6 +260,12 @@ IsStatusOf None status = (status ≡ 0) ⊎ (status ≡ 9) ⊎ (status ≡ 1) �
 -- the status is one of those where nothing is served: for the words, for the shelf, by a refusal, or of a play
 abbrev pub is_refusal : ℕ → Bool
 is_refusal status = status == 2 || status == 3 || status == 4 || status == 5 || status == 7 || status == 8 || status == 10
+
+-- the command plays
+abbrev pub asks_play : Option Command → Bool
+asks_play (Some (Replay config trace)) = true
+asks_play (Some (Storm number count)) = true
+asks_play command = false
 
 -- the command serves
 abbrev pub is_serving : Option Command → Bool

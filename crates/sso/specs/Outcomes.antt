@@ -14,14 +14,16 @@ use Rattle.rp_exchange.specs.declared.reply.RpReply.{RpReply}
 use Rattle.rp_answer.specs.Setup.{PartySetup}
 use Rattle.rp_core.specs.Relying.{Relying}
 use Rattle.command_line.specs.declared.command.Command.{Command}
-use Rattle.command_line.specs.declared.command.Command.TheVariants.{Replay, Op, Rp, Token}
+use Rattle.command_line.specs.declared.command.Command.TheVariants.{Replay, Op, Rp, Storm, Token}
 use Rattle.server_desk.specs.declared.desk.Desk.{Desk}
 use Rattle.serving.specs.declared.summary.Summary.{Summary}
 use Rattle.serving.specs.Summaries.{Telling}
 use Rattle.sso_serve.specs.Servers.{ServesOp, ServesRp}
 use Rattle.trace_lines.specs.Trace.{Told, trace_told}
+use Rattle.storm_texts.specs.Config.{config_text}
+use Rattle.storm_texts.specs.Trace.{trace_text}
 use Rattle.oidc_replay.specs.Theorem.{PlaysWell}
-use Rattle.sso.specs.Answer.{Answer, usage_text, shelf_text, answer_to, token_answer}
+use Rattle.sso.specs.Answer.{Answer, usage_text, shelf_text, answer_to, storm_answer, token_answer}
 use Rattle.sso.specs.Asked.{op_asked, rp_asked, server_answer}
 
 -- this content stands under this name, where the shelf tells
@@ -51,7 +53,7 @@ usage_answer = record { status = 2; text = usage_text }
 unfoldable pub shelf_answer : Answer
 shelf_answer = record { status = 5; text = shelf_text }
 
--- ---- `replay` and `token`
+-- ---- `replay`, `storm` and `token`
 
 -- the sign-on theorem for the play of these bytes over a registry, where they are an accepted trace
 abbrev pub PlaysOver : Configuration → List ℕ → Type 0
@@ -78,6 +80,11 @@ pub record AnswersReplay (contents : Option (List Content)) (config_at trace_at 
 abbrev pub MayReplay : Option (List Content) → ℕ → ℕ → Text → Text → Answer → Type 0
 MayReplay contents before after config_at trace_at answer =
     FailsAtShelf before after answer ⊎ AnswersReplay contents config_at trace_at answer
+
+-- The answer is that to a storm of these numbers. This is what may be answered to `storm`, which needs no shelf.
+pub record AnswersStorm (number count : ℕ) (answer : Answer) : Type 0 where
+  pub answers : answer ≡ storm_answer number count
+  pub well : Plays config_text (trace_text number count)
 
 -- The answer is that to a secret and a token which stand under these names.
 pub record AnswersToken (contents : Option (List Content)) (secret_at token_at : Text) (answer : Answer) : Type 0 where
@@ -134,6 +141,7 @@ module _ {D L C W S K : Type 0} (t : Telling D L C W S K) (olds news : List (Des
   abbrev pub MayAnswer : Option (List Content) → ℕ → ℕ → Option Command → Answer → Type 0
   MayAnswer contents before after None answer = answer ≡ usage_answer
   MayAnswer contents before after (Some (Replay config trace)) answer = MayReplay contents before after config trace answer
+  MayAnswer contents before after (Some (Storm number count)) answer = AnswersStorm number count answer
   MayAnswer contents before after (Some (Token secret token)) answer = MayOpen contents before after secret token answer
   MayAnswer contents before after (Some (Op config)) answer = MayServeOp contents before after config answer
   MayAnswer contents before after (Some (Rp config name metadata)) answer = MayServeRp contents before after config name metadata answer

@@ -1,14 +1,17 @@
--- The sign-on theorem of the program `replay CONFIG TRACE`, where the trace was played. What a shelf holds and what a sink took is
--- an option, since real files and a real output tell nothing.
+-- The sign-on theorem of the program: of `replay CONFIG TRACE` where the trace was played, and of `storm NUMBER COUNT`. What a shelf
+-- holds and what a sink took is an option, since real files and a real output tell nothing.
 use Rattle.std.specs.Prelude.{◌≡◌, ℕ, List, Option, Some, Ok}
 use Rattle.sso_base.specs.Words.{Text}
 use Rattle.sso_base.specs.Outside.{Content, Takes}
 use Rattle.client_registry.specs.Configuration.{Configuration}
 use Rattle.client_registry.specs.Reading.{registry_read}
-use Rattle.command_line.specs.declared.command.Command.TheVariants.{Replay}
+use Rattle.command_line.specs.declared.command.Command.TheVariants.{Replay, Storm}
 use Rattle.command_line.specs.Commands.{command_of}
 use Rattle.trace_lines.specs.Trace.{Told, trace_told}
+use Rattle.storm_texts.specs.Config.{config_text}
+use Rattle.storm_texts.specs.Trace.{trace_text}
 use Rattle.oidc_replay.specs.End.{end_of}
+use Rattle.oidc_replay.specs.Storm.{storm_text}
 use Rattle.oidc_replay.specs.Text.{text_of}
 use Rattle.oidc_replay.specs.Theorem.{PlaysWell}
 use Rattle.sso.specs.Answer.{end_status}
@@ -30,4 +33,17 @@ pub record Replays (contents : Option (List Content)) (words : List Text) (statu
   pub accepted : trace_told configuration trace ≡ Ok told
   pub ends : end_status (end_of configuration told) ≡ status
   pub wrote : Takes old new (text_of configuration told)
+  pub well : PlaysWell configuration told
+
+-- The same of a storm of two numbers. Its configuration and its trace are made of these, and a summary of the play was written.
+pub record Storms (words : List Text) (status : ℕ) (old new : Option (List ℕ)) : Type 0 where
+  pub number : ℕ
+  pub count : ℕ
+  pub words_are : command_of words ≡ Some (Storm number count)
+  pub configuration : Configuration
+  pub read : registry_read config_text ≡ Ok configuration
+  pub told : Told
+  pub accepted : trace_told configuration (trace_text number count) ≡ Ok told
+  pub ends : end_status (end_of configuration told) ≡ status
+  pub wrote : Takes old new (storm_text configuration told number count)
   pub well : PlaysWell configuration told

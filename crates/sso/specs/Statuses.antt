@@ -5,7 +5,7 @@ use Rattle.sso_base.specs.Outside.{Content}
 use Rattle.server_desk.specs.declared.desk.Desk.{Desk}
 use Rattle.serving.specs.Summaries.{Telling}
 use Rattle.sso.specs.Ends.{ShowsUsage, ReportsShelf, RefusesConfiguration, RefusesTrace, RefusesToken, RefusesMetadata, OpensToken, RunsProvider, RunsParty, StopsWriting, is_refusal}
-use Rattle.sso.specs.SignOn.{Replays}
+use Rattle.sso.specs.SignOn.{Replays, Storms}
 
 -- a call: what it was given, and what it left
 pub record Call (D L C W S K : Type 0) : Type 0 where
@@ -29,6 +29,11 @@ module _ {D L C W S K : Type 0} (call : Call D L C W S K) where
       ⊎ OpensToken call.contents call.words call.old call.new
       ⊎ RunsProvider call.tells call.olds call.news call.contents call.words false call.old call.new
       ⊎ RunsParty call.tells call.olds call.news call.contents call.words false call.old call.new
+      ⊎ Storms call.words 0 call.old call.new
+
+  -- a play ended with this status
+  abbrev pub Played : ℕ → Type 0
+  Played status = Replays call.contents call.words status call.old call.new ⊎ Storms call.words status call.old call.new
 
   abbrev pub FailsAtDoor : Type 0
   FailsAtDoor =
@@ -51,8 +56,8 @@ module _ {D L C W S K : Type 0} (call : Call D L C W S K) where
       (MatchBool (status == 4) (RefusesTrace call.contents call.words call.old call.new)
       (MatchBool (status == 5) (ReportsShelf call.shelf_before call.shelf_after call.words call.old call.new)
       (MatchBool (status == 6) Stops
-      (MatchBool (status == 7) (Replays call.contents call.words 7 call.old call.new)
-      (MatchBool (status == 8) (Replays call.contents call.words 8 call.old call.new)
+      (MatchBool (status == 7) (Played 7)
+      (MatchBool (status == 8) (Played 8)
       (MatchBool (status == 9) FailsAtDoor
       (MatchBool (status == 10) Refuses ⊥))))))))))
 

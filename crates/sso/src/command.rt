@@ -5,11 +5,12 @@ ghost use Rattle.std.specs.List.{All};
 ghost use Rattle.sso_base.specs.Faults.{Rose};
 ghost use Rattle.command_line.specs.Commands.{command_of};
 ghost use Rattle.sso.specs.Ends.{is_serving};
-ghost use Rattle.sso.specs.Outcomes.{IsFetched, IsFetchedIf, MayReplay, MayOpen, MayServeOp, MayServeRp, MayAnswer};
+ghost use Rattle.sso.specs.Outcomes.{IsFetched, IsFetchedIf, AnswersStorm, MayReplay, MayOpen, MayServeOp, MayServeRp, MayAnswer};
 
 use crate::outcome::{Outcome, answer_shelf, answer_usage};
 use crate::replaying::answer_replay;
 use crate::servers::{answer_op, answer_rp};
+use crate::storms::answer_storm;
 use crate::token::answer_token;
 use command_line::{Command, read_command};
 use server_desk::{Clock, Desk, Door, Draw, Link};
@@ -117,6 +118,14 @@ fn token_words<H: Shelf>(
     }
 }
 
+/// The answer to the numbers of a storm.
+fn storm_words(alloc: Global, number: u32, count: u32) -> Result<Outcome, NoMemory>
+    requires { count ≤ 10000 }
+    ensures { IfOk result (AnswersStorm number count) }
+{
+    answer_storm(alloc, number, count)
+}
+
 /// Serves the provider of the configuration of this name.
 fn op_words<R: Threads + Wait + Sync, H: Shelf, D: Door, L: Link, C: Clock, W: Draw>(
     rt: &R,
@@ -181,6 +190,7 @@ pub fn answer_words<R: Threads + Wait + Sync, H: Shelf, D: Door, L: Link, C: Clo
     match read_command(alloc, words)? {
         None => answer_usage(alloc),
         Some(Command::Replay { config, trace }) => replay_words(alloc, shelf, &config, &trace),
+        Some(Command::Storm { number, count }) => storm_words(alloc, number, count),
         Some(Command::Token { secret, token }) => token_words(alloc, shelf, &secret, &token),
         Some(Command::Op { config }) => op_words(rt, alloc, shelf, &config, desks),
         Some(

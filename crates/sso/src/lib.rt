@@ -7,6 +7,7 @@
 //! | `command` | what the words ask for, with contents fetched for it | `Outcomes` |
 //! | `outcome` | the answers of no command | `Outcomes` |
 //! | `replaying` | the answers of `replay` | `Answer` |
+//! | `storms` | the answers of `storm` | `Answer` |
 //! | `servers` | the answers of `op` and `rp` | `Asked`, `Outcomes` |
 //! | `configuration` | the answers to a configuration that is not taken | `Answer` |
 //! | `token` | the answers of `token` | `Answer` |
@@ -17,6 +18,7 @@ mod configuration;
 mod outcome;
 mod replaying;
 mod servers;
+mod storms;
 mod token;
 mod top;
 

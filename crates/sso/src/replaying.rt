@@ -17,7 +17,7 @@ use sso_base::{Blob, NoMemory};
 use std::alloc::Global;
 
 // The status of a replay, by how its play ended.
-fn end_status(end: &ReplayEnd) -> u8
+pub(crate) fn end_status(end: &ReplayEnd) -> u8
     ensures { result ≡ spec.end_status end.now }
 {
     match end {
@@ -54,7 +54,7 @@ fn name_of(alloc: Global, why: &TraceNo) -> Result<String, NoMemory>
 
 // The answer to a trace that is refused.
 #[tactic(auto, unfolding(crate::specs::Answer::refused_text))]
-fn refuse_trace(alloc: Global, why: &TraceNo) -> Result<Outcome, NoMemory>
+pub(crate) fn refuse_trace(alloc: Global, why: &TraceNo) -> Result<Outcome, NoMemory>
     ensures { IfOk result (λ outcome. outcome ≡ record { status = 4; text = refused_text why.now }) }
 {
     let name = name_of(alloc, why)?;

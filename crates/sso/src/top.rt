@@ -1,11 +1,13 @@
 //! The top call.
 
-ghost use Rattle.std.specs.Prelude.{◌≡◌, ◌⊎◌, ◌^◌, ◌≤◌, ◌<◌, true, false, List, length, Some};
+ghost use Rattle.std.specs.Prelude.{◌≡◌, ◌⊎◌, ◌^◌, ◌≤◌, ◌<◌, ℕ, true, false, List, length, Some};
 ghost use Rattle.std.specs.List.{All};
 ghost use Rattle.sso_base.specs.Outside.{Content};
-ghost use Rattle.command_line.specs.Commands.{command_of, is_command, asks_replay, asks_token, asks_op, asks_rp};
-ghost use Rattle.sso.specs.Ends.{ShowsUsage, ReportsShelf, RefusesConfiguration, RefusesTrace, RefusesToken, RefusesMetadata, OpensToken, RunsProvider, RunsParty, StopsWriting, status_for, IsStatus, IsStatusOf, is_refusal, is_serving};
-ghost use Rattle.sso.specs.SignOn.{Replays};
+ghost use Rattle.command_line.specs.declared.command.Command.TheVariants.{Storm};
+ghost use Rattle.command_line.specs.Commands.{command_of, is_command, asks_replay, asks_storm, asks_token, asks_op, asks_rp};
+ghost use Rattle.sso.specs.Answer.{storm_answer};
+ghost use Rattle.sso.specs.Ends.{ShowsUsage, ReportsShelf, RefusesConfiguration, RefusesTrace, RefusesToken, RefusesMetadata, OpensToken, RunsProvider, RunsParty, StopsWriting, status_for, IsStatus, IsStatusOf, is_refusal, asks_play, is_serving};
+ghost use Rattle.sso.specs.SignOn.{Replays, Storms};
 ghost use Rattle.sso.specs.Outcomes.{IsWritten};
 ghost use Rattle.sso.specs.Statuses.{Ended};
 
@@ -42,6 +44,7 @@ fn run<R: Threads + Wait + Sync, H: Shelf, K: Sink, D: Door, L: Link, C: Clock, 
     requires desks { All (λ desk. (desk.turns ≤ 2 ^ 56) × ((D.state desk.door).given < 2 ^ 63)) desks.old.items }
     ensures ended { Ended (record { tells = ⟦<Desk<D, L, C, W> as Tells>⟧.telling; olds = desks.old.items; news = desks.new.items; contents = H.contents shelf.old; shelf_before = H.faults shelf.old; shelf_after = H.faults shelf.new; words = words.now; before = K.faults out.old; after = K.faults out.new; old = K.taken out.old; new = K.taken out.new }) result }
     ensures words { is_command words.now ≡ false → IsStatus 2 result }
+    ensures storm { (number count : ℕ) → command_of words.now ≡ Some (Storm number count) → IsStatus (storm_answer number count).status result }
     ensures contents { (contents : List Content) → H.contents shelf.old ≡ Some contents → IsStatusOf (status_for contents (command_of words.now)) result }
     ensures idle { is_serving (command_of words.now) ≡ false → desks.new.items ≡ desks.old.items }
     ensures kept { H.contents shelf.new ≡ H.contents shelf.old }
@@ -60,6 +63,7 @@ fn run<R: Threads + Wait + Sync, H: Shelf, K: Sink, D: Door, L: Link, C: Clock, 
 /// | Status | Comes exactly where | Text |
 /// |---|---|---|
 /// | 0 | `replay`: the trace was played to its end and no premise failed, and all was written | the text of its play |
+/// | | `storm`: its play went to its end and no premise failed, and all was written | the summary of its play |
 /// | | `token`: the token is sealed under the secret, and all was written | its payload and a line feed |
 /// | | `op`, `rp`: each desk served its turns, or its door is closed, and all was written | `served`, the connections, `entries` and those of the history |
 /// | 1 | memory ran out | none |
@@ -68,8 +72,8 @@ fn run<R: Threads + Wait + Sync, H: Shelf, K: Sink, D: Door, L: Link, C: Clock, 
 /// | 4 | TRACE is not an accepted trace | `trace`, the refusal's name and the number of its line |
 /// | 5 | (only where) the shelf's faults rose | `shelf` |
 /// | 6 | (only where) the sink's faults rose | a front of one of these texts |
-/// | 7 | the trace was played to its end, a premise failed, and all was written | the text of its play, with the first place at which one fails |
-/// | 8 | a history would have passed its limit before the last line was played, and all was written | the text so far, and `journal` with the place |
+/// | 7 | the trace was played to its end, a premise failed, and all was written | the text or the summary of its play, with the first place at which one fails |
+/// | 8 | a history would have passed its limit before the last line was played, and all was written | the text or the summary so far, and `journal` with the place |
 /// | 9 | (only where) a door's faults rose | `door` |
 /// | 10 | the secret has no byte or more than 128, or the token is not sealed under it | `token Secret`, or `token` and the refusal's name |
 /// | | DISCOVERY has more than 65,536 bytes, or is not the metadata of the configuration's issuer | `discovery Size`, or `discovery` and the refusal's name |
@@ -89,10 +93,14 @@ pub fn sso<R: Threads + Wait + Sync, H: Shelf, K: Sink, D: Door, L: Link, C: Clo
     requires few { length desks.old.items ≤ 64 }
     requires desks { All (λ desk. (desk.turns ≤ 2 ^ 56) × ((D.state desk.door).given < 2 ^ 63)) desks.old.items }
 
-    // The sign-on theorem is a part of these three clauses: it speaks of the very play whose text was written.
+    // The sign-on theorem is a part of these six clauses: it speaks of the very play whose text was written.
     ensures replayed { result ≡ 0 → asks_replay (command_of words.now) ≡ true → Replays (H.contents shelf.old) words.now 0 (K.taken out.old) (K.taken out.new) }
-    ensures broken { result ≡ 7 → Replays (H.contents shelf.old) words.now 7 (K.taken out.old) (K.taken out.new) }
-    ensures full { result ≡ 8 → Replays (H.contents shelf.old) words.now 8 (K.taken out.old) (K.taken out.new) }
+    ensures broken { result ≡ 7 → asks_replay (command_of words.now) ≡ true → Replays (H.contents shelf.old) words.now 7 (K.taken out.old) (K.taken out.new) }
+    ensures full { result ≡ 8 → asks_replay (command_of words.now) ≡ true → Replays (H.contents shelf.old) words.now 8 (K.taken out.old) (K.taken out.new) }
+    ensures stormed { result ≡ 0 → asks_storm (command_of words.now) ≡ true → Storms words.now 0 (K.taken out.old) (K.taken out.new) }
+    ensures storm_broken { result ≡ 7 → asks_storm (command_of words.now) ≡ true → Storms words.now 7 (K.taken out.old) (K.taken out.new) }
+    ensures storm_full { result ≡ 8 → asks_storm (command_of words.now) ≡ true → Storms words.now 8 (K.taken out.old) (K.taken out.new) }
+    ensures play { (result ≡ 7) ⊎ (result ≡ 8) → asks_play (command_of words.now) ≡ true }
     ensures opened { result ≡ 0 → asks_token (command_of words.now) ≡ true → OpensToken (H.contents shelf.old) words.now (K.taken out.old) (K.taken out.new) }
     ensures provider { result ≡ 0 → asks_op (command_of words.now) ≡ true → RunsProvider ⟦<Desk<D, L, C, W> as Tells>⟧.telling desks.old.items desks.new.items (H.contents shelf.old) words.now false (K.taken out.old) (K.taken out.new) }
     ensures party { result ≡ 0 → asks_rp (command_of words.now) ≡ true → RunsParty ⟦<Desk<D, L, C, W> as Tells>⟧.telling desks.old.items desks.new.items (H.contents shelf.old) words.now false (K.taken out.old) (K.taken out.new) }
@@ -101,6 +109,7 @@ pub fn sso<R: Threads + Wait + Sync, H: Shelf, K: Sink, D: Door, L: Link, C: Clo
     ensures memory { result ≡ 1 → K.taken out.new ≡ K.taken out.old }
     ensures usage { result ≡ 2 → ShowsUsage words.now (K.taken out.old) (K.taken out.new) }
     ensures configuration { result ≡ 3 → RefusesConfiguration (H.contents shelf.old) words.now (K.taken out.old) (K.taken out.new) }
+    ensures configured { result ≡ 3 → asks_storm (command_of words.now) ≡ false }
     ensures trace { result ≡ 4 → RefusesTrace (H.contents shelf.old) words.now (K.taken out.old) (K.taken out.new) }
     ensures shelf { result ≡ 5 → ReportsShelf (H.faults shelf.old) (H.faults shelf.new) words.now (K.taken out.old) (K.taken out.new) }
     ensures sink { result ≡ 6 → StopsWriting ⟦<Desk<D, L, C, W> as Tells>⟧.telling desks.old.items desks.new.items (H.contents shelf.old) (H.faults shelf.old) (H.faults shelf.new) words.now (K.faults out.old) (K.faults out.new) (K.taken out.old) (K.taken out.new) }
@@ -110,6 +119,7 @@ pub fn sso<R: Threads + Wait + Sync, H: Shelf, K: Sink, D: Door, L: Link, C: Clo
     // Each status comes where it should: by the words alone, and by the contents of a shelf that tells them.
     ensures range { result ≤ 10 }
     ensures words { is_command words.now ≡ false → IsStatus 2 result }
+    ensures storm { (number count : ℕ) → command_of words.now ≡ Some (Storm number count) → IsStatus (storm_answer number count).status result }
     ensures contents { (contents : List Content) → H.contents shelf.old ≡ Some contents → IsStatusOf (status_for contents (command_of words.now)) result }
 
     // The desks are as they were where nothing is served. The shelf keeps what it holds, and no count falls.

@@ -10,6 +10,21 @@ returns-clause-broken g c = ending.broken _ _ c.run.ensures.ended
 pub returns-clause-full : goal.returns-clause-full
 returns-clause-full g c = ending.full _ _ c.run.ensures.ended
 
+pub returns-clause-stormed : goal.returns-clause-stormed
+returns-clause-stormed g c = ending.stormed _ _ c.run.ensures.ended
+
+pub returns-clause-storm_broken : goal.returns-clause-storm_broken
+returns-clause-storm_broken g c = ending.storm_broken _ _ c.run.ensures.ended
+
+pub returns-clause-storm_full : goal.returns-clause-storm_full
+returns-clause-storm_full g c = ending.storm_full _ _ c.run.ensures.ended
+
+pub returns-clause-play : goal.returns-clause-play
+returns-clause-play g c = ending.play _ _ c.run.ensures.ended
+
+pub returns-clause-configured : goal.returns-clause-configured
+returns-clause-configured g c = ending.configured _ _ c.run.ensures.ended
+
 pub returns-clause-opened : goal.returns-clause-opened
 returns-clause-opened g c = ending.opened _ _ c.run.ensures.ended
 

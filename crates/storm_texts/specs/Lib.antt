@@ -1,0 +1,4 @@
+pub mod Config
+pub mod Lines
+pub mod Logins
+pub mod Trace

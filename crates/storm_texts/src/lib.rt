@@ -1,0 +1,17 @@
+//! The configuration and the trace of a storm, which is a trial of a provider and three relying parties by many logins.
+//!
+//! | Module | What it has | Its definitions, in `specs/` |
+//! |---|---|---|
+//! | `config` | [`storm_config`] | `Config` |
+//! | `lines` | the lines of a trace | `Lines` |
+//! | `login` | what the logins are | `Logins` |
+//! | `trace` | [`storm_trace`] | `Trace` |
+#![tactic(auto)]
+
+mod config;
+mod lines;
+mod login;
+mod trace;
+
+pub use config::storm_config;
+pub use trace::storm_trace;
