@@ -1,5 +1,5 @@
 -- The configuration of every storm is accepted. It is read here as the program reads it, by computing.
-use Rattle.std.proofs.Common.{◌≡◌, true, refl, codes, is_ok}
+use Rattle.std.proofs.Common.{◌≡◌, true, refl, is_ok}
 use Rattle.std.specs.Str.{is_utf8, chars}
 use Rattle.hex.proofs.OnLiterals.{hex_on_literals}
 use Rattle.toml.proofs.OnLiterals.{toml_on_literals}

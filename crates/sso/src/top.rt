@@ -69,7 +69,7 @@ fn run<R: Threads + Wait + Sync, H: Shelf, K: Sink, D: Door, L: Link, C: Clock, 
 /// | 1 | memory ran out | none |
 /// | 2 | the words are no command | the usage |
 /// | 3 | CONFIG is refused, or NAME is no party of it | `configuration`, the refusal's name and its values, or `configuration NoParty` |
-/// | 4 | TRACE is not an accepted trace | `trace`, the refusal's name and the number of its line |
+/// | 4 | TRACE, or the trace of a storm, is not an accepted trace; it is not proved that no storm has such a one | `trace`, the refusal's name and the number of its line |
 /// | 5 | (only where) the shelf's faults rose | `shelf` |
 /// | 6 | (only where) the sink's faults rose | a front of one of these texts |
 /// | 7 | the trace was played to its end, a premise failed, and all was written | the text or the summary of its play, with the first place at which one fails |

@@ -1,4 +1,4 @@
-use Rattle.std.proofs.Common.{Bool, Option, Some, None, cond, ℕ, sym, ap, ◌∙◌}
+use Rattle.std.proofs.Common.{Bool, Some, None, cond, sym, ap, ◌∙◌}
 use Rattle.command_line.proofs.Decimals.{parsed, unparsed}
 use Rattle.command_line.proofs.number.read_number.Goals as goal
 
