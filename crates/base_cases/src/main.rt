@@ -1,5 +1,5 @@
-//! Cases of what all stands on, each a line that a person can read: texts, bytes, moments and words, rows with names, sinks and
-//! shelves, scope values and response types.
+//! Cases of what all stands on, each a line that a person can read: texts, bytes, moments and words, rows with names and tables
+//! of them, sinks and shelves, scope values and response types.
 //!
 //! The file `stdin` has the cases, and `stdout` the same with their answers. `case_lines` says how a line is read, and the comments
 //! there where the expected answers come from.
@@ -11,11 +11,20 @@
 //! | `outside` | `write` and `fetch`: sinks and shelves in memory, of which some calls fail |
 //! | `scopes` | `claim`, `claims`, `asks`, `joined` and `covers`: scope values, and the claims that they ask for |
 //! | `types` | `types`: response types |
+//! | `beside` | `table` and `many`: the held rows of a table beside a plain list, both asked the same |
+//! | `table` | what is asked of the two |
+//! | `held`, `plain` | members in the held rows of a table, and in a plain list |
+//! | `members` | members: rows with names and groups |
 #![tactic(auto)]
 
+mod beside;
+mod held;
+mod members;
 mod outside;
+mod plain;
 mod rows;
 mod scopes;
+mod table;
 mod types;
 mod words;
 
@@ -44,6 +53,8 @@ impl Cases for BaseCases {
             ["asks", scope, name] => scopes::asks(alloc, scope, name),
             ["joined", one, other] => scopes::joined(alloc, one, other),
             ["covers", one, other] => scopes::covers(alloc, one, other),
+            ["table", calls] => beside::table(alloc, calls),
+            ["many", count, calls] => beside::many(alloc, count, calls),
             ["types", code, id_token, token] => types::types(alloc, code, id_token, token),
             _ => words::answer(alloc, fields),
         }
