@@ -1,6 +1,7 @@
 // The play of a storm.
 
 ghost use Rattle.std.specs.Prelude.{◌≡◌, ◌++◌, string_bytes, IfOk, OnOk};
+ghost use Rattle.client_registry.specs.Registered.{IsRegistry};
 ghost use Rattle.running_world.specs.Running.{world_of};
 ghost use Rattle.trace_lines.specs.Order.{IsReadFor};
 ghost use Rattle.oidc_replay.specs.End.{end_of};
@@ -21,6 +22,7 @@ fn play_all(alloc: Global, registry: Registry, trace: &Trace) -> Result<Play, No
     requires { IsReadFor registry trace.now }
     ensures registry { IfOk result (λ p. p.running.registry ≡ registry) }
     ensures played { IfOk result (λ p. played_of p ≡ play_of registry trace.now) }
+    ensures read { IsRegistry registry }
 {
     let mut play = Play::new(alloc, registry, trace.seed())?;
     for line in trace.lines() {

@@ -32,4 +32,4 @@ returns-clause-end c =
 pub returns-clause-well : goal.returns-clause-well
 returns-clause-well c =
     let few : length c.args.trace.now.lines ≤ 4194304 = c.requires.few in
-    always c.finish.result (plays_well c.args.registry c.args.trace.now c.in_ok-play.play c.theorem.ensures c.in_ok-play.ensures.registry (lines_of_play c.args.registry c.args.trace.now (played_of c.in_ok-play.play) c.in_ok-play.ensures.played) (omega (arith, few)))
+    always c.finish.result (plays_well c.args.registry c.args.trace.now c.in_ok-play.play c.theorem.ensures c.in_ok-play.ensures.registry (lines_of_play c.args.registry c.args.trace.now (played_of c.in_ok-play.play) c.in_ok-play.ensures.played) (omega (arith, few)) c.in_ok-play.ensures.read)
