@@ -1,2 +1,4 @@
+pub mod LineSteps
 pub mod Next
+pub mod PrintedLines
 mod Samples

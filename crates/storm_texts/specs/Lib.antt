@@ -1,4 +1,5 @@
 pub mod Config
 pub mod Lines
 pub mod Logins
+pub mod Parties
 pub mod Trace
