@@ -1,3 +1,4 @@
+pub mod Accepted
 pub mod LineSteps
 pub mod Next
 pub mod PrintedLines

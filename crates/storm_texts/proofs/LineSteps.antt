@@ -104,15 +104,15 @@ then_said : (c : Configuration) (words : List Text) (o : Option (List Text)) (sa
 then_said c words o said true q is says = absurd (true≢false q)
 then_said c words o said false q is says = ap (words_said c) is ∙ says
 
-not_long : (n : ℕ) → n ≤ 65536 → nat_lt 65536 n ≡ false
-not_long n le = grind (arith)
+pub not_below : (m n : ℕ) → n ≤ m → nat_lt m n ≡ false
+not_below m n le = grind (arith)
 
 pub words_read : (c : Configuration) (before : List Line) (words : List Text) (said : Line) → length (join_with_byte 32 words) ≤ 65536 → Says c before words said → Reads c before (join_with_byte 32 words ++ 10 ∷ []) (said ∷ before)
 words_read c before words said short is =
     let line : List ℕ = join_with_byte 32 words in
     let cut : words_in line ≡ Some words = words_are line words (record { some = is.some; visible = is.visible; joined = refl }) in
     let none : line_faults c before line ≡ [] = 
-        rw (not_long (length line) short, is.spoken, cut) is.guiltless in
+        rw (not_below 65536 (length line) short, is.spoken, cut) is.guiltless in
     let says : line_said c line ≡ Some said = then_said c words (words_in line) said (is_skipped line) is.spoken cut is.says in
     record {
       on = λ rest end goes.

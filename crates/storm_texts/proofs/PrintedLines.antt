@@ -26,7 +26,7 @@ use Rattle.storm_texts.specs.declared.login.Party.TheVariants.{Shop, News, Mail}
 use Rattle.storm_texts.specs.Lines.{at_line, begin_line, follow_line, login_line, visit_line, exchange_lines}
 use Rattle.storm_texts.specs.Logins.{credentials, party_name}
 use Rattle.storm_texts.specs.Parties.{KnowsParties}
-use Rattle.storm_texts.proofs.LineSteps.{Leads, leads_on, leads_as, Says, line_leads}
+use Rattle.storm_texts.proofs.LineSteps.{Leads, leads_on, leads_as, Says, not_below, line_leads}
 
 -- ---- words
 
@@ -90,9 +90,6 @@ place_read : (n : ℕ) → 1 ≤ n → n ≤ 999999 → place_of (decimal n) ≡
 place_read n least most = read_within 1 (2 ^ 64 - 1) n least (omega arith) (omega arith)
 
 -- ---- lines without faults
-
-not_below : (m n : ℕ) → n ≤ m → nat_lt m n ≡ false
-not_below m n le = grind (arith)
 
 both_said : {A B : Type 0} (f : A → B → Line) (a : Option A) (b : Option B) (x : A) (y : B) → a ≡ Some x → b ≡ Some y → of_two f a b ≡ Some (f x y)
 both_said f a b x y p q = ap (λ o. of_two f o b) p ∙ ap (λ o. of_two f (Some x) o) q
