@@ -6,12 +6,15 @@
 //! | `lines` | the lines of a trace | `Lines` |
 //! | `login` | what the logins are | `Logins` |
 //! | `trace` | [`storm_trace`] | `Trace` |
+//! | `law` | [`storms_are_accepted`] | `Parties` |
 #![tactic(auto)]
 
 mod config;
+mod law;
 mod lines;
 mod login;
 mod trace;
 
 pub use config::storm_config;
+pub use law::storms_are_accepted;
 pub use trace::storm_trace;
