@@ -1,13 +1,18 @@
 -- How a call ends: one lemma for each status, and the clauses of the top call, which are read off.
-use Rattle.std.proofs.Common.{◌≡◌, ◌⊎◌, ℕ, Bool, true, false, List, Option, Some, is_some, is_ok, inl, inr, arith, refl, ap, sym, ◌∙◌, subst}
+use Rattle.std.proofs.Common.{◌≡◌, ◌⊎◌, ℕ, Bool, true, false, List, Option, Some, is_some, Ok, Err, is_ok, inl, inr, arith, refl, ap, sym, ◌∙◌, subst}
 use Rattle.sso_base.specs.Words.{Text}
+use Rattle.client_registry.specs.Configuration.{Configuration}
 use Rattle.client_registry.specs.Reading.{registry_read}
 use Rattle.command_line.specs.declared.command.Command.{Command}
 use Rattle.command_line.specs.declared.command.Command.TheVariants.{Replay, Op, Rp, Storm, Token}
-use Rattle.command_line.specs.Commands.{command_of, is_command, asks_replay, asks_op, asks_rp, asks_storm, asks_token}
-use Rattle.sso.specs.Ends.{asks_play, ShowsUsage, ReportsShelf, IsConfigOf, IsConfigurationNo, RefusesConfiguration, RefusesTrace, OpensToken, RunsProvider, RunsParty}
+use Rattle.command_line.specs.Commands.{command_of, is_command, asks_replay, asks_op, asks_rp, asks_storm, asks_token, IsInRange}
+use Rattle.command_line.proofs.Laws.{range_read}
+use Rattle.trace_lines.specs.declared.no.TraceNo.{TraceNo}
+use Rattle.trace_lines.specs.Trace.{trace_told}
+use Rattle.storm_texts.proofs.Accepted.{storm_accepted}
+use Rattle.storm_texts.proofs.Configured.{storm_configured, storm_known}
+use Rattle.sso.specs.Ends.{asks_play, ShowsUsage, ReportsShelf, IsConfigOf, IsTraceOf, IsConfigurationNo, RefusesConfiguration, RefusesTrace, OpensToken, RunsProvider, RunsParty}
 use Rattle.sso.specs.SignOn.{Replays, Storms}
-use Rattle.sso.proofs.StormConfigured.{storm_configured}
 use Rattle.sso.specs.Statuses.{Call, Runs, Played, FailsAtDoor, Refuses, Stops, At, Ended}
 
 module _ {D L C W S K : Type 0} (call : Call D L C W S K) where
@@ -128,11 +133,30 @@ module _ {D L C W S K : Type 0} (call : Call D L C W S K) where
   no_storm : RefusesConfiguration call.contents call.words call.old call.new → asks_storm (command_of call.words) ≡ false
   no_storm refuses = ap asks_storm refuses.words_are ∙ none_refused refuses.command refuses.config refuses.name refuses.there refuses.why
 
+  -- nor is the trace of one
+  none_unread : (command : Command) (config : List ℕ) (c : Configuration) (trace : List ℕ) (why : TraceNo) → IsInRange command → IsConfigOf call.contents command config → registry_read config ≡ Ok c → IsTraceOf call.contents command trace → trace_told c trace ≡ Err why → asks_storm (Some command) ≡ false
+  none_unread (Storm number count) config c trace why range is read made refused =
+      (let accepted = storm_accepted c number count (storm_known c (ap (λ (bytes : List ℕ). registry_read bytes) (sym is) ∙ read)) range.2 in
+      let never = sym accepted.1 ∙ ap (λ (bytes : List ℕ). trace_told c bytes) (sym made) ∙ refused in
+      cc)
+  none_unread (Replay config_at trace_at) config c trace why range is read made refused = refl
+  none_unread (Op config_at) config c trace why range is read made refused = refl
+  none_unread (Rp config_at party metadata_at) config c trace why range is read made refused = refl
+  none_unread (Token secret_at token_at) config c trace why range is read made refused = refl
+
+  read_storm : RefusesTrace call.contents call.words call.old call.new → asks_storm (command_of call.words) ≡ false
+  read_storm r =
+      ap asks_storm r.words_are
+      ∙ none_unread r.command r.config r.configuration r.trace r.why (range_read call.words r.command r.words_are) r.config_there r.read r.trace_there r.refused
+
   pub replayed : (status : ℕ) → Ended call status → status ≡ 0 → asks_replay (command_of call.words) ≡ true → Replays call.contents call.words 0 call.old call.new
   replayed status ended is = replayed_of (at_status status 0 ended is)
 
   pub configured : (status : ℕ) → Ended call status → status ≡ 3 → asks_storm (command_of call.words) ≡ false
   configured status ended is = no_storm (at_status status 3 ended is)
+
+  pub accepted : (status : ℕ) → Ended call status → status ≡ 4 → asks_storm (command_of call.words) ≡ false
+  accepted status ended is = read_storm (at_status status 4 ended is)
 
   pub broken : (status : ℕ) → Ended call status → status ≡ 7 → asks_replay (command_of call.words) ≡ true → Replays call.contents call.words 7 call.old call.new
   broken status ended is = replay_of 7 (at_status status 7 ended is)

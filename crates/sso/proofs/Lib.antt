@@ -3,5 +3,4 @@ pub mod Endings
 pub mod Fetched
 pub mod Known
 pub mod Samples
-mod StormConfigured
 pub mod Told

@@ -58,8 +58,8 @@ fn answer_over(
     }
 }
 
-/// The answer to a storm of two numbers. Its configuration and its trace are read as those of a replay are; that the trace is never
-/// refused is not proved, so it may be.
+/// The answer to a storm of two numbers. Its configuration and its trace are read as those of a replay are, and neither is ever refused
+/// (`storms_are_accepted`).
 #[tactic(auto, unfolding(crate::specs::Answer::storm_answer, crate::specs::Outcomes::Plays))]
 pub fn answer_storm(alloc: Global, number: u32, count: u32) -> Result<Outcome, NoMemory>
     requires { count ≤ 10000 }

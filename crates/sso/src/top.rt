@@ -69,7 +69,7 @@ fn run<R: Threads + Wait + Sync, H: Shelf, K: Sink, D: Door, L: Link, C: Clock, 
 /// | 1 | memory ran out | none |
 /// | 2 | the words are no command | the usage |
 /// | 3 | CONFIG is refused, or NAME is no party of it | `configuration`, the refusal's name and its values, or `configuration NoParty` |
-/// | 4 | TRACE, or the trace of a storm, is not an accepted trace; it is not proved that no storm has such a one | `trace`, the refusal's name and the number of its line |
+/// | 4 | TRACE is not an accepted trace | `trace`, the refusal's name and the number of its line |
 /// | 5 | (only where) the shelf's faults rose | `shelf` |
 /// | 6 | (only where) the sink's faults rose | a front of one of these texts |
 /// | 7 | the trace was played to its end, a premise failed, and all was written | the text or the summary of its play, with the first place at which one fails |
@@ -111,6 +111,7 @@ pub fn sso<R: Threads + Wait + Sync, H: Shelf, K: Sink, D: Door, L: Link, C: Clo
     ensures configuration { result ≡ 3 → RefusesConfiguration (H.contents shelf.old) words.now (K.taken out.old) (K.taken out.new) }
     ensures configured { result ≡ 3 → asks_storm (command_of words.now) ≡ false }
     ensures trace { result ≡ 4 → RefusesTrace (H.contents shelf.old) words.now (K.taken out.old) (K.taken out.new) }
+    ensures accepted { result ≡ 4 → asks_storm (command_of words.now) ≡ false }
     ensures shelf { result ≡ 5 → ReportsShelf (H.faults shelf.old) (H.faults shelf.new) words.now (K.taken out.old) (K.taken out.new) }
     ensures sink { result ≡ 6 → StopsWriting ⟦<Desk<D, L, C, W> as Tells>⟧.telling desks.old.items desks.new.items (H.contents shelf.old) (H.faults shelf.old) (H.faults shelf.new) words.now (K.faults out.old) (K.faults out.new) (K.taken out.old) (K.taken out.new) }
     ensures door { result ≡ 9 → RunsProvider ⟦<Desk<D, L, C, W> as Tells>⟧.telling desks.old.items desks.new.items (H.contents shelf.old) words.now true (K.taken out.old) (K.taken out.new) ⊎ RunsParty ⟦<Desk<D, L, C, W> as Tells>⟧.telling desks.old.items desks.new.items (H.contents shelf.old) words.now true (K.taken out.old) (K.taken out.new) }

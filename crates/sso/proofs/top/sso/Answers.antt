@@ -25,6 +25,9 @@ returns-clause-play g c = ending.play _ _ c.run.ensures.ended
 pub returns-clause-configured : goal.returns-clause-configured
 returns-clause-configured g c = ending.configured _ _ c.run.ensures.ended
 
+pub returns-clause-accepted : goal.returns-clause-accepted
+returns-clause-accepted g c = ending.accepted _ _ c.run.ensures.ended
+
 pub returns-clause-opened : goal.returns-clause-opened
 returns-clause-opened g c = ending.opened _ _ c.run.ensures.ended
 
