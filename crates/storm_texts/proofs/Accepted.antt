@@ -1,5 +1,5 @@
 -- The trace of every storm is accepted by a configuration that has its parties.
-use Rattle.std.proofs.Common.{◌≡◌, ◌<◌, ◌≤◌, ◌+◌, ◌*◌, ◌^◌, ◌==◌, ◌&&◌, ℕ, suc, zero, Bool, true, false, cond, nat_le, nat_lt, List, [], ◌∷◌, ◌++◌, length, take, drop, Option, Some, None, Ok, Err, refl, sym, ap, subst, ◌∙◌, append_assoc, append-nil, length-append, arith}
+use Rattle.std.proofs.Common.{◌≡◌, ◌≤◌, ◌+◌, ◌*◌, ◌&&◌, ℕ, suc, zero, Bool, true, false, cond, nat_le, nat_lt, List, [], ◌∷◌, ◌++◌, length, Option, Some, None, Ok, Err, refl, ap, subst, ◌∙◌, append_assoc, append-nil, length-append, arith}
 use Rattle.std.specs.Prelude.{codes}
 use Rattle.std.specs.List.{list_all}
 use Rattle.std.proofs.lemmas.Bool.{and_parts, and_from, ltb-true}
@@ -21,7 +21,7 @@ use Rattle.storm_texts.specs.declared.login.Party.TheVariants.{Shop, News, Mail}
 use Rattle.storm_texts.specs.declared.login.Twist.{Twist}
 use Rattle.storm_texts.specs.declared.login.Twist.TheVariants.{Plain, AnswerAgain, OtherBrowser, LoginAgain}
 use Rattle.storm_texts.specs.declared.login.Login.{Login}
-use Rattle.storm_texts.specs.Logins.{login_of, login_lines, begun_lines, answer_lines, end_lines, other_lines, others, exchanged_lines, exchanges, again_lines, twists, places_of}
+use Rattle.storm_texts.specs.Logins.{login_of, login_lines, begun_lines, answer_lines, other_lines, others, exchanged_lines, exchanges, again_lines, twists, places_of}
 use Rattle.storm_texts.specs.Parties.{KnowsParties}
 use Rattle.storm_texts.specs.Trace.{state_before, places_before, lines_before, seed_of, header, trace_text}
 use Rattle.storm_texts.proofs.LineSteps.{Leads, IsAfter, leads_on, leads_as, leads_nowhere, line_cut, not_below}

@@ -1,12 +1,11 @@
 -- A text of whole lines is read line by line, whatever follows it.
 use Rattle.std.proofs.Common.{◌≡◌, ◌<◌, ◌≤◌, ◌+◌, ◌==◌, ◌&&◌, ℕ, Bool, true, false, cond, nat_le, nat_lt, List, [], ◌∷◌, ◌++◌, length, Option, Some, None, inl, inr, refl, sym, ap, subst, ◌∙◌, append_assoc, length-append, arith}
-use Rattle.std.specs.List.{list_all, AllByRecursion, join_with_byte, onto_first}
+use Rattle.std.specs.List.{AllByRecursion, join_with_byte, onto_first}
 use Rattle.std.proofs.lemmas.Bool.{and_parts, leb-true, true≢false}
 use Rattle.std.proofs.lemmas.Bool.Decides.{eqb_tells}
 use Rattle.sso_base.specs.Words.{Text}
 use Rattle.client_registry.specs.Configuration.{Configuration}
 use Rattle.trace_lines.specs.declared.line.Line.{Line}
-use Rattle.trace_lines.specs.Faults.{onto, fault_if}
 use Rattle.trace_lines.specs.Guilt.{words_faults, is_skipped, line_faults}
 use Rattle.trace_lines.specs.Lines.{moment_after, places_after}
 use Rattle.trace_lines.specs.LineWords.{is_plain, words_in, IsVisibleWord}

@@ -1,5 +1,5 @@
 -- Each line that a storm is made of is read: its numbers are in their ranges, its places are taken, and its parties are there.
-use Rattle.std.proofs.Common.{◌≡◌, ◌<◌, ◌≤◌, ◌+◌, ◌-◌, ◌%◌, ◌^◌, ◌&&◌, ℕ, suc, Bool, true, false, cond, nat_le, nat_lt, List, [], ◌∷◌, ◌++◌, length, Option, Some, None, is_some, refl, sym, ap, subst, ◌∙◌, append_assoc, length-append, arith}
+use Rattle.std.proofs.Common.{◌≡◌, ◌<◌, ◌≤◌, ◌+◌, ◌-◌, ◌%◌, ◌^◌, ◌&&◌, ℕ, Bool, true, cond, nat_le, nat_lt, List, [], ◌∷◌, ◌++◌, length, Option, Some, None, is_some, refl, ap, subst, ◌∙◌, append_assoc, length-append, arith}
 use Rattle.std.specs.Prelude.{codes, option_map}
 use Rattle.std.specs.Fmt.{decimal}
 use Rattle.std.specs.List.{list_all, AllByRecursion, join_with_byte}
@@ -10,12 +10,11 @@ use Rattle.sso_base.specs.Values.{latest_moment}
 use Rattle.client_registry.specs.Configuration.{Configuration}
 use Rattle.trace_lines.specs.declared.line.Line.{Line}
 use Rattle.trace_lines.specs.declared.line.Line.TheVariants as line
-use Rattle.trace_lines.specs.Faults.{onto, fault_if, fault_at_none}
-use Rattle.trace_lines.specs.Guilt.{moment_fault, place_fault, words_faults}
+use Rattle.trace_lines.specs.Guilt.{words_faults}
 use Rattle.trace_lines.specs.Lines.{moment_after, places_after}
 use Rattle.trace_lines.specs.LineWords.{IsVisible, IsVisibleWord}
 use Rattle.trace_lines.specs.Number.{number_of, in_range, within}
-use Rattle.trace_lines.specs.Said.{of_two, words_said}
+use Rattle.trace_lines.specs.Said.{of_two}
 use Rattle.trace_lines.specs.Values.{moment_of, browser_of, place_of, message_of, party_of}
 use Rattle.trace_lines.specs.Verbs.{verb_of, verb_text}
 use Rattle.trace_lines.proofs.Decimals.{number_is_decimal}

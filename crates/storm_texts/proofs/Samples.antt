@@ -1,9 +1,12 @@
 -- The trace of a storm computed on small cases: each party, and each of what else happens at a login.
-use Rattle.std.proofs.Common.{◌≡◌, ◌++◌, codes, refl}
+use Rattle.std.proofs.Common.{◌≡◌, [], ◌++◌, codes, refl, sym, true≢false}
 use Rattle.std.specs.Fmt.{digits}
 use Rattle.hex.specs.Hex.{encode_with}
+use Rattle.client_registry.specs.Configuration.{Configuration}
+use Rattle.storm_texts.specs.declared.login.Party.TheVariants.{Shop}
 use Rattle.storm_texts.specs.Lines.{at_line, begin_line, follow_line, login_line, visit_line, exchange_lines}
 use Rattle.storm_texts.specs.Logins.{login_lines, next}
+use Rattle.storm_texts.specs.Parties.{KnowsParties}
 use Rattle.storm_texts.specs.Trace.{header, trace_text, places_before}
 
 -- the first two terms after 7
@@ -136,3 +139,7 @@ twelve_logins = refl
 -- twelve logins have each party four times and each twist three times
 twelve_places : places_before 12 ≡ 93
 twelve_places = refl
+
+-- a configuration without parties has not those of a storm
+no_party_is_known : (c : Configuration) → KnowsParties (record c { parties = [] }) → ⊥
+no_party_is_known c knows = true≢false (sym (knows Shop))

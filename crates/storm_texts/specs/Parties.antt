@@ -1,5 +1,5 @@
 -- A configuration that a storm can be played over.
-use Rattle.std.specs.Prelude.{◌≡◌, Bool, true, is_some}
+use Rattle.std.specs.Prelude.{◌≡◌, true, is_some}
 use Rattle.client_registry.specs.Configuration.{Configuration}
 use Rattle.client_registry.specs.Rules.{party_place}
 use Rattle.storm_texts.specs.declared.login.Party.{Party}
