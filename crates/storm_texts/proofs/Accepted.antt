@@ -215,11 +215,13 @@ storm_accepted c number count knows few =
     let leads : Leads c 0 0 lines (moment_before count) (places_before count) (300 * count) = logins_lead c knows number count few in
     let whole : IsAfter c [] lines (moment_before count) (places_before count) = leads.from [] refl refl in
     let goes : Goes c [] (lines_of lines) whole.after =
-        subst (λ (bytes : List ℕ). Goes c [] (lines_of bytes) whole.after) (append-nil lines) (whole.reads.on [] whole.after (refl, refl)) in
-    let short : nat_lt 4194304 (length (header number ++ lines)) ≡ false = not_below 4194304 (length (header number ++ lines)) (omega (arith, trace_length number lines, leads.size)) in
-    (record { seed = seed_of number; lines = whole.after },
-    (ap (λ b. cond b (Err Size) (told_of c (lines_of (header number ++ lines)))) short
-    ∙ ap (told_of c) (cut_trace number lines)
-    ∙ ap (λ seed. headed c seed (lines_of lines)) (header_read number)
-    ∙ ap (told_by (seed_of number)) (goes_read c 2 [] (lines_of lines) whole.after goes)),
-    refl, whole.places_are)
+    subst (λ (bytes : List ℕ). Goes c [] (lines_of bytes) whole.after) (append-nil lines) (whole.reads.on [] whole.after (refl, refl)) in
+    let short : nat_lt 4194304 (length (header number ++ lines)) ≡ false = not_below 4194304 (length (header number ++ lines)) (omega (arith, trace_length number lines, leads.size)) in (
+      record { seed = seed_of number; lines = whole.after },
+      (ap (λ b. cond b (Err Size) (told_of c (lines_of (header number ++ lines)))) short
+          ∙ ap (told_of c) (cut_trace number lines)
+          ∙ ap (λ seed. headed c seed (lines_of lines)) (header_read number)
+          ∙ ap (told_by (seed_of number)) (goes_read c 2 [] (lines_of lines) whole.after goes)),
+      refl,
+      whole.places_are,
+    )

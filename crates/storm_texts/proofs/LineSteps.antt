@@ -110,8 +110,8 @@ pub words_read : (c : Configuration) (before : List Line) (words : List Text) (s
 words_read c before words said short is =
     let line : List ℕ = join_with_byte 32 words in
     let cut : words_in line ≡ Some words = words_are line words (record { some = is.some; visible = is.visible; joined = refl }) in
-    let none : line_faults c before line ≡ [] = 
-        rw (not_below 65536 (length line) short, is.spoken, cut) is.guiltless in
+    let none : line_faults c before line ≡ [] =
+    rw (not_below 65536 (length line) short, is.spoken, cut) is.guiltless in
     let says : line_said c line ≡ Some said = then_said c words (words_in line) said (is_skipped line) is.spoken cut is.says in
     record {
       on = λ rest end goes.
