@@ -1,4 +1,4 @@
-//! The small table of named rows, under the tables of both roles, and the laws of tables that are kept beside a history: what
+//! The table of named rows, under the tables of both roles, and the laws of tables that are kept beside a history: what
 //! lives in a table is what lives after the history, also after one more pair.
 //!
 //! | Module | What it has |
