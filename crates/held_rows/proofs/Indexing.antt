@@ -1,5 +1,5 @@
 -- What stays true of an index when a slot is put in or taken out.
-use Rattle.std.proofs.Common.{◌≡◌, ◌≢◌, ◌<◌, ℕ, suc, eqb, Bool, cond, List, [], ◌∷◌, ◌++◌, map, take, drop, get_or, length, Option, Some, None, is_some, option_and_then, unwrap_or, inl, inr, sym, ◌∙◌, ap, subst, arith}
+use Rattle.std.proofs.Common.{◌≡◌, ◌≢◌, ◌<◌, ◌≤◌, ℕ, Result, Ok, Err, OnOk, OnErr, suc, eqb, Bool, cond, List, [], ◌∷◌, ◌++◌, map, take, drop, get_or, length, Option, Some, None, is_some, option_and_then, unwrap_or, inl, inr, sym, ◌∙◌, ap, subst, arith}
 use Rattle.std.specs.List.{AllByRecursion, insert, remove}
 use Rattle.std.specs.Cmp.Lexicographic.{slice_cmp}
 use Rattle.std.specs.Ordering.{nat_cmp, ordering_reverse}
@@ -15,6 +15,11 @@ use Rattle.held_rows.specs.Index.{rank, IsAscending, IsIndex, IsPlace, IsGap, ke
 use Rattle.held_rows.proofs.Counts.{same_or_other, place_count, split_place, count_place, map_same, listed_row, listed_none, lists_taken, lists_put, others_differ}
 use Rattle.held_rows.proofs.Ascents.{ascending_taken, ascending_put, all_front, all_back}
 use Rattle.held_rows.proofs.Ranks.{rank_slot}
+
+-- a deque refuses what is put in only where it is full
+pub inserted : {T E P : Type 0} (result : Result T E) (len capacity : ℕ) → OnOk result P → OnErr result (capacity ≤ len) → len < capacity → P
+inserted (Ok done) len capacity put full room = put
+inserted (Err refused) len capacity put full room = absurd (omega (arith, full, room))
 
 -- a list around one of its places
 pub around : (xs : List ℕ) (i s : ℕ) → i < length xs → get_or xs i 0 ≡ s → xs ≡ take i xs ++ s ∷ drop (suc i) xs

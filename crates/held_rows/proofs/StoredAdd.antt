@@ -9,7 +9,7 @@ use Rattle.held_rows.specs.declared.stored.Issued.{Issued}
 use Rattle.held_rows.specs.declared.stored.Stored.{Stored}
 use Rattle.held_rows.specs.Counts.{count, Lists}
 use Rattle.held_rows.specs.Held.{IsHeld, none_after, most_rows}
-use Rattle.held_rows.specs.Index.{issued_row, issued_serial, row_at, serial_at, rows_at, IsIndex, IsRising, IsBounded, IsStored, stored_rows, stored_capacity}
+use Rattle.held_rows.specs.Index.{issued_row, issued_serial, row_at, serial_at, rows_at, IsIndex, IsRising, IsBounded, IsStored, HasMemoryFor, stored_rows, stored_capacity}
 use Rattle.held_rows.specs.SlotList.{get, value_count, Changes}
 use Rattle.held_rows.proofs.Counts.{rows_same, rows-middle, listed_none, lists_put}
 use Rattle.held_rows.proofs.HeldLaws.{held_push}
@@ -44,9 +44,9 @@ module _ {R : Type 0} (name : R → Word) (key : By → R → Option (List ℕ))
     pub stored_added : i.serial ≡ s.next → i.serial ≤ s'.next → value_count s'.slots ≡ value_count s.slots + 1
         → IsIndex (key Name) g s'.by_name.items → IsIndex (key First) g s'.by_first.items → IsIndex (key Second) g s'.by_second.items
         → length (stored_rows s) < most_rows → row_of name (name i.row) (stored_rows s) ≡ None → none_after begun (begun i.row) (stored_rows s) ≡ true → IsSound i.row
-        → length (stored_rows s) < stored_capacity s → stored_capacity s' ≡ stored_capacity s
+        → length (stored_rows s) < stored_capacity s → stored_capacity s' ≡ stored_capacity s → HasMemoryFor (stored_capacity s') s'
         → IsStored name key begun IsSound s'
-    stored_added serial next one_more names firsts seconds few unnamed latest sound reserved capacity =
+    stored_added serial next one_more names firsts seconds few unnamed latest sound reserved capacity memory =
         let n : ℕ → ℕ = serial_at s.slots in
         let m : ℕ → ℕ = serial_at s'.slots in
         let others : (t : ℕ) → 0 < count t s.by_issue.items → m t ≡ n t = λ t h. other_serials s.slots s'.slots slot (Some i) changes t (unlisted t h) in
@@ -66,4 +66,5 @@ module _ {R : Type 0} (name : R → Word) (key : By → R → Option (List ℕ))
           seconds = seconds;
           held = subst (IsHeld name begun IsSound) (sym rows_added) (held_push name begun IsSound i.row (stored_rows s) stored.held few unnamed latest sound);
           fits = omega (arith, more, one, reserved, capacity);
+          memory = memory;
         }

@@ -108,4 +108,5 @@ module _ {R : Type 0} (name : R → Word) (key : By → R → Option (List ℕ))
           seconds = index_same (key Second) f g s.by_second.items (keys_stay Second) stored.seconds;
           held = held_after;
           fits = omega (arith, fits, as_many);
+          memory = record { slots = stored.memory.slots; issue = stored.memory.issue; names = stored.memory.names; firsts = stored.memory.firsts; seconds = stored.memory.seconds };
         }

@@ -8,7 +8,7 @@ use Rattle.held_rows.specs.declared.stored.Issued.{Issued}
 use Rattle.held_rows.specs.declared.stored.Stored.{Stored}
 use Rattle.held_rows.specs.Counts.{count, Lists}
 use Rattle.held_rows.specs.Held.{IsHeld}
-use Rattle.held_rows.specs.Index.{issued_row, row_at, serial_at, rows_at, all_but, IsIndex, IsRising, IsBounded, IsStored, IsRemoved, stored_rows, stored_capacity}
+use Rattle.held_rows.specs.Index.{issued_row, row_at, serial_at, rows_at, all_but, IsIndex, IsRising, IsBounded, IsStored, IsRemoved, HasMemoryFor, stored_rows, stored_capacity}
 use Rattle.held_rows.specs.SlotList.{get, value_count, Changes}
 use Rattle.held_rows.proofs.Counts.{split_place, length-middle, rows_same, rows-middle, lists_taken, others_differ}
 use Rattle.held_rows.proofs.Ends.{length_removed}
@@ -68,8 +68,8 @@ module _ {R : Type 0} (name : R → Word) (key : By → R → Option (List ℕ))
 
   pub stored_removed : s'.next ≡ s.next → value_count s'.slots + 1 ≡ value_count s.slots
       → IsIndex (key Name) (all_but slot f) s'.by_name.items → IsIndex (key First) (all_but slot f) s'.by_first.items → IsIndex (key Second) (all_but slot f) s'.by_second.items
-      → stored_capacity s' ≡ stored_capacity s → IsStored name key begun IsSound s'
-  stored_removed next one_less names firsts seconds capacity =
+      → stored_capacity s' ≡ stored_capacity s → HasMemoryFor (stored_capacity s') s' → IsStored name key begun IsSound s'
+  stored_removed next one_less names firsts seconds capacity memory =
       let n : ℕ → ℕ = serial_at s.slots in
       let m : ℕ → ℕ = serial_at s'.slots in
       let others : (t : ℕ) → 0 < count t (a ++ b) → m t ≡ n t = λ t h. other_serials s.slots s'.slots slot None changes t (differ t h) in
@@ -89,4 +89,5 @@ module _ {R : Type 0} (name : R → Word) (key : By → R → Option (List ℕ))
         seconds = index_after Second s'.by_second.items seconds;
         held = held_left;
         fits = omega (arith, fits, less, capacity);
+        memory = memory;
       }

@@ -1,10 +1,9 @@
--- Rows in slots, and slot numbers over them: a deque of them in order of issue, and for each thing that rows are found by a vector
--- in the order of its bytes.
-use Rattle.std.specs.Prelude.{◌≡◌, ◌<◌, ◌≤◌, ◌==◌, ℕ, suc, List, [], ◌∷◌, ◌++◌, map, length, slice_index, slice_index_or, Option, Some, None, option_map, option_and_then, unwrap_or, min, if◌then◌else◌}
+-- Rows in slots, and deques of slot numbers over them: one in order of issue, and for each thing that rows are found by one in the
+-- order of its bytes.
+use Rattle.std.specs.Prelude.{◌≡◌, ◌<◌, ◌≤◌, ◌==◌, ℕ, suc, List, [], ◌∷◌, ◌++◌, map, length, slice_index, slice_index_or, Option, Some, None, option_map, option_and_then, unwrap_or, if◌then◌else◌}
 use Rattle.std.specs.List.{AllByRecursion, filter_map}
 use Rattle.std.specs.Cmp.Lexicographic.{slice_cmp}
 use Rattle.std.specs.Ordering.{nat_cmp}
-use Rattle.std.specs.Vec.{vec_capacity}
 use Rattle.std.specs.VecDeque.{deque_capacity}
 use Rattle.std.specs.declared.cmp.Ordering.TheVariants.{Less, Greater}
 use Rattle.held_rows.specs.declared.row.By.{By}
@@ -97,7 +96,15 @@ stored_rows s = rows_at s.slots s.by_issue.items
 
 -- for how many rows there is memory
 abbrev pub stored_capacity : {R : Type 0} → Stored R → ℕ
-stored_capacity s = min s.slots.capacity (min (deque_capacity s.by_issue) (min (vec_capacity s.by_name) (min (vec_capacity s.by_first) (vec_capacity s.by_second))))
+stored_capacity s = s.room
+
+-- there is memory for as many rows in each of its parts
+pub record HasMemoryFor {R : Type 0} (most : ℕ) (s : Stored R) : Type 0 where
+  pub slots : most ≤ s.slots.capacity
+  pub issue : most ≤ deque_capacity s.by_issue
+  pub names : most ≤ deque_capacity s.by_name
+  pub firsts : most ≤ deque_capacity s.by_first
+  pub seconds : most ≤ deque_capacity s.by_second
 
 pub record IsStored {R : Type 0} (name : R → List ℕ) (key : By → R → Option (List ℕ)) (begun : R → ℕ) (IsSound : R → Type 0) (s : Stored R) : Type 0 where
   pub issued : Lists (row_at s.slots) s.by_issue.items
@@ -109,6 +116,7 @@ pub record IsStored {R : Type 0} (name : R → List ℕ) (key : By → R → Opt
   pub seconds : IsIndex (key Second) (row_at s.slots) s.by_second.items
   pub held : IsHeld name begun IsSound (stored_rows s)
   pub fits : length (stored_rows s) ≤ stored_capacity s
+  pub memory : HasMemoryFor (stored_capacity s) s
 
 -- ---- one row among others
 

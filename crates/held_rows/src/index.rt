@@ -1,6 +1,7 @@
 // The slots of the rows that are found by something, each once, in the order of its bytes.
 
-ghost use Rattle.std.specs.Prelude.{◌≡◌, ◌<◌, length, map, true, Some, None, unwrap_or, option_and_then, option_map, IfOk, IfErr, IsSome, vec_capacity};
+ghost use Rattle.std.specs.Prelude.{◌≡◌, ◌<◌, ◌≤◌, length, map, true, Some, None, unwrap_or, option_and_then, option_map, IfOk, IfErr, IsSome};
+ghost use Rattle.std.specs.VecDeque.{deque_capacity};
 ghost use Rattle.std.specs.Str.{bytes_eq};
 ghost use Rattle.std.specs.Cmp.Lexicographic.{slice_cmp};
 ghost use Rattle.std.specs.Ordering.{nat_cmp};
@@ -10,6 +11,7 @@ use crate::row::{By, Row};
 use crate::slot_vec::SlotVec;
 use crate::stored::Issued;
 use std::cmp::Ordering;
+use std::collections::VecDeque;
 
 // The bytes by which the row in a slot is found; None where there is no row, or none of that kind.
 pub(crate) fn key_at<R: Row>(slots: &SlotVec<Issued<R>>, by: By, slot: u32) -> Option<&[u8]>
@@ -55,22 +57,27 @@ fn compare<R: Row>(
 // Where the rank of these bytes and this slot stands, or would go.
 fn search<R: Row>(
     slots: &SlotVec<Issued<R>>,
-    index: &[u32],
+    index: &VecDeque<u32>,
     by: By,
     key: &[u8],
     slot: u32,
 ) -> Result<usize, usize>
-    requires { IsAscending (map (rank_in (R.key by) (row_at slots.now)) index.now) }
-    ensures found { IfOk result (IsPlace (R.key by) (row_at slots.now) index.now (rank key.now slot)) }
-    ensures absent { IfErr result (IsGap (R.key by) (row_at slots.now) index.now (rank key.now slot)) }
+    requires { IsAscending (map (rank_in (R.key by) (row_at slots.now)) index.now.items) }
+    ensures found { IfOk result (IsPlace (R.key by) (row_at slots.now) index.now.items (rank key.now slot)) }
+    ensures absent { IfErr result (IsGap (R.key by) (row_at slots.now) index.now.items (rank key.now slot)) }
 {
     index.binary_search_by(|&other| compare(slots, by, other, key, slot))
 }
 
 // Where the slots of the rows with these bytes begin.
-pub(crate) fn start<R: Row>(slots: &SlotVec<Issued<R>>, index: &[u32], by: By, key: &[u8]) -> usize
-    requires { IsIndex (R.key by) (row_at slots.now) index.now }
-    ensures { IsStart (R.key by) (row_at slots.now) index.now key.now result }
+pub(crate) fn start<R: Row>(
+    slots: &SlotVec<Issued<R>>,
+    index: &VecDeque<u32>,
+    by: By,
+    key: &[u8],
+) -> usize
+    requires { IsIndex (R.key by) (row_at slots.now) index.now.items }
+    ensures { IsStart (R.key by) (row_at slots.now) index.now.items key.now result }
 {
     match search(slots, index, by, key, 0) {
         Ok(place) => place,
@@ -79,11 +86,16 @@ pub(crate) fn start<R: Row>(slots: &SlotVec<Issued<R>>, index: &[u32], by: By, k
 }
 
 // Puts a slot in, where its row has such bytes.
-pub(crate) fn put_in<R: Row>(slots: &SlotVec<Issued<R>>, index: &mut Vec<u32>, by: By, slot: u32)
+pub(crate) fn put_in<R: Row>(
+    slots: &SlotVec<Issued<R>>,
+    index: &mut VecDeque<u32>,
+    by: By,
+    slot: u32,
+)
     requires index { IsIndex (R.key by) (all_but slot (row_at slots.now)) index.old.items }
-    requires reserved { length index.old.items < vec_capacity index.old }
+    requires reserved { length index.old.items < deque_capacity index.old }
     ensures index { IsIndex (R.key by) (row_at slots.now) index.new.items }
-    ensures capacity { vec_capacity index.new ≡ vec_capacity index.old }
+    ensures capacity { deque_capacity index.old ≤ deque_capacity index.new }
 {
     let Some(key) = key_at(slots, by, slot) else {
         return;
@@ -95,10 +107,15 @@ pub(crate) fn put_in<R: Row>(slots: &SlotVec<Issued<R>>, index: &mut Vec<u32>, b
 }
 
 // Takes a slot out, where its row has such bytes.
-pub(crate) fn take_from<R: Row>(slots: &SlotVec<Issued<R>>, index: &mut Vec<u32>, by: By, slot: u32)
+pub(crate) fn take_from<R: Row>(
+    slots: &SlotVec<Issued<R>>,
+    index: &mut VecDeque<u32>,
+    by: By,
+    slot: u32,
+)
     requires { IsIndex (R.key by) (row_at slots.now) index.old.items }
     ensures index { IsIndex (R.key by) (all_but slot (row_at slots.now)) index.new.items }
-    ensures capacity { vec_capacity index.new ≡ vec_capacity index.old }
+    ensures capacity { deque_capacity index.new ≡ deque_capacity index.old }
 {
     let Some(key) = key_at(slots, by, slot) else {
         return;
@@ -106,5 +123,5 @@ pub(crate) fn take_from<R: Row>(slots: &SlotVec<Issued<R>>, index: &mut Vec<u32>
     let Ok(place) = search(slots, index, by, key, slot) else {
         unreachable!()
     };
-    index.remove(place);
+    let _ = index.remove(place);
 }

@@ -10,7 +10,7 @@
 //! | `slot_vec` | values in numbered slots, and which slots are free |
 //! | `law` | what a purge and a change leave |
 //!
-//! A row stays in its slot. Only the numbers of slots are kept in order: in a queue by issue, and in one vector for each thing that
+//! A row stays in its slot. Only the numbers of slots are kept in order: in a queue by issue, and in one more for each thing that
 //! rows are found by, which is searched by halves. So a purge looks at one row more than it takes out, and no other call at
 //! rows that it is not asked for.
 #![tactic(auto)]

@@ -1,5 +1,5 @@
-// Rows in slots, and slot numbers over them: a deque of them in order of issue, and for each thing that rows are found by a vector
-// in the order of its bytes.
+// Rows in slots, and deques of slot numbers over them: one in order of issue, and for each thing that rows are found by one in the
+// order of its bytes.
 
 ghost use Rattle.std.specs.Prelude.{◌≡◌, ◌<◌, ◌≤◌, ℕ, List, [], ◌∷◌, ◌++◌, length, map, filter, not, slice_get, slice_index, Some, None, true, false, option_copied, OnOk, IfSome, IfNone, IsSome, is_some};
 ghost use Rattle.std.specs.List.{list_any};
@@ -30,13 +30,15 @@ pub(crate) struct Stored<R> {
     pub(crate) slots: SlotVec<Issued<R>>,
     // The slots of the rows, in order of issue. Rows mostly leave from its front.
     pub(crate) by_issue: VecDeque<u32>,
-    // The slots of the rows, in the order of their names.
-    pub(crate) by_name: Vec<u32>,
+    // The slots of the rows, in the order of their names. A row that is put in or leaves moves the shorter side.
+    pub(crate) by_name: VecDeque<u32>,
     // The slots of those that are found by another thing, in the order of its bytes.
-    pub(crate) by_first: Vec<u32>,
-    pub(crate) by_second: Vec<u32>,
+    pub(crate) by_first: VecDeque<u32>,
+    pub(crate) by_second: VecDeque<u32>,
     // The serial number of the next row.
     pub(crate) next: u64,
+    // For how many rows there is memory. That of a deque is promised not to shrink where a slot is put in, and no more.
+    pub(crate) room: usize,
 }
 
 // The row in a slot.
@@ -87,10 +89,11 @@ impl<R: Row + Drop> Stored<R> {
         Stored {
             slots: SlotVec::new(alloc),
             by_issue: VecDeque::new(alloc),
-            by_name: Vec::new(alloc),
-            by_first: Vec::new(alloc),
-            by_second: Vec::new(alloc),
+            by_name: VecDeque::new(alloc),
+            by_first: VecDeque::new(alloc),
+            by_second: VecDeque::new(alloc),
             next: 0,
+            room: 0,
         }
     }
 
@@ -102,12 +105,16 @@ impl<R: Row + Drop> Stored<R> {
         ensures room { OnOk result (length (stored_rows self.new) < stored_capacity self.new) }
         ensures capacity { stored_capacity self.old ≤ stored_capacity self.new }
     {
+        let most = self.by_issue.len() + 1;
+        if most <= self.room {
+            return Ok(());
+        }
         self.slots.reserve()?;
         self.by_issue.reserve(1)?;
-        let most = self.by_issue.len() + 1;
         self.by_name.reserve(most - self.by_name.len())?;
         self.by_first.reserve(most - self.by_first.len())?;
         self.by_second.reserve(most - self.by_second.len())?;
+        self.room = most;
         Ok(())
     }
 
@@ -176,9 +183,9 @@ impl<R: Row + Drop> Stored<R> {
     }
 
     // The slots of the rows that are found by something, in the order of its bytes.
-    fn index(&self, by: By) -> &[u32]
+    fn index(&self, by: By) -> &VecDeque<u32>
         requires { IsStored R.name R.key R.begun R.IsSound self.now }
-        ensures { IsIndex (R.key by) (row_at self.now.slots) result.now }
+        ensures { IsIndex (R.key by) (row_at self.now.slots) result.now.items }
     {
         match by {
             By::Name => &self.by_name,

@@ -13,4 +13,4 @@ returns g c =
     let wanted = rank c.args.key.now c.args.slot in
     let facts = c.binary_search_by.ensures in
     let found = facts.position (λ s. slice_cmp nat_cmp (rank_in key row s) wanted) (always_returns_same _ _ _ (λ a r f called. (search rules, search rules))) in
-    searched key row c.args.index.now wanted c.binary_search_by.result c.requires facts.bound found
+    searched key row c.args.index.now.items wanted c.binary_search_by.result c.requires (rw c.args.index.now.ok.0 at facts.bound) found

@@ -52,17 +52,28 @@ pub returns-clause-stored : goal.returns-clause-stored
 returns-clause-stored g c =
     let e = c.insert_reserved-slot.ensures in
     let next = c.saturating_add-self.ensures in
+    let had = c.requires.stored.memory in
+    let slots = had.slots in
+    let slots-2 = e.capacity in
+    let issue = had.issue in
+    let issue-2 = c.push_back_reserved.ensures.capacity in
+    let names = had.names in
+    let names-2 = c.put_in.ensures.capacity in
+    let firsts = had.firsts in
+    let firsts-2 = c.put_in-2.ensures.capacity in
+    let seconds = had.seconds in
+    let seconds-2 = c.put_in-3.ensures.capacity in
     stored_added g.R.Row.name g.R.Row.key g.R.Row.begun g.R.Row.IsSound c.args.self.now c.requires.stored
-    (record { slots = c.insert_reserved-slot.new.self; by_issue = c.push_back_reserved.new.self; by_name = c.put_in.new.index; by_first = c.put_in-2.new.index; by_second = c.put_in-3.new.index; next = c.saturating_add-self.result })
+    (record { slots = c.insert_reserved-slot.new.self; by_issue = c.push_back_reserved.new.self; by_name = c.put_in.new.index; by_first = c.put_in-2.new.index; by_second = c.put_in-3.new.index; next = c.saturating_add-self.result; room = c.args.self.now.room })
     c.insert_reserved-slot.result (record { serial = c.args.self.now.next; row = c.args.row })
     e.was_free e.changes c.push_back_reserved.ensures.items refl (omega (arith, next)) e.count
     c.put_in.ensures.index c.put_in-2.ensures.index c.put_in-3.ensures.index c.requires.few c.requires.unnamed c.requires.latest c.requires.sound c.requires.reserved
-    (rw (e.capacity, c.push_back_reserved.ensures.capacity, c.put_in.ensures.capacity, c.put_in-2.ensures.capacity, c.put_in-3.ensures.capacity) refl)
+    refl (record { slots = omega (arith, slots, slots-2); issue = omega (arith, issue, issue-2); names = omega (arith, names, names-2); firsts = omega (arith, firsts, firsts-2); seconds = omega (arith, seconds, seconds-2) })
 
 pub returns-clause-rows : goal.returns-clause-rows
 returns-clause-rows g c =
     let e = c.insert_reserved-slot.ensures in
     rows_added g.R.Row.name g.R.Row.key g.R.Row.begun g.R.Row.IsSound c.args.self.now c.requires.stored
-    (record { slots = c.insert_reserved-slot.new.self; by_issue = c.push_back_reserved.new.self; by_name = c.put_in.new.index; by_first = c.put_in-2.new.index; by_second = c.put_in-3.new.index; next = c.saturating_add-self.result })
+    (record { slots = c.insert_reserved-slot.new.self; by_issue = c.push_back_reserved.new.self; by_name = c.put_in.new.index; by_first = c.put_in-2.new.index; by_second = c.put_in-3.new.index; next = c.saturating_add-self.result; room = c.args.self.now.room })
     c.insert_reserved-slot.result (record { serial = c.args.self.now.next; row = c.args.row })
     e.was_free e.changes c.push_back_reserved.ensures.items

@@ -7,4 +7,4 @@ use Rattle.held_rows.proofs.stored.Stored.any_live.Given as goal
 
 -- no slot so far has a row that lives and passes
 abbrev pub invariant-loop-place : goal.invariant-loop-place
-invariant-loop-place g l = list_any (hit (λ row. lives g.R.Row.LIFE (g.R.Row.begun row) l.at && g.T.Test.passes l.test row) (row_at l.self.slots)) (take l.place l.index) ≡ false
+invariant-loop-place g l = list_any (hit (λ row. lives g.R.Row.LIFE (g.R.Row.begun row) l.at && g.T.Test.passes l.test row) (row_at l.self.slots)) (take l.place l.index.items) ≡ false

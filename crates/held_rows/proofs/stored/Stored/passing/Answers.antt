@@ -1,4 +1,4 @@
-use Rattle.std.proofs.Common.{◌≡◌, Some, true, false, get_or, sym, ◌∙◌, ap, arith}
+use Rattle.std.proofs.Common.{◌≡◌, Some, true, false, sym, ◌∙◌, ap, arith}
 use Rattle.std.proofs.lemmas.List.{get_or_default}
 use Rattle.held_rows.specs.Index.{row_at, key_in}
 use Rattle.held_rows.proofs.Hits.{before_start, none_passes}
@@ -7,17 +7,17 @@ use Rattle.held_rows.proofs.stored.Stored.passing.Goals as goal
 -- those before the start have other bytes
 pub loop-place-init : goal.loop-place-init
 loop-place-init g c =
-    before_start (g.R.Row.key (g.T.Test.by c.args.test.now)) (row_at c.args.self.now.slots) c.args.self.now.by_issue.items c.index-index.result.now (g.T.Test.key c.args.test.now) c.requires.issued
+    before_start (g.R.Row.key (g.T.Test.by c.args.test.now)) (row_at c.args.self.now.slots) c.args.self.now.by_issue.items c.index-index.result.now.items (g.T.Test.key c.args.test.now) c.requires.issued
     (rw c.by-by.ensures at c.index-index.ensures) (g.T.Test.passes c.args.test.now) (g.met.T.Test.are_found c.args.test.now) c.start-first.result (rw (c.by-by.ensures, c.key-key.ensures) at c.start-first.ensures) c.start-first.result (omega arith)
 
 -- the bytes end here
 pub returns-then-not-is_at-clause-none : goal.returns-then-not-is_at-clause-none
 returns-then-not-is_at-clause-none g c =
-    none_passes (g.R.Row.key (g.T.Test.by c.args.test.now)) (row_at c.args.self.now.slots) c.args.self.now.by_issue.items c.index-index.result.now (g.T.Test.key c.args.test.now) c.requires.issued
+    none_passes (g.R.Row.key (g.T.Test.by c.args.test.now)) (row_at c.args.self.now.slots) c.args.self.now.by_issue.items c.index-index.result.now.items (g.T.Test.key c.args.test.now) c.requires.issued
     (rw c.by-by.ensures at c.index-index.ensures) (g.T.Test.passes c.args.test.now) (g.met.T.Test.are_found c.args.test.now) c.start-first.result (rw (c.by-by.ensures, c.key-key.ensures) at c.start-first.ensures) c.loop-place.place c.loop-place.auto.place
     (λ lt d is.
-    let here : key_in (g.R.Row.key c.by-by.result) (row_at c.args.self.now.slots) (get_or c.index-index.result.now c.loop-place.place 0) ≡ Some c.key-key.result.now =
-    rw (c.by-by.ensures, c.key-key.ensures) (ap (key_in (g.R.Row.key (g.T.Test.by c.args.test.now)) (row_at c.args.self.now.slots)) (get_or_default c.index-index.result.now c.loop-place.place 0 d lt) ∙ is) in
+    let here : key_in (g.R.Row.key c.by-by.result) (row_at c.args.self.now.slots) c.index-slot.result.now ≡ Some c.key-key.result.now =
+    rw (c.by-by.ensures, c.key-key.ensures) (ap (key_in (g.R.Row.key (g.T.Test.by c.args.test.now)) (row_at c.args.self.now.slots)) (c.index-slot.ensures ∙ get_or_default c.index-index.result.now.items c.loop-place.place c.index-slot.result.now d lt) ∙ is) in
     let clash : true ≡ false = sym (c.is_at.ensures.no here) ∙ c.if-not-is_at.true in
     cc)
     c.loop-place.invariant
@@ -25,6 +25,6 @@ returns-then-not-is_at-clause-none g c =
 -- or the index does
 pub returns-clause-none : goal.returns-clause-none
 returns-clause-none g c =
-    none_passes (g.R.Row.key (g.T.Test.by c.args.test.now)) (row_at c.args.self.now.slots) c.args.self.now.by_issue.items c.index-index.result.now (g.T.Test.key c.args.test.now) c.requires.issued
+    none_passes (g.R.Row.key (g.T.Test.by c.args.test.now)) (row_at c.args.self.now.slots) c.args.self.now.by_issue.items c.index-index.result.now.items (g.T.Test.key c.args.test.now) c.requires.issued
     (rw c.by-by.ensures at c.index-index.ensures) (g.T.Test.passes c.args.test.now) (g.met.T.Test.are_found c.args.test.now) c.start-first.result (rw (c.by-by.ensures, c.key-key.ensures) at c.start-first.ensures) c.loop-place.place c.loop-place.auto.place
     (λ lt d is. (let past = c.loop-place-test.false in absurd (omega (arith, lt, past)))) c.loop-place.invariant

@@ -1,5 +1,4 @@
-use Rattle.std.proofs.Common.{◌≡◌, Some, true, false, ltb, length, get_or, sym, ◌∙◌, ap, arith}
-use Rattle.std.proofs.lemmas.Bool.Decides.{nat_tests}
+use Rattle.std.proofs.Common.{◌≡◌, Some, true, false, get_or, sym, ◌∙◌, ap, arith}
 use Rattle.std.proofs.lemmas.List.{get_or_default}
 use Rattle.held_rows.specs.declared.row.By.TheVariants.{Name}
 use Rattle.held_rows.specs.Index.{row_at, key_in}
@@ -11,11 +10,11 @@ use Rattle.held_rows.proofs.stored.Stored.slot_of.Goals as goal
 pub returns-in_err-slot-clause-none : goal.returns-in_err-slot-clause-none
 returns-in_err-slot-clause-none g c =
     let s = c.args.self.now in
-    let past : false ≡ ltb c.start-place.result (length s.by_name.items) = rw c.deref-2.ensures.value at c.in_err-slot.ensures.lookup.0 in
-    let start = rw c.deref.ensures.value at c.start-place.ensures in
+    let as_long = s.by_name.ok.0 in
+    let start = c.start-place.ensures in
     rw c.from_residual.ensures
     (named_none g.R.Row.name g.R.Row.key g.R.Row.begun g.R.Row.IsSound g.met.R.Row.named s c.requires c.args.name.now
-    (absent (g.R.Row.key Name) (row_at s.slots) s.by_issue.items s.by_name.items c.args.name.now c.requires.issued c.requires.names c.start-place.result start (λ lt d is. grind (arith, nat_tests))))
+    (absent (g.R.Row.key Name) (row_at s.slots) s.by_issue.items s.by_name.items c.args.name.now c.requires.issued c.requires.names c.start-place.result start (λ lt d is. (let clash : false ≡ true = c.in_err-slot.ensures.variant.1 (omega (arith, lt, as_long)) in cc))))
 
 pub returns-then-is_at-clause-some : goal.returns-then-is_at-clause-some
 returns-then-is_at-clause-some g c =
@@ -28,8 +27,8 @@ returns-else-is_at-clause-none g c =
     let index = s.by_name.items in
     let place = c.start-place.result in
     let slot = c.in_ok-slot.field-0.now in
-    let start = rw c.deref.ensures.value at c.start-place.ensures in
-    let there : slot ≡ get_or index place slot = rw c.deref-2.ensures.value at c.in_ok-slot.ensures.lookup.1 in
+    let start = c.start-place.ensures in
+    let there : slot ≡ get_or index place slot = c.in_ok-slot.ensures.lookup in
     named_none g.R.Row.name g.R.Row.key g.R.Row.begun g.R.Row.IsSound g.met.R.Row.named s c.requires c.args.name.now
     (absent (g.R.Row.key Name) (row_at s.slots) s.by_issue.items index c.args.name.now c.requires.issued c.requires.names place start
     (λ lt d is.
