@@ -2,7 +2,7 @@
 use Rattle.std.proofs.Common.{◌≡◌, ◌<◌, ◌≤◌, ◌+◌, ℕ, suc, Bool, true, false, ◌&&◌, ◌||◌, cond, List, [], ◌∷◌, ◌++◌, filter, take, drop, get_or, length, Option, Some, None, inl, inr, refl, sym, ◌∙◌, ap, arith}
 use Rattle.std.specs.List.{filter_map, cons_option, list_any}
 use Rattle.std.specs.Str.{bytes_eq}
-use Rattle.std.proofs.lemmas.Bool.{and_parts, cases_lt}
+use Rattle.std.proofs.lemmas.Bool.{cases_lt}
 use Rattle.std.proofs.lemmas.List.{append-nil, length-append, take-append-drop}
 use Rattle.std.proofs.lemmas.List.Elements.{filter-append}
 use Rattle.std.proofs.lemmas.List.Folds.{list_any-append}
@@ -280,7 +280,3 @@ module _ {R : Type 0} (p q : R → Bool) where
         | inl e ↦ ap F e ∙ ap Q again ∙ sym (ap G e)
         | inr e ↦ ap F e ∙ again ∙ sym (ap G e)
       ]
-
-  -- what passes both passes each
-  pub second_of_both : (row : R) → (p row && q row) ≡ true → q row ≡ true
-  second_of_both row e = (and_parts (p row) (q row) e).1

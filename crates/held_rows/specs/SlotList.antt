@@ -9,7 +9,7 @@ pub record SlotList (T : Type 0) : Type 0 where
 
 -- how many slots have a number
 abbrev pub most_slots : ℕ
-most_slots = 2 ^ 32
+most_slots = 2 ^ 16
 
 module _ {T : Type 0} where
   -- the value in a slot

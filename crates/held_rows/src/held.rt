@@ -6,6 +6,7 @@ ghost use Rattle.std.specs.Option.{option_copied};
 ghost use Rattle.sso_base.specs.Rows.{without, put, row_of, live_rows};
 ghost use Rattle.held_rows.specs.Held as spec;
 
+use crate::living::Living;
 use crate::row::{Change, Row, Test};
 use crate::stored::{Stored, row_in};
 use sso_base::{Moment, NoMemory};
@@ -132,14 +133,14 @@ impl<R: Row + Drop> Held<R> {
     pub fn any_live<T: Test<R>>(&self, test: &T, at: Moment) -> bool
         ensures { result ≡ list_any (T.passes test.now) (live_rows R.LIFE R.begun at self.now.rows) }
     {
-        self.stored.any_live(test, at)
+        self.stored.passing(&Living { test, at }).is_some()
     }
 
     /// How many rows live at the moment and pass the test.
     pub fn count_live<T: Test<R>>(&self, test: &T, at: Moment) -> u32
         ensures { result ≡ length (filter (T.passes test.now) (live_rows R.LIFE R.begun at self.now.rows)) }
     {
-        self.stored.count_live(test, at)
+        self.stored.count(&Living { test, at })
     }
 
     /// How many rows live at the moment.

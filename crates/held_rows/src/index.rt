@@ -14,7 +14,7 @@ use std::cmp::Ordering;
 use std::collections::VecDeque;
 
 // The bytes by which the row in a slot is found; None where there is no row, or none of that kind.
-pub(crate) fn key_at<R: Row>(slots: &SlotVec<Issued<R>>, by: By, slot: u32) -> Option<&[u8]>
+pub(crate) fn key_at<R: Row>(slots: &SlotVec<Issued<R>>, by: By, slot: u16) -> Option<&[u8]>
     ensures { option_map (λ k. k.now) result ≡ key_in (R.key by) (row_at slots.now) slot }
 {
     match slots.get(slot) {
@@ -24,7 +24,7 @@ pub(crate) fn key_at<R: Row>(slots: &SlotVec<Issued<R>>, by: By, slot: u32) -> O
 }
 
 // Whether the row in a slot is found by these bytes.
-pub(crate) fn is_at<R: Row>(slots: &SlotVec<Issued<R>>, by: By, slot: u32, key: &[u8]) -> bool
+pub(crate) fn is_at<R: Row>(slots: &SlotVec<Issued<R>>, by: By, slot: u16, key: &[u8]) -> bool
     ensures yes { result ≡ true → key_in (R.key by) (row_at slots.now) slot ≡ Some key.now }
     ensures no { key_in (R.key by) (row_at slots.now) slot ≡ Some key.now → result ≡ true }
 {
@@ -38,9 +38,9 @@ pub(crate) fn is_at<R: Row>(slots: &SlotVec<Issued<R>>, by: By, slot: u32, key: 
 fn compare<R: Row>(
     slots: &SlotVec<Issued<R>>,
     by: By,
-    slot: u32,
+    slot: u16,
     key: &[u8],
-    other: u32,
+    other: u16,
 ) -> Ordering
     ensures { result ≡ slice_cmp nat_cmp (rank_in (R.key by) (row_at slots.now) slot) (rank key.now other) }
 {
@@ -57,10 +57,10 @@ fn compare<R: Row>(
 // Where the rank of these bytes and this slot stands, or would go.
 fn search<R: Row>(
     slots: &SlotVec<Issued<R>>,
-    index: &VecDeque<u32>,
+    index: &VecDeque<u16>,
     by: By,
     key: &[u8],
-    slot: u32,
+    slot: u16,
 ) -> Result<usize, usize>
     requires { IsAscending (map (rank_in (R.key by) (row_at slots.now)) index.now.items) }
     ensures found { IfOk result (IsPlace (R.key by) (row_at slots.now) index.now.items (rank key.now slot)) }
@@ -72,7 +72,7 @@ fn search<R: Row>(
 // Where the slots of the rows with these bytes begin.
 pub(crate) fn start<R: Row>(
     slots: &SlotVec<Issued<R>>,
-    index: &VecDeque<u32>,
+    index: &VecDeque<u16>,
     by: By,
     key: &[u8],
 ) -> usize
@@ -88,9 +88,9 @@ pub(crate) fn start<R: Row>(
 // Puts a slot in, where its row has such bytes.
 pub(crate) fn put_in<R: Row>(
     slots: &SlotVec<Issued<R>>,
-    index: &mut VecDeque<u32>,
+    index: &mut VecDeque<u16>,
     by: By,
-    slot: u32,
+    slot: u16,
 )
     requires index { IsIndex (R.key by) (all_but slot (row_at slots.now)) index.old.items }
     requires reserved { length index.old.items < deque_capacity index.old }
@@ -109,9 +109,9 @@ pub(crate) fn put_in<R: Row>(
 // Takes a slot out, where its row has such bytes.
 pub(crate) fn take_from<R: Row>(
     slots: &SlotVec<Issued<R>>,
-    index: &mut VecDeque<u32>,
+    index: &mut VecDeque<u16>,
     by: By,
-    slot: u32,
+    slot: u16,
 )
     requires { IsIndex (R.key by) (row_at slots.now) index.old.items }
     ensures index { IsIndex (R.key by) (all_but slot (row_at slots.now)) index.new.items }

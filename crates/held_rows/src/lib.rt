@@ -8,6 +8,7 @@
 //! | `stored` | the rows in slots, and the order of issue |
 //! | `index` | the slots of the rows that are found by something, in the order of its bytes |
 //! | `slot_vec` | values in numbered slots, and which slots are free |
+//! | `living` | those rows of a test that live at a moment |
 //! | `law` | what a purge and a change leave |
 //!
 //! A row stays in its slot. Only the numbers of slots are kept in order: in a queue by issue, and in one more for each thing that
@@ -18,6 +19,7 @@
 mod held;
 mod index;
 mod law;
+mod living;
 mod row;
 mod slot_vec;
 mod stored;

@@ -9,12 +9,13 @@ use std::alloc::Global;
 use std::marker::Model;
 
 /// Values in numbered slots, seen as the list of the slots from 0 on, each with a value or free. A value that is put
-/// in gets a free slot, and a new one only where there is none. Only `reserve` takes memory.
+/// in gets a free slot, and a new one only where there is none: so 16 bits number the slots of 65,536 values. Only
+/// `reserve` takes memory.
 #[derive(Drop)]
 pub struct SlotVec<T> {
     slots: Vec<Option<T>>,
     // The free slots. There is room in it for all slots.
-    free: Vec<u32>,
+    free: Vec<u16>,
 }
 
 impl<T> Model for SlotVec<T> {
@@ -57,7 +58,7 @@ impl<T> SlotVec<T> {
     }
 
     /// The value in a slot; None where the slot is free, and where there is no such slot.
-    pub fn get(&self, slot: u32) -> Option<&T>
+    pub fn get(&self, slot: u16) -> Option<&T>
         ensures { option_copied result ≡ get self.now slot }
     {
         match self.slots.get(slot as usize) {
@@ -67,7 +68,7 @@ impl<T> SlotVec<T> {
     }
 
     /// The value in a slot, to be written.
-    pub fn value_mut(&mut self, slot: u32) -> &mut T
+    pub fn value_mut(&mut self, slot: u16) -> &mut T
         requires { HasValue self.old slot }
         ensures* writes_back { sem 𝓛 (lends_value T.row self.entry slot result) }
         ensures value { get self.old slot ≡ Some result.now }
@@ -79,7 +80,7 @@ impl<T> SlotVec<T> {
     }
 
     /// Puts a value into a slot that was free or is new, and answers its number.
-    pub fn insert_reserved(&mut self, value: T) -> u32
+    pub fn insert_reserved(&mut self, value: T) -> u16
     where
         T: Drop,
         requires reserved { value_count self.old < self.old.capacity }
@@ -93,13 +94,13 @@ impl<T> SlotVec<T> {
             self.slots[slot as usize] = Some(value);
             return slot;
         }
-        let slot = self.slots.len() as u32;
+        let slot = self.slots.len() as u16;
         self.slots.push_reserved(Some(value));
         slot
     }
 
     /// Takes out the value in a slot, which is free from then on.
-    pub fn remove(&mut self, slot: u32) -> T
+    pub fn remove(&mut self, slot: u16) -> T
         requires { HasValue self.old slot }
         ensures value { get self.old slot ≡ Some result }
         ensures changes { Changes (get self.old) (get self.new) slot None }

@@ -29,12 +29,12 @@ pub(crate) struct Issued<R> {
 pub(crate) struct Stored<R> {
     pub(crate) slots: SlotVec<Issued<R>>,
     // The slots of the rows, in order of issue. Rows mostly leave from its front.
-    pub(crate) by_issue: VecDeque<u32>,
+    pub(crate) by_issue: VecDeque<u16>,
     // The slots of the rows, in the order of their names. A row that is put in or leaves moves the shorter side.
-    pub(crate) by_name: VecDeque<u32>,
+    pub(crate) by_name: VecDeque<u16>,
     // The slots of those that are found by another thing, in the order of its bytes.
-    pub(crate) by_first: VecDeque<u32>,
-    pub(crate) by_second: VecDeque<u32>,
+    pub(crate) by_first: VecDeque<u16>,
+    pub(crate) by_second: VecDeque<u16>,
     // The serial number of the next row.
     pub(crate) next: u64,
     // For how many rows there is memory. That of a deque is promised not to shrink where a slot is put in, and no more.
@@ -42,7 +42,7 @@ pub(crate) struct Stored<R> {
 }
 
 // The row in a slot.
-pub(crate) fn row_in<R>(slots: &SlotVec<Issued<R>>, slot: u32) -> Option<&R>
+pub(crate) fn row_in<R>(slots: &SlotVec<Issued<R>>, slot: u16) -> Option<&R>
     ensures { option_copied result ≡ row_at slots.now slot }
 {
     match slots.get(slot) {
@@ -52,7 +52,7 @@ pub(crate) fn row_in<R>(slots: &SlotVec<Issued<R>>, slot: u32) -> Option<&R>
 }
 
 // The serial number of the row in a slot.
-fn serial_in<R>(slots: &SlotVec<Issued<R>>, slot: u32) -> u64
+fn serial_in<R>(slots: &SlotVec<Issued<R>>, slot: u16) -> u64
     ensures { result ≡ serial_at slots.now slot }
 {
     match slots.get(slot) {
@@ -63,7 +63,7 @@ fn serial_in<R>(slots: &SlotVec<Issued<R>>, slot: u32) -> u64
 
 // Where a slot stands in order of issue, which is the order of serial numbers. Rows have one number only at the end
 // of its type, so the loop ends at its first step.
-fn place_of<R>(slots: &SlotVec<Issued<R>>, by_issue: &VecDeque<u32>, slot: u32) -> usize
+fn place_of<R>(slots: &SlotVec<Issued<R>>, by_issue: &VecDeque<u16>, slot: u16) -> usize
     requires issued { Lists (row_at slots.now) by_issue.now.items }
     requires numbered { IsRising (map (serial_at slots.now) by_issue.now.items) }
     requires row { HasValue slots.now slot }
@@ -140,7 +140,7 @@ impl<R: Row + Drop> Stored<R> {
     }
 
     // Takes out the row in a slot.
-    pub(crate) fn remove(&mut self, slot: u32)
+    pub(crate) fn remove(&mut self, slot: u16)
         requires stored { IsStored R.name R.key R.begun R.IsSound self.old }
         requires there { IsSome (row_at self.old.slots slot) }
         ensures stored { IsStored R.name R.key R.begun R.IsSound self.new }
@@ -156,7 +156,7 @@ impl<R: Row + Drop> Stored<R> {
     }
 
     // Changes the row in a slot.
-    pub(crate) fn change<C: Change<R>>(&mut self, slot: u32, change: &C)
+    pub(crate) fn change<C: Change<R>>(&mut self, slot: u16, change: &C)
         requires stored { IsStored R.name R.key R.begun R.IsSound self.old }
         requires there { IsSome (row_at self.old.slots slot) }
         ensures stored { IsStored R.name R.key R.begun R.IsSound self.new }
@@ -168,7 +168,7 @@ impl<R: Row + Drop> Stored<R> {
     }
 
     // The slot of the row of a name.
-    pub(crate) fn slot_of(&self, name: &[u8]) -> Option<u32>
+    pub(crate) fn slot_of(&self, name: &[u8]) -> Option<u16>
         requires { IsStored R.name R.key R.begun R.IsSound self.now }
         ensures some { IfSome result (λ slot. IsSome (row_at self.now.slots slot) × (row_at self.now.slots slot ≡ row_of R.name name.now (stored_rows self.now))) }
         ensures none { IfNone result (row_of R.name name.now (stored_rows self.now) ≡ None) }
@@ -183,7 +183,7 @@ impl<R: Row + Drop> Stored<R> {
     }
 
     // The slots of the rows that are found by something, in the order of its bytes.
-    fn index(&self, by: By) -> &VecDeque<u32>
+    fn index(&self, by: By) -> &VecDeque<u16>
         requires { IsStored R.name R.key R.begun R.IsSound self.now }
         ensures { IsIndex (R.key by) (row_at self.now.slots) result.now.items }
     {
@@ -195,10 +195,10 @@ impl<R: Row + Drop> Stored<R> {
     }
 
     // The slot of a row that passes the test, if one does.
-    pub(crate) fn passing<T: Test<R>>(&self, test: &T) -> Option<u32>
+    pub(crate) fn passing<T: Test<R>>(&self, test: &T) -> Option<u16>
         requires { IsStored R.name R.key R.begun R.IsSound self.now }
         ensures some { IfSome result (λ slot. IsSome (row_at self.now.slots slot) × IfSome (row_at self.now.slots slot) (λ row. T.passes test.now row ≡ true)) }
-        ensures none { IfNone result (list_any (T.passes test.now) (stored_rows self.now) ≡ false) }
+        ensures any { is_some result ≡ list_any (T.passes test.now) (stored_rows self.now) }
     {
         let by = test.by();
         let key = test.key();
@@ -218,34 +218,10 @@ impl<R: Row + Drop> Stored<R> {
         None
     }
 
-    // Whether a row that lives at the moment passes the test.
-    pub(crate) fn any_live<T: Test<R>>(&self, test: &T, at: Moment) -> bool
+    // How many rows pass the test.
+    pub(crate) fn count<T: Test<R>>(&self, test: &T) -> u32
         requires { IsStored R.name R.key R.begun R.IsSound self.now }
-        ensures { result ≡ list_any (T.passes test.now) (live_rows R.LIFE R.begun at (stored_rows self.now)) }
-    {
-        let by = test.by();
-        let key = test.key();
-        let index = self.index(by);
-        let first = start(&self.slots, index, by, key);
-        for place in first..index.len() {
-            let slot = index[place];
-            if !is_at(&self.slots, by, slot, key) {
-                return false;
-            }
-            if let Some(row) = row_in(&self.slots, slot)
-                && is_live(R::LIFE, row.begun(), at)
-                && test.passes(row)
-            {
-                return true;
-            }
-        }
-        false
-    }
-
-    // How many rows live at the moment and pass the test.
-    pub(crate) fn count_live<T: Test<R>>(&self, test: &T, at: Moment) -> u32
-        requires { IsStored R.name R.key R.begun R.IsSound self.now }
-        ensures { result ≡ length (filter (T.passes test.now) (live_rows R.LIFE R.begun at (stored_rows self.now))) }
+        ensures { result ≡ length (filter (T.passes test.now) (stored_rows self.now)) }
     {
         let by = test.by();
         let key = test.key();
@@ -258,7 +234,6 @@ impl<R: Row + Drop> Stored<R> {
                 return count;
             }
             if let Some(row) = row_in(&self.slots, slot)
-                && is_live(R::LIFE, row.begun(), at)
                 && test.passes(row)
             {
                 count += 1;
@@ -284,7 +259,7 @@ impl<R: Row + Drop> Stored<R> {
     }
 
     // The slot of a row whose life has ended at the moment, if one's has: that of the first row.
-    pub(crate) fn ended(&self, at: Moment) -> Option<u32>
+    pub(crate) fn ended(&self, at: Moment) -> Option<u16>
         requires { IsStored R.name R.key R.begun R.IsSound self.now }
         ensures some { IfSome result (λ slot. IsSome (row_at self.now.slots slot) × IfSome (row_at self.now.slots slot) (λ row. lives R.LIFE (R.begun row) at ≡ false)) }
         ensures none { IfNone result (live_rows R.LIFE R.begun at (stored_rows self.now) ≡ stored_rows self.now) }

@@ -17,7 +17,7 @@ insert_reserved-slot-requires-clause-few g c =
     let long = as_many g.R.Row.name g.R.Row.key g.R.Row.begun g.R.Row.IsSound c.args.self.now c.requires.stored in
     let counted = c.requires.stored.counted in
     let few : length (stored_rows c.args.self.now) < 65536 = c.requires.few in
-    let low : value_count c.args.self.now.slots < 4294967296 = omega (arith, long, counted, few) in
+    let low : value_count c.args.self.now.slots < 65536 = omega (arith, long, counted, few) in
     low
 
 pub push_back_reserved-requires : goal.push_back_reserved-requires

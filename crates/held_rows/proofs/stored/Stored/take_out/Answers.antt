@@ -33,10 +33,10 @@ loop-slot-preserved g c =
 -- none passes any more
 pub returns-clause-rows : goal.returns-clause-rows
 returns-clause-rows g c =
-    sym (all_stay (g.T.Test.passes c.args.test.now) (stored_rows c.loop-slot.self) c.in_default.ensures.none) ∙ c.loop-slot.invariant.others
+    sym (all_stay (g.T.Test.passes c.args.test.now) (stored_rows c.loop-slot.self) (sym c.in_default.ensures.any)) ∙ c.loop-slot.invariant.others
 
 pub returns-clause-count : goal.returns-clause-count
 returns-clause-count g c =
-    let rest = ap length (none_pass (g.T.Test.passes c.args.test.now) (stored_rows c.loop-slot.self) c.in_default.ensures.none) in
+    let rest = ap length (none_pass (g.T.Test.passes c.args.test.now) (stored_rows c.loop-slot.self) (sym c.in_default.ensures.any)) in
     let count = c.loop-slot.invariant.count in
     omega (arith, rest, count)
