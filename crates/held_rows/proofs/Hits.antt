@@ -3,7 +3,7 @@ use Rattle.std.proofs.Common.{◌≡◌, ◌<◌, ◌≤◌, ◌+◌, ℕ, suc, 
 use Rattle.std.specs.List.{filter_map, cons_option, list_any}
 use Rattle.std.specs.Str.{bytes_eq}
 use Rattle.std.proofs.lemmas.Bool.{cases_lt}
-use Rattle.std.proofs.lemmas.List.{append-nil, length-append, take-append-drop}
+use Rattle.std.proofs.lemmas.List.{append-nil, length-append, take-append-drop, get_or_default}
 use Rattle.std.proofs.lemmas.List.Elements.{filter-append}
 use Rattle.std.proofs.lemmas.List.Folds.{list_any-append}
 use Rattle.sso_base.proofs.RowLaws.{bool_cases, option_cases}
@@ -132,6 +132,13 @@ module _ (h : ℕ → Bool) where
 -- ---- an index, and the start of its bytes there
 
 module _ {R : Type 0} (key : R → Option (List ℕ)) (f : ℕ → Option R) (by_issue index bytes : List ℕ) (issued : Lists f by_issue) (indexed : IsIndex key f index) where
+  -- where the slot at a place is seen to have other bytes, what stands there has
+  pub other_at : (j slot : ℕ) (seen : Bool) → slot ≡ get_or index j slot → (key_in key f slot ≡ Some bytes → seen ≡ true) → seen ≡ false → j < length index → (d : ℕ) → key_in key f (get_or index j d) ≡ Some bytes → ⊥
+  other_at j slot seen stands sees other lt d is =
+      let here : key_in key f slot ≡ Some bytes = ap (key_in key f) (stands ∙ get_or_default index j slot d lt) ∙ is in
+      let clash : true ≡ false = sym (sees here) ∙ other in
+      cc
+
   -- a slot with these bytes stands in the index
   pub keyed_place : (s : ℕ) → key_in key f s ≡ Some bytes → (k : ℕ) × (k < length index) × ((d : ℕ) → get_or index k d ≡ s)
   keyed_place s is =

@@ -1,4 +1,5 @@
 pub mod Answering
+pub mod Ascii
 pub mod Cut
 pub mod Objects
 pub mod Opening

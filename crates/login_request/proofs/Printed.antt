@@ -1,18 +1,14 @@
 -- The parameters of a login, and those beside a request object, are printed whole, and can be sealed.
-use Rattle.std.proofs.Common.{◌≡◌, ℕ, suc, Bool, true, [], ◌∷◌, ◌++◌, nat_lt, codes, decimal, Option, Some, None, option_map, refl}
+use Rattle.std.proofs.Common.{◌≡◌, ℕ, [], ◌∷◌, ◌++◌, codes, decimal, Option, Some, None, option_map, refl}
 use Rattle.std.specs.Prelude.{IfSome}
-use Rattle.std.specs.List.{list_all}
-use Rattle.std.specs.Str.{IsUtf8, IsAscii}
-use Rattle.std.proofs.lemmas.Bool.{lt-ltb}
+use Rattle.std.specs.Str.{IsUtf8}
 use Rattle.json.proofs.Printed.Utf8.{IsUtf8-are_ascii}
-use Rattle.base64.specs.Engines.{url_safe_no_pad}
-use Rattle.base64.proofs.EngineFacts.{IsAscii-encode_of}
 use Rattle.sso_base.specs.Base64Url.{b64u}
 use Rattle.sso_base.specs.Words.{Text, Word, word_text}
-use Rattle.sso_base.proofs.Spelling.{both_true}
 use Rattle.claim_set.specs.Reading.{claims_text}
 use Rattle.jws_compact.specs.Jws.{seal_text, header_bytes, signing_input}
 use Rattle.jws_compact.specs.declared.sealing.Typ.{Typ}
+use Rattle.jws_compact.proofs.Ascii.{sealed_ascii}
 use Rattle.hmac256.specs.Hmac.{hmac_of}
 use Rattle.client_registry.specs.declared.records.Client.{Client}
 use Rattle.client_registry.specs.Configuration.{Configuration}
@@ -33,32 +29,11 @@ use Rattle.login_request.proofs.KnownWords.{IsTextTo, scope_text}
 use Rattle.login_request.proofs.PartyRows.{IsUtf8To, rows_keep_rules, id_text, url_text, types_are_short, types_are_there, prompt_is_text, age_is_text, word_is_text}
 use Rattle.login_request.proofs.Sealable.{short_claims}
 
--- ---- sealed texts are ASCII, and not empty
-
-abbrev is_ascii : Text → Bool
-is_ascii t = list_all (λ b. nat_lt b 128) t
-
-ascii_bytes : (t : Text) → IsAscii t → is_ascii t ≡ true
-ascii_bytes [] h = refl
-ascii_bytes (b ∷ t) h = rw (lt-ltb b 128 (h 0), ascii_bytes t (λ i. h (suc i))) refl
-
-spelled_ascii : (b : Text) → is_ascii (b64u b) ≡ true
-unfolding b64u
-spelled_ascii b = ascii_bytes (b64u b) (IsAscii-encode_of url_safe_no_pad b)
-
-dotted_ascii : (s t : Text) → is_ascii s ≡ true → is_ascii t ≡ true → is_ascii (s ++ 46 ∷ t) ≡ true
-dotted_ascii [] t f g = g
-dotted_ascii (b ∷ s) t f g = let parts = both_true (nat_lt b 128) (is_ascii s) f in rw (parts.0, dotted_ascii s t parts.1 g) refl
+-- ---- sealed texts are not empty
 
 dotted_filled : (s t : Text) → ¬ (s ++ 46 ∷ t ≡ [])
 dotted_filled [] t h = (cc)
 dotted_filled (b ∷ s) t h = (cc)
-
-sealed_ascii : (k p : Text) (typ : Typ) → is_ascii (seal_text k typ p) ≡ true
-unfolding seal_text
-sealed_ascii k p typ =
-    let input = signing_input (header_bytes typ) p in
-    dotted_ascii input (b64u (hmac_of k input)) (dotted_ascii (b64u (header_bytes typ)) (b64u p) (spelled_ascii (header_bytes typ)) (spelled_ascii p)) (spelled_ascii (hmac_of k input))
 
 sealed_filled : (k p : Text) (typ : Typ) → ¬ (seal_text k typ p ≡ [])
 unfolding seal_text

@@ -43,9 +43,9 @@ use Rattle.sign_on.proofs.AskKinds.{IsTokens, as_tokens}
 use Rattle.web_requests.specs.Handing.{answer_in, printed}
 use Rattle.oidc_replay.specs.Bound.{GivesTokens, AsksWithToken, EachAccessTokenIsBound, IsWhollyBound}
 use Rattle.oidc_replay.specs.Text.{http_at}
-use Rattle.oidc_replay.proofs.IssuedHashes.{tokens_have_hash}
+use Rattle.sign_on.proofs.IssuedHashes.{tokens_have_hash}
 use Rattle.oidc_replay.proofs.Played.{WasPrinted, IsPrinted, IsPartyPlace, IsPlaced, IsPlayed}
-use Rattle.oidc_replay.proofs.ReadTokens.{GaveTokens, provider_gave, party_gave_none}
+use Rattle.sign_on.proofs.ReadTokens.{GaveTokens, provider_gave, party_gave_none}
 
 -- ---- places, and what was before them
 

@@ -1,16 +1,11 @@
 -- The identifiers of logout tokens: they are ASCII and short, and tell the word of the sign-out and the client.
-use Rattle.std.proofs.Common.{◌≡◌, ◌≤◌, ◌<◌, ◌+◌, ◌^◌, ℕ, suc, Bool, true, [], ◌∷◌, ◌++◌, length, nat_lt, decimal, refl, sym, ap, ◌∙◌, subst, arith, append_assoc, length-append}
-use Rattle.std.specs.List.{list_all}
-use Rattle.std.specs.Str.{IsUtf8, IsAscii}
-use Rattle.std.proofs.lemmas.Bool.{lt-ltb}
+use Rattle.std.proofs.Common.{◌≡◌, ◌≤◌, ◌<◌, ◌+◌, ◌^◌, ℕ, suc, true, [], ◌∷◌, ◌++◌, length, decimal, refl, sym, ap, ◌∙◌, subst, arith, append_assoc, length-append}
+use Rattle.std.specs.Str.{IsUtf8}
 use Rattle.std.proofs.lemmas.Fmt.{length-decimal-le, IsAscii-decimal, decimal_injective}
 use Rattle.json.proofs.Printed.Utf8.{IsUtf8-are_ascii}
-use Rattle.base64.specs.Engines.{url_safe_no_pad}
-use Rattle.base64.proofs.EngineFacts.{IsAscii-encode_of}
-use Rattle.sso_base.specs.Base64Url.{b64u}
 use Rattle.sso_base.specs.Words.{Word, Text, IsWord, word_text}
-use Rattle.sso_base.proofs.Spelling.{both_true}
 use Rattle.sso_base.proofs.WordTexts.{word_text_inj, length-word_text}
+use Rattle.jws_compact.proofs.Ascii.{is_ascii, ascii_bytes, ascii_joined, spelled_ascii}
 use Rattle.op_issue.specs.LogoutTokens.{logout_id}
 
 -- the text of the word, a dot and the number
@@ -18,21 +13,6 @@ id_is : (w : Word) (n : ℕ) → logout_id w n ≡ word_text w ++ 46 ∷ decimal
 id_is w n = append_assoc (word_text w) (46 ∷ []) (decimal n)
 
 -- ---- they are ASCII, and short
-
-abbrev pub is_ascii : Text → Bool
-is_ascii t = list_all (λ b. nat_lt b 128) t
-
-pub ascii_bytes : (t : Text) → IsAscii t → is_ascii t ≡ true
-ascii_bytes [] h = refl
-ascii_bytes (b ∷ t) h = rw (lt-ltb b 128 (h 0), ascii_bytes t (λ i. h (suc i))) refl
-
-pub ascii_joined : (s t : Text) → is_ascii s ≡ true → is_ascii t ≡ true → is_ascii (s ++ t) ≡ true
-ascii_joined [] t f g = g
-ascii_joined (b ∷ s) t f g = let parts = both_true (nat_lt b 128) (is_ascii s) f in rw (parts.0, ascii_joined s t parts.1 g) refl
-
-ascii_word : (w : Word) → is_ascii (word_text w) ≡ true
-unfolding b64u
-ascii_word w = ascii_bytes (b64u w) (IsAscii-encode_of url_safe_no_pad w)
 
 small : (n : ℕ) → n < 128 → n < 2 ^ 64
 small n h = omega (arith, h)
@@ -43,7 +23,7 @@ below_thousand n h = omega (arith, h)
 pub id_text : (w : Word) (n : ℕ) → n < 128 → IsUtf8 (logout_id w n)
 id_text w n low =
     let number : is_ascii (46 ∷ decimal n) ≡ true = ascii_bytes (decimal n) (IsAscii-decimal n (small n low)) in
-    subst IsUtf8 (sym (id_is w n)) (IsUtf8-are_ascii (word_text w ++ 46 ∷ decimal n) (ascii_joined (word_text w) (46 ∷ decimal n) (ascii_word w) number))
+    subst IsUtf8 (sym (id_is w n)) (IsUtf8-are_ascii (word_text w ++ 46 ∷ decimal n) (ascii_joined (word_text w) (46 ∷ decimal n) (spelled_ascii w) number))
 
 id_sum : (a b n : ℕ) → n ≡ a + suc b → a ≡ 43 → b ≤ 3 → n ≤ 47
 id_sum a b n h f g = omega (arith, h, f, g)

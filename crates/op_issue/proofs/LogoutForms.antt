@@ -1,14 +1,9 @@
 -- The form of a logout request is read as its token.
-use Rattle.std.proofs.Common.{◌≡◌, ℕ, true, ◌∷◌, codes, refl}
+use Rattle.std.proofs.Common.{◌≡◌, ℕ, true, codes, refl}
 use Rattle.json.proofs.Printed.Utf8.{IsUtf8-are_ascii}
-use Rattle.base64.specs.Engines.{url_safe_no_pad}
-use Rattle.base64.proofs.EngineFacts.{IsAscii-encode_of}
-use Rattle.hmac256.specs.Hmac.{hmac_of}
-use Rattle.sso_base.specs.Base64Url.{b64u}
 use Rattle.sso_base.specs.Words.{Text}
-use Rattle.jws_compact.specs.Jws.{seal_text, header_bytes, signing_input}
-use Rattle.jws_compact.specs.declared.sealing.Typ.{Typ}
 use Rattle.jws_compact.specs.declared.sealing.Typ.TheVariants.{LogoutJwt}
+use Rattle.jws_compact.proofs.Ascii.{is_ascii, sealed_ascii}
 use Rattle.claim_set.specs.Reading.{claims_text}
 use Rattle.logout_token.specs.LogoutToken.{logout_members, logout_text}
 use Rattle.client_registry.specs.Configuration.{Configuration}
@@ -18,19 +13,6 @@ use Rattle.request_params.proofs.Forms.{AreTextPairs, form_pairs-form_text}
 use Rattle.op_issue.specs.declared.sign_out.SignOut.{SignOut}
 use Rattle.op_issue.specs.LogoutTokens.{logout_claims, issued_logout}
 use Rattle.op_issue.specs.LogoutMessages.{logout_pairs}
-use Rattle.op_issue.proofs.Identifiers.{is_ascii, ascii_bytes, ascii_joined}
-
--- ---- sealed texts are ASCII
-
-spelled_ascii : (b : Text) → is_ascii (b64u b) ≡ true
-unfolding b64u
-spelled_ascii b = ascii_bytes (b64u b) (IsAscii-encode_of url_safe_no_pad b)
-
-sealed_ascii : (k p : Text) (typ : Typ) → is_ascii (seal_text k typ p) ≡ true
-unfolding seal_text
-sealed_ascii k p typ =
-    let input = signing_input (header_bytes typ) p in
-    ascii_joined input (46 ∷ b64u (hmac_of k input)) (ascii_joined (b64u (header_bytes typ)) (46 ∷ b64u p) (spelled_ascii (header_bytes typ)) (spelled_ascii p)) (spelled_ascii (hmac_of k input))
 
 pub token_ascii : (c : Configuration) (client : ℕ) (out : SignOut) → is_ascii (issued_logout c client out) ≡ true
 unfolding issued_logout logout_text

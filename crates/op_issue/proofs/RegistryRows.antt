@@ -1,9 +1,8 @@
 -- What stands in a registry at the number of a client and of a user.
-use Rattle.std.proofs.Common.{◌≡◌, ◌≤◌, ◌<◌, ℕ, zero, suc, true, List, [], ◌∷◌, length, get_or, nat_le, nat_lt, Option, Some, None, is_some, slice_get, refl, arith}
+use Rattle.std.proofs.Common.{◌≡◌, ◌≤◌, ◌<◌, ℕ, zero, suc, true, List, [], ◌∷◌, length, get_or, nat_le, Option, Some, None, is_some, slice_get, refl, arith}
 use Rattle.std.specs.Prelude.{IsTrue}
 use Rattle.std.specs.List.{AllByRecursion, list_all}
-use Rattle.std.specs.Str.{IsAscii}
-use Rattle.std.proofs.lemmas.Bool.{leb-true, lt-ltb}
+use Rattle.std.proofs.lemmas.Bool.{leb-true}
 use Rattle.registered_url.specs.declared.web_url.WebUrl.{WebUrl}
 use Rattle.registered_url.specs.Rule.{url_of}
 use Rattle.registered_url.proofs.Keeping.{urls_keep}
@@ -15,6 +14,7 @@ use Rattle.client_registry.specs.Numbers.{id_in, client_id}
 use Rattle.client_registry.specs.Registered.{AreApart, IsClient, IsSubject, IsRegistry}
 use Rattle.sso_base.specs.Words.{Text}
 use Rattle.sso_base.proofs.Spelling.{both_true}
+use Rattle.jws_compact.proofs.Ascii.{ascii_bytes}
 use Rattle.id_token.specs.Claims.{is_subject}
 use Rattle.claim_set.proofs.PlainTexts.{is_plain}
 use Rattle.configuration_rows.proofs.PlainTexts.{visible_are_plain, client_id_is_plain}
@@ -67,10 +67,6 @@ subject_of_registry c client user r k u =
     let long = (all_at (λ row. (length row ≡ length c.users) × AreApart row) c.subjects client [] r.subjects there).0 in
     let rules = all_at (λ row. AllByRecursion IsSubject row) c.subjects client [] r.subject_rules there in
     all_at IsSubject (get_or c.subjects client []) user [] rules (omega (arith, u, long))
-
-ascii_bytes : (t : Text) → IsAscii t → list_all (λ b. nat_lt b 128) t ≡ true
-ascii_bytes [] h = refl
-ascii_bytes (b ∷ t) h = rw (lt-ltb b 128 (h 0), ascii_bytes t (λ i. h (suc i)))
 
 subject_test : (t : Text) → IsSubject t → IsTrue (is_subject t)
 subject_test t h =

@@ -8,6 +8,7 @@ mod EqualWords
 mod ForgedToken
 pub mod Founding
 pub mod Invariant
+pub mod IssuedHashes
 pub mod Leaving
 pub mod Lists
 pub mod LiveRows
@@ -19,6 +20,7 @@ pub mod OpRows
 pub mod OpSessions
 pub mod OpSigns
 pub mod Pairs
+pub mod ReadTokens
 pub mod Registry
 pub mod RpPlaces
 pub mod SameBrowser

@@ -2,7 +2,7 @@ use Rattle.std.proofs.Common.{◌≡◌, ◌≤◌, Some, true, false, length, t
 use Rattle.std.proofs.lemmas.List.{get_or_default}
 use Rattle.held_rows.specs.Index.{row_at, key_in, stored_rows}
 use Rattle.held_rows.proofs.Ends.{none_pass}
-use Rattle.held_rows.proofs.Hits.{hit, before_start, all_counted, few_hits}
+use Rattle.held_rows.proofs.Hits.{hit, before_start, other_at, all_counted, few_hits}
 use Rattle.held_rows.proofs.stored.Stored.count.Goals as goal
 
 -- those before the start have other bytes
@@ -18,11 +18,8 @@ returns-then-not-is_at g c =
     c.loop-place.invariant
     ∙ all_counted (g.R.Row.key (g.T.Test.by c.args.test.now)) (row_at c.args.self.now.slots) c.args.self.now.by_issue.items c.index-index.result.now.items (g.T.Test.key c.args.test.now) c.requires.issued
     (rw c.by-by.ensures at c.index-index.ensures) (g.T.Test.passes c.args.test.now) (g.met.T.Test.are_found c.args.test.now) c.start-first.result (rw (c.by-by.ensures, c.key-key.ensures) at c.start-first.ensures) c.loop-place.place c.loop-place.auto.place
-    (λ lt d is.
-    let here : key_in (g.R.Row.key c.by-by.result) (row_at c.args.self.now.slots) c.index-slot.result.now ≡ Some c.key-key.result.now =
-    rw (c.by-by.ensures, c.key-key.ensures) (ap (key_in (g.R.Row.key (g.T.Test.by c.args.test.now)) (row_at c.args.self.now.slots)) (c.index-slot.ensures ∙ get_or_default c.index-index.result.now.items c.loop-place.place c.index-slot.result.now d lt) ∙ is) in
-    let clash : true ≡ false = sym (c.is_at.ensures.no here) ∙ c.if-not-is_at.true in
-    cc)
+    (other_at (g.R.Row.key (g.T.Test.by c.args.test.now)) (row_at c.args.self.now.slots) c.args.self.now.by_issue.items c.index-index.result.now.items (g.T.Test.key c.args.test.now) c.requires.issued
+    (rw c.by-by.ensures at c.index-index.ensures) c.loop-place.place c.index-slot.result.now c.is_at.result c.index-slot.ensures (rw (c.by-by.ensures, c.key-key.ensures) at c.is_at.ensures.no) c.if-not-is_at.true)
 
 -- no more pass than rows are held
 pub overflow_add-count : goal.overflow_add-count

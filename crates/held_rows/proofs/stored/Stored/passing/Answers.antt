@@ -1,7 +1,7 @@
 use Rattle.std.proofs.Common.{◌≡◌, Some, true, false, sym, ◌∙◌, ap, arith}
 use Rattle.std.proofs.lemmas.List.{get_or_default}
 use Rattle.held_rows.specs.Index.{row_at, key_in}
-use Rattle.held_rows.proofs.Hits.{before_start, none_passes, some_passes}
+use Rattle.held_rows.proofs.Hits.{before_start, other_at, none_passes, some_passes}
 use Rattle.held_rows.proofs.stored.Stored.passing.Goals as goal
 
 -- those before the start have other bytes
@@ -15,11 +15,8 @@ pub returns-then-not-is_at-clause-any : goal.returns-then-not-is_at-clause-any
 returns-then-not-is_at-clause-any g c =
     sym (none_passes (g.R.Row.key (g.T.Test.by c.args.test.now)) (row_at c.args.self.now.slots) c.args.self.now.by_issue.items c.index-index.result.now.items (g.T.Test.key c.args.test.now) c.requires.issued
     (rw c.by-by.ensures at c.index-index.ensures) (g.T.Test.passes c.args.test.now) (g.met.T.Test.are_found c.args.test.now) c.start-first.result (rw (c.by-by.ensures, c.key-key.ensures) at c.start-first.ensures) c.loop-place.place c.loop-place.auto.place
-    (λ lt d is.
-    let here : key_in (g.R.Row.key c.by-by.result) (row_at c.args.self.now.slots) c.index-slot.result.now ≡ Some c.key-key.result.now =
-    rw (c.by-by.ensures, c.key-key.ensures) (ap (key_in (g.R.Row.key (g.T.Test.by c.args.test.now)) (row_at c.args.self.now.slots)) (c.index-slot.ensures ∙ get_or_default c.index-index.result.now.items c.loop-place.place c.index-slot.result.now d lt) ∙ is) in
-    let clash : true ≡ false = sym (c.is_at.ensures.no here) ∙ c.if-not-is_at.true in
-    cc)
+    (other_at (g.R.Row.key (g.T.Test.by c.args.test.now)) (row_at c.args.self.now.slots) c.args.self.now.by_issue.items c.index-index.result.now.items (g.T.Test.key c.args.test.now) c.requires.issued
+    (rw c.by-by.ensures at c.index-index.ensures) c.loop-place.place c.index-slot.result.now c.is_at.result c.index-slot.ensures (rw (c.by-by.ensures, c.key-key.ensures) at c.is_at.ensures.no) c.if-not-is_at.true)
     c.loop-place.invariant)
 
 -- this row passes

@@ -4,19 +4,14 @@ use Rattle.std.proofs.Common.{◌≡◌, ◌<◌, ◌≤◌, ℕ, true, ◌&&◌
 use Rattle.std.specs.Str.{IsUtf8}
 use Rattle.std.proofs.lemmas.Bool.{ltb-true, and_parts}
 use Rattle.json.proofs.Printed.Utf8.{IsUtf8-are_ascii}
-use Rattle.base64.specs.Engines.{url_safe_no_pad}
-use Rattle.base64.proofs.EngineFacts.{IsAscii-encode_of}
 use Rattle.serde_json.specs.Data.{Members}
-use Rattle.hmac256.specs.Hmac.{hmac_of}
-use Rattle.sso_base.specs.Base64Url.{b64u}
 use Rattle.sso_base.specs.Legal.{last_moment}
 use Rattle.sso_base.specs.Values.{latest_moment}
 use Rattle.sso_base.specs.Words.{Word, Text, word_of_text}
 use Rattle.sso_base.specs.Rows.{row_of}
 use Rattle.sso_base.specs.declared.history.Entry.{Entry}
-use Rattle.jws_compact.specs.Jws.{seal_text, header_bytes, signing_input}
-use Rattle.jws_compact.specs.declared.sealing.Typ.{Typ}
 use Rattle.jws_compact.specs.declared.sealing.Typ.TheVariants.{Jwt}
+use Rattle.jws_compact.proofs.Ascii.{sealed_ascii}
 use Rattle.jws_compact.proofs.Opening.{same_payload}
 use Rattle.claim_set.specs.Reading.{claims_text}
 use Rattle.client_registry.specs.Configuration.{Configuration}
@@ -38,7 +33,6 @@ use Rattle.oidc_words.specs.Lives.{code_life}
 use Rattle.op_issue.specs.declared.issuing.Authentication.{Authentication}
 use Rattle.op_issue.specs.IdTokens.{id_claims, issued_id}
 use Rattle.op_issue.specs.Issuing.{MayIssue}
-use Rattle.op_issue.proofs.Identifiers.{is_ascii, ascii_bytes, ascii_joined}
 use Rattle.op_issue.proofs.Sealable.{is_read_back}
 use Rattle.op_exchange.specs.declared.ask.OpAsk.{OpAsk}
 use Rattle.op_exchange.specs.declared.ask.OpAsk.TheVariants as ask
@@ -56,16 +50,6 @@ use Rattle.op_answer.proofs.TokenResponses.{tokens_have_a_cause}
 use Rattle.sign_on.proofs.Lists.{lives_some}
 
 -- ---- it is in UTF-8
-
-spelled_ascii : (b : Text) → is_ascii (b64u b) ≡ true
-unfolding b64u
-spelled_ascii b = ascii_bytes (b64u b) (IsAscii-encode_of url_safe_no_pad b)
-
-sealed_ascii : (k p : Text) (typ : Typ) → is_ascii (seal_text k typ p) ≡ true
-unfolding seal_text
-sealed_ascii k p typ =
-    let input = signing_input (header_bytes typ) p in
-    ascii_joined input (46 ∷ b64u (hmac_of k input)) (ascii_joined (b64u (header_bytes typ)) (46 ∷ b64u p) (spelled_ascii (header_bytes typ)) (spelled_ascii p)) (spelled_ascii (hmac_of k input))
 
 issued_text : (c : Configuration) (wish : Wish) (who : Authentication) (at : ℕ) (access code : Option Word) → IsUtf8 (issued_id c wish who at access code)
 unfolding issued_id id_text

@@ -8,6 +8,7 @@ use Rattle.serde_json.specs.Find.{get_member}
 use Rattle.serde_json.specs.Read.{read}
 use Rattle.sso_base.specs.Words.{Word, Text, word_text}
 use Rattle.sso_base.specs.declared.history.Entry.{Entry}
+use Rattle.sso_base.specs.declared.http.HttpReply.{HttpReply}
 use Rattle.sso_base.specs.declared.message.Answered.{Answered}
 use Rattle.claim_set.specs.Reading.{Reads, claims_text}
 use Rattle.claim_set.specs.Fitting.{ClaimsFit}
@@ -50,13 +51,15 @@ use Rattle.rp_exchange.specs.declared.reply.RpReply.{RpReply}
 use Rattle.rp_exchange.specs.declared.reply.RpReply.TheVariants as rp
 use Rattle.rp_response.specs.Page.{fragment_page}
 use Rattle.rp_response.specs.Telling.{http_of as rp_http}
-use Rattle.web_requests.specs.Handing.{answer_in}
-use Rattle.oidc_replay.proofs.IssuedHashes.{tokens_are_text}
+use Rattle.sign_on.proofs.IssuedHashes.{tokens_are_text}
 
 -- ---- what has no tokens
 
 abbrev answered : ℕ → Text → Answered
 answered status body = record { status = status; body = body }
+
+abbrev answered_by : HttpReply → Answered
+answered_by reply = answered reply.status reply.body
 
 -- another status
 other_status : (status : ℕ) (body : Text) (came : Tokens) → (status == 200) ≡ false → tokens_read (answered status body) ≡ Ok came → ⊥
@@ -198,7 +201,7 @@ same_tokens : (s t : Tokens) (r : Result Tokens TokensNo) → r ≡ Ok s → r �
 same_tokens s t r first second = cc
 
 -- What is read as tokens is a reply that gave them.
-pub provider_gave : (c : Configuration) (past : OpPast) (e : Entry OpAsk) (reply : OpReply) (came : Tokens) → IsRegistry c → op_answer c past e ≡ reply → tokens_read (answer_in (op_http c reply)) ≡ Ok came
+pub provider_gave : (c : Configuration) (past : OpPast) (e : Entry OpAsk) (reply : OpReply) (came : Tokens) → IsRegistry c → op_answer c past e ≡ reply → tokens_read (answered_by (op_http c reply)) ≡ Ok came
     → GaveTokens reply came
 unfolding op_http
 provider_gave c past e (op.LoginPage turn browser again) came registry is given =
@@ -210,7 +213,7 @@ provider_gave c past e (op.Refused refusal session) came registry is given = abs
 provider_gave c past e (op.ErrorPage why) came registry is given = absurd (other_status 400 _ came refl given)
 provider_gave c past e (op.Tokens access id) came registry is given =
     let own : Tokens = record { access = word_text access; id = id } in
-    let same : own ≡ came = same_tokens own came (tokens_read (answer_in (op_http c (op.Tokens access id)))) (tokens_are_read c access id (tokens_are_text c past e access id is)) given in
+    let same : own ≡ came = same_tokens own came (tokens_read (answered_by (op_http c (op.Tokens access id)))) (tokens_are_read c access id (tokens_are_text c past e access id is)) given in
     record { access = access; id = id; reply_is = refl; access_is = ap (λ (t : Tokens). t.access) same; id_is = ap (λ (t : Tokens). t.id) same }
 provider_gave c past e (op.TokenRefused InvalidClient) came registry is given = absurd (other_status 401 _ came refl given)
 provider_gave c past e (op.TokenRefused other) came registry is given = absurd (other_status 400 _ came refl given)
@@ -227,13 +230,13 @@ provider_gave c past e op.Full came registry is given = absurd (other_status 503
 
 -- ---- the parties
 
-refused_gives_none : (c : Configuration) (n : ℕ) (why : RpNo) (came : Tokens) → tokens_read (answer_in (rp_http c n (rp.Refused why))) ≡ Ok came → ⊥
+refused_gives_none : (c : Configuration) (n : ℕ) (why : RpNo) (came : Tokens) → tokens_read (answered_by (rp_http c n (rp.Refused why))) ≡ Ok came → ⊥
 unfolding rp_http
 refused_gives_none c n (no.Full table) came given = other_status 503 _ came refl given
 refused_gives_none c n other came given = other_status 400 _ came refl given
 
 -- No reply of a party is read as tokens.
-pub party_gave_none : (c : Configuration) (n : ℕ) (reply : RpReply) (came : Tokens) → tokens_read (answer_in (rp_http c n reply)) ≡ Ok came → ⊥
+pub party_gave_none : (c : Configuration) (n : ℕ) (reply : RpReply) (came : Tokens) → tokens_read (answered_by (rp_http c n reply)) ≡ Ok came → ⊥
 unfolding rp_http
 party_gave_none c n (rp.Ask to browser) came given = other_status 303 _ came refl given
 party_gave_none c n rp.Fragment came given = no_json 200 _ came (page_is_unread _ fragment_is_page) given
