@@ -1,9 +1,6 @@
 -- A word that is issued is noted under its half digest, where none was, and under no other.
 use Rattle.std.proofs.Common.{◌≡◌, ℕ, cond, List, Option, Some, None, inl, inr, refl, sym, ap, ◌∙◌, subst}
 use Rattle.std.specs.Str.{bytes_eq}
-use Rattle.std.specs.Ordering.{is_eq, nat_cmp}
-use Rattle.std.specs.Cmp.Lexicographic.{slice_cmp}
-use Rattle.std.proofs.lemmas.Map.Text.{is_eq-slice_cmp}
 use Rattle.sso_base.specs.Words.{Word, Text}
 use Rattle.sso_base.proofs.RowLaws.{bool_cases, bytes_same}
 use Rattle.world_index.specs.declared.halves.Issued.{Issued}
@@ -19,13 +16,12 @@ record_of w place = record { word = w; place = place }
 
 -- what `insert` of the map does
 abbrev pub IsUpdated : List (Text × Issued) → List (Text × Issued) → Text → Issued → Type 0
-IsUpdated before after half issued = (h : Text) → issued_of after h ≡ cond (is_eq (slice_cmp nat_cmp half h)) (Some issued) (issued_of before h)
+IsUpdated before after half issued = (h : Text) → issued_of after h ≡ cond (bytes_eq half h) (Some issued) (issued_of before h)
 
 pub inserted : (before after : List (Text × Issued)) (w : Word) (place : ℕ) → issued_of before (half_digest w) ≡ None → IsUpdated before after (half_digest w) (record_of w place) → (half : Text) → issued_of after half ≡ first_of (issued_of before half) (issued_as half w place)
 inserted before after w place absent updated half =
     let new : Option Issued = Some (record_of w place) in
-    let now : issued_of after half ≡ cond (bytes_eq (half_digest w) half) new (issued_of before half) =
-    updated half ∙ ap (λ b. cond b new (issued_of before half)) (is_eq-slice_cmp (half_digest w) half) in
+    let now : issued_of after half ≡ cond (bytes_eq (half_digest w) half) new (issued_of before half) = updated half in
     elim (bool_cases (bytes_eq (half_digest w) half)) [
       | inl e ↦
           (let same : half_digest w ≡ half = bytes_same (half_digest w) half e in

@@ -2,9 +2,6 @@
 use Rattle.std.proofs.Common.{◌≡◌, ℕ, Bool, true, false, ◌==◌, ◌&&◌, ◌||◌, not, cond, List, Option, Some, None, inl, inr, refl, sym, ap, ◌∙◌, subst}
 use Rattle.std.proofs.lemmas.Bool.{eqb-true}
 use Rattle.std.specs.Str.{bytes_eq}
-use Rattle.std.specs.Ordering.{is_eq, nat_cmp}
-use Rattle.std.specs.Cmp.Lexicographic.{slice_cmp}
-use Rattle.std.proofs.lemmas.Map.Text.{is_eq-slice_cmp}
 use Rattle.sso_base.specs.Words.{Word}
 use Rattle.sso_base.proofs.RowLaws.{bool_cases, bytes_same}
 use Rattle.world_index.specs.declared.setters.Setter.{Setter}
@@ -57,13 +54,12 @@ other_noted from other (Some s) =
 
 -- what `insert` of the map does
 abbrev pub IsUpdated : List (Word × Setter) → List (Word × Setter) → Word → Setter → Type 0
-IsUpdated before after word setter = (w : Word) → setter_of after w ≡ cond (is_eq (slice_cmp nat_cmp word w)) (Some setter) (setter_of before w)
+IsUpdated before after word setter = (w : Word) → setter_of after w ≡ cond (bytes_eq word w) (Some setter) (setter_of before w)
 
 pub set_noted : (before after : List (Word × Setter)) (word : Word) (from : ℕ) → IsUpdated before after word (setter_noted from (setter_of before word)) → (w : Word) (other : ℕ) → set_for_other after w other ≡ ((bytes_eq word w && not (from == other)) || set_for_other before w other)
 set_noted before after word from updated w other =
     let new : Option Setter = Some (setter_noted from (setter_of before word)) in
-    let now : setter_of after w ≡ cond (bytes_eq word w) new (setter_of before w) =
-    updated w ∙ ap (λ b. cond b new (setter_of before w)) (is_eq-slice_cmp word w) in
+    let now : setter_of after w ≡ cond (bytes_eq word w) new (setter_of before w) = updated w in
     elim (bool_cases (bytes_eq word w)) [
       | inl e ↦
           (let same : word ≡ w = bytes_same word w e in

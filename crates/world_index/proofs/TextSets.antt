@@ -3,34 +3,30 @@ use Rattle.std.proofs.Common.{◌≡◌, ◌≢◌, ℕ, zero, suc, ◌<◌, ◌
 use Rattle.std.specs.declared.string.String.{String}
 use Rattle.std.specs.List.{AllByRecursion, list_any, slice_set}
 use Rattle.std.specs.Str.{bytes_eq}
-use Rattle.std.specs.String.{string_cmp}
-use Rattle.std.specs.Ordering.{is_eq, nat_cmp}
-use Rattle.std.specs.Cmp.Lexicographic.{slice_cmp}
-use Rattle.std.specs.BTreeSet.{BTreeSet, UpdatesBy}
+use Rattle.std.specs.String.{string_eq}
+use Rattle.std.specs.HashSet.{HashSet, UpdatesBy}
 use Rattle.std.proofs.lemmas.Bool.{eqb-true, eqb-false}
 use Rattle.std.proofs.lemmas.List.{get_or-set_same, get_or-set_other}
-use Rattle.std.proofs.lemmas.Map.Text.{is_eq-slice_cmp, btree_set_updates_text}
+use Rattle.std.proofs.lemmas.Map.Text.{hash_set_updates_text}
 use Rattle.sso_base.specs.Texts.{has_text}
 use Rattle.sso_base.specs.Words.{Text}
 use Rattle.sso_base.proofs.RowLaws.{bool_cases}
 use Rattle.world_index.specs.Writing.{is_written_for}
 
-pub keys_have : {Y : Type 0} (t : Text) (keys : List (String Y)) → list_any (λ k. is_eq (slice_cmp nat_cmp t (string_bytes k))) keys ≡ has_text t (map string_bytes keys)
+pub keys_have : {Y : Type 0} (t : Text) (keys : List (String Y)) → list_any (λ k. bytes_eq t (string_bytes k)) keys ≡ has_text t (map string_bytes keys)
 keys_have t [] = refl
-keys_have t (k ∷ keys) =
-    ap (λ b. b || list_any (λ k. is_eq (slice_cmp nat_cmp t (string_bytes k))) keys) (is_eq-slice_cmp t (string_bytes k))
-    ∙ ap (λ b. bytes_eq t (string_bytes k) || b) (keys_have t keys)
+keys_have t (k ∷ keys) = ap (λ b. bytes_eq t (string_bytes k) || b) (keys_have t keys)
 
 or_when : (b c : Bool) → cond b true c ≡ (b || c)
 or_when true c = refl
 or_when false c = refl
 
 -- a key was added
-pub key_added : {Y : Type 0} (bs : List ℕ) (before after : BTreeSet (String Y)) → UpdatesBy string_cmp (λ k. slice_cmp nat_cmp bs (string_bytes k)) before after true → (t : Text) → has_text t (map string_bytes after.keys) ≡ (bytes_eq bs t || has_text t (map string_bytes before.keys))
+pub key_added : {Y S : Type 0} (bs : List ℕ) (before after : HashSet (String Y) S) → UpdatesBy string_eq (λ k. bytes_eq bs (string_bytes k)) before after true → (t : Text) → has_text t (map string_bytes after.keys) ≡ (bytes_eq bs t || has_text t (map string_bytes before.keys))
 key_added bs before after updates t =
     sym (keys_have t after.keys)
-    ∙ btree_set_updates_text bs before after true updates t
-    ∙ or_when (bytes_eq bs t) (list_any (λ k. is_eq (slice_cmp nat_cmp t (string_bytes k))) before.keys)
+    ∙ hash_set_updates_text bs before after true updates t
+    ∙ or_when (bytes_eq bs t) (list_any (λ k. bytes_eq t (string_bytes k)) before.keys)
     ∙ ap (λ b. bytes_eq bs t || b) (keys_have t before.keys)
 
 -- ---- one set for each client

@@ -1,8 +1,6 @@
 -- Codes and access tokens that were issued, each under its half digest (OpenID Connect Core 1.0, 3.1.3.6 and 3.3.2.11).
 use Rattle.std.specs.Prelude.{ℕ, List, Option, Some, None, if◌then◌else◌}
 use Rattle.std.specs.Map.{lookup}
-use Rattle.std.specs.Ordering.{is_eq, nat_cmp}
-use Rattle.std.specs.Cmp.Lexicographic.{slice_cmp}
 use Rattle.std.specs.Str.{bytes_eq}
 use Rattle.sso_base.specs.Words.{Word, Text}
 use Rattle.sso_places.specs.Premises.{half_digest}
@@ -10,7 +8,7 @@ use Rattle.world_index.specs.declared.halves.Issued.{Issued}
 
 -- what was noted first of a half digest
 abbrev pub issued_of : List (Text × Issued) → Text → Option Issued
-issued_of halves half = lookup (λ h. is_eq (slice_cmp nat_cmp half h)) halves
+issued_of halves half = lookup (λ h. bytes_eq half h) halves
 
 -- what stands first
 abbrev pub first_of : Option Issued → Option Issued → Option Issued

@@ -1,8 +1,7 @@
 -- Words that replies set, each with the numbers whose replies did.
 use Rattle.std.specs.Prelude.{ℕ, Bool, false, ◌==◌, ◌||◌, not, List, Option, Some, None}
 use Rattle.std.specs.Map.{lookup}
-use Rattle.std.specs.Ordering.{is_eq, nat_cmp}
-use Rattle.std.specs.Cmp.Lexicographic.{slice_cmp}
+use Rattle.std.specs.Str.{bytes_eq}
 use Rattle.sso_base.specs.Words.{Word}
 use Rattle.world_index.specs.declared.setters.Setter.{Setter}
 
@@ -18,7 +17,7 @@ is_other from (Some s) = s.several || not (s.first == from)
 
 -- what was noted of a word
 abbrev pub setter_of : List (Word × Setter) → Word → Option Setter
-setter_of setters w = lookup (λ v. is_eq (slice_cmp nat_cmp w v)) setters
+setter_of setters w = lookup (λ v. bytes_eq w v) setters
 
 -- a number other than this one set the word
 abbrev pub set_for_other : List (Word × Setter) → Word → ℕ → Bool

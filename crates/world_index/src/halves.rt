@@ -8,7 +8,7 @@ ghost use Rattle.world_index.specs.Issuing.{issued_of, first_of, issued_as, othe
 use id_token::half_hash;
 use sso_base::{NoMemory, Word};
 use std::alloc::Global;
-use std::collections::BTreeMap;
+use std::collections::HashMap;
 use std::marker::Model;
 
 // A word that was issued, and the place at which it was.
@@ -22,7 +22,7 @@ struct Issued {
 /// at which that was issued first (OpenID Connect Core 1.0, 3.1.3.6 and 3.3.2.11).
 #[derive(Drop)]
 pub struct Halves {
-    words: BTreeMap<[u8; 22], Issued>,
+    words: HashMap<[u8; 22], Issued>,
 }
 
 impl Model for Halves {
@@ -40,7 +40,7 @@ impl Halves {
         ensures { (half : TextOf) → issued_of result half ≡ None }
     {
         Halves {
-            words: BTreeMap::new(alloc),
+            words: HashMap::new(alloc),
         }
     }
 

@@ -7,7 +7,7 @@ ghost use Rattle.world_index.specs.Setting.{setter_noted, set_for_other};
 
 use sso_base::{NoMemory, Word};
 use std::alloc::Global;
-use std::collections::BTreeMap;
+use std::collections::HashMap;
 use std::marker::Model;
 
 // Of one word: the first number whose reply set it, and whether another number's did.
@@ -21,7 +21,7 @@ struct Setter {
 /// number, or several.
 #[derive(Drop)]
 pub struct Setters {
-    words: BTreeMap<[u8; 32], Setter>,
+    words: HashMap<[u8; 32], Setter>,
 }
 
 impl Model for Setters {
@@ -55,7 +55,7 @@ impl Setters {
         ensures { (w : WordOf) (from : ℕ) → set_for_other result w from ≡ false }
     {
         Setters {
-            words: BTreeMap::new(alloc),
+            words: HashMap::new(alloc),
         }
     }
 

@@ -7,13 +7,13 @@ ghost use Rattle.sso_base.specs.Words.{Text as TextOf};
 
 use sso_base::{NoMemory, Text};
 use std::alloc::Global;
-use std::collections::BTreeSet;
+use std::collections::HashSet;
 use std::marker::Model;
 
 /// A set of texts, seen as the list of them.
 #[derive(Drop)]
 pub(crate) struct TextSet {
-    texts: BTreeSet<String>,
+    texts: HashSet<String>,
 }
 
 impl Model for TextSet {
@@ -30,7 +30,7 @@ impl TextSet {
         ensures { result ≡ [] }
     {
         TextSet {
-            texts: BTreeSet::new(alloc),
+            texts: HashSet::new(alloc),
         }
     }
 
