@@ -1,7 +1,11 @@
 // The configurations of the cases.
 
+use client_registry::{Registry, read_registry};
 use sample_configuration::{news_alone, sample};
-use sample_rows::{ALICE, ALICES_CLAIMS, ANY_CLIENT, BOB};
+use sample_rows::{
+    ALICE, ALICES_CLAIMS, ANY_CLIENT, BOB, MAIL_CLIENT, MAIL_PARTY, NEWS_CLIENT, NEWS_PARTY,
+    PROVIDER, SHOP_CLIENT, SHOP_PARTY,
+};
 use sso_base::NoMemory;
 use std::alloc::Global;
 
@@ -83,6 +87,21 @@ fn wide(alloc: Global) -> Result<String, NoMemory> {
 // The sample with this response type at `mail`.
 fn sample_with(alloc: Global, response_type: &str) -> Result<String, NoMemory> {
     Ok(sample(alloc)?.replace(alloc, "code id_token", response_type)?)
+}
+
+/// The registry for which the traces of the table `lines` are read.
+pub fn registry(alloc: Global) -> Result<Option<Registry>, NoMemory> {
+    let file = [
+        PROVIDER,
+        SHOP_CLIENT,
+        NEWS_CLIENT,
+        MAIL_CLIENT,
+        SHOP_PARTY,
+        NEWS_PARTY,
+        MAIL_PARTY,
+    ]
+    .concat(alloc)?;
+    Ok(read_registry(alloc, file.as_bytes()).ok())
 }
 
 /// The configuration of this name: `sample`, `news`, `wide`, or a response type.

@@ -4,7 +4,7 @@ use case_lines::bytes;
 use sso_base::{NoMemory, Text};
 use std::alloc::Global;
 
-/// A header whose seed is zeros.
+/// A header whose seed is zeros: 60 bytes.
 pub const HEADER: &str = "sso-trace 1 000000000000000000000000000000000000000000000000";
 
 const SHOP_ANSWERED: &str =

@@ -1,0 +1,146 @@
+//! Cases of tokens and messages, each a line that a person can read: what each is read as, or why it is refused, how it is written, and
+//! what a registry that is asked answers.
+//!
+//! The file `stdin` has the cases, and `stdout` the same with their answers. `case_lines` says how a line is read, and the comments
+//! there where the expected answers come from: the standards that are named, and other programs. A line `table|NAME` begins one of four
+//! tables, and those below are calls of it, in which `$NAME$` is a text of that table.
+//!
+//! | Module | Its calls |
+//! |---|---|
+//! | `tokens` | the table of MACs, sealed texts, claim sets and tokens: |
+//! | `tokens::macs` | MACs, and the proofs of passwords |
+//! | `tokens::sealed` | texts that are sealed and unsealed |
+//! | `tokens::claims` | claim sets that are read and asked |
+//! | `tokens::puts` | claims that are put into a set |
+//! | `tokens::ids` | ID Tokens |
+//! | `tokens::logouts` | logout tokens |
+//! | `tokens::kinds` | each kind of sealed text, read as another |
+//! | `tokens::names` | none; the texts that have names |
+//! | `registries` | the table of what a registry stands on, and of a registry that is asked: |
+//! | `registries::urls` | `url`, `same_server`, `query_names` and `urls` |
+//! | `registries::configurations` | `registry`, `file`, `users` and `rows` read configurations |
+//! | `registries::registered` | `provider`, `find`, `row` and `subject` ask the sample's registry |
+//! | `registries::discovery` | `document`, `discovery` and `less` |
+//! | `registries::sample` | none; the configuration that the other cases ask, and texts with names |
+//! | `requests` | the table of authorization requests: |
+//! | `requests::parameters` | `form`, `merge`, `location`, `query` and `fragment` |
+//! | `requests::judgement` | `judge` and `judge_whole` |
+//! | `requests::needs` | `need` and `needed_scopes` |
+//! | `requests::request_objects` | `object`, `unseal_request` and `seal_request`: request objects |
+//! | `requests::sample` | none; the configuration that the cases ask, and texts with names |
+//! | `answers` | the table of the answers of a sign-on: |
+//! | `answers::token_requests` | `read_grant` and `print_grant`: token requests |
+//! | `answers::token_answers` | `print_tokens`, `print_token_error` and `read_tokens`: their answers |
+//! | `answers::user_info` | `info_claims`, `held_claims`, `read_bearer`, `print_info` and `read_info`: UserInfo |
+//! | `answers::error_codes` | `error_codes`, `error_text` and `read_error`: the error codes of authorization responses |
+//! | `answers::responses` | `print_answer`, `print_refusal` and `read_answer`: authorization responses |
+//! | `answers::messages` | none; how messages from server to server are told |
+//! | `answers::sample` | none; the clients and users of the cases, and texts with names |
+//! | `clients` | none; the clients of a registry |
+#![tactic(auto)]
+
+mod answers;
+mod clients;
+mod registries;
+mod requests;
+mod tokens;
+
+use crate::answers::AnswerCases;
+use crate::registries::RegistryCases;
+use crate::requests::RequestCases;
+use crate::tokens::TokenCases;
+use case_lines::{Cases, print_cases, told};
+use client_registry::RegNo;
+use sso_base::NoMemory;
+use std::alloc::Global;
+use std::io;
+
+// One of the four tables.
+#[derive(Drop)]
+enum Table {
+    Tokens(TokenCases),
+    Registries(RegistryCases),
+    Requests(RequestCases),
+    Answers(AnswerCases),
+}
+
+impl Cases for Table {
+    fn answer(&mut self, alloc: Global, fields: &[&str]) -> Result<String, NoMemory> {
+        match self {
+            Table::Tokens(cases) => cases.answer(alloc, fields),
+            Table::Registries(cases) => cases.answer(alloc, fields),
+            Table::Requests(cases) => cases.answer(alloc, fields),
+            Table::Answers(cases) => cases.answer(alloc, fields),
+        }
+    }
+
+    fn text(&self, name: &str) -> Option<&str> {
+        match self {
+            Table::Tokens(cases) => cases.text(name),
+            Table::Registries(cases) => cases.text(name),
+            Table::Requests(cases) => cases.text(name),
+            Table::Answers(cases) => cases.text(name),
+        }
+    }
+}
+
+// The table of this name, where there is one.
+fn table_of(alloc: Global, name: &str) -> Result<Option<Table>, RegNo> {
+    match name {
+        "tokens" => Ok(Some(Table::Tokens(TokenCases {}))),
+        "registries" => Ok(Some(Table::Registries(RegistryCases::new(alloc)?))),
+        "requests" => Ok(Some(Table::Requests(RequestCases::new(alloc)?))),
+        "answers" => Ok(Some(Table::Answers(AnswerCases::new(alloc)?))),
+        _ => Ok(None),
+    }
+}
+
+// The table that is asked.
+#[derive(Drop)]
+struct MessageCases {
+    table: Option<Table>,
+}
+
+impl MessageCases {
+    fn begin(&mut self, alloc: Global, name: &str) -> Result<String, NoMemory> {
+        match table_of(alloc, name) {
+            Ok(table) => {
+                self.table = table;
+                told(alloc, self.begun())
+            }
+            Err(RegNo::NoMemory) => Err(NoMemory),
+            Err(_) => told(alloc, "no registry"),
+        }
+    }
+
+    fn begun(&self) -> &'static str {
+        match self.table {
+            Some(_) => "begun",
+            None => "no such table",
+        }
+    }
+
+    fn ask(&mut self, alloc: Global, fields: &[&str]) -> Result<String, NoMemory> {
+        match &mut self.table {
+            Some(table) => table.answer(alloc, fields),
+            None => told(alloc, "no table"),
+        }
+    }
+}
+
+impl Cases for MessageCases {
+    fn answer(&mut self, alloc: Global, fields: &[&str]) -> Result<String, NoMemory> {
+        match fields {
+            ["table", name] => self.begin(alloc, name),
+            _ => self.ask(alloc, fields),
+        }
+    }
+
+    fn text(&self, name: &str) -> Option<&str> {
+        self.table.as_ref()?.text(name)
+    }
+}
+
+fn main(rt: HostRuntime) -> io::Result<()> {
+    print_cases(&rt, &mut MessageCases { table: None })
+}

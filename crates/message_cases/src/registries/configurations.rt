@@ -1,0 +1,115 @@
+// Configurations are read.
+
+use crate::registries::sample::{ALONE, changed};
+use case_lines::{told_refusal, written};
+use client_registry::{RegNo, Registry, read_registry};
+use sso_base::NoMemory;
+use std::alloc::Global;
+
+// The name of a refusal, and the text that it carries: the first, where it carries several.
+fn refusal(why: &RegNo) -> (&str, &str) {
+    match why {
+        RegNo::NoMemory => ("NoMemory", ""),
+        RegNo::TooLong => ("TooLong", ""),
+        RegNo::NotToml => ("NotToml", ""),
+        RegNo::Version => ("Version", ""),
+        RegNo::Missing(path) => ("Missing", path.as_str()),
+        RegNo::WrongKind(path) => ("WrongKind", path.as_str()),
+        RegNo::BadUrl(path) => ("BadUrl", path.as_str()),
+        RegNo::Twice(name) => ("Twice", name.as_str()),
+        RegNo::ShortSecret(client) => ("ShortSecret", client.as_str()),
+        RegNo::TooMany(kind) => ("TooMany", kind.as_str()),
+        RegNo::MixedHosts(client) => ("MixedHosts", client.as_str()),
+        RegNo::UnknownClient(party) => ("UnknownClient", party.as_str()),
+        RegNo::SubjectClash(client, _, _) => ("SubjectClash", client.as_str()),
+    }
+}
+
+fn counts(alloc: Global, registry: &Registry) -> Result<String, NoMemory> {
+    let (users, clients) = (registry.users(), registry.clients());
+    let parties = registry.parties();
+    Ok(format!(in alloc; "{users} users, {clients} clients, {parties} parties")?)
+}
+
+fn told_registry(alloc: Global, answer: &Result<Registry, RegNo>) -> Result<String, NoMemory> {
+    match answer {
+        Ok(registry) => counts(alloc, registry),
+        Err(why) => told_refusal(alloc, refusal(why)),
+    }
+}
+
+// How many rows a file has, or why it is refused.
+fn read(alloc: Global, file: &[u8]) -> Result<String, NoMemory> {
+    let answer = read_registry(alloc, file);
+    told_registry(alloc, &answer)
+}
+
+/// `registry|OLD|NEW`: the sample with the first OLD replaced by NEW. ` / ` stands for a line feed.
+pub fn registry(alloc: Global, old: &str, new: &str) -> Result<String, NoMemory> {
+    let old = case_lines::given(old).unwrap_or("");
+    let new = case_lines::given(new).unwrap_or("");
+    let new = written(alloc, new.replace(alloc, " / ", "\n")?.as_str())?;
+    let file = changed(alloc, old, new.as_str())?;
+    read(alloc, file.as_bytes())
+}
+
+/// `file|TEXT`: a whole file. ` / ` stands for a line feed.
+pub fn file(alloc: Global, text: &str) -> Result<String, NoMemory> {
+    let lines = text.replace(alloc, " / ", "\n")?;
+    let file = case_lines::bytes(alloc, lines.as_str())?;
+    read(alloc, file.as_slice())
+}
+
+// A row of each kind, with `%` for its number.
+const USER: &str = r#"[[user]]
+id = "%"
+salt = "00"
+rounds = 1
+proof = "0000000000000000000000000000000000000000000000000000000000000000"
+"#;
+
+const CLIENT: &str = r#"[[client]]
+id = "%"
+secret = "shop-secret-shop-secret-shop-secret-%"
+redirect_uris = ["https://a.b/%"]
+"#;
+
+const PARTY: &str = r#"[[party]]
+name = "%"
+client = "%"
+redirect_uri = "https://a.b/%"
+listen = "a.b:443"
+"#;
+
+// Adds the row with this number.
+fn push_row(alloc: Global, file: &mut String, row: &str, number: u32) -> Result<(), NoMemory> {
+    let number = number.to_string(alloc)?;
+    let row = row.replace(alloc, "%", number.as_str())?;
+    file.push_str(row.as_str())?;
+    Ok(())
+}
+
+// Adds so many rows, with the numbers from 0.
+fn push_rows(alloc: Global, file: &mut String, row: &str, count: &str) -> Result<(), NoMemory> {
+    for number in 0..count.parse::<u32>().unwrap_or(0) {
+        push_row(alloc, file, row, number)?;
+    }
+    Ok(())
+}
+
+/// `users|COUNT|TEXT`: a file with this text, and behind it so many users. ` / ` stands for a line feed.
+pub fn users(alloc: Global, count: &str, text: &str) -> Result<String, NoMemory> {
+    let first = written(alloc, text.replace(alloc, " / ", "\n")?.as_str())?;
+    let mut file = [ALONE, first.as_str(), "\n"].concat(alloc)?;
+    push_rows(alloc, &mut file, USER, count)?;
+    read(alloc, file.as_bytes())
+}
+
+/// `rows|USERS|CLIENTS|PARTIES`: a file with so many rows of each kind.
+pub fn rows(alloc: Global, users: &str, clients: &str, parties: &str) -> Result<String, NoMemory> {
+    let mut file = String::from_str(alloc, ALONE)?;
+    push_rows(alloc, &mut file, USER, users)?;
+    push_rows(alloc, &mut file, CLIENT, clients)?;
+    push_rows(alloc, &mut file, PARTY, parties)?;
+    read(alloc, file.as_bytes())
+}

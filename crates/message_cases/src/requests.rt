@@ -1,0 +1,52 @@
+// The table of authorization requests: their parameters, how they are judged, what they still need, and request objects.
+
+mod judgement;
+mod needs;
+mod parameters;
+pub mod request_objects;
+mod sample;
+
+use case_lines::{Cases, told};
+use client_registry::{RegNo, Registry, read_registry};
+use sso_base::NoMemory;
+use std::alloc::Global;
+
+/// The calls of this table, and the registry that they ask.
+#[derive(Drop)]
+pub struct RequestCases {
+    registry: Registry,
+}
+
+impl RequestCases {
+    /// The table that asks the sample's registry.
+    pub fn new(alloc: Global) -> Result<RequestCases, RegNo> {
+        let file = sample::sample(alloc)?;
+        let registry = read_registry(alloc, file.as_bytes())?;
+        Ok(RequestCases { registry })
+    }
+}
+
+impl Cases for RequestCases {
+    fn answer(&mut self, alloc: Global, fields: &[&str]) -> Result<String, NoMemory> {
+        let registry = &self.registry;
+        match fields {
+            ["form", form] => parameters::form(alloc, form),
+            ["merge", outer, inner] => parameters::merge_forms(alloc, outer, inner),
+            ["location", endpoint, form] => parameters::location(alloc, endpoint, form),
+            ["query", url, pairs] => parameters::query(alloc, url, pairs),
+            ["fragment", url, pairs] => parameters::fragment(alloc, url, pairs),
+            ["judge", changes] => judgement::judge_short(alloc, registry, changes),
+            ["judge_whole", changes] => judgement::judge_whole(alloc, registry, changes),
+            ["need", changes, session, at] => needs::need(alloc, registry, changes, session, at),
+            ["needed_scopes", changes] => needs::scopes_needed(alloc, registry, changes),
+            ["object", key, claims] => request_objects::object(alloc, registry, key, claims),
+            ["unseal_request", object] => request_objects::unseal(alloc, registry, object),
+            ["seal_request", pairs] => request_objects::seal(alloc, registry, pairs),
+            _ => told(alloc, "no such call"),
+        }
+    }
+
+    fn text(&self, name: &str) -> Option<&str> {
+        sample::text(name)
+    }
+}

@@ -1,0 +1,107 @@
+// What requests still need before they are answered.
+
+use crate::requests::judgement::judged;
+use auth_request::{Verdict, Wish};
+use case_lines::{moment, scopes, told, told_scopes};
+use client_registry::Registry;
+use oidc_words::error_text;
+use request_need::{Need, Standing, decide, needed_scopes};
+use sso_base::{Moment, NoMemory};
+use std::alloc::Global;
+
+// The session that a field tells: `session`, then `in_turn`, `agreed` and the scope values that are granted.
+fn standing(alloc: Global, session: &str) -> Result<Option<Standing>, NoMemory> {
+    let Some(words) = session.strip_prefix("session") else {
+        return Ok(None);
+    };
+    Ok(Some(Standing {
+        user: 0,
+        auth_time: 1000,
+        in_turn: words.contains("in_turn"),
+        agreed: words.contains("agreed"),
+        granted: scopes(alloc, words)?,
+    }))
+}
+
+// The need of a wish at a registry that has its client and its user.
+fn decided(
+    registry: &Registry,
+    wish: &Wish,
+    standing: Option<Standing>,
+    at: Moment,
+) -> Option<Need> {
+    if wish.client >= registry.clients() {
+        return None;
+    }
+    match standing {
+        Some(standing) if standing.user < registry.users() => {
+            Some(decide(registry, wish, Some(&standing), at))
+        }
+        Some(_) => None,
+        None => Some(decide(registry, wish, None, at)),
+    }
+}
+
+fn told_need(alloc: Global, need: Option<Need>) -> Result<String, NoMemory> {
+    match need {
+        Some(Need::Login) => told(alloc, "Login"),
+        Some(Need::Consent) => told(alloc, "Consent"),
+        Some(Need::Answer) => told(alloc, "Answer"),
+        Some(Need::Error(code)) => told(alloc, error_text(code)),
+        None => told(alloc, "no client or user"),
+    }
+}
+
+// The judgement of the good request for `openid profile`, with changes.
+fn judged_profile(alloc: Global, registry: &Registry, changes: &str) -> Result<Verdict, NoMemory> {
+    let changes = format!(in alloc; "scope=openid profile&{changes}")?;
+    judged(alloc, registry, changes.as_str())
+}
+
+fn need_of(
+    alloc: Global,
+    registry: &Registry,
+    verdict: &Verdict,
+    (session, at): (&str, Moment),
+) -> Result<String, NoMemory> {
+    match verdict {
+        Verdict::Grant(wish) => {
+            let need = decided(registry, wish, standing(alloc, session)?, at);
+            told_need(alloc, need)
+        }
+        _ => told(alloc, "not granted"),
+    }
+}
+
+/// `need|CHANGES|SESSION|AT`: what the good request for `openid profile` with these changes needs at this moment.
+pub fn need(
+    alloc: Global,
+    registry: &Registry,
+    changes: &str,
+    session: &str,
+    at: &str,
+) -> Result<String, NoMemory> {
+    let Some(at) = moment(at) else {
+        return told(alloc, "no moment");
+    };
+    let verdict = judged_profile(alloc, registry, changes)?;
+    need_of(alloc, registry, &verdict, (session, at))
+}
+
+fn scopes_of(alloc: Global, verdict: &Verdict) -> Result<String, NoMemory> {
+    match verdict {
+        Verdict::Grant(wish) => told_scopes(alloc, needed_scopes(wish)),
+        _ => told(alloc, "not granted"),
+    }
+}
+
+/// `needed_scopes|CHANGES`: the scope values that a consent to the good request for `openid profile` with these changes is
+/// about.
+pub fn scopes_needed(
+    alloc: Global,
+    registry: &Registry,
+    changes: &str,
+) -> Result<String, NoMemory> {
+    let verdict = judged_profile(alloc, registry, changes)?;
+    scopes_of(alloc, &verdict)
+}

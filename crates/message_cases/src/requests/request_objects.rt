@@ -1,0 +1,122 @@
+// Request objects of the client `mail-client` are written and read.
+
+use crate::clients::client_of;
+use crate::requests::parameters::params_of;
+use case_lines::{claim_refusal, or_else, push_named, told, told_refusal};
+use client_registry::{Client, Registry};
+use jws_compact::{Typ, seal as seal_jws};
+use request_object::{ObjNo, seal_request, unseal_request, written_len};
+use request_params::{ALL_NAMES, Params};
+use sso_base::{NoMemory, Text};
+use std::alloc::Global;
+
+// The parameters that are there, by their names.
+fn listed(alloc: Global, params: &Params) -> Result<String, NoMemory> {
+    let mut list = String::new(alloc);
+    for name in &ALL_NAMES {
+        push_named(
+            &mut list,
+            name.as_str(),
+            params.get(*name).as_ref().map(Text::as_str),
+        )?;
+    }
+    or_else(list, "nothing")
+}
+
+/// The name of a refusal, and what it names.
+pub fn refusal(why: &ObjNo) -> (&str, &str) {
+    match why {
+        ObjNo::NoMemory => ("NoMemory", ""),
+        ObjNo::Jws(why) => ("Jws", why.name()),
+        ObjNo::Claims(why) => claim_refusal(why),
+        ObjNo::Issuer => ("Issuer", ""),
+        ObjNo::Audience => ("Audience", ""),
+        ObjNo::Nested => ("Nested", ""),
+    }
+}
+
+fn told_object(alloc: Global, answer: &Result<Params, ObjNo>) -> Result<String, NoMemory> {
+    match answer {
+        Ok(params) => listed(alloc, params),
+        Err(why) => told_refusal(alloc, refusal(why)),
+    }
+}
+
+fn read_as(
+    alloc: Global,
+    registry: &Registry,
+    client: &Client,
+    object: &str,
+) -> Result<String, NoMemory> {
+    let issuer = &registry.provider().issuer;
+    let answer = unseal_request(alloc, client, issuer, object.as_bytes());
+    told_object(alloc, &answer)
+}
+
+/// `unseal_request|OBJECT`: the parameters of a request object, or why it is refused.
+pub fn unseal(alloc: Global, registry: &Registry, object: &str) -> Result<String, NoMemory> {
+    match client_of(registry, "mail-client") {
+        Some(client) => read_as(alloc, registry, client, object),
+        None => told(alloc, "no such client"),
+    }
+}
+
+/// `object|CLIENT|CLAIMS`: the claims are sealed under the secret of a client, and the object is read.
+pub fn object(
+    alloc: Global,
+    registry: &Registry,
+    id: &str,
+    claims: &str,
+) -> Result<String, NoMemory> {
+    match client_of(registry, id) {
+        Some(client) if claims.len() <= 6000 => {
+            let key = client.secret.as_str().as_bytes();
+            let object = seal_jws(alloc, key, Typ::Jwt, claims.as_bytes())?;
+            unseal(alloc, registry, object.as_str())
+        }
+        _ => told(alloc, "not to be sealed"),
+    }
+}
+
+/// How many bytes the claims of the object with these parameters have, and the object. None where it may not be sealed.
+pub fn sealed(
+    alloc: Global,
+    client: &Client,
+    issuer: &Text,
+    params: &Params,
+) -> Result<Option<(usize, Text)>, NoMemory> {
+    let length = written_len(alloc, client, issuer, params)?;
+    let nested = params.request.is_some()
+        || params.request_uri.is_some()
+        || params.registration.is_some();
+    if nested || length > 6000 {
+        return Ok(None);
+    }
+    Ok(Some((length, seal_request(alloc, client, issuer, params)?)))
+}
+
+fn told_sealed(alloc: Global, sealed: &Option<(usize, Text)>) -> Result<String, NoMemory> {
+    match sealed {
+        Some((length, object)) => Ok(format!(in alloc; "{length} bytes: {}", object.as_str())?),
+        None => told(alloc, "not to be sealed"),
+    }
+}
+
+fn sealed_pairs(
+    alloc: Global,
+    client: &Client,
+    issuer: &Text,
+    pairs: &str,
+) -> Result<String, NoMemory> {
+    let params = params_of(alloc, pairs, " & ")?;
+    let sealed = sealed(alloc, client, issuer, &params)?;
+    told_sealed(alloc, &sealed)
+}
+
+/// `seal_request|NAME=VALUE & ..`: the request object with these parameters, behind the number of bytes of its claims.
+pub fn seal(alloc: Global, registry: &Registry, pairs: &str) -> Result<String, NoMemory> {
+    match client_of(registry, "mail-client") {
+        Some(client) => sealed_pairs(alloc, client, &registry.provider().issuer, pairs),
+        None => told(alloc, "no such client"),
+    }
+}

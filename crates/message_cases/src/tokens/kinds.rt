@@ -1,0 +1,167 @@
+// Each kind of sealed text, read as another. All are sealed under the secret of the client `c`.
+
+use crate::requests::request_objects::{refusal, sealed};
+use crate::tokens::ids::told_subject;
+use crate::tokens::{ids, logouts};
+use case_lines::{told, told_refusal};
+use client_registry::Client;
+use id_token::{Half, IdRules, check_id, read_id};
+use logout_token::read_logout;
+use registered_url::WebUrls;
+use request_object::{ObjNo, unseal_request};
+use request_params::{AskNo, Params, read_request};
+use sso_base::{Moment, NoMemory, Text, Texts};
+use std::alloc::Global;
+
+/// What a call of this module answers; none where it is another's.
+pub fn answer(alloc: Global, fields: &[&str]) -> Result<Option<String>, NoMemory> {
+    match fields {
+        ["read as", reader, kind] => Ok(Some(read_as(alloc, reader, kind)?)),
+        _ => Ok(None),
+    }
+}
+
+// The client.
+fn client(alloc: Global) -> Result<Client, NoMemory> {
+    Ok(Client {
+        id: Text::new(alloc, "c")?,
+        secret: Text::new(alloc, "secret")?,
+        redirects: Texts::new(alloc),
+        types: [true, false, false, false, false, false],
+        pairwise: false,
+        asks_consent: false,
+        logout: None,
+        logout_session: false,
+        redirect_urls: WebUrls::new(alloc),
+        logout_url: None,
+    })
+}
+
+// A request of the client, as a form.
+const REQUEST: &str =
+    "response_type=id_token&client_id=c&redirect_uri=http://127.0.0.1:8081/cb&scope=openid&state=s&nonce=n";
+
+// The parameters to the issuer `i`, sealed.
+fn sealed_by(alloc: Global, client: &Client, params: &Params) -> Result<Option<Text>, NoMemory> {
+    let issuer = Text::new(alloc, "i")?;
+    Ok(text_alone(sealed(alloc, client, &issuer, params)?))
+}
+
+fn sealed_params(alloc: Global, params: &Params) -> Result<Option<Text>, NoMemory> {
+    let client = client(alloc)?;
+    sealed_by(alloc, &client, params)
+}
+
+fn sealed_request(
+    alloc: Global,
+    request: &Result<Params, AskNo>,
+) -> Result<Option<Text>, NoMemory> {
+    match request {
+        Ok(params) => sealed_params(alloc, params),
+        Err(AskNo::NoMemory) => Err(NoMemory),
+        Err(_) => Ok(None),
+    }
+}
+
+fn request_object(alloc: Global) -> Result<Option<Text>, NoMemory> {
+    let request = read_request(alloc, REQUEST.as_bytes());
+    sealed_request(alloc, &request)
+}
+
+fn text_alone(sealed: Option<(usize, Text)>) -> Option<Text> {
+    match sealed {
+        Some((_, text)) => Some(text),
+        None => None,
+    }
+}
+
+// A sealed text of this kind: what the provider `i`, or the client itself, issued for alice's login.
+fn sealed_text(alloc: Global, kind: &str) -> Result<Option<Text>, NoMemory> {
+    match kind {
+        "an ID Token of i" => {
+            Ok(text_alone(ids::seal_parts(alloc, "secret", "i", "alice", "g", "-")?))
+        }
+        "an ID Token of c" => {
+            Ok(text_alone(ids::seal_parts(alloc, "secret", "c", "alice", "g", "-")?))
+        }
+        "a logout token of i" => {
+            Ok(text_alone(logouts::seal_parts(alloc, "secret", "i", "c", "alice", "g")?))
+        }
+        "a request object of c" => request_object(alloc),
+        _ => Ok(None),
+    }
+}
+
+// The rules of the client for that login.
+fn rules(alloc: Global) -> Result<IdRules, NoMemory> {
+    Ok(IdRules {
+        issuer: Text::new(alloc, "i")?,
+        client: Text::new(alloc, "c")?,
+        nonce: Text::new(alloc, "n")?,
+        begun: Moment::new(1000).unwrap(),
+        max_age: None,
+        token: Half::Free,
+        code: Half::Free,
+    })
+}
+
+fn as_good_id_token(alloc: Global, text: &[u8]) -> Result<String, NoMemory> {
+    let rules = rules(alloc)?;
+    let answer = check_id(alloc, &rules, b"secret", text, rules.begun);
+    told_subject(alloc, &answer)
+}
+
+fn as_id_token(alloc: Global, text: &[u8]) -> Result<String, NoMemory> {
+    let answer = read_id(alloc, b"secret", text);
+    told_subject(alloc, &answer)
+}
+
+fn as_logout_token(alloc: Global, text: &[u8]) -> Result<String, NoMemory> {
+    let answer = read_logout(alloc, b"secret", text);
+    logouts::told_read(alloc, &answer)
+}
+
+fn told_request(alloc: Global, answer: &Result<Params, ObjNo>) -> Result<String, NoMemory> {
+    match answer {
+        Ok(_) => told(alloc, "good"),
+        Err(why) => told_refusal(alloc, refusal(why)),
+    }
+}
+
+fn unsealed(
+    alloc: Global,
+    client: &Client,
+    issuer: &Text,
+    text: &[u8],
+) -> Result<String, NoMemory> {
+    let answer = unseal_request(alloc, client, issuer, text);
+    told_request(alloc, &answer)
+}
+
+fn unsealed_by(alloc: Global, client: &Client, text: &[u8]) -> Result<String, NoMemory> {
+    let issuer = Text::new(alloc, "i")?;
+    unsealed(alloc, client, &issuer, text)
+}
+
+fn as_request_object(alloc: Global, text: &[u8]) -> Result<String, NoMemory> {
+    let client = client(alloc)?;
+    unsealed_by(alloc, &client, text)
+}
+
+fn read_text(alloc: Global, reader: &str, text: &[u8]) -> Result<String, NoMemory> {
+    match reader {
+        "a good ID Token" => as_good_id_token(alloc, text),
+        "an ID Token" => as_id_token(alloc, text),
+        "a logout token" => as_logout_token(alloc, text),
+        "a request object" => as_request_object(alloc, text),
+        _ => told(alloc, "no such reader"),
+    }
+}
+
+// `read as|KIND|KIND`: what the second, sealed, is as the first at 1000.
+fn read_as(alloc: Global, reader: &str, kind: &str) -> Result<String, NoMemory> {
+    match sealed_text(alloc, kind)? {
+        Some(text) => read_text(alloc, reader, text.as_str().as_bytes()),
+        None => told(alloc, "no such text"),
+    }
+}

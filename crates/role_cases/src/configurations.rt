@@ -1,0 +1,89 @@
+// The configurations of the table `provider`, by the names that its call `provider` takes.
+
+use sample_rows::{ALICE, ALICES_CLAIMS, BOB, MAIL_CLIENT, NEWS_CLIENT, PROVIDER, SHOP_CLIENT};
+use sso_base::NoMemory;
+use std::alloc::Global;
+
+const SHOP_LINES: &str = "consent = \"ask\"
+logout_uri = \"http://127.0.0.1:8081/logout\"
+";
+
+const NEWS_LINES: &str = "response_types = [\"code\", \"id_token token\"]
+subject = \"pairwise\"
+consent = \"given\"
+";
+
+const MAIL_LINES: &str =
+    "response_types = [\"code\", \"id_token\", \"id_token token\", \"code id_token\", \"code token\", \"code id_token token\"]
+subject = \"pairwise\"
+consent = \"given\"
+logout_uri = \"http://127.0.0.1:8083/logout\"
+logout_session = true
+";
+
+// A client whose redirection URI has a query.
+const WIKI_CLIENT: &str = "[[client]]
+id = \"wiki-client\"
+secret = \"wiki-secret-wiki-secret-wiki-secret\"
+redirect_uris = [\"http://127.0.0.1:8085/cb?x\"]
+response_types = [\"code\", \"id_token token\"]
+consent = \"given\"
+";
+
+// Two users with the password `password`, of whom the first has claims. The first client asks for consent and has a logout URI; the second
+// has all response types, a logout URI, and is told the session; the third has the response type `id_token token` too. The second and
+// the third have pairwise subjects.
+fn shop(alloc: Global) -> Result<String, NoMemory> {
+    let users = [
+        PROVIDER,
+        ALICE,
+        ALICES_CLAIMS,
+        "phone_number = \"+1 555\"\n",
+        BOB,
+    ]
+    .concat(alloc)?;
+    let clients = [
+        SHOP_CLIENT,
+        SHOP_LINES,
+        MAIL_CLIENT,
+        MAIL_LINES,
+        NEWS_CLIENT,
+        NEWS_LINES,
+    ]
+    .concat(alloc)?;
+    Ok([users.as_str(), clients.as_str()].concat(alloc)?)
+}
+
+// The head of a provider with this issuer.
+fn provider_at(alloc: Global, issuer: &str) -> Result<String, NoMemory> {
+    Ok(PROVIDER.replacen(alloc, "http://127.0.0.1:8080", issuer, 1)?)
+}
+
+// One user with the password `password`, and one client. The provider's paths stand below `/op`.
+fn below_a_path(alloc: Global) -> Result<String, NoMemory> {
+    let provider = provider_at(alloc, "http://127.0.0.1:8080/op")?;
+    Ok([
+        provider.as_str(),
+        ALICE,
+        SHOP_CLIENT,
+        "consent = \"given\"\n",
+    ]
+    .concat(alloc)?)
+}
+
+// One user with the password `password`, and two clients, of which the first asks for consent. The provider's paths stand below `/sso`.
+fn https(alloc: Global) -> Result<String, NoMemory> {
+    let provider = provider_at(alloc, "https://op.example/sso/")?;
+    let rows = [ALICE, SHOP_CLIENT, "consent = \"ask\"\n", WIKI_CLIENT].concat(alloc)?;
+    Ok([provider.as_str(), rows.as_str()].concat(alloc)?)
+}
+
+/// The configuration of this name; an empty one where there is none.
+pub fn configuration(alloc: Global, name: &str) -> Result<String, NoMemory> {
+    match name {
+        "shop" => shop(alloc),
+        "below a path" => below_a_path(alloc),
+        "https" => https(alloc),
+        _ => Ok(String::new(alloc)),
+    }
+}

@@ -1,0 +1,35 @@
+// The calls of the table `party`.
+
+use crate::roles::Roles;
+use crate::setup::{ELSEWHERE, ELSEWHERE_AUTHORIZE, LOCAL, configuration};
+use sso_base::NoMemory;
+use std::alloc::Global;
+
+fn begin_provider(alloc: Global, roles: &mut Roles) -> Result<String, NoMemory> {
+    let file = configuration(alloc, LOCAL)?;
+    roles.begin_provider(alloc, file.as_str())
+}
+
+// A relying party at the provider of the cases.
+fn begin_party(alloc: Global, roles: &mut Roles, name: &str) -> Result<String, NoMemory> {
+    let file = configuration(alloc, LOCAL)?;
+    roles.begin_party(alloc, file.as_str(), name, None)
+}
+
+// A relying party at the other provider.
+fn begin_elsewhere(alloc: Global, roles: &mut Roles, name: &str) -> Result<String, NoMemory> {
+    let file = configuration(alloc, ELSEWHERE)?;
+    roles.begin_party(alloc, file.as_str(), name, Some(ELSEWHERE_AUTHORIZE))
+}
+
+/// The answer to a call: `party|NAME`, `party|NAME|elsewhere` and `provider` begin a role, `provider` before a call asks the provider,
+/// and every other call the relying party.
+pub fn answer(alloc: Global, roles: &mut Roles, fields: &[&str]) -> Result<String, NoMemory> {
+    match fields {
+        ["party", name] => begin_party(alloc, roles, name),
+        ["party", name, "elsewhere"] => begin_elsewhere(alloc, roles, name),
+        ["provider"] => begin_provider(alloc, roles),
+        ["provider", call @ ..] => roles.ask_provider(alloc, call),
+        _ => roles.ask_party(alloc, fields),
+    }
+}

@@ -1,0 +1,19 @@
+// The calls of the table `provider`.
+
+use crate::configurations::configuration;
+use crate::roles::Roles;
+use sso_base::NoMemory;
+use std::alloc::Global;
+
+fn begin(alloc: Global, roles: &mut Roles, name: &str) -> Result<String, NoMemory> {
+    let file = configuration(alloc, name)?;
+    roles.begin_provider(alloc, file.as_str())
+}
+
+/// The answer to a call: `provider|NAME` begins a provider, and every other asks it.
+pub fn answer(alloc: Global, roles: &mut Roles, fields: &[&str]) -> Result<String, NoMemory> {
+    match fields {
+        ["provider", name] => begin(alloc, roles, name),
+        _ => roles.ask_provider(alloc, fields),
+    }
+}
