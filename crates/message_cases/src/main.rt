@@ -53,7 +53,7 @@ use case_lines::{Cases, print_cases, told};
 use client_registry::RegNo;
 use sso_base::NoMemory;
 use std::alloc::Global;
-use std::io;
+use std::{io, mem};
 
 // One of the four tables.
 #[derive(Drop)]
@@ -84,13 +84,25 @@ impl Cases for Table {
     }
 }
 
+fn registry_table(alloc: Global) -> Result<Option<Table>, RegNo> {
+    Ok(Some(Table::Registries(RegistryCases::new(alloc)?)))
+}
+
+fn request_table(alloc: Global) -> Result<Option<Table>, RegNo> {
+    Ok(Some(Table::Requests(RequestCases::new(alloc)?)))
+}
+
+fn answer_table(alloc: Global) -> Result<Option<Table>, RegNo> {
+    Ok(Some(Table::Answers(AnswerCases::new(alloc)?)))
+}
+
 // The table of this name, where there is one.
 fn table_of(alloc: Global, name: &str) -> Result<Option<Table>, RegNo> {
     match name {
         "tokens" => Ok(Some(Table::Tokens(TokenCases {}))),
-        "registries" => Ok(Some(Table::Registries(RegistryCases::new(alloc)?))),
-        "requests" => Ok(Some(Table::Requests(RequestCases::new(alloc)?))),
-        "answers" => Ok(Some(Table::Answers(AnswerCases::new(alloc)?))),
+        "registries" => registry_table(alloc),
+        "requests" => request_table(alloc),
+        "answers" => answer_table(alloc),
         _ => Ok(None),
     }
 }
@@ -104,20 +116,21 @@ struct MessageCases {
 impl MessageCases {
     fn begin(&mut self, alloc: Global, name: &str) -> Result<String, NoMemory> {
         match table_of(alloc, name) {
-            Ok(table) => {
-                self.table = table;
-                told(alloc, self.begun())
-            }
+            Ok(table) => told(alloc, self.set(table)),
             Err(RegNo::NoMemory) => Err(NoMemory),
             Err(_) => told(alloc, "no registry"),
         }
     }
 
-    fn begun(&self) -> &'static str {
-        match self.table {
-            Some(_) => "begun",
-            None => "no such table",
-        }
+    fn set(&mut self, table: Option<Table>) -> &'static str {
+        let told = if table.is_some() {
+            "begun"
+        } else {
+            "no such table"
+        };
+        // (dropped by a call, and not where it stands: that proof is long)
+        drop(mem::replace(&mut self.table, table));
+        told
     }
 
     fn ask(&mut self, alloc: Global, fields: &[&str]) -> Result<String, NoMemory> {
@@ -142,5 +155,9 @@ impl Cases for MessageCases {
 }
 
 fn main(rt: HostRuntime) -> io::Result<()> {
-    print_cases(&rt, &mut MessageCases { table: None })
+    let mut cases = MessageCases { table: None };
+    let printed = print_cases(&rt, &mut cases);
+    // (the same)
+    drop(cases);
+    printed
 }

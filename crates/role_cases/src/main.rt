@@ -29,6 +29,7 @@
 //! | `setup` | the configuration of its relying parties and their provider |
 //! | `sealed` | its ID Tokens and logout tokens |
 //! | `roles` | the roles that are asked, and their run |
+//! | `telling` | what is told of the steps of a role |
 //! | `provider` | `Provider`: a provider that is asked |
 //! | `party` | `RelyingParty`: a relying party that is asked |
 //!
@@ -43,13 +44,14 @@ mod provider_table;
 mod roles;
 mod sealed;
 mod setup;
+mod telling;
 mod texts;
 
 use crate::roles::Roles;
 use case_lines::{Cases, print_cases, told};
 use sso_base::{NoMemory, Text};
 use std::alloc::Global;
-use std::io;
+use std::{io, mem};
 
 #[derive(Clone, Copy)]
 enum Table {
@@ -73,9 +75,17 @@ fn table_named(name: &str) -> Option<Table> {
 }
 
 impl RoleCases {
+    fn new(alloc: Global) -> RoleCases {
+        RoleCases {
+            table: None,
+            roles: Roles::new(alloc),
+        }
+    }
+
     fn begin(&mut self, alloc: Global, name: &str) -> Result<String, NoMemory> {
         self.table = table_named(name);
-        self.roles = Roles::new(alloc);
+        // (dropped by a call, and not where they stand: that proof is long)
+        drop(mem::replace(&mut self.roles, Roles::new(alloc)));
         match self.table {
             Some(_) => told(alloc, "begun"),
             None => told(alloc, "no such table"),
@@ -120,9 +130,9 @@ impl Cases for RoleCases {
 }
 
 fn main(rt: HostRuntime) -> io::Result<()> {
-    let mut cases = RoleCases {
-        table: None,
-        roles: Roles::new(rt.alloc()),
-    };
-    print_cases(&rt, &mut cases)
+    let mut cases = RoleCases::new(rt.alloc());
+    let printed = print_cases(&rt, &mut cases);
+    // (dropped by a call, and not where it stands: that proof is long)
+    drop(cases);
+    printed
 }

@@ -1,7 +1,8 @@
 // A relying party that is asked.
 
-ghost use Rattle.std.specs.Prelude.{◌≡◌, IfOk};
+ghost use Rattle.std.specs.Prelude.{◌≡◌, ◌<◌, length, IfOk};
 
+use crate::telling::{Telling, step_told};
 use case_lines::{Run, answered, field, moment, or_else, push_part, request, told, word_of};
 use client_registry::{Provider, RegNo, Registry, read_registry};
 use rp_core::RpCore;
@@ -53,6 +54,33 @@ fn provider_of(
     })
 }
 
+fn core_of(
+    alloc: Global,
+    registry: &Registry,
+    party: u32,
+    authorize: Option<&str>,
+) -> Result<RpCore, NoMemory>
+    requires { party < length registry.now.parties }
+{
+    let provider = provider_of(alloc, registry, authorize)?;
+    RpCore::new(alloc, registry.copy(alloc)?, party, provider)
+}
+
+fn begun(
+    registry: Registry,
+    core: Result<RpCore, NoMemory>,
+    party: u32,
+) -> Result<Option<RelyingParty>, NoMemory> {
+    match core {
+        Ok(core) => Ok(Some(RelyingParty {
+            registry,
+            core,
+            party,
+        })),
+        Err(NoMemory) => Err(NoMemory),
+    }
+}
+
 // The relying party of this number, where there is one.
 fn party_of(
     alloc: Global,
@@ -63,13 +91,9 @@ fn party_of(
     if party >= registry.parties() {
         return Ok(None);
     }
-    let provider = provider_of(alloc, registry, authorize)?;
-    let core = RpCore::new(alloc, registry.copy(alloc)?, party, provider)?;
-    Ok(Some(RelyingParty {
-        registry: registry.copy(alloc)?,
-        core,
-        party,
-    }))
+    let registry = registry.copy(alloc)?;
+    let core = core_of(alloc, &registry, party, authorize);
+    begun(registry, core, party)
 }
 
 fn party_read(
@@ -85,6 +109,26 @@ fn party_read(
         },
         Err(RegNo::NoMemory) => Err(NoMemory),
         Err(_) => Ok(None),
+    }
+}
+
+impl Telling for RelyingParty {
+    type Reply = RpReply;
+
+    fn tell(
+        &self,
+        alloc: Global,
+        run: &mut Run,
+        call: &str,
+        reply: &RpReply,
+    ) -> Result<String, NoMemory> {
+        if self.party >= self.registry.parties() {
+            return told(alloc, "no party");
+        }
+        let messages = messages_in(alloc, reply)?;
+        run.keep(rp_http(alloc, &self.registry, self.party, reply)?, messages);
+        let line = rp_line(alloc, reply)?;
+        run.told(alloc, call, line.as_str())
     }
 }
 
@@ -166,45 +210,7 @@ impl RelyingParty {
     ) -> Result<String, NoMemory> {
         let asked = self.asked(alloc, fields)?;
         let answer = self.core.step(alloc, at, run.words(), asked);
-        self.told(alloc, run, call, &answer)
-    }
-
-    // What is told of a step. Where it took place, what is told must not ask for it again: so it is told once more where memory
-    // ran out.
-    fn told(
-        &self,
-        alloc: Global,
-        run: &mut Run,
-        call: &str,
-        answer: &Result<RpReply, CoreNo>,
-    ) -> Result<String, NoMemory> {
-        match answer {
-            Ok(reply) => {
-                run.count();
-                match self.reply_told(alloc, run, call, reply) {
-                    Ok(told) => Ok(told),
-                    Err(NoMemory) => self.reply_told(alloc, run, call, reply),
-                }
-            }
-            Err(CoreNo::JournalFull(weight)) => Ok(format!(in alloc; "JournalFull {weight}")?),
-            Err(CoreNo::NoMemory) => Err(NoMemory),
-        }
-    }
-
-    fn reply_told(
-        &self,
-        alloc: Global,
-        run: &mut Run,
-        call: &str,
-        reply: &RpReply,
-    ) -> Result<String, NoMemory> {
-        if self.party >= self.registry.parties() {
-            return told(alloc, "no party");
-        }
-        let messages = messages_in(alloc, reply)?;
-        run.keep(rp_http(alloc, &self.registry, self.party, reply)?, messages);
-        let line = rp_line(alloc, reply)?;
-        run.told(alloc, call, line.as_str())
+        step_told(alloc, run, call, self, &answer)
     }
 }
 

@@ -1,5 +1,6 @@
 // A provider that is asked.
 
+use crate::telling::{Telling, step_told};
 use case_lines::{Run, field, moment, number, request, told, told_bytes, word_of, words_of_place};
 use client_registry::{RegNo, Registry, read_registry};
 use jws_compact::{JwsNo, Unsealed, unseal};
@@ -28,12 +29,17 @@ fn core_of(alloc: Global, registry: &Registry) -> Result<OpCore, NoMemory> {
     OpCore::new(alloc, registry.copy(alloc)?)
 }
 
+fn begun(registry: Registry, core: Result<OpCore, NoMemory>) -> Result<Option<Provider>, NoMemory> {
+    match core {
+        Ok(core) => Ok(Some(Provider { registry, core })),
+        Err(NoMemory) => Err(NoMemory),
+    }
+}
+
 fn provider_of(alloc: Global, registry: &Registry) -> Result<Option<Provider>, NoMemory> {
-    let core = core_of(alloc, registry)?;
-    Ok(Some(Provider {
-        registry: registry.copy(alloc)?,
-        core,
-    }))
+    let registry = registry.copy(alloc)?;
+    let core = core_of(alloc, &registry);
+    begun(registry, core)
 }
 
 fn provider_read(
@@ -44,6 +50,23 @@ fn provider_read(
         Ok(registry) => provider_of(alloc, registry),
         Err(RegNo::NoMemory) => Err(NoMemory),
         Err(_) => Ok(None),
+    }
+}
+
+impl Telling for Provider {
+    type Reply = OpReply;
+
+    fn tell(
+        &self,
+        alloc: Global,
+        run: &mut Run,
+        call: &str,
+        reply: &OpReply,
+    ) -> Result<String, NoMemory> {
+        let messages = messages_in(alloc, reply)?;
+        run.keep(op_http(alloc, &self.registry, reply)?, messages);
+        let line = op_line(alloc, reply)?;
+        run.told(alloc, call, line.as_str())
     }
 }
 
@@ -145,53 +168,15 @@ impl Provider {
         asked: OpAsk,
     ) -> Result<String, NoMemory> {
         let answer = self.core.step(alloc, at, run.words(), asked);
-        self.told(alloc, run, call, &answer)
-    }
-
-    // What is told of a step. Where it took place, what is told must not ask for it again: so it is told once more where memory
-    // ran out.
-    fn told(
-        &self,
-        alloc: Global,
-        run: &mut Run,
-        call: &str,
-        answer: &Result<OpReply, CoreNo>,
-    ) -> Result<String, NoMemory> {
-        match answer {
-            Ok(reply) => {
-                run.count();
-                match self.reply_told(alloc, run, call, reply) {
-                    Ok(told) => Ok(told),
-                    Err(NoMemory) => self.reply_told(alloc, run, call, reply),
-                }
-            }
-            Err(CoreNo::JournalFull(weight)) => Ok(format!(in alloc; "JournalFull {weight}")?),
-            Err(CoreNo::NoMemory) => Err(NoMemory),
-        }
-    }
-
-    fn reply_told(
-        &self,
-        alloc: Global,
-        run: &mut Run,
-        call: &str,
-        reply: &OpReply,
-    ) -> Result<String, NoMemory> {
-        let messages = messages_in(alloc, reply)?;
-        run.keep(op_http(alloc, &self.registry, reply)?, messages);
-        let line = op_line(alloc, reply)?;
-        run.told(alloc, call, line.as_str())
+        step_told(alloc, run, call, self, &answer)
     }
 
     // ---- many asks
 
     // Whether an ask for what is not here finds nothing; none where memory ran out.
     fn try_nothing(&mut self, alloc: Global, at: Moment) -> Option<bool> {
-        match self.core.step(alloc, at, words_of_place(1), OpAsk::NotHere) {
-            Ok(OpReply::NotHere) => Some(true),
-            Err(CoreNo::NoMemory) => None,
-            _ => Some(false),
-        }
+        let answer = self.core.step(alloc, at, words_of_place(1), OpAsk::NotHere);
+        nothing_found(&answer)
     }
 
     // The same, tried once more where memory ran out.
@@ -225,10 +210,7 @@ impl Provider {
     ) -> Result<bool, NoMemory> {
         let asked = self.asked(alloc, fields)?;
         let answer = self.core.step(alloc, at, run.words(), asked);
-        if answer.is_ok() {
-            run.count();
-        }
-        tokens_given(&answer)
+        tokens_given(run, &answer)
     }
 
     // A login by code: an authorization request, the login form and a token request. Whether it ends with tokens.
@@ -327,11 +309,22 @@ impl Provider {
     }
 }
 
-fn tokens_given(answer: &Result<OpReply, CoreNo>) -> Result<bool, NoMemory> {
+fn nothing_found(answer: &Result<OpReply, CoreNo>) -> Option<bool> {
     match answer {
-        Ok(OpReply::Tokens { .. }) => Ok(true),
+        Ok(OpReply::NotHere) => Some(true),
+        Err(CoreNo::NoMemory) => None,
+        _ => Some(false),
+    }
+}
+
+fn tokens_given(run: &mut Run, answer: &Result<OpReply, CoreNo>) -> Result<bool, NoMemory> {
+    match answer {
+        Ok(reply) => {
+            run.count();
+            Ok(matches!(reply, OpReply::Tokens { .. }))
+        }
         Err(CoreNo::NoMemory) => Err(NoMemory),
-        _ => Ok(false),
+        Err(CoreNo::JournalFull(_)) => Ok(false),
     }
 }
 

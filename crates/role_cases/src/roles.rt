@@ -5,6 +5,7 @@ use crate::provider::Provider;
 use case_lines::{Run, told};
 use sso_base::NoMemory;
 use std::alloc::Global;
+use std::mem;
 
 /// The provider and the relying party that are asked, and their run.
 #[derive(Drop)]
@@ -24,14 +25,27 @@ impl Roles {
         }
     }
 
+    // Whether this provider is one. Its run begins. (The one before is dropped by a call, and not where it stands: that proof is long.)
+    fn set_provider(&mut self, alloc: Global, provider: Option<Provider>) -> bool {
+        let begins = provider.is_some();
+        drop(mem::replace(&mut self.provider, provider));
+        self.run = Run::new(alloc);
+        begins
+    }
+
+    // The same for this relying party.
+    fn set_party(&mut self, alloc: Global, party: Option<RelyingParty>) -> bool {
+        let begins = party.is_some();
+        drop(mem::replace(&mut self.party, party));
+        self.run = Run::new(alloc);
+        begins
+    }
+
     /// A provider of this configuration begins, and a run.
     pub fn begin_provider(&mut self, alloc: Global, file: &str) -> Result<String, NoMemory> {
-        self.provider = Provider::begin(alloc, file)?;
-        self.run = Run::new(alloc);
-        match self.provider {
-            Some(_) => told(alloc, "begun"),
-            None => told(alloc, "no such provider"),
-        }
+        let provider = Provider::begin(alloc, file)?;
+        let begins = self.set_provider(alloc, provider);
+        told(alloc, if begins { "begun" } else { "no such provider" })
     }
 
     /// The relying party of this name begins, as `RelyingParty::begin` says, and a run.
@@ -42,12 +56,16 @@ impl Roles {
         name: &str,
         authorize: Option<&str>,
     ) -> Result<String, NoMemory> {
-        self.party = RelyingParty::begin(alloc, file, name, authorize)?;
-        self.run = Run::new(alloc);
-        match self.party {
-            Some(_) => told(alloc, "nobody came"),
-            None => told(alloc, "no such party"),
-        }
+        let party = RelyingParty::begin(alloc, file, name, authorize)?;
+        let begins = self.set_party(alloc, party);
+        told(
+            alloc,
+            if begins {
+                "nobody came"
+            } else {
+                "no such party"
+            },
+        )
     }
 
     /// The answer of the provider to a call.

@@ -11,7 +11,7 @@
 // The issuer of either is that of the cases where none is told.
 
 use crate::setup::LOCAL;
-use case_lines::{told, word};
+use case_lines::{field, told, word};
 use id_token::half_hash;
 use jws_compact::{Typ, seal};
 use sso_base::{NoMemory, Text};
@@ -65,36 +65,25 @@ fn push_claim(alloc: Global, out: &mut String, name: &str, value: &str) -> Resul
     Ok(out.push_str(claim.as_str())?)
 }
 
-// The same, with the value that is told among these members where one is.
-fn push_told(
-    alloc: Global,
-    out: &mut String,
-    members: &[&str],
-    name: &str,
-    value: &str,
-) -> Result<(), NoMemory> {
-    push_claim(alloc, out, name, among(members, name).unwrap_or(value))
-}
-
-// Adds when the token was issued, and when it expires.
-fn push_life(
-    alloc: Global,
-    out: &mut String,
-    members: &[&str],
-    issued: u64,
-    life: u64,
-) -> Result<(), NoMemory> {
-    let until = issued.saturating_add(life).to_string(alloc)?;
-    push_told(alloc, out, members, "exp", until.as_str())?;
-    let issued = issued.to_string(alloc)?;
-    push_told(alloc, out, members, "iat", issued.as_str())
-}
-
 // Adds the issuer, and ends the claims.
 fn push_issuer(alloc: Global, out: &mut String, members: &[&str]) -> Result<(), NoMemory> {
     let issuer = among(members, "iss").unwrap_or(LOCAL);
     let claim = format!(in alloc; r#""iss":"{issuer}"}}"#)?;
     Ok(out.push_str(claim.as_str())?)
+}
+
+// The claims of these names, each with the value that is told among the members where one is, and the issuer.
+fn claims_told(
+    alloc: Global,
+    members: &[&str],
+    claims: &[(&str, &str)],
+) -> Result<String, NoMemory> {
+    let mut out = told(alloc, "{")?;
+    for (name, value) in claims {
+        push_claim(alloc, &mut out, name, among(members, name).unwrap_or(value))?;
+    }
+    push_issuer(alloc, &mut out, members)?;
+    Ok(out)
 }
 
 // The claims under the secret of the client of the party; none where they are too long.
@@ -109,78 +98,56 @@ fn sealed(alloc: Global, party: &str, typ: Typ, claims: &str) -> Result<Option<T
 
 // ---- ID Tokens
 
-// Adds the half hash of a value.
-fn push_hash(alloc: Global, out: &mut String, name: &str, value: &str) -> Result<(), NoMemory> {
+// The half hash of a value, as a text; `-` where there is no value.
+fn half_text<'a>(value: &str, half: &'a [u8; 22]) -> &'a str {
     if value == "-" {
-        return Ok(());
+        return "-";
     }
-    let half = half_hash(value.as_bytes());
-    let text = std::str::from_utf8(&half).unwrap_or("no text");
-    push_claim(alloc, out, name, text)
+    std::str::from_utf8(half).unwrap_or("no text")
 }
 
-fn push_nonce(alloc: Global, out: &mut String, nonce: &str) -> Result<(), NoMemory> {
-    match nonce.parse::<u32>() {
-        Ok(number) => push_claim(alloc, out, "nonce", word(number).to_text(alloc)?.as_str()),
-        Err(_) => Ok(()),
+// The text of the word of this number; `-` where it is none.
+fn nonce_text(alloc: Global, number: &str) -> Result<Text, NoMemory> {
+    match number.parse::<u32>() {
+        Ok(number) => word(number).to_text(alloc),
+        Err(_) => Text::new(alloc, "-"),
     }
 }
 
 fn id_claims(
     alloc: Global,
-    parts: &[&str; 4],
+    parts: &[&str],
     members: &[&str],
     issued: u64,
 ) -> Result<String, NoMemory> {
-    let [audience, subject, nonce, access] = parts;
-    let code = among(members, "code").unwrap_or("-");
-    let mut out = told(alloc, "{")?;
-    push_hash(alloc, &mut out, "at_hash", access)?;
-    push_claim(alloc, &mut out, "aud", audience)?;
-    push_hash(alloc, &mut out, "c_hash", code)?;
-    push_life(alloc, &mut out, members, issued, 300)?;
-    push_nonce(alloc, &mut out, nonce)?;
-    push_told(alloc, &mut out, members, "sid", "-")?;
-    push_claim(alloc, &mut out, "sub", subject)?;
-    push_issuer(alloc, &mut out, members)?;
-    Ok(out)
-}
-
-fn id_sealed(
-    alloc: Global,
-    party: &str,
-    parts: &[&str; 4],
-    members: &[&str],
-    issued: &str,
-) -> Result<Option<Text>, NoMemory> {
-    let Ok(issued) = issued.parse::<u64>() else {
-        return Ok(None);
-    };
-    let claims = id_claims(alloc, parts, members, issued)?;
-    sealed(alloc, party, Typ::Jwt, claims.as_str())
+    let (audience, subject) = (told(alloc, field(parts, 1))?, told(alloc, field(parts, 2))?);
+    let (access, code) = (field(parts, 5), among(members, "code").unwrap_or("-"));
+    let (access_half, code_half) = (half_hash(access.as_bytes()), half_hash(code.as_bytes()));
+    let nonce = nonce_text(alloc, field(parts, 3))?;
+    let until = issued.saturating_add(300).to_string(alloc)?;
+    let issued = issued.to_string(alloc)?;
+    let claims = [
+        ("at_hash", half_text(access, &access_half)),
+        ("aud", audience.as_str()),
+        ("c_hash", half_text(code, &code_half)),
+        ("exp", until.as_str()),
+        ("iat", issued.as_str()),
+        ("nonce", nonce.as_str()),
+        ("sid", "-"),
+        ("sub", subject.as_str()),
+    ];
+    claims_told(alloc, members, &claims)
 }
 
 fn id_token(alloc: Global, parts: &[&str]) -> Result<Option<Text>, NoMemory> {
-    match parts {
-        [party, audience, subject, nonce, issued, access, more @ ..] => {
-            let parts = [*audience, *subject, *nonce, *access];
-            id_sealed(alloc, party, &parts, more, issued)
-        }
-        _ => Ok(None),
-    }
+    let (Ok(issued), Some(members)) = (field(parts, 4).parse::<u64>(), parts.get(6..)) else {
+        return Ok(None);
+    };
+    let claims = id_claims(alloc, parts, members, issued)?;
+    sealed(alloc, field(parts, 0), Typ::Jwt, claims.as_str())
 }
 
 // ---- logout tokens
-
-fn push_audience(
-    alloc: Global,
-    out: &mut String,
-    members: &[&str],
-    party: &str,
-) -> Result<(), NoMemory> {
-    let client = format!(in alloc; "{party}-client")?;
-    push_told(alloc, out, members, "aud", client.as_str())
-}
 
 fn logout_claims(
     alloc: Global,
@@ -188,16 +155,20 @@ fn logout_claims(
     members: &[&str],
     issued: u64,
 ) -> Result<String, NoMemory> {
-    let mut out = told(alloc, "{")?;
-    push_audience(alloc, &mut out, members, party)?;
-    push_told(alloc, &mut out, members, "events", EVENTS)?;
-    push_life(alloc, &mut out, members, issued, 120)?;
-    push_told(alloc, &mut out, members, "jti", "-")?;
-    push_told(alloc, &mut out, members, "nonce", "-")?;
-    push_told(alloc, &mut out, members, "sid", "-")?;
-    push_told(alloc, &mut out, members, "sub", "-")?;
-    push_issuer(alloc, &mut out, members)?;
-    Ok(out)
+    let client = format!(in alloc; "{party}-client")?;
+    let until = issued.saturating_add(120).to_string(alloc)?;
+    let issued = issued.to_string(alloc)?;
+    let claims = [
+        ("aud", client.as_str()),
+        ("events", EVENTS),
+        ("exp", until.as_str()),
+        ("iat", issued.as_str()),
+        ("jti", "-"),
+        ("nonce", "-"),
+        ("sid", "-"),
+        ("sub", "-"),
+    ];
+    claims_told(alloc, members, &claims)
 }
 
 fn logout_sealed(

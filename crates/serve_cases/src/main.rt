@@ -12,18 +12,22 @@
 //! | `ends|DESK` | how each connection of one desk is served, by one worker |
 //! | `work|DESK` | how one worker ends at one desk |
 //! | `serve|DESK|..` | what the server tells, and each desk |
+//! | `calls|MORE|..` | what a store of one pass answers to these asks, each `REPLY at PLACE`, `full at WEIGHT` or `no memory`, and its places at the end |
+//! | `two threads` | what came of 2,000 calls of a store by two threads at the same time |
 //! | `sso|SHELF|SINK|WORDS|DESK|..` | the status of the words, the text, and each desk |
 //! | `sso|SHELF|SINK|WORDS|two logins` or `two keys` | the same for two desks that wait for each other |
 //!
-//! `ends`, `work` and `serve` are over a role of their own, whose core is full after one ask. The provider and the parties are served by
-//! the top call. SHELF and SINK are the numbers of the calls that fail, and 0 is none.
+//! `ends`, `work` and `serve` are over a role of their own, whose core is full after one ask, and `calls` and `two threads` over the core
+//! alone, which replies with the number of the entries before. The provider and the parties are served by the top call. SHELF and SINK are
+//! the numbers of the calls that fail, and 0 is none.
 //!
 //! | Module | What it has |
 //! |---|---|
 //! | `sources` | sources that give few bytes at a call |
 //! | `desks` | desks in memory, read of a field, and what is told of them |
-//! | `tick`, `tally`, `tally_role` | the role whose core is full after one ask |
-//! | `passes`, `workers` | the calls `ends` and `work`: one worker over a store of its own |
+//! | `tick`, `tally`, `tally_role` | the core that counts its asks, and the role over it |
+//! | `passes`, `one_pass`, `two_passes` | the calls `calls` and `two threads`: a store over that core |
+//! | `workers` | the calls `ends` and `work`: one worker over a store of its own |
 //! | `servers` | the call `serve` |
 //! | `files`, `top` | the calls `file`, `lines` and `sso` |
 //! | `meeting`, `login_door`, `two` | desks that wait for each other |
@@ -33,6 +37,7 @@ mod desks;
 mod files;
 mod login_door;
 mod meeting;
+mod one_pass;
 mod passes;
 mod servers;
 mod sources;
@@ -41,6 +46,7 @@ mod tally_role;
 mod tick;
 mod top;
 mod two;
+mod two_passes;
 mod workers;
 
 use case_lines::{Cases, print_lines, told, written_out};
@@ -100,6 +106,8 @@ fn answer<R: Threads + Wait + Sync>(
         }
         [call @ ("ends" | "work"), desk] => workers::answer(rt, alloc, call, desk),
         ["serve", desks @ ..] => servers::answer(rt, alloc, desks),
+        ["calls", asks @ ..] => one_pass::answer(rt, alloc, asks),
+        ["two threads"] => two_passes::answer(rt, alloc),
         fields => cases.answer(alloc, fields),
     }
 }

@@ -73,6 +73,9 @@ impl Core for Tally {
     ) -> Result<u64, CoreNo> {
         let _pairs = self.journal.pairs();
         let weight = self.journal.admit(&ask)?;
+        if ask.more == 0 {
+            return Err(CoreNo::NoMemory);
+        }
         self.journal.reserve()?;
         let reply = self.journal.count();
         let entry = self.journal.entry(at, fresh, ask);

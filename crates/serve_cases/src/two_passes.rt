@@ -1,40 +1,35 @@
-// Two threads that call at the same time.
+// Two threads that call a store at the same time.
 
-ghost use Rattle.std.specs.Prelude.{◌≡◌, [], ◌∷◌, map, length, MatchBool};
+ghost use Rattle.std.specs.Prelude.{◌≡◌, ◌≤◌, map, length, MatchBool};
 ghost use Rattle.std.specs.List.{All};
 ghost use Rattle.turn_store.specs.Passes.{IsPassOf, number_of};
 ghost use Rattle.turn_store.specs.Places.{numbers_from};
-ghost use Rattle.turn_cases.specs.Tally.{no_setup, IsLight};
+ghost use Rattle.serve_cases.specs.Tally.{no_setup, IsLight};
 
 use crate::passes::{put_pass, take_pass};
 use crate::tally::Tally;
 use crate::tick::Tick;
-use sso_base::{Core, Moment, Word};
+use case_lines::words_of_place;
+use sso_base::{Core, Moment, NoMemory};
 use std::alloc::Global;
-use std::io;
 use std::sync::Wait;
 use std::thread::{Threads, join};
-use turn_store::{Calls, Pass, Turn};
+use turn_store::{Closed, Pass, Turn};
 
-// Calls so often with one ask, and gives the pass back.
+// Calls a thousand times with one ask, and gives the pass back.
 fn call_often<R: Wait>(
     rt: &R,
     alloc: Global,
     turn: &Turn<Tally>,
     mut pass: Pass<Tally>,
-    count: u32,
 ) -> Pass<Tally>
     requires { IsPassOf no_setup IsLight turn.now pass }
     ensures pass { IsPassOf no_setup IsLight turn.now result }
     ensures number { number_of result ≡ number_of pass }
 {
-    let Some(at) = Moment::new(5) else {
-        return pass;
-    };
-    for _ in 0..count {
-        let word = Word::new([7; 32]);
-        let ask = Tick { more: 1 };
-        let _ = turn.call(rt, alloc, &mut pass, at, [word, word, word, word], ask);
+    let (at, words) = (Moment::new(1000).unwrap(), words_of_place(1));
+    for _ in 0..1000u32 {
+        let _ = turn.call(rt, alloc, &mut pass, at, words, Tick { more: 1 });
     }
     pass
 }
@@ -45,7 +40,6 @@ fn call_in_two<R: Threads + Wait + Sync>(
     alloc: Global,
     turn: &Turn<Tally>,
     passes: &mut Vec<Pass<Tally>>,
-    count: u32,
 ) -> bool
     requires passes { All (IsPassOf no_setup IsLight turn.now) passes.old.items }
     requires order { map number_of passes.old.items ≡ numbers_from 0 2 }
@@ -59,11 +53,11 @@ fn call_in_two<R: Threads + Wait + Sync>(
         move || -> Pass<Tally>
             requires { IsPassOf no_setup IsLight turn.now one }
             ensures { IsPassOf no_setup IsLight turn.entry.now result × (number_of result ≡ number_of one) }
-        { call_often(rt, alloc, turn, one, count) },
+        { call_often(rt, alloc, turn, one) },
         move || -> Pass<Tally>
             requires { IsPassOf no_setup IsLight turn.now two }
             ensures { IsPassOf no_setup IsLight turn.entry.now result × (number_of result ≡ number_of two) }
-        { call_often(rt, alloc, turn, two, count) },
+        { call_often(rt, alloc, turn, two) },
     );
     if put_pass(turn, passes, one) {
         put_pass(turn, passes, two)
@@ -94,26 +88,25 @@ fn is_each_once(one: &[u64], two: &[u64]) -> bool {
     one.len() + two.len() == 2000 && mark(&mut seen, one) && mark(&mut seen, two) && !seen[0]
 }
 
-/// Prints how often two threads called that each had a pass, and whether each place was given once.
-pub fn print_places<R: Threads + Wait + Sync + Print + AllocGlobal>(rt: &R) -> io::Result<()> {
-    let alloc = rt.alloc();
-    let Ok((turn, mut passes)) = Turn::new(alloc, Tally::new(alloc), 2) else {
-        return println!(rt; "two passes => no memory");
+// How many entries the history has, how many each thread made, and whether each place was given once.
+fn told_closed(alloc: Global, closed: &Closed<Tally>) -> Result<String, NoMemory>
+    requires { length closed.now.calls ≡ 2 }
+{
+    let (count, one, two) = (closed.core.count(), closed.calls.of(0), closed.calls.of(1));
+    let each = if is_each_once(one, two) {
+        "each place once"
+    } else {
+        "not each place once"
     };
-    if !call_in_two(rt, alloc, &turn, &mut passes, 1000) {
-        return println!(rt; "two passes => no memory");
+    Ok(format!(in alloc; "{count} entries, {} and {}, {each}", one.len(), two.len())?)
+}
+
+/// `two threads`: what came of 2,000 calls by two threads at the same time, each with a pass of its own.
+pub fn answer<R: Threads + Wait + Sync>(rt: &R, alloc: Global) -> Result<String, NoMemory> {
+    let (turn, mut passes) = Turn::new(alloc, Tally::new(alloc), 2)?;
+    if !call_in_two(rt, alloc, &turn, &mut passes) {
+        return Err(NoMemory);
     }
     let closed = turn.close(passes);
-    let one = closed.calls.of(0);
-    let two = closed.calls.of(1);
-    println!(rt;
-        "close => {} entries, {} of one thread, {} of the other",
-        closed.core.count(),
-        one.len(),
-        two.len()
-    )?;
-    println!(rt;
-        "each place from 1 to 2000 once => {}",
-        is_each_once(one, two)
-    )
+    told_closed(alloc, &closed)
 }

@@ -1,7 +1,7 @@
 use Rattle.std.proofs.Common.{◌≡◌}
 use Rattle.turn_store.specs.Passes.{IsPassOf, number_of}
-use Rattle.turn_cases.specs.Tally.{no_setup, IsLight}
-use Rattle.turn_cases.proofs.two_passes.call_often.Given as goal
+use Rattle.serve_cases.specs.Tally.{no_setup, IsLight}
+use Rattle.serve_cases.proofs.two_passes.call_often.Given as goal
 
 abbrev pub invariant-loop : goal.invariant-loop
 invariant-loop g l = record {

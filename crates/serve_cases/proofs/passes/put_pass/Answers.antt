@@ -1,7 +1,7 @@
 use Rattle.turn_store.specs.Passes.{IsPassOf}
 use Rattle.turn_store.proofs.Moving.{all_pushed, numbers_pushed}
-use Rattle.turn_cases.proofs.Told.{told_as}
-use Rattle.turn_cases.proofs.passes.put_pass.Goals as goal
+use Rattle.serve_cases.proofs.Told.{told_as}
+use Rattle.serve_cases.proofs.passes.put_pass.Goals as goal
 
 pub returns-clause-all : goal.returns-clause-all
 returns-clause-all g c =
