@@ -40,14 +40,33 @@ fn client_number(registry: &Registry, params: &Params) -> Option<u32>
     }
 }
 
-// The request object among these parameters, where their client is known.
-fn object_among(registry: &Registry, params: Params) -> Option<TokenText>
-    ensures known { IfSome result (λ (t : TokenOf). t.client < length registry.now.clients) }
-    ensures token { tokens_in result ≡ spec.object_in registry.now (Ok params) }
+// A copy of the text, where it is there.
+fn copied(alloc: Global, client: u32, text: &Option<Text>) -> Result<Option<TokenText>, NoMemory>
+    ensures client { IfOk result (λ o. IfSome o (λ (t : TokenOf). t.client ≡ client)) }
+    ensures token { IfOk result (λ o. tokens_in o ≡ token_if (Some client) text.now) }
 {
-    let client = client_number(registry, &params)?;
-    let text = params.request?;
-    Some(TokenText { client, text })
+    match text {
+        Some(text) => Ok(Some(TokenText {
+            client,
+            text: text.copy(alloc)?,
+        })),
+        None => Ok(None),
+    }
+}
+
+// The request object among these parameters, where their client is known.
+fn object_among(
+    alloc: Global,
+    registry: &Registry,
+    params: &Params,
+) -> Result<Option<TokenText>, NoMemory>
+    ensures known { IfOk result (λ o. IfSome o (λ (t : TokenOf). t.client < length registry.now.clients)) }
+    ensures token { IfOk result (λ o. tokens_in o ≡ spec.object_in registry.now (Ok params.now)) }
+{
+    match client_number(registry, params) {
+        Some(client) => copied(alloc, client, &params.request),
+        None => Ok(None),
+    }
 }
 
 // The request object of an authorization request.
@@ -55,8 +74,9 @@ fn object_in(alloc: Global, registry: &Registry, form: &[u8]) -> Result<Option<T
     ensures known { IfOk result (λ o. IfSome o (λ (t : TokenOf). t.client < length registry.now.clients)) }
     ensures token { IfOk result (λ o. tokens_in o ≡ spec.object_in registry.now (request_read form.now)) }
 {
-    match read_request(alloc, form) {
-        Ok(params) => Ok(object_among(registry, params)),
+    let read = read_request(alloc, form);
+    match &read {
+        Ok(params) => object_among(alloc, registry, params),
         Err(AskNo::NoMemory) => Err(NoMemory),
         Err(_) => Ok(None),
     }
@@ -89,20 +109,6 @@ fn logout_checked(alloc: Global, client: u32, ask: &WorldAsk) -> Result<Option<T
             text: logout_token_of(alloc, request)?,
         })),
         _ => Ok(None),
-    }
-}
-
-// A copy of the text, where it is there.
-fn copied(alloc: Global, client: u32, text: &Option<Text>) -> Result<Option<TokenText>, NoMemory>
-    ensures client { IfOk result (λ o. IfSome o (λ (t : TokenOf). t.client ≡ client)) }
-    ensures token { IfOk result (λ o. tokens_in o ≡ token_if (Some client) text.now) }
-{
-    match text {
-        Some(text) => Ok(Some(TokenText {
-            client,
-            text: text.copy(alloc)?,
-        })),
-        None => Ok(None),
     }
 }
 

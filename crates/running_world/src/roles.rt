@@ -103,13 +103,13 @@ fn first_moment() -> Moment
 }
 
 impl OpRole {
-    /// A provider that was asked nothing.
-    pub(crate) fn new(alloc: Global, registry: Registry) -> Result<OpRole, NoMemory>
-        ensures registry { IfOk result (λ r. r.registry ≡ registry) }
+    /// The provider of the registry, which was asked nothing.
+    pub(crate) fn new(alloc: Global, registry: &Registry) -> Result<OpRole, NoMemory>
+        ensures registry { IfOk result (λ r. r.registry ≡ registry.now) }
         ensures history { IfOk result (λ r. r.history ≡ []) }
     {
         Ok(OpRole {
-            core: OpCore::new(alloc, registry)?,
+            core: OpCore::new(alloc, registry.copy(alloc)?)?,
             last: first_moment(),
         })
     }

@@ -45,10 +45,22 @@ impl World {
     pub fn new(alloc: Global, registry: Registry) -> Result<World, NoMemory>
         ensures { IfOk result (λ w. w ≡ record { registry = registry; kept = []; jars = [] }) }
     {
-        let provider = OpRole::new(alloc, registry.copy(alloc)?)?;
-        let parties = new_parties(alloc, &registry)?;
+        let Ok(provider) = OpRole::new(alloc, &registry) else {
+            drop(registry);
+            return Err(NoMemory);
+        };
+        let Ok(parties) = new_parties(alloc, &registry) else {
+            drop(provider);
+            drop(registry);
+            return Err(NoMemory);
+        };
+        let Ok(transcript) = Transcript::new(alloc, registry) else {
+            drop(provider);
+            drop(parties);
+            return Err(NoMemory);
+        };
         Ok(World {
-            transcript: Transcript::new(alloc, registry)?,
+            transcript,
             provider,
             parties,
         })

@@ -7,6 +7,6 @@ use Rattle.running_world.proofs.world.World.new.Goals as goal
 
 pub invariant_of-result : goal.invariant_of-result
 invariant_of-result c =
-    let T : Transcribed → Type 0 = λ t. IsWorld t.registry c.in_ok-provider.provider c.in_ok-parties.parties.items (places_of t.registry t.kept) in
-    subst T (sym c.in_ok-new.ensures.new)
-    (new_world c.args.registry c.in_ok-provider.provider c.in_ok-parties.parties.items c.in_ok-new.ensures.read (c.in_ok-provider.ensures.registry ∙ c.in_ok-copy.ensures) c.in_ok-provider.ensures.history c.in_ok-parties.ensures)
+    let T : Transcribed → Type 0 = λ t. IsWorld t.registry c.in-Ok.provider c.in-Ok-new_parties.parties.items (places_of t.registry t.kept) in
+    subst T (sym c.in-Ok-new.ensures.new)
+    (new_world c.args.registry c.in-Ok.provider c.in-Ok-new_parties.parties.items c.in-Ok-new.ensures.read c.in-Ok.ensures.registry c.in-Ok.ensures.history c.in-Ok-new_parties.ensures)
