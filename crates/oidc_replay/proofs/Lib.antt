@@ -8,4 +8,3 @@ mod PlayLaws
 pub mod Played
 mod PlacesTaken
 mod Samples
-mod WordBytes

@@ -1,6 +1,6 @@
 -- The play of a trace, line by line; its words are distinct and it is joined, so that the sign-on theorem needs no more of it than that
 -- no text is forged and no cookie leaks.
-use Rattle.std.proofs.Common.{◌≡◌, ℕ, suc, ◌^◌, ◌<◌, ◌≤◌, List, [], ◌∷◌, ◌++◌, length, get_or, min, reverse, take, Option, Some, None, refl, sym, ap, ◌∙◌, subst, arith}
+use Rattle.std.proofs.Common.{◌≡◌, ℕ, suc, ◌^◌, ◌<◌, ◌≤◌, List, [], ◌∷◌, ◌++◌, length, get_or, min, reverse, take, Option, Some, None, Result, Ok, Err, IfOk, refl, sym, ap, ◌∙◌, subst, arith}
 use Rattle.std.proofs.lemmas.List.{length-reverse, length-take, reverse-append, take_all}
 use Rattle.std.proofs.Math.Seq.{take-suc}
 use Rattle.sso_base.specs.Words.{Text}
@@ -133,3 +133,8 @@ plays_well c told play holds registry played few read =
           (let unbroken : IsUnbroken (own_site c) W = none_broken (own_site c) W (none_fails whole.ended (first_broken (own_site c) W) is) in
           (theorem.signs apart unbroken.unleaked unbroken.unforged answered, wholly (theorem.binds apart unbroken.unleaked unbroken.unforged answered unbroken.hashes)));
     }
+
+-- whatever the answer is
+pub always : {A E P : Type 0} (r : Result A E) → P → IfOk r (λ (a : A). P)
+always (Ok a) p = p
+always (Err e) p = tt

@@ -1,6 +1,6 @@
 -- The play of a trace: the world that its lines make, with the cookies of the browsers. The provider is the registry's, and each
 -- relying party of the registry trusts it.
-use Rattle.std.specs.Prelude.{ℕ, suc, ◌+◌, Bool, nat_le, List, [], ◌∷◌, length, Option, Some, None, is_some, if◌then◌else◌}
+use Rattle.std.specs.Prelude.{◌≡◌, ℕ, suc, ◌+◌, Bool, nat_le, List, [], ◌∷◌, length, Option, Some, None, is_some, if◌then◌else◌}
 use Rattle.sso_base.specs.Journal.{most_weight}
 use Rattle.client_registry.specs.Configuration.{Configuration}
 use Rattle.sso_places.specs.Site.{own_site}
@@ -77,3 +77,8 @@ pub record Playing : Type 0 where
 
 abbrev pub played_of : Playing → Played
 played_of p = record { world = world_of p.running; jars = p.running.jars; at = p.at; ended = p.ended }
+
+-- nothing was played yet, and the words are those of the trace
+pub record HasBegun (p : Playing) (told : Told) : Type 0 where
+  pub seed : p.seed ≡ told.seed
+  pub nothing : played_of p ≡ nothing_played

@@ -1,6 +1,7 @@
 // The replay of a trace.
 
 ghost use Rattle.std.specs.Prelude.{◌≡◌, ◌<◌, ◌^◌, ◌++◌, length, string_bytes, IfOk, OnOk};
+ghost use Rattle.client_registry.specs.Registered.{IsRegistry};
 ghost use Rattle.running_world.specs.Running.{world_of};
 ghost use Rattle.trace_lines.specs.Order.{IsReadFor};
 ghost use Rattle.oidc_replay.specs.End as ends;
@@ -81,6 +82,24 @@ pub(crate) fn finish(alloc: Global, play: &Play, mut out: String) -> Result<Repl
     })
 }
 
+// All lines are played of a play that has just begun, and it is told.
+#[tactic(auto, unfolding(crate::specs::Play::play_of, crate::specs::End::end_of, crate::specs::Text::text_of))]
+fn replay_all(alloc: Global, play: &mut Play, trace: &Trace) -> Result<Replayed, NoMemory>
+    requires lines { IsReadFor play.old.running.registry trace.now }
+    requires begun { plays.HasBegun play.old trace.now }
+    requires read { IsRegistry play.old.running.registry }
+    ensures text { IfOk result (λ r. r.text ≡ text.text_of play.old.running.registry trace.now) }
+    ensures end { IfOk result (λ r. r.end ≡ ends.end_of play.old.running.registry trace.now) }
+    ensures well { IfOk result (λ r. PlaysWell play.old.running.registry trace.now) }
+{
+    let mut out = String::new(alloc);
+    for line in trace.lines() {
+        replay_line(alloc, play, &mut out, line)?;
+    }
+    play.theorem();
+    finish(alloc, play, out)
+}
+
 /// Plays a trace over the provider and the relying parties of a registry, each party trusting that provider, and tells it line by
 /// line. The trace was read for this registry.
 ///
@@ -88,7 +107,6 @@ pub(crate) fn finish(alloc: Global, play: &Play, mut out: String) -> Result<Repl
 /// legal. Its reading is a run of the sign-on machine at every prefix, and its live rows are the sessions of the parties, wherever no
 /// token text is forged in it and no cookie leaks, also where half digests clash or a history had no more room. Where none clash,
 /// codes and all access tokens are bound. All this is so where the play ends as [`ReplayEnd::Met`].
-#[tactic(auto, unfolding(crate::specs::Play::play_of, crate::specs::End::end_of, crate::specs::Text::text_of))]
 pub fn replay(alloc: Global, registry: Registry, trace: &Trace) -> Result<Replayed, NoMemory>
     requires { IsReadFor registry trace.now }
     ensures text { IfOk result (λ r. r.text ≡ text.text_of registry trace.now) }
@@ -96,10 +114,7 @@ pub fn replay(alloc: Global, registry: Registry, trace: &Trace) -> Result<Replay
     ensures well { IfOk result (λ r. PlaysWell registry trace.now) }
 {
     let mut play = Play::new(alloc, registry, trace.seed())?;
-    let mut out = String::new(alloc);
-    for line in trace.lines() {
-        replay_line(alloc, &mut play, &mut out, line)?;
-    }
-    play.theorem();
-    finish(alloc, &play, out)
+    let told = replay_all(alloc, &mut play, trace);
+    drop(play);
+    told
 }

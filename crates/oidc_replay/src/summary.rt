@@ -5,7 +5,7 @@ ghost use Rattle.client_registry.specs.Registered.{IsRegistry};
 ghost use Rattle.running_world.specs.Running.{world_of};
 ghost use Rattle.trace_lines.specs.Order.{IsReadFor};
 ghost use Rattle.oidc_replay.specs.End.{end_of};
-ghost use Rattle.oidc_replay.specs.Play.{played_of, play_of};
+ghost use Rattle.oidc_replay.specs.Play.{HasBegun, played_of, play_of};
 ghost use Rattle.oidc_replay.specs.Storm as spec;
 ghost use Rattle.oidc_replay.specs.Theorem.{PlaysWell};
 
@@ -17,18 +17,17 @@ use sso_base::NoMemory;
 use std::alloc::Global;
 use trace_lines::Trace;
 
-// The play of a trace that was read for the registry. Nothing is printed of its places.
-fn play_all(alloc: Global, registry: Registry, trace: &Trace) -> Result<Play, NoMemory>
-    requires { IsReadFor registry trace.now }
-    ensures registry { IfOk result (λ p. p.running.registry ≡ registry) }
-    ensures played { IfOk result (λ p. played_of p ≡ play_of registry trace.now) }
-    ensures read { IsRegistry registry }
+// All lines are played of a play that has just begun. Nothing is printed of its places.
+fn play_all(alloc: Global, play: &mut Play, trace: &Trace) -> Result<(), NoMemory>
+    requires lines { IsReadFor play.old.running.registry trace.now }
+    requires begun { HasBegun play.old trace.now }
+    ensures registry { play.new.running.registry ≡ play.old.running.registry }
+    ensures played { OnOk result (played_of play.new ≡ play_of play.old.running.registry trace.now) }
 {
-    let mut play = Play::new(alloc, registry, trace.seed())?;
     for line in trace.lines() {
         play.line(alloc, line)?;
     }
-    Ok(play)
+    Ok(())
 }
 
 // The first line of the summary.
@@ -67,6 +66,27 @@ fn counts(alloc: Global, play: &Play, number: u32, count: u32) -> Result<String,
     Ok(out)
 }
 
+// The same, told in a summary.
+fn storm_all(
+    alloc: Global,
+    play: &mut Play,
+    trace: &Trace,
+    number: u32,
+    count: u32,
+) -> Result<Replayed, NoMemory>
+    requires lines { IsReadFor play.old.running.registry trace.now }
+    requires begun { HasBegun play.old trace.now }
+    requires read { IsRegistry play.old.running.registry }
+    ensures text { IfOk result (λ r. r.text ≡ spec.storm_text play.old.running.registry trace.now number count) }
+    ensures end { IfOk result (λ r. r.end ≡ end_of play.old.running.registry trace.now) }
+    ensures well { IfOk result (λ r. PlaysWell play.old.running.registry trace.now) }
+{
+    play_all(alloc, play, trace)?;
+    play.theorem();
+    let text = counts(alloc, play, number, count)?;
+    finish(alloc, play, text)
+}
+
 /// Plays the trace of a storm as [`replay`](crate::replay) does, and tells it in a summary: the two numbers of the storm, how many places
 /// the play has, how many of them have a reply of each of four kinds, and how it ended. The trace was read for this registry. What
 /// holds of a replay holds of this play.
@@ -82,8 +102,8 @@ pub fn storm(
     ensures end { IfOk result (λ r. r.end ≡ end_of registry trace.now) }
     ensures well { IfOk result (λ r. PlaysWell registry trace.now) }
 {
-    let play = play_all(alloc, registry, trace)?;
-    play.theorem();
-    let text = counts(alloc, &play, number, count)?;
-    finish(alloc, &play, text)
+    let mut play = Play::new(alloc, registry, trace.seed())?;
+    let told = storm_all(alloc, &mut play, trace, number, count);
+    drop(play);
+    told
 }

@@ -10,8 +10,9 @@ fn word_at(seed: &[u8; 24], number: u64) -> Word
     ensures { result ≡ spec.word_at seed.now number }
 {
     let mut bytes = [0u8; 32];
-    bytes[..24].copy_from_slice(seed);
-    bytes[24..].copy_from_slice(&number.to_be_bytes());
+    let (front, behind) = bytes.split_at_mut(24);
+    front.copy_from_slice(seed);
+    behind.copy_from_slice(&number.to_be_bytes());
     Word::new(bytes)
 }
 
