@@ -18,40 +18,40 @@ use std::alloc::Global;
 pub struct TokenCases {}
 
 // What a call on MACs and sealed texts answers, where there is one of this name.
-fn of_texts(alloc: Global, fields: &[&str]) -> Result<Option<String>, NoMemory> {
-    if let Some(answer) = macs::answer(alloc, fields)? {
-        return Ok(Some(answer));
+fn of_texts(alloc: Global, fields: &[&str]) -> Option<Result<String, NoMemory>> {
+    if let Some(answer) = macs::answer(alloc, fields) {
+        return Some(answer);
     }
     sealed::answer(alloc, fields)
 }
 
-fn of_claims(alloc: Global, fields: &[&str]) -> Result<Option<String>, NoMemory> {
-    if let Some(answer) = claims::answer(alloc, fields)? {
-        return Ok(Some(answer));
+fn of_claims(alloc: Global, fields: &[&str]) -> Option<Result<String, NoMemory>> {
+    if let Some(answer) = claims::answer(alloc, fields) {
+        return Some(answer);
     }
     puts::answer(alloc, fields)
 }
 
-fn of_tokens(alloc: Global, fields: &[&str]) -> Result<Option<String>, NoMemory> {
-    if let Some(answer) = ids::answer(alloc, fields)? {
-        return Ok(Some(answer));
+fn of_tokens(alloc: Global, fields: &[&str]) -> Option<Result<String, NoMemory>> {
+    if let Some(answer) = ids::answer(alloc, fields) {
+        return Some(answer);
     }
-    if let Some(answer) = logouts::answer(alloc, fields)? {
-        return Ok(Some(answer));
+    if let Some(answer) = logouts::answer(alloc, fields) {
+        return Some(answer);
     }
     kinds::answer(alloc, fields)
 }
 
 impl Cases for TokenCases {
     fn answer(&mut self, alloc: Global, fields: &[&str]) -> Result<String, NoMemory> {
-        if let Some(answer) = of_texts(alloc, fields)? {
-            return Ok(answer);
+        if let Some(answer) = of_texts(alloc, fields) {
+            return answer;
         }
-        if let Some(answer) = of_claims(alloc, fields)? {
-            return Ok(answer);
+        if let Some(answer) = of_claims(alloc, fields) {
+            return answer;
         }
-        if let Some(answer) = of_tokens(alloc, fields)? {
-            return Ok(answer);
+        if let Some(answer) = of_tokens(alloc, fields) {
+            return answer;
         }
         told(alloc, "no such call")
     }

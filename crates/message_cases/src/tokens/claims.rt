@@ -9,14 +9,14 @@ use sso_base::{NoMemory, Text, Texts};
 use std::alloc::Global;
 
 /// What a call of this module answers; none where it is another's.
-pub fn answer(alloc: Global, fields: &[&str]) -> Result<Option<String>, NoMemory> {
+pub fn answer(alloc: Global, fields: &[&str]) -> Option<Result<String, NoMemory>> {
     match fields {
-        ["claims", text] => Ok(Some(read(alloc, text)?)),
-        ["depth", text] => Ok(Some(depth(alloc, text)?)),
-        ["claim", kind, set, name] => Ok(Some(claim(alloc, kind, set, name)?)),
-        ["has", set, name] => Ok(Some(has(alloc, set, name)?)),
-        ["copy without", set, name] => Ok(Some(copy_without(alloc, set, name)?)),
-        _ => Ok(None),
+        ["claims", text] => Some(read(alloc, text)),
+        ["depth", text] => Some(depth(alloc, text)),
+        ["claim", kind, set, name] => Some(claim(alloc, kind, set, name)),
+        ["has", set, name] => Some(has(alloc, set, name)),
+        ["copy without", set, name] => Some(copy_without(alloc, set, name)),
+        _ => None,
     }
 }
 

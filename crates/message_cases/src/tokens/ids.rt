@@ -15,18 +15,20 @@ use sso_base::{Moment, NoMemory, Text, Texts};
 use std::alloc::Global;
 
 /// What a call of this module answers; none where it is another's.
-pub fn answer(alloc: Global, fields: &[&str]) -> Result<Option<String>, NoMemory> {
+pub fn answer(alloc: Global, fields: &[&str]) -> Option<Result<String, NoMemory>> {
     match fields {
-        ["check", key, at, claims] => Ok(Some(check(alloc, key, at, claims)?)),
-        ["subject", text] => Ok(Some(subject(alloc, text)?)),
-        ["half", text] => Ok(Some(half(alloc, text)?)),
+        ["check", key, at, claims] => Some(check(alloc, key, at, claims)),
+        ["subject", text] => Some(subject(alloc, text)),
+        ["half", text] => Some(half(alloc, text)),
         ["seal ID Token", key, issuer, subject, session, hash] => {
-            let text = seal_parts(alloc, key, issuer, subject, session, hash)?;
-            Ok(Some(told_sealed(alloc, &text)?))
+            Some(told_sealed(
+                alloc,
+                &seal_parts(alloc, key, issuer, subject, session, hash),
+            ))
         }
-        ["read ID Token", key, text] => Ok(Some(read(alloc, key, text)?)),
-        ["judge ID Token", key, text, at] => Ok(Some(judge(alloc, key, text, at)?)),
-        _ => Ok(None),
+        ["read ID Token", key, text] => Some(read(alloc, key, text)),
+        ["judge ID Token", key, text, at] => Some(judge(alloc, key, text, at)),
+        _ => None,
     }
 }
 
@@ -180,10 +182,14 @@ pub fn seal_parts(
 }
 
 /// `seal ID Token|KEY|ISSUER|SUBJECT|SESSION|HASH`, and the same of logout tokens: how many bytes the claims have, and the token.
-pub fn told_sealed(alloc: Global, sealed: &Option<(usize, Text)>) -> Result<String, NoMemory> {
+pub fn told_sealed(
+    alloc: Global,
+    sealed: &Result<Option<(usize, Text)>, NoMemory>,
+) -> Result<String, NoMemory> {
     match sealed {
-        Some((length, text)) => Ok(format!(in alloc; "{length} bytes, {}", text.as_str())?),
-        None => told(alloc, "not to be sealed"),
+        Ok(Some((length, text))) => Ok(format!(in alloc; "{length} bytes, {}", text.as_str())?),
+        Ok(None) => told(alloc, "not to be sealed"),
+        Err(_) => Err(NoMemory),
     }
 }
 

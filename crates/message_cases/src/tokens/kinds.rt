@@ -14,10 +14,10 @@ use sso_base::{Moment, NoMemory, Text, Texts};
 use std::alloc::Global;
 
 /// What a call of this module answers; none where it is another's.
-pub fn answer(alloc: Global, fields: &[&str]) -> Result<Option<String>, NoMemory> {
+pub fn answer(alloc: Global, fields: &[&str]) -> Option<Result<String, NoMemory>> {
     match fields {
-        ["read as", reader, kind] => Ok(Some(read_as(alloc, reader, kind)?)),
-        _ => Ok(None),
+        ["read as", reader, kind] => Some(read_as(alloc, reader, kind)),
+        _ => None,
     }
 }
 

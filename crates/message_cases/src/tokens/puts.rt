@@ -9,11 +9,11 @@ use std::alloc::Global;
 /// What a call of this module answers; none where it is another's.
 ///
 /// `put|KIND|SET|NAME|VALUE`: the set, with the value for the name. `put audience|SET|TEXT,TEXT`: the set for these clients.
-pub fn answer(alloc: Global, fields: &[&str]) -> Result<Option<String>, NoMemory> {
+pub fn answer(alloc: Global, fields: &[&str]) -> Option<Result<String, NoMemory>> {
     match fields {
-        ["put", kind, set, name, value] => Ok(Some(put(alloc, kind, set, name, value)?)),
-        ["put audience", set, clients] => Ok(Some(put(alloc, "audience", set, "aud", clients)?)),
-        _ => Ok(None),
+        ["put", kind, set, name, value] => Some(put(alloc, kind, set, name, value)),
+        ["put audience", set, clients] => Some(put(alloc, "audience", set, "aud", clients)),
+        _ => None,
     }
 }
 

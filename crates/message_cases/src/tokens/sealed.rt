@@ -6,12 +6,12 @@ use sso_base::{NoMemory, Text};
 use std::alloc::Global;
 
 /// What a call of this module answers; none where it is another's.
-pub fn answer(alloc: Global, fields: &[&str]) -> Result<Option<String>, NoMemory> {
+pub fn answer(alloc: Global, fields: &[&str]) -> Option<Result<String, NoMemory>> {
     match fields {
-        ["seal", typ, key, payload] => Ok(Some(sealed(alloc, typ, key, payload)?)),
-        ["unseal", key, text] => Ok(Some(unsealed(alloc, key, text)?)),
-        ["seal and unseal", key, payload] => Ok(Some(sealed_and_unsealed(alloc, key, payload)?)),
-        _ => Ok(None),
+        ["seal", typ, key, payload] => Some(sealed(alloc, typ, key, payload)),
+        ["unseal", key, text] => Some(unsealed(alloc, key, text)),
+        ["seal and unseal", key, payload] => Some(sealed_and_unsealed(alloc, key, payload)),
+        _ => None,
     }
 }
 

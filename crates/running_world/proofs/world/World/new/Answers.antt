@@ -1,4 +1,4 @@
-use Rattle.std.proofs.Common.{sym, ◌∙◌, subst}
+use Rattle.std.proofs.Common.{sym, subst}
 use Rattle.running_world.specs.Running.{places_of}
 use Rattle.running_world.specs.Transcribed.{Transcribed}
 use Rattle.running_world.specs.Worlds.{IsWorld}
