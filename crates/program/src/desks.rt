@@ -3,7 +3,7 @@
 ghost use Rattle.std.specs.Prelude.{◌≡◌, ◌^◌, ◌≤◌, ◌<◌, length, IfOk};
 ghost use Rattle.std.specs.List.{All};
 
-use machine_desk::{RandomDraw, SystemClock, TcpDoor, TcpLink, desk};
+use machine::{RandomDraw, SystemClock, TcpDoor, TcpLink, desk};
 use server_desk::{Desk, Door};
 use std::alloc::{AllocGlobal, Global};
 use std::io;

@@ -1,29 +1,13 @@
-//! The program: the top call `sso` with this machine's files for the shelf, standard output for the sink, and four desks over its
-//! network, its clock and its random bytes.
-//!
-//! | Module | What it has |
-//! |---|---|
-//! | `words` | the words that the program was started with |
-//! | `shelf` | files as a shelf |
-//! | `sink` | writers as sinks |
-//! | `desks` | the desks |
+//! The program: the top call `sso` with this machine's files for the shelf, standard output for the sink, and four desks (`desks`) over
+//! its network, its clock and its random bytes.
 #![tactic(auto)]
 
 use crate::desks::desks;
-use crate::shelf::FileShelf;
-use crate::sink::WriterSink;
-use crate::words::read_words;
+use machine::{FileShelf, WriterSink, read_words};
 use sso::sso;
 use std::process::ExitCode;
 
 mod desks;
-mod shelf;
-mod sink;
-#[cfg(test)]
-mod tests;
-#[cfg(test)]
-mod tests_net;
-mod words;
 
 /// Ends with the status of the top call, or with 1 where no memory is found for the words and the desks, or no random bytes.
 fn main(rt: HostRuntime) -> ExitCode {

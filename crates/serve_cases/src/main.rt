@@ -16,6 +16,9 @@
 //! | `two threads` | what came of 2,000 calls of a store by two threads at the same time |
 //! | `sso|SHELF|SINK|WORDS|DESK|..` | the status of the words, the text, and each desk |
 //! | `sso|SHELF|SINK|WORDS|two logins` or `two keys` | the same for two desks that wait for each other |
+//! | `writer|CALL` | what a writer, of which this call fails, takes as a sink |
+//! | `words|NAME|WORD|..` | the words of a process |
+//! | `machine|CALL` | what the clock, the random words, a door, a link or the desk of this machine answer |
 //!
 //! `ends`, `work` and `serve` are over a role of their own, whose core is full after one ask, and `calls` and `two threads` over the core
 //! alone, which replies with the number of the entries before. The provider and the parties are served by the top call. SHELF and SINK are
@@ -31,18 +34,23 @@
 //! | `servers` | the call `serve` |
 //! | `files`, `top` | the calls `file`, `lines` and `sso` |
 //! | `meeting`, `login_door`, `two` | desks that wait for each other |
+//! | `process` | the calls `writer` and `words` |
+//! | `this_machine`, `loopback` | the call `machine` |
 #![tactic(auto)]
 
 mod desks;
 mod files;
 mod login_door;
+mod loopback;
 mod meeting;
 mod one_pass;
 mod passes;
+mod process;
 mod servers;
 mod sources;
 mod tally;
 mod tally_role;
+mod this_machine;
 mod tick;
 mod top;
 mod two;
@@ -53,10 +61,13 @@ use case_lines::{Cases, print_lines, told, written_out};
 use sample_configuration::sample;
 use sample_rows::{ALICE, PROVIDER};
 use sso_base::{File, NoMemory, Text};
-use std::alloc::Global;
+use std::alloc::{AllocGlobal, Global};
 use std::io;
+use std::net::{Net, TcpListener, TcpStream};
+use std::random::RandomSource;
 use std::sync::Wait;
 use std::thread::Threads;
+use std::time::Clock;
 
 #[derive(Drop)]
 struct ServeCases {
@@ -68,6 +79,8 @@ impl Cases for ServeCases {
         match fields {
             ["file", name, bytes] => files::put_bytes(alloc, &mut self.files, name, bytes),
             ["lines", name, lines] => files::put_lines(alloc, &mut self.files, name, lines),
+            ["writer", call] => process::writer(alloc, call),
+            ["words", words @ ..] => process::words(alloc, words),
             _ => told(alloc, "no such call"),
         }
     }
@@ -90,13 +103,12 @@ impl Cases for ServeCases {
     }
 }
 
-// The answer to a line. The calls that start threads are answered here, and the others by the table.
-fn answer<R: Threads + Wait + Sync>(
-    rt: &R,
-    alloc: Global,
-    cases: &mut ServeCases,
-    line: &str,
-) -> Result<String, NoMemory> {
+// The answer to a line. The calls that need the machine are answered here, and the others by the table.
+fn answer<R>(rt: &R, alloc: Global, cases: &mut ServeCases, line: &str) -> Result<String, NoMemory>
+where
+    R: Threads + Wait + Net<Listener = TcpListener, Stream = TcpStream>,
+    R: Clock + RandomSource + Sync + AllocGlobal,
+{
     let whole = written_out(alloc, cases, line)?;
     let fields: Vec<&str> = whole.as_str().split('|').collect(alloc)?;
     match fields.as_slice() {
@@ -108,6 +120,7 @@ fn answer<R: Threads + Wait + Sync>(
         ["serve", desks @ ..] => servers::answer(rt, alloc, desks),
         ["calls", asks @ ..] => one_pass::answer(rt, alloc, asks),
         ["two threads"] => two_passes::answer(rt, alloc),
+        ["machine", call] => this_machine::answer(rt, alloc, call),
         fields => cases.answer(alloc, fields),
     }
 }

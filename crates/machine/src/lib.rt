@@ -1,8 +1,12 @@
-//! Desks over this machine: its network, its clock and its random bytes. They tell nothing of what they hold, and their few lines are
-//! the edge of what is proved: that the machine does as its calls say is trusted, and tried by tests of the program.
+//! This machine: the words that the program was started with, files as a shelf, writers as sinks, and desks over its network, its clock
+//! and its random bytes. They tell nothing of what they hold, and their few lines are the edge of what is proved: that the machine does
+//! as its calls say is trusted, and tried by cases (`serve_cases`).
 //!
 //! | Module | What it has |
 //! |---|---|
+//! | `words` | [`read_words`], the words of the program |
+//! | `shelf` | [`FileShelf`], files as a shelf |
+//! | `sink` | [`WriterSink`], a writer as a sink |
 //! | `desks` | [`desk`], a desk over this machine |
 //! | `door` | [`TcpDoor`], a TCP listener as a door |
 //! | `connection` | a TCP connection as a source and a sink |
@@ -22,7 +26,10 @@ mod draw;
 mod limit;
 mod link;
 mod read_ahead;
+mod shelf;
+mod sink;
 mod wire;
+mod words;
 
 pub use clock::SystemClock;
 pub use connection::{TcpSink, TcpSource};
@@ -30,3 +37,6 @@ pub use desks::desk;
 pub use door::TcpDoor;
 pub use draw::RandomDraw;
 pub use link::TcpLink;
+pub use shelf::FileShelf;
+pub use sink::WriterSink;
+pub use words::read_words;

@@ -1,7 +1,7 @@
 //! Desks over this machine.
 
 ghost use Rattle.std.specs.Prelude.{◌≡◌, ◌^◌, IfOk};
-ghost use Rattle.machine_desk.specs.Doors.{counted};
+ghost use Rattle.machine.specs.Doors.{counted};
 
 use crate::clock::SystemClock;
 use crate::door::TcpDoor;

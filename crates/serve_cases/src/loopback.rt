@@ -1,0 +1,295 @@
+// The desk over this machine, which is asked over loopback.
+
+ghost use Rattle.std.specs.Prelude.{◌≡◌, length};
+
+use crate::top::{Call, run};
+use case_lines::{as_text, push_part, told, told_quoted};
+use machine::{TcpDoor, TcpLink, desk};
+use server_desk::{Door, Link, LinkNo, Source, read_whole};
+use sso_base::{Blob, File, NoMemory, Text, write_whole};
+use std::alloc::{AllocGlobal, Global};
+use std::io::{Read, Write};
+use std::net::{Net, TcpListener, TcpStream};
+use std::random::RandomSource;
+use std::sync::Wait;
+use std::thread::{Threads, join, sleep};
+use std::time::{Clock, Duration};
+
+/// How many seconds a client waits for a byte.
+const WAITING: u64 = 5;
+
+/// How many milliseconds a client waits between two pieces.
+const BETWEEN: u64 = 200;
+
+// Lets the door listen at the first free one of 64 ports, and answers where.
+fn listen<D: Door>(alloc: Global, door: &mut D) -> Result<Option<Text>, NoMemory> {
+    for port in 47_100..47_164u16 {
+        let place = Text::from_string(format!(in alloc; "127.0.0.1:{port}")?);
+        if door.start(&place).is_ok() {
+            return Ok(Some(place));
+        }
+    }
+    Ok(None)
+}
+
+// Reads so many bytes, at most `cut` at once.
+fn read_bytes<S: Source>(
+    alloc: Global,
+    source: &mut S,
+    count: usize,
+    cut: usize,
+) -> Option<Vec<u8>> {
+    let mut bytes = vec![in alloc; 0u8; count].ok()?;
+    for part in bytes.chunks_mut(cut.max(1)) {
+        if read_whole(source, part).ok()? < part.len() {
+            return None;
+        }
+    }
+    Some(bytes)
+}
+
+// Takes the next connection, reads so many bytes, at most `cut` at once, replies, and gives the connection back. It answers
+// what was read.
+fn serve<D: Door>(
+    alloc: Global,
+    door: &mut D,
+    count: usize,
+    cut: usize,
+    reply: &[u8],
+) -> Option<Vec<u8>> {
+    let mut connection = door.next().ok()??;
+    let bytes = read_bytes(alloc, &mut connection.source, count, cut);
+    let written = write_whole(&mut connection.sink, reply);
+    door.done(connection);
+    written.ok()?;
+    bytes
+}
+
+// Sends two pieces, one a moment after the other, and answers what comes back.
+fn ask<R: Net<Stream = TcpStream> + Clock>(
+    rt: &R,
+    alloc: Global,
+    place: &Text,
+    first: &[u8],
+    second: &[u8],
+) -> Option<Vec<u8>> {
+    let mut stream = TcpStream::connect(rt, place.as_str()).ok()?;
+    stream
+        .set_read_timeout(Some(Duration::from_secs(WAITING)))
+        .ok()?;
+    stream.write_all(first).ok()?;
+    sleep(rt, Duration::from_millis(BETWEEN));
+    stream.write_all(second).ok()?;
+    let mut back = Vec::new(alloc);
+    stream.read_to_end(&mut back).ok()?;
+    Some(back)
+}
+
+// The bytes, where any came.
+fn told_came(alloc: Global, bytes: &Option<Vec<u8>>) -> Result<String, NoMemory> {
+    match bytes {
+        Some(bytes) => told_quoted(alloc, as_text(bytes.as_slice())),
+        None => told(alloc, "nothing"),
+    }
+}
+
+// What was read, and what came back.
+fn told_both(
+    alloc: Global,
+    read: &Option<Vec<u8>>,
+    back: &Option<Vec<u8>>,
+) -> Result<String, NoMemory> {
+    let (read, back) = (told_came(alloc, read)?, told_came(alloc, back)?);
+    Ok(format!(in alloc; "{read}, {back}")?)
+}
+
+// Serves a client, which sends `hello, world` in two pieces.
+fn serve_hello<R>(
+    rt: &R,
+    alloc: Global,
+    door: &mut TcpDoor<'_, R>,
+    place: &Text,
+    cut: usize,
+    reply: &[u8],
+) -> Result<String, NoMemory>
+where
+    R: Threads + Net<Listener = TcpListener, Stream = TcpStream> + Clock + Sync + AllocGlobal,
+{
+    let (read, back) = join(
+        rt,
+        || serve(alloc, door, 12, cut, reply),
+        || ask(rt, alloc, place, b"hello, ", b"world"),
+    );
+    told_both(alloc, &read, &back)
+}
+
+// The same at this door, and at another one that shares its place.
+fn serve_two<R>(
+    rt: &R,
+    alloc: Global,
+    first: &mut TcpDoor<'_, R>,
+    place: &Text,
+) -> Result<String, NoMemory>
+where
+    R: Threads + Net<Listener = TcpListener, Stream = TcpStream> + Clock + Sync + AllocGlobal,
+{
+    let mut out = serve_hello(rt, alloc, first, place, 5, b"first")?;
+    let mut second = TcpDoor::new(rt);
+    if second.share(first).is_err() {
+        return told(alloc, "not shared");
+    }
+    let told = serve_hello(rt, alloc, &mut second, place, 1, b"second")?;
+    push_part(&mut out, " / ", told.as_str())?;
+    Ok(out)
+}
+
+/// `machine|door`: what two doors that share a place give of their clients, and whether a third one listens there once they are gone.
+pub fn door<R>(rt: &R, alloc: Global) -> Result<String, NoMemory>
+where
+    R: Threads + Net<Listener = TcpListener, Stream = TcpStream> + Clock + Sync + AllocGlobal,
+{
+    let mut first = TcpDoor::new(rt);
+    let Some(place) = listen(alloc, &mut first)? else {
+        return told(alloc, "no port is free");
+    };
+    let told = serve_two(rt, alloc, &mut first, &place)?;
+    drop(first);
+    let again = TcpDoor::new(rt).start(&place).is_ok();
+    Ok(format!(in alloc; "{told} / again {again}")?)
+}
+
+/// `machine|unread`: what comes of a client whose request is not read whole, by when all of it was sent and none of the reply is read.
+pub fn unread<R>(rt: &R, alloc: Global) -> Result<String, NoMemory>
+where
+    R: Threads + Net<Listener = TcpListener, Stream = TcpStream> + Clock + Sync + AllocGlobal,
+{
+    let request = vec![in alloc; b'a'; 200_000]?;
+    let reply = vec![in alloc; b'b'; 500_000]?;
+    let mut door = TcpDoor::new(rt);
+    let Some(place) = listen(alloc, &mut door)? else {
+        return told(alloc, "no port is free");
+    };
+    let (read, back) = join(
+        rt,
+        || {
+            sleep(rt, Duration::from_millis(BETWEEN / 2));
+            serve(alloc, &mut door, 100_000, 1000, reply.as_slice())
+        },
+        || ask(rt, alloc, &place, request.as_slice(), b""),
+    );
+    told_both(alloc, &read, &back)
+}
+
+fn told_answer(alloc: Global, answer: &Result<Blob, LinkNo>) -> Result<String, NoMemory> {
+    match answer {
+        Ok(bytes) => told_quoted(alloc, as_text(bytes.as_bytes())),
+        Err(LinkNo::NoMemory) => Err(NoMemory),
+        Err(LinkNo::Failed) => told(alloc, "failed"),
+    }
+}
+
+// What the link answers where nobody listens, and how often it has failed.
+fn told_closed<R>(
+    alloc: Global,
+    link: &mut TcpLink<'_, R>,
+    place: &Text,
+) -> Result<String, NoMemory>
+where
+    R: Net<Stream = TcpStream> + Clock + Sync + AllocGlobal,
+{
+    let before = link.faults();
+    let answer = link.exchange(alloc, place, b"asked", 6);
+    let told = told_answer(alloc, &answer)?;
+    Ok(format!(in alloc; "{told}, {before} and {} faults", link.faults())?)
+}
+
+/// `machine|link`: what a link sends, of whose answer six bytes are taken, and what it answers once nobody listens.
+pub fn link<R>(rt: &R, alloc: Global) -> Result<String, NoMemory>
+where
+    R: Threads + Net<Listener = TcpListener, Stream = TcpStream> + Clock + Sync + AllocGlobal,
+{
+    let mut door = TcpDoor::new(rt);
+    let Some(place) = listen(alloc, &mut door)? else {
+        return told(alloc, "no port is free");
+    };
+    let mut link = TcpLink::new(rt);
+    let (read, back) = join(
+        rt,
+        || serve(alloc, &mut door, 5, 5, b"answered"),
+        || link.exchange(alloc, &place, b"asked", 6),
+    );
+    drop(door);
+    let (read, back) = (told_came(alloc, &read)?, told_answer(alloc, &back)?);
+    let closed = told_closed(alloc, &mut link, &place)?;
+    Ok(format!(in alloc; "{read}, {back} / {closed}")?)
+}
+
+// A configuration whose provider is at this place.
+fn file_at(alloc: Global, place: &Text) -> Result<File, NoMemory> {
+    let place = place.as_str();
+    let config = format!(in alloc;
+        "version = 1\n[provider]\nissuer = \"http://{place}\"\nlisten = \"{place}\"\nsalt = \"00112233445566778899aabbccddeeff\"\n"
+    )?;
+    Ok(File {
+        name: Text::new(alloc, "config")?,
+        content: Blob::new(alloc, config.as_str().as_bytes())?,
+    })
+}
+
+// Runs the provider at this place, for one connection.
+fn run_provider<R>(rt: &R, alloc: Global, place: &Text) -> Result<String, NoMemory>
+where
+    R: Threads + Wait + Net<Listener = TcpListener, Stream = TcpStream>,
+    R: Clock + RandomSource + Sync + AllocGlobal,
+{
+    let file = file_at(alloc, place)?;
+    let files = vec![in alloc; file]?;
+    let Ok(mut one) = desk(rt) else {
+        return told(alloc, "no random bytes");
+    };
+    one.turns = 1;
+    let mut desks = vec![in alloc; one]?;
+    let call = Call {
+        shelf: "0",
+        sink: "0",
+        words: "op config",
+    };
+    run(rt, alloc, files.as_slice(), &call, &mut desks)
+}
+
+// Asks for the keys, as soon as somebody listens: 500 times at most.
+fn ask_keys<R: Net<Stream = TcpStream> + Clock>(
+    rt: &R,
+    alloc: Global,
+    place: &Text,
+) -> Option<Vec<u8>> {
+    let (first, second) = (b"GET /jwks HTTP/1.1\r\nHost: a", b"\r\n\r\n");
+    for _ in 0..500 {
+        if let Some(back) = ask(rt, alloc, place, first, second) {
+            return Some(back);
+        }
+        sleep(rt, Duration::from_millis(BETWEEN / 10));
+    }
+    None
+}
+
+/// `machine|keys`: the status and the text of `op` with a desk of one turn, and what a client that asks for the keys is answered.
+pub fn keys<R>(rt: &R, alloc: Global) -> Result<String, NoMemory>
+where
+    R: Threads + Wait + Net<Listener = TcpListener, Stream = TcpStream>,
+    R: Clock + RandomSource + Sync + AllocGlobal,
+{
+    let mut door = TcpDoor::new(rt);
+    let place = listen(alloc, &mut door)?;
+    drop(door);
+    let Some(place) = place else {
+        return told(alloc, "no port is free");
+    };
+    let (ended, back) = join(
+        rt,
+        || run_provider(rt, alloc, &place),
+        || ask_keys(rt, alloc, &place),
+    );
+    let (ended, back) = (ended?, told_came(alloc, &back)?);
+    Ok(format!(in alloc; "{ended} / {back}")?)
+}
