@@ -5,6 +5,7 @@ use Rattle.std.specs.Str.{IsUtf8}
 use Rattle.std.proofs.lemmas.Grind.{common_steps}
 use Rattle.json.specs.Print.{escape_letter, escape_byte, escape, quoted}
 use Rattle.json.proofs.Printed.Utf8.{IsUtf8-are_ascii}
+use Rattle.sso_base.specs.Texts.{is_ascii}
 use Rattle.sso_base.proofs.Spelling.{both_true}
 
 -- a printable character of ASCII
@@ -16,7 +17,7 @@ is_plain t = list_all is_printable t
 
 -- ---- what plain texts keep
 
-ascii_of : (t : List ℕ) → is_plain t ≡ true → list_all (λ b. nat_lt b 128) t ≡ true
+ascii_of : (t : List ℕ) → is_plain t ≡ true → is_ascii t ≡ true
 ascii_of [] h = refl
 ascii_of (b ∷ t) h =
     let parts = both_true (is_printable b) (is_plain t) h in

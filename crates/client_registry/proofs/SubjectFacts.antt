@@ -9,6 +9,7 @@ use Rattle.base64.proofs.EngineFacts.{IsAscii-encode_of}
 use Rattle.sha2.specs.Sha256.{sha256}
 use Rattle.sha2.proofs.Facts256.{length-sha256}
 use Rattle.sso_base.specs.Base64Url.{b64u}
+use Rattle.sso_base.specs.Texts.{is_ascii}
 use Rattle.sso_base.proofs.Spelling.{at_each, length-b64u_32}
 use Rattle.configuration_rows.specs.declared.kind.Alphabet.TheVariants.{UserId}
 use Rattle.configuration_rows.specs.Kinds.{is_lower, is_digit, allows, is_within, is_name}
@@ -44,7 +45,7 @@ user_id_byte b h =
     (same b 64 (omega arith)))
     (same b 45 (omega arith)) h
 
-small : (t : List ℕ) → list_all (allows UserId) t ≡ true → list_all (λ b. nat_lt b 128) t ≡ true
+small : (t : List ℕ) → list_all (allows UserId) t ≡ true → is_ascii t ≡ true
 small [] h = refl
 small (b ∷ t) h =
     let halves : (allows UserId b ≡ true) × (list_all (allows UserId) t ≡ true) = both (allows UserId b) (list_all (allows UserId) t) h in

@@ -1,10 +1,11 @@
 -- The metadata of a printable provider fit, so that their text is read as them.
-use Rattle.std.proofs.Common.{◌≡◌, ℕ, List, [], ◌∷◌, Bool, true, false, nat_lt, Option, Some, None, option_map, codes, refl, arith}
+use Rattle.std.proofs.Common.{◌≡◌, ℕ, List, [], ◌∷◌, Bool, true, false, Option, Some, None, option_map, codes, refl, arith}
 use Rattle.std.specs.Prelude.{IfSome}
 use Rattle.std.specs.List.{list_all}
 use Rattle.std.specs.Str.{IsUtf8}
 use Rattle.json.proofs.Printed.Utf8.{IsUtf8-are_ascii}
 use Rattle.serde_json.specs.Data.{string, boolean, no_members, items_depth}
+use Rattle.sso_base.specs.Texts.{is_ascii}
 use Rattle.claim_set.specs.Claims.{text_items}
 use Rattle.claim_set.specs.Building.{Entry}
 use Rattle.claim_set.specs.Fitting.{ItemsFit, EntriesFit, ClaimsFit}
@@ -18,9 +19,6 @@ use Rattle.oidc_words.specs.Scopes.{scope_words}
 use Rattle.discovery_doc.specs.Document.{IsUrl}
 use Rattle.discovery_doc.specs.Printed.{IsPrintable}
 use Rattle.discovery_doc.proofs.Utf8.{both, IsUtf8-url, IsUtf8-endpoint}
-
-abbrev is_ascii : List ℕ → Bool
-is_ascii t = list_all (λ b. nat_lt b 128) t
 
 items_fit : (ts : List (List ℕ)) → list_all is_ascii ts ≡ true → ItemsFit (text_items ts)
 items_fit [] h = tt

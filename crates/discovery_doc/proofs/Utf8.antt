@@ -6,6 +6,7 @@ use Rattle.std.proofs.lemmas.Grind.{common_steps}
 use Rattle.std.proofs.lemmas.Bool.Decides.{nat_tests}
 use Rattle.std.proofs.lemmas.Str.{IsUtf8-take, IsUtf8-append, IsCharBoundary-at_seam}
 use Rattle.json.proofs.Printed.Utf8.{IsUtf8-are_ascii}
+use Rattle.sso_base.specs.Texts.{is_ascii}
 use Rattle.registered_url.specs.declared.web_url.WebUrl.{WebUrl}
 use Rattle.registered_url.specs.Rule.{is_visible, url_of}
 use Rattle.registered_url.proofs.Keeping.{urls_keep}
@@ -24,7 +25,7 @@ both false b h = absurd (cc)
 visible_is_ascii : (b : ℕ) → nat_lt b 127 ≡ true → nat_lt b 128 ≡ true
 visible_is_ascii b h = grind (arith, common_steps)
 
-visible_are_ascii : (t : List ℕ) → list_all is_visible t ≡ true → list_all (λ b. nat_lt b 128) t ≡ true
+visible_are_ascii : (t : List ℕ) → list_all is_visible t ≡ true → is_ascii t ≡ true
 visible_are_ascii [] h = refl
 visible_are_ascii (b ∷ t) h =
     let parts = both (is_visible b) (list_all is_visible t) h in
@@ -39,7 +40,7 @@ IsUtf8-url t h = url_at t (url_of t) refl h
 
 -- ---- a text without its last slash
 
-before_tail : (t front tail : List ℕ) → t ≡ front ++ tail → list_all (λ b. nat_lt b 128) tail ≡ true → IsUtf8 t → IsUtf8 front
+before_tail : (t front tail : List ℕ) → t ≡ front ++ tail → is_ascii tail ≡ true → IsUtf8 t → IsUtf8 front
 before_tail t front tail is ascii u =
     let cut = IsUtf8-take t (length front) u (IsCharBoundary-at_seam t front tail is (IsUtf8-are_ascii tail ascii)) in
     subst IsUtf8 (ap (take (length front)) is ∙ take_at front tail (length front) refl) cut
@@ -47,7 +48,7 @@ before_tail t front tail is ascii u =
 slash_is_ascii : (e : ℕ) → is_any_slash e ≡ true → nat_lt e 128 ≡ true
 slash_is_ascii e h = grind (arith, nat_tests, h)
 
-cut_is_ascii : (front tail : List ℕ) → IsCutFrom front tail → list_all (λ b. nat_lt b 128) tail ≡ true
+cut_is_ascii : (front tail : List ℕ) → IsCutFrom front tail → is_ascii tail ≡ true
 cut_is_ascii front [] h = refl
 cut_is_ascii front (e ∷ []) h = rw (slash_is_ascii e h)
 cut_is_ascii front (e ∷ f ∷ rest) h = absurd h

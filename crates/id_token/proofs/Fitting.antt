@@ -1,9 +1,9 @@
 -- The claim set of an ID Token whose claims are values of their types fits.
-use Rattle.std.proofs.Common.{◌≡◌, ◌<◌, ◌^◌, ◌&&◌, ℕ, List, Bool, true, false, Some, length, nat_lt, nat_le, codes, refl}
+use Rattle.std.proofs.Common.{◌≡◌, ◌<◌, ◌^◌, ◌&&◌, ℕ, List, Bool, true, false, Some, length, nat_le, codes, refl}
 use Rattle.std.specs.Prelude.{IfSome, IsTrue}
-use Rattle.std.specs.List.{list_all}
 use Rattle.std.specs.Str.{IsUtf8}
 use Rattle.json.proofs.Printed.Utf8.{IsUtf8-are_ascii}
+use Rattle.sso_base.specs.Texts.{is_ascii}
 use Rattle.claim_set.specs.Fitting.{ClaimsFit}
 use Rattle.claim_set.proofs.Fitting.{ClaimsFit-put_all, text_fits, number_fits, audience_fits}
 use Rattle.id_token.specs.declared.claims.IdClaims.{IdClaims}
@@ -16,7 +16,7 @@ both true false h = absurd (cc)
 both false b h = absurd (cc)
 
 subject_is_utf8 : (s : List ℕ) → IsTrue (is_subject s) → IsUtf8 s
-subject_is_utf8 s h = IsUtf8-are_ascii s (both (nat_le 1 (length s) && nat_le (length s) 255) (list_all (λ b. nat_lt b 128) s) h).1
+subject_is_utf8 s h = IsUtf8-are_ascii s (both (nat_le 1 (length s) && nat_le (length s) 255) (is_ascii s) h).1
 
 pub fits-id_members : (x : IdClaims) → HasTexts x → IsTrue (is_subject x.sub) → x.exp < 2 ^ 40 → x.iat < 2 ^ 40 → IfSome x.auth_time (λ n. n < 2 ^ 40) → ClaimsFit (id_members x)
 unfolding id_members

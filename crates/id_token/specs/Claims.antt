@@ -1,7 +1,7 @@
 -- The claims of an ID Token as a claim set (OpenID Connect Core 1.0, 2).
-use Rattle.std.specs.Prelude.{ℕ, List, [], ◌∷◌, Bool, ◌&&◌, nat_lt, nat_le, length, Option, Some, option_map, codes}
-use Rattle.std.specs.List.{list_all}
+use Rattle.std.specs.Prelude.{ℕ, List, [], ◌∷◌, Bool, ◌&&◌, nat_le, length, Option, Some, option_map, codes}
 use Rattle.serde_json.specs.Data.{string, Members}
+use Rattle.sso_base.specs.Texts.{is_ascii}
 use Rattle.claim_set.specs.Building.{Entry, put_all, audience, number_value}
 use Rattle.id_token.specs.declared.claims.IdClaims.{IdClaims}
 
@@ -33,4 +33,4 @@ id_members x = put_all (id_entries x) x.more
 
 -- a subject has 1 to 255 bytes and is ASCII
 abbrev pub is_subject : List ℕ → Bool
-is_subject s = nat_le 1 (length s) && nat_le (length s) 255 && list_all (λ b. nat_lt b 128) s
+is_subject s = nat_le 1 (length s) && nat_le (length s) 255 && is_ascii s

@@ -1,8 +1,8 @@
 // Reading: a sealed text is opened as an ID Token, or refused for the first reason that fits.
 
-ghost use Rattle.std.specs.Prelude.{◌≡◌, ◌⊎◌, Some, None, Ok, Err, IfOk, IfErr, IsFalse, nat_lt};
-ghost use Rattle.std.specs.List.{list_all};
+ghost use Rattle.std.specs.Prelude.{◌≡◌, ◌⊎◌, Some, None, Ok, Err, IfOk, IfErr, IsFalse};
 ghost use Rattle.sso_base.specs.Refusals.{and_then};
+ghost use Rattle.sso_base.specs.Texts as texts;
 ghost use Rattle.claim_set.specs.Building.{without_all};
 ghost use Rattle.id_token.specs.Claims.{is_subject as is_subject_text, id_names};
 ghost use Rattle.id_token.specs.Reading.{raw_in, if_subject, whole, id_of, id_read, hides_memory};
@@ -29,7 +29,7 @@ pub fn is_subject(text: &Text) -> bool
 
 // Whether a text is ASCII.
 fn is_ascii(text: &Text) -> bool
-    ensures { result ≡ list_all (λ b. nat_lt b 128) text.now }
+    ensures { result ≡ texts.is_ascii text.now }
 {
     text.as_str().as_bytes().iter().all(|byte| *byte < 128)
 }

@@ -1,6 +1,5 @@
 -- Base64url texts, and sealed texts, are ASCII.
-use Rattle.std.proofs.Common.{◌≡◌, suc, Bool, true, [], ◌∷◌, ◌++◌, nat_lt, refl}
-use Rattle.std.specs.List.{list_all}
+use Rattle.std.proofs.Common.{◌≡◌, suc, true, [], ◌∷◌, ◌++◌, nat_lt, refl}
 use Rattle.std.specs.Str.{IsAscii}
 use Rattle.std.proofs.lemmas.Bool.{lt-ltb}
 use Rattle.base64.specs.Engines.{url_safe_no_pad}
@@ -8,12 +7,10 @@ use Rattle.base64.proofs.EngineFacts.{IsAscii-encode_of}
 use Rattle.hmac256.specs.Hmac.{hmac_of}
 use Rattle.sso_base.specs.Base64Url.{b64u}
 use Rattle.sso_base.specs.Words.{Text}
+use Rattle.sso_base.specs.Texts.{is_ascii}
 use Rattle.sso_base.proofs.Spelling.{both_true}
 use Rattle.jws_compact.specs.Jws.{seal_text, header_bytes, signing_input}
 use Rattle.jws_compact.specs.declared.sealing.Typ.{Typ}
-
-abbrev pub is_ascii : Text → Bool
-is_ascii t = list_all (λ b. nat_lt b 128) t
 
 pub ascii_bytes : (t : Text) → IsAscii t → is_ascii t ≡ true
 ascii_bytes [] h = refl

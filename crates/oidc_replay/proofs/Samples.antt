@@ -35,7 +35,8 @@ use Rattle.web_requests.specs.Handing.{printed, handed_back}
 use Rattle.web_requests.specs.Locations.{location_of}
 use Rattle.web_requests.specs.Raw.{raw_sent}
 use Rattle.oidc_replay.specs.declared.replaying.ReplayEnd.TheVariants as end
-use Rattle.oidc_replay.specs.Words.{word_at, words_after}
+use Rattle.server_desk.specs.Ahead.{word_of_number}
+use Rattle.oidc_replay.specs.Words.{words_after}
 use Rattle.oidc_replay.specs.Bound.{GivesTokens, AsksWithToken, EachAccessTokenIsBound}
 use Rattle.oidc_replay.specs.Play.{Played, play_on, play_of}
 use Rattle.oidc_replay.specs.End.{end_of}
@@ -51,11 +52,11 @@ eight = 0 ∷ 0 ∷ 0 ∷ 0 ∷ 0 ∷ 0 ∷ 0 ∷ 0 ∷ []
 abbrev zeros : List ℕ
 zeros = eight ++ eight ++ eight
 
-word_258 : word_at zeros 258 ≡ zeros ++ (0 ∷ 0 ∷ 0 ∷ 0 ∷ 0 ∷ 0 ∷ 1 ∷ 2 ∷ [])
+word_258 : word_of_number zeros 258 ≡ zeros ++ (0 ∷ 0 ∷ 0 ∷ 0 ∷ 0 ∷ 0 ∷ 1 ∷ 2 ∷ [])
 word_258 = refl
 
 -- place 2, which follows one place, draws the words 5 to 8
-second_words : words_after zeros 1 ≡ word_at zeros 5 ∷ word_at zeros 6 ∷ word_at zeros 7 ∷ word_at zeros 8 ∷ []
+second_words : words_after zeros 1 ≡ word_of_number zeros 5 ∷ word_of_number zeros 6 ∷ word_of_number zeros 7 ∷ word_of_number zeros 8 ∷ []
 second_words = refl
 
 -- ---- traces; the newest line stands first
@@ -89,7 +90,7 @@ unfolding end_of play_of prepared rp_answer
 own = refl
 
 -- a request shows the word that is written, and none of the jar
-shown_word : end_of sample (told (Raw 2 (to.Party 0) Get (Some (codes "/")) (shown.Given (word_at zeros 1)) shown.Jar None None ∷ Begin 1 0 ∷ [])) ≡ end.Broken (Leaked 2)
+shown_word : end_of sample (told (Raw 2 (to.Party 0) Get (Some (codes "/")) (shown.Given (word_of_number zeros 1)) shown.Jar None None ∷ Begin 1 0 ∷ [])) ≡ end.Broken (Leaked 2)
 unfolding end_of play_of prepared rp_answer raw_sent
 shown_word = refl
 

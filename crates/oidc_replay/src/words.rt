@@ -3,18 +3,8 @@
 ghost use Rattle.std.specs.Prelude.{◌≡◌, ◌≤◌, ◌^◌};
 ghost use Rattle.oidc_replay.specs.Words as spec;
 
+use server_desk::word_of_number;
 use sso_base::Word;
-
-// The word of a number: the seed, then the number in 8 bytes, greatest first.
-fn word_at(seed: &[u8; 24], number: u64) -> Word
-    ensures { result ≡ spec.word_at seed.now number }
-{
-    let mut bytes = [0u8; 32];
-    let (front, behind) = bytes.split_at_mut(24);
-    front.copy_from_slice(seed);
-    behind.copy_from_slice(&number.to_be_bytes());
-    Word::new(bytes)
-}
 
 /// The four words of the place that follows so many places.
 pub(crate) fn words_after(seed: &[u8; 24], count: u64) -> [Word; 4]
@@ -22,9 +12,9 @@ pub(crate) fn words_after(seed: &[u8; 24], count: u64) -> [Word; 4]
     ensures { result ≡ spec.words_after seed.now count }
 {
     [
-        word_at(seed, 4 * count + 1),
-        word_at(seed, 4 * count + 2),
-        word_at(seed, 4 * count + 3),
-        word_at(seed, 4 * count + 4),
+        word_of_number(seed, 4 * count + 1),
+        word_of_number(seed, 4 * count + 2),
+        word_of_number(seed, 4 * count + 3),
+        word_of_number(seed, 4 * count + 4),
     ]
 }

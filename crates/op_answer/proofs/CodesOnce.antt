@@ -18,9 +18,10 @@ use Rattle.op_exchange.specs.declared.ask.OpAsk.TheVariants.{Token}
 use Rattle.op_exchange.specs.declared.reply.OpReply.{OpReply}
 use Rattle.op_exchange.specs.declared.reply.OpReply.TheVariants.{Tokens}
 use Rattle.op_exchange.specs.Values.{IsOpAsk}
+use Rattle.op_exchange.specs.Replied.{code_in}
 use Rattle.op_answer.specs.Past.{OpPair, OpPast}
 use Rattle.op_answer.specs.Sessions.{wish_by, session_used, session_of}
-use Rattle.op_answer.specs.Codes.{code_in, code_issued, code_made, code_made_by, code_kept, code_named, codes_issued, held_code, is_tokens}
+use Rattle.op_answer.specs.Codes.{code_issued, code_made, code_made_by, code_kept, code_named, codes_issued, held_code, is_tokens}
 use Rattle.op_answer.specs.Answering.{op_answer}
 use Rattle.op_answer.specs.Causes.{TokensCause}
 use Rattle.op_answer.specs.Legal.{IsLegalOp, place_redeemed, code_redeemed}

@@ -19,11 +19,11 @@ use Rattle.op_exchange.specs.declared.ask.OpAsk.{OpAsk}
 use Rattle.op_exchange.specs.declared.ask.OpAsk.TheVariants as ask
 use Rattle.op_exchange.specs.declared.reply.OpReply.{OpReply}
 use Rattle.op_exchange.specs.declared.reply.OpReply.TheVariants as reply
-use Rattle.op_exchange.specs.Replied.{session_given}
+use Rattle.op_exchange.specs.Replied.{session_given, code_in}
 use Rattle.op_answer.specs.Past.{OpPair, OpPast}
 use Rattle.op_answer.specs.Turns.{BeginsTurn, turns, turn_started, turn_made, turn_kept}
 use Rattle.op_answer.specs.Sessions.{sessions, session_set, signed_user, wish_by, session_used, session_by, live_in, session_made_by, session_made, session_kept, session_of}
-use Rattle.op_answer.specs.Codes.{codes_issued, code_in, code_issued, code_made_by, code_made, code_kept, code_of}
+use Rattle.op_answer.specs.Codes.{codes_issued, code_issued, code_made_by, code_made, code_kept, code_of}
 use Rattle.op_answer.specs.AccessTokens.{accesses, access_issued, access_answered, access_redeemed, access_given, access_made, access_kept}
 use Rattle.op_answer.specs.Answering.{op_answer}
 use Rattle.op_answer.specs.Causes.{LoginPageCause, ConsentPageCause}

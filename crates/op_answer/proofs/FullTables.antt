@@ -15,15 +15,15 @@ use Rattle.op_exchange.specs.declared.ask.OpAsk.TheVariants as ask
 use Rattle.op_exchange.specs.declared.reply.OpReply.{OpReply}
 use Rattle.op_exchange.specs.declared.reply.OpReply.TheVariants as reply
 use Rattle.op_exchange.specs.Asks.{is_prepared}
-use Rattle.op_exchange.specs.Replied.{session_given}
+use Rattle.op_exchange.specs.Replied.{session_given, code_in, access_in}
 use Rattle.op_issue.specs.Issued.{if_wished}
 use Rattle.op_answer.specs.Past.{OpPast}
 use Rattle.op_answer.specs.Turns.{BeginsTurn, live_turns}
 use Rattle.op_answer.specs.Sessions.{live_sessions}
-use Rattle.op_answer.specs.Codes.{code_in, held_codes}
+use Rattle.op_answer.specs.Codes.{held_codes}
 use Rattle.op_answer.specs.AccessTokens.{live_accesses}
 use Rattle.op_answer.specs.Replies.{session_renewed, session_left, session_after}
-use Rattle.op_answer.specs.Room.{sessions_beside, lacks_turn, lacks_new_session, lacks_session, lacks_code, lacks_access, access_in, lacks_room}
+use Rattle.op_answer.specs.Room.{sessions_beside, lacks_turn, lacks_new_session, lacks_session, lacks_code, lacks_access, lacks_room}
 use Rattle.op_answer.specs.Answering.{op_reply, op_answer}
 use Rattle.op_answer.specs.Causes.{AnsweredCause, TokensCause}
 use Rattle.op_answer.specs.FullTables.{NoPlace, NoSessionPlace, NoCodePlace, NoAccessPlace, LacksPlace, FullCause}

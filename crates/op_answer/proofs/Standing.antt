@@ -7,8 +7,8 @@ use Rattle.op_exchange.specs.declared.reply.OpReply.{OpReply}
 use Rattle.op_exchange.specs.declared.reply.OpReply.TheVariants.{NotHere, Full}
 use Rattle.op_answer.specs.Past.{OpPast}
 use Rattle.op_exchange.specs.Asks.{is_prepared}
-use Rattle.op_answer.specs.Codes.{code_in}
-use Rattle.op_answer.specs.Room.{lacks_turn, lacks_session, lacks_code, lacks_access, access_in, lacks_room}
+use Rattle.op_exchange.specs.Replied.{code_in, access_in}
+use Rattle.op_answer.specs.Room.{lacks_turn, lacks_session, lacks_code, lacks_access, lacks_room}
 use Rattle.op_answer.specs.Answering.{op_reply, op_answer}
 use Rattle.op_answer.specs.Causes.{is_own, Stood}
 

@@ -1,5 +1,5 @@
 -- Logout tokens and ID Tokens, as the provider writes them, stay apart, and from request objects.
-use Rattle.std.proofs.Common.{◌≡◌, ℕ, true, false, List, [], ◌∷◌, zero, suc, None, Some, Option, Ok, codes, refl, sym, ◌∙◌, subst, true≢false}
+use Rattle.std.proofs.Common.{◌≡◌, ℕ, false, List, [], ◌∷◌, zero, suc, None, Some, Option, Ok, codes, refl, sym, ◌∙◌, subst, true≢false}
 use Rattle.std.specs.List.{AllByRecursion, slice_get}
 use Rattle.std.specs.Str.{bytes_eq}
 use Rattle.std.proofs.lemmas.Slice.Eq.{bytes_eq-Decides}

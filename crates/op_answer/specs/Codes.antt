@@ -15,7 +15,8 @@ use Rattle.code_grant.specs.Redeeming.{redeem_of}
 use Rattle.op_exchange.specs.declared.ask.OpAsk.{OpAsk}
 use Rattle.op_exchange.specs.declared.ask.OpAsk.TheVariants.{Token}
 use Rattle.op_exchange.specs.declared.reply.OpReply.{OpReply}
-use Rattle.op_exchange.specs.declared.reply.OpReply.TheVariants.{Answered, Tokens}
+use Rattle.op_exchange.specs.declared.reply.OpReply.TheVariants.{Tokens}
+use Rattle.op_exchange.specs.Replied.{code_in}
 use Rattle.op_answer.specs.Past.{OpPair, OpPast}
 use Rattle.op_answer.specs.Sessions.{wish_by, session_used, session_of}
 
@@ -24,10 +25,6 @@ use Rattle.op_answer.specs.Sessions.{wish_by, session_used, session_of}
 abbrev pub code_issued : ℕ → ℕ → Word → Wish → SessionRow → CodeRow
 code_issued by at w wish session =
     record { word = w; wish = wish; user = session.user; sid = session.sid; auth_time = session.auth_time; issued = at; spent = false; by = by }
-
-abbrev pub code_in : OpReply → Option Word
-code_in (Answered answer given) = answer.code
-code_in reply = None
 
 -- A code is made by an answer with that code. It is of the answer's wish and session.
 abbrev pub code_made_by : ℕ → ℕ → Option Word → Option Wish → Option SessionRow → Option CodeRow

@@ -11,14 +11,14 @@ use Rattle.op_exchange.specs.declared.ask.OpAsk.{OpAsk}
 use Rattle.op_exchange.specs.declared.ask.OpAsk.TheVariants.{Login}
 use Rattle.op_exchange.specs.declared.reply.OpReply.{OpReply}
 use Rattle.op_exchange.specs.Asks.{is_prepared}
-use Rattle.op_exchange.specs.Replied.{session_given}
+use Rattle.op_exchange.specs.Replied.{session_given, code_in, access_in}
 use Rattle.op_answer.specs.Past.{OpPast}
 use Rattle.op_answer.specs.Turns.{BeginsTurn, live_turns}
 use Rattle.op_answer.specs.Sessions.{live_sessions}
-use Rattle.op_answer.specs.Codes.{code_in, held_codes}
+use Rattle.op_answer.specs.Codes.{held_codes}
 use Rattle.op_answer.specs.AccessTokens.{live_accesses}
 use Rattle.op_answer.specs.Replies.{session_renewed}
-use Rattle.op_answer.specs.Room.{sessions_beside, access_in}
+use Rattle.op_answer.specs.Room.{sessions_beside}
 use Rattle.op_answer.specs.Answering.{op_reply}
 
 -- no row of the word has a place beside these: they are as many as a table may hold, or one of them has the word

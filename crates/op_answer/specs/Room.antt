@@ -10,12 +10,12 @@ use Rattle.held_rows.specs.Held.{most_rows, is_full}
 use Rattle.op_exchange.specs.declared.ask.OpAsk.{OpAsk}
 use Rattle.op_exchange.specs.declared.ask.OpAsk.TheVariants as ask
 use Rattle.op_exchange.specs.declared.reply.OpReply.{OpReply}
-use Rattle.op_exchange.specs.declared.reply.OpReply.TheVariants.{LoginPage, ConsentPage, Answered, Tokens, Full}
-use Rattle.op_exchange.specs.Replied.{session_given}
+use Rattle.op_exchange.specs.declared.reply.OpReply.TheVariants.{LoginPage, ConsentPage, Full}
+use Rattle.op_exchange.specs.Replied.{session_given, code_in, access_in}
 use Rattle.op_answer.specs.Past.{OpPast}
 use Rattle.op_answer.specs.Turns.{live_turns}
 use Rattle.op_answer.specs.Sessions.{live_sessions}
-use Rattle.op_answer.specs.Codes.{code_in, held_codes}
+use Rattle.op_answer.specs.Codes.{held_codes}
 use Rattle.op_answer.specs.AccessTokens.{live_accesses}
 use Rattle.op_answer.specs.Replies.{session_renewed}
 
@@ -46,11 +46,6 @@ lacks_code past at (Some w) = is_full most_rows code_name w (held_codes past at)
 abbrev pub lacks_access : OpPast → ℕ → Option Word → Bool
 lacks_access past at None = false
 lacks_access past at (Some w) = is_full most_rows access_name w (live_accesses past at)
-
-abbrev pub access_in : OpReply → Option Word
-access_in (Answered answer given) = answer.access
-access_in (Tokens access id) = Some access
-access_in reply = None
 
 abbrev pub lacks_room : OpPast → Entry OpAsk → OpReply → Bool
 lacks_room past e reply =

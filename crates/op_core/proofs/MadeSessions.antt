@@ -18,12 +18,12 @@ use Rattle.op_exchange.specs.declared.ask.OpAsk.{OpAsk}
 use Rattle.op_exchange.specs.declared.ask.OpAsk.TheVariants as ask
 use Rattle.op_exchange.specs.declared.reply.OpReply.{OpReply}
 use Rattle.op_exchange.specs.declared.reply.OpReply.TheVariants as reply
+use Rattle.op_exchange.specs.Replied.{code_in, access_in}
 use Rattle.op_answer.specs.Past.{OpPast}
 use Rattle.op_answer.specs.Turns.{turn_of, live_turn}
 use Rattle.op_answer.specs.Sessions.{session_set, signed_user, wish_by, client_of_wish, client_answered, and_client, session_before, live_in, session_made_by, session_made, session_kept, sessions, live_sessions}
 use Rattle.op_answer.specs.Replies.{session_renewed, session_left, session_after}
-use Rattle.op_answer.specs.Room.{sessions_beside, lacks_turn, lacks_session, lacks_new_session, lacks_code, lacks_access, access_in}
-use Rattle.op_answer.specs.Codes.{code_in}
+use Rattle.op_answer.specs.Room.{sessions_beside, lacks_turn, lacks_session, lacks_new_session, lacks_code, lacks_access}
 use Rattle.op_answer.specs.Answering.{op_answer}
 use Rattle.op_answer.specs.Causes.{is_own, ConsentPageCause, AnsweredCause, RefusedCause}
 use Rattle.op_core.specs.Making.{wish_found, client_found, session_with, session_put_by, session_put}

@@ -13,10 +13,11 @@ use Rattle.op_exchange.specs.declared.ask.OpAsk.{OpAsk}
 use Rattle.op_exchange.specs.declared.ask.OpAsk.TheVariants.{Authorize, Login, Consent, Token}
 use Rattle.op_exchange.specs.declared.reply.OpReply.{OpReply}
 use Rattle.op_exchange.specs.declared.reply.OpReply.TheVariants.{Answered, Tokens}
+use Rattle.op_exchange.specs.Replied.{code_in}
 use Rattle.op_answer.specs.Past.{OpPast}
 use Rattle.op_answer.specs.Turns.{live_turn}
 use Rattle.op_answer.specs.Sessions.{live_session, session_set, is_answered, client_of_wish, and_client}
-use Rattle.op_answer.specs.Codes.{code_in, code_made_by, held_code}
+use Rattle.op_answer.specs.Codes.{code_made_by, held_code}
 use Rattle.op_answer.specs.AccessTokens.{access_answered, access_redeemed}
 use Rattle.op_answer.specs.Replies.{session_after}
 

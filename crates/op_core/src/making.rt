@@ -46,16 +46,6 @@ fn turn_begun(
     })
 }
 
-/// The code of a response.
-pub(crate) fn code_in(reply: &OpReply) -> Option<Word>
-    ensures { result ≡ codes.code_in reply.now }
-{
-    match reply {
-        OpReply::Answered { answer, .. } => answer.code,
-        _ => None,
-    }
-}
-
 // The session, with the client that was answered.
 fn session_with(client: Option<u32>, session: &SessionRow) -> SessionRow
     requires { IfSome client (λ n. n < 128) }
@@ -306,7 +296,7 @@ impl OpCore {
         ensures user { IfOk result (λ row. IfSome row (λ code. code.user < 512)) }
         ensures client { IfOk result (λ row. IfSome row (λ code. code.wish.client < 128)) }
     {
-        let Some(word) = code_in(reply) else {
+        let Some(word) = reply.code() else {
             return Ok(None);
         };
         let Some(wish) = self.wish_found(entry.at, &entry.ask) else {

@@ -9,22 +9,10 @@ ghost use Rattle.op_answer.specs.Sessions.{live_sessions};
 ghost use Rattle.op_answer.specs.Replies.{session_renewed};
 ghost use Rattle.op_answer.specs.Room as spec;
 
-use crate::making::code_in;
 use crate::state::OpCore;
 use code_grant::Table;
 use op_exchange::{OpAsk, OpReply};
 use sso_base::{Entry, Moment, Word};
-
-// The access token that the reply has.
-fn access_in(reply: &OpReply) -> Option<Word>
-    ensures { result ≡ spec.access_in reply.now }
-{
-    match reply {
-        OpReply::Answered { answer, .. } => answer.access,
-        OpReply::Tokens { access, .. } => Some(*access),
-        _ => None,
-    }
-}
 
 impl OpCore {
     // Whether there is no room for the turn that an authorization request makes.
@@ -137,7 +125,7 @@ impl OpCore {
     {
         self.lacks_turn_of(entry.at, &entry.ask, reply)
             || self.lacks_session_of(entry.at, &entry.ask, reply)
-            || self.lacks_code_of(entry.at, code_in(reply))
-            || self.lacks_access_of(entry.at, access_in(reply))
+            || self.lacks_code_of(entry.at, reply.code())
+            || self.lacks_access_of(entry.at, reply.access())
     }
 }

@@ -1,5 +1,5 @@
 -- The definitions over asks and replies, computed: what an ask weighs, which asks a request can give, which hold values of their
--- types, and what a reply ends and sets.
+-- types, and what a reply ends, sets and has.
 use Rattle.std.proofs.Common.{◌≡◌, ◌<◌, ◌^◌, ℕ, true, false, [], ◌∷◌, replicate, Some, None, Ok, Err, codes, refl, arith}
 use Rattle.std.specs.Str.{is_utf8, chars}
 use Rattle.std.proofs.lemmas.Str.{is_utf8-from_IsUtf8}
@@ -19,7 +19,7 @@ use Rattle.op_exchange.specs.declared.reply.OpReply.TheVariants as reply
 use Rattle.op_exchange.specs.Asks.{is_prepared}
 use Rattle.op_exchange.specs.Values.{IsOpAsk}
 use Rattle.op_exchange.specs.Weight.{ask_weight}
-use Rattle.op_exchange.specs.Replied.{ends_turn, session_given}
+use Rattle.op_exchange.specs.Replied.{ends_turn, session_given, code_in, access_in}
 use Rattle.op_exchange.proofs.Sample.{word, sample, wish, profile_scopes, callback_uri}
 
 abbrev grant : Grant
@@ -147,3 +147,18 @@ session-of_a_refusal = refl
 
 no_session-of_a_login_page : session_given (reply.LoginPage (word 6) (word 5) false) ≡ None
 no_session-of_a_login_page = refl
+
+code-of_an_answer : code_in (reply.Answered answer None) ≡ Some (word 4)
+code-of_an_answer = refl
+
+no_code-of_a_token_response : code_in (reply.Tokens (word 6) (codes "id")) ≡ None
+no_code-of_a_token_response = refl
+
+access-of_an_answer : access_in (reply.Answered (record answer { access = Some (word 6) }) None) ≡ Some (word 6)
+access-of_an_answer = refl
+
+access-of_a_token_response : access_in (reply.Tokens (word 6) (codes "id")) ≡ Some (word 6)
+access-of_a_token_response = refl
+
+no_access-of_a_page : access_in (reply.LoginPage (word 6) (word 5) false) ≡ None
+no_access-of_a_page = refl

@@ -138,6 +138,27 @@ impl OpReply {
         }
     }
 
+    /// The code that the reply has: that of an authorization response.
+    pub fn code(&self) -> Option<Word>
+        ensures { result ≡ spec.code_in self.now }
+    {
+        match self {
+            OpReply::Answered { answer, .. } => answer.code,
+            _ => None,
+        }
+    }
+
+    /// The access token that the reply has: that of an authorization response or of a token response.
+    pub fn access(&self) -> Option<Word>
+        ensures { result ≡ spec.access_in self.now }
+    {
+        match self {
+            OpReply::Answered { answer, .. } => answer.access,
+            OpReply::Tokens { access, .. } => Some(*access),
+            _ => None,
+        }
+    }
+
     /// An equal reply.
     pub fn copy(&self, alloc: Global) -> Result<OpReply, NoMemory>
         ensures { IfOk result (λ reply. reply ≡ self.now) }

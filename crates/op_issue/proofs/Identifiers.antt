@@ -5,7 +5,8 @@ use Rattle.std.proofs.lemmas.Fmt.{length-decimal-le, IsAscii-decimal, decimal_in
 use Rattle.json.proofs.Printed.Utf8.{IsUtf8-are_ascii}
 use Rattle.sso_base.specs.Words.{Word, Text, IsWord, word_text}
 use Rattle.sso_base.proofs.WordTexts.{word_text_inj, length-word_text}
-use Rattle.jws_compact.proofs.Ascii.{is_ascii, ascii_bytes, ascii_joined, spelled_ascii}
+use Rattle.sso_base.specs.Texts.{is_ascii}
+use Rattle.jws_compact.proofs.Ascii.{ascii_bytes, ascii_joined, spelled_ascii}
 use Rattle.op_issue.specs.LogoutTokens.{logout_id}
 
 -- the text of the word, a dot and the number

@@ -3,7 +3,8 @@ use Rattle.std.proofs.Common.{◌≡◌, ℕ, true, codes, refl}
 use Rattle.json.proofs.Printed.Utf8.{IsUtf8-are_ascii}
 use Rattle.sso_base.specs.Words.{Text}
 use Rattle.jws_compact.specs.declared.sealing.Typ.TheVariants.{LogoutJwt}
-use Rattle.jws_compact.proofs.Ascii.{is_ascii, sealed_ascii}
+use Rattle.sso_base.specs.Texts.{is_ascii}
+use Rattle.jws_compact.proofs.Ascii.{sealed_ascii}
 use Rattle.claim_set.specs.Reading.{claims_text}
 use Rattle.logout_token.specs.LogoutToken.{logout_members, logout_text}
 use Rattle.client_registry.specs.Configuration.{Configuration}

@@ -25,7 +25,7 @@ use Rattle.op_issue.proofs.SpelledTexts.{b64u_is_plain}
 use Rattle.op_issue.specs.declared.sign_out.SignOut.{SignOut}
 use Rattle.op_issue.specs.LogoutTokens.{logout_id, wants_sid, logout_claims, issued_logout}
 use Rattle.op_issue.specs.Ending.{MayEnd}
-use Rattle.jws_compact.proofs.Ascii.{is_ascii}
+use Rattle.sso_base.specs.Texts.{is_ascii}
 use Rattle.op_issue.proofs.Identifiers.{id_text, short_id}
 
 -- ---- how long the names and the values are

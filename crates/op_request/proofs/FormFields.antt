@@ -7,12 +7,12 @@ use Rattle.sso_base.specs.Words.{Text}
 use Rattle.sso_base.proofs.Decided.{above_false}
 use Rattle.sso_base.specs.Texts.{has_text}
 use Rattle.request_params.specs.Form.{Pair}
-use Rattle.request_params.specs.Reading.{value_of, Has}
+use Rattle.request_params.specs.Reading.{value_of, Has, StandsTwice}
 use Rattle.request_params.proofs.NameLaws.{same_text, text_same}
 use Rattle.request_params.proofs.Values.{has_value, has_its_name, value_there}
 use Rattle.token_endpoint.specs.Granted.{HasNo}
 use Rattle.op_request.specs.PostedForms.{count, stands_twice, repeats_one, field}
-use Rattle.op_request.specs.Requests.{StandsTwice, RepeatsName, IsField}
+use Rattle.op_request.specs.Requests.{RepeatsName, IsField}
 
 over : (n : ℕ) → 1 < n → nat_lt 1 n ≡ true
 over n h = grind (arith, common_steps)

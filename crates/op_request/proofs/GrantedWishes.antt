@@ -13,6 +13,7 @@ use Rattle.request_params.specs.Reading.{HasRequest}
 use Rattle.request_params.specs.Merging.{request_merged, IsMerged}
 use Rattle.request_params.proofs.Requests.{read-request, request-read}
 use Rattle.request_params.proofs.MergeLaws.{merged-is, is-merged}
+use Rattle.request_params.specs.Form.{form_of}
 use Rattle.auth_request.specs.declared.wish.Wish.{Wish}
 use Rattle.auth_request.specs.declared.wish.Verdict.TheVariants.{Grant}
 use Rattle.auth_request.specs.Parameters.{asking_of}
@@ -26,7 +27,7 @@ use Rattle.request_object.proofs.Objects.{request_read-object, object-request_re
 use Rattle.token_endpoint.proofs.Clients.{place_found, place_of_client}
 use Rattle.op_exchange.specs.declared.ask.OpAsk.TheVariants.{Authorize}
 use Rattle.op_request.specs.declared.routes.Endpoint.TheVariants.{Authorization}
-use Rattle.op_request.specs.Prepared.{client_named, with_object, judged_whole, judged_by, judged, parameters_of, authorization_asked, prepared}
+use Rattle.op_request.specs.Prepared.{client_named, with_object, judged_whole, judged_by, judged, authorization_asked, prepared}
 use Rattle.op_request.specs.Requests.{IsTo, IsWhole, IsGranted}
 use Rattle.op_request.proofs.Routing.{prepared_at}
 use Rattle.op_request.proofs.LedTo.{led_to}
@@ -141,11 +142,11 @@ judged_granted : (c : Configuration) (beside : Params) (w : Wish) → judged c b
 judged_granted c beside w h = granted_by c beside w (client_named c beside) beside.request refl refl h
 
 pub wish_granted : (c : Configuration) (request : Ask) (w : Wish) (browser session : Option Word) → prepared c request ≡ Authorize (Grant w) browser session
-    → IsGranted c (parameters_of request.method request) w
+    → IsGranted c (form_of request.method request) w
 wish_granted c request w browser session h =
     let l = led_to c request (Authorize (Grant w) browser session) h in
     let j = judged_granted c l.params w (sym l.verdict) in
-    record { beside = l.params; read = read-request (parameters_of request.method request) l.params l.read; whole = j.whole; is_whole = j.is_whole; granted = j.granted }
+    record { beside = l.params; read = read-request (form_of request.method request) l.params l.read; whole = j.whole; is_whole = j.is_whole; granted = j.granted }
 
 -- ---- the other way round
 
@@ -161,14 +162,14 @@ by_whole c beside whole apart (inr (inside, has, merged)) =
     ∙ ap (judged_by c beside (Some has.client)) has.stands
     ∙ ap (judged_whole c beside) (accepts c has.client beside inside whole has.object has.is_object merged)
 
-pub judged_request : (c : Configuration) (request : Ask) (beside whole : Params) → ClientsAreApart c → IsTo c request Authorization → HasRequest (parameters_of request.method request) beside → IsWhole c beside whole
+pub judged_request : (c : Configuration) (request : Ask) (beside whole : Params) → ClientsAreApart c → IsTo c request Authorization → HasRequest (form_of request.method request) beside → IsWhole c beside whole
     → prepared c request ≡ Authorize (judgement c whole false) request.first request.second
 judged_request c request beside whole apart to read is =
     prepared_at c request Authorization to
-    ∙ ap (authorization_asked c request) (request-read (parameters_of request.method request) beside read)
+    ∙ ap (authorization_asked c request) (request-read (form_of request.method request) beside read)
     ∙ ap (λ v. Authorize v request.first request.second) (by_whole c beside whole apart is)
 
-pub granted_wish : (c : Configuration) (request : Ask) (w : Wish) → ClientsAreApart c → IsTo c request Authorization → IsGranted c (parameters_of request.method request) w
+pub granted_wish : (c : Configuration) (request : Ask) (w : Wish) → ClientsAreApart c → IsTo c request Authorization → IsGranted c (form_of request.method request) w
     → prepared c request ≡ Authorize (Grant w) request.first request.second
 granted_wish c request w apart to g =
     judged_request c request g.beside g.whole apart to g.read g.is_whole ∙ ap (λ v. Authorize v request.first request.second) g.granted
@@ -182,12 +183,12 @@ refused_at c client beside object none (Some whole) is =
     let a = accepted c client beside object whole is in absurd (none a.inside whole a.is_object a.merged)
 
 pub object_refused : (c : Configuration) (request : Ask) (beside : Params) (n : ℕ) (client : Client) (object : Text) → ClientsAreApart c → IsTo c request Authorization
-    → HasRequest (parameters_of request.method request) beside → slice_get c.clients n ≡ Some client → beside.client_id ≡ Some client.id → beside.request ≡ Some object
+    → HasRequest (form_of request.method request) beside → slice_get c.clients n ≡ Some client → beside.client_id ≡ Some client.id → beside.request ≡ Some object
     → ((inside whole : Params) → IsRequestObject client c.provider.issuer object inside → IsMerged beside inside whole → ⊥)
     → prepared c request ≡ Authorize (judgement c beside true) request.first request.second
 object_refused c request beside n client object apart to read there named stands none =
     prepared_at c request Authorization to
-    ∙ ap (authorization_asked c request) (request-read (parameters_of request.method request) beside read)
+    ∙ ap (authorization_asked c request) (request-read (form_of request.method request) beside read)
     ∙ ap (λ v. Authorize v request.first request.second)
     (ap (λ k. judged_by c beside k beside.request) (named_is c beside n client apart there named)
     ∙ ap (judged_by c beside (Some client)) stands

@@ -7,6 +7,7 @@ use Rattle.client_registry.specs.Configuration.{Configuration}
 use Rattle.request_params.specs.declared.params.Params.{Params}
 use Rattle.request_params.specs.declared.no.AskNo.{AskNo}
 use Rattle.request_params.specs.Reading.{request_read}
+use Rattle.request_params.specs.Form.{form_of}
 use Rattle.auth_request.specs.declared.wish.Verdict.{Verdict}
 use Rattle.token_endpoint.specs.Request.{grant_read}
 use Rattle.op_exchange.specs.declared.ask.OpAsk.{OpAsk}
@@ -16,12 +17,12 @@ use Rattle.op_request.specs.declared.routes.Endpoint.{Endpoint}
 use Rattle.op_request.specs.declared.routes.Endpoint.TheVariants as endpoint
 use Rattle.op_request.specs.Routes.{endpoint_asked}
 use Rattle.op_request.specs.PostedForms.{login_names, consent_names, fields_of, repeats_one, field}
-use Rattle.op_request.specs.Prepared.{judged, parameters_of, signed_user, authorization_asked, asked_at, prepared}
+use Rattle.op_request.specs.Prepared.{judged, signed_user, authorization_asked, asked_at, prepared}
 use Rattle.op_request.specs.Requests.{own_endpoint, HasCookies}
 
 module _ (c : Configuration) (request : Ask) where
   abbrev pub parameters : Result Params AskNo
-  parameters = request_read (parameters_of request.method request)
+  parameters = request_read (form_of request.method request)
 
   pub record LedToVerdict (v : Verdict) : Type 0 where
     pub asked : endpoint_asked c.prefix request ≡ Some endpoint.Authorization

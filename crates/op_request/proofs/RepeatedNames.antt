@@ -6,12 +6,13 @@ use Rattle.sso_base.specs.Words.{Text, word_of_text}
 use Rattle.sso_base.specs.declared.http.Ask.{Ask}
 use Rattle.client_registry.specs.Configuration.{Configuration}
 use Rattle.request_params.proofs.Requests.{refused-repeats, repeats-refused}
+use Rattle.request_params.specs.Form.{form_of}
 use Rattle.op_exchange.specs.declared.ask.OpAsk.TheVariants as ask
 use Rattle.op_exchange.specs.Fields.{turn_field, user_field, password_field, agree_field, agree_value}
 use Rattle.op_request.specs.declared.routes.Endpoint.{Endpoint}
 use Rattle.op_request.specs.declared.routes.Endpoint.TheVariants as endpoint
 use Rattle.op_request.specs.PostedForms.{login_names, consent_names, fields_of, field}
-use Rattle.op_request.specs.Prepared.{parameters_of, signed_user, authorization_asked, prepared}
+use Rattle.op_request.specs.Prepared.{signed_user, authorization_asked, prepared}
 use Rattle.op_request.specs.Requests.{own_endpoint, IsTo, RepeatsField, RepeatsParameter, RepeatsAName}
 use Rattle.op_request.proofs.FormFields.{one_repeats, repeats_some}
 use Rattle.op_request.proofs.Routing.{to_asked, asked_to, prepared_at}
@@ -21,7 +22,7 @@ module _ (c : Configuration) (request : Ask) where
   parameter_twice : RepeatsParameter c request → prepared c request ≡ ask.Twice
   parameter_twice r =
       prepared_at c request endpoint.Authorization r.to
-      ∙ ap (authorization_asked c request) (repeats-refused (parameters_of request.method request) r.name r.repeats)
+      ∙ ap (authorization_asked c request) (repeats-refused (form_of request.method request) r.name r.repeats)
 
   login_twice : RepeatsField c request endpoint.Login login_names → prepared c request ≡ ask.Twice
   login_twice r =
@@ -42,7 +43,7 @@ module _ (c : Configuration) (request : Ask) where
 
   unread_repeats : Unread c request → RepeatsParameter c request
   unread_repeats u =
-      let r = refused-repeats (parameters_of request.method request) u.why u.refused in
+      let r = refused-repeats (form_of request.method request) u.why u.refused in
       record { to = asked_to c request endpoint.Authorization u.asked; name = r.0; repeats = r.2 }
 
   refused_repeats : (e : Endpoint) (names : List Text) → Refused c request e names → RepeatsField c request e names

@@ -4,7 +4,7 @@ use Rattle.std.specs.Prelude.{ℕ, Bool, nat_lt, List, [], ◌∷◌, length, fi
 use Rattle.std.specs.List.{list_any}
 use Rattle.std.specs.Str.{bytes_eq}
 use Rattle.sso_base.specs.Words.{Text}
-use Rattle.request_params.specs.Form.{Pair, form_pairs}
+use Rattle.request_params.specs.Form.{Pair, form_pairs, posted}
 use Rattle.request_params.specs.Reading.{value_of}
 use Rattle.op_exchange.specs.Fields.{turn_field, user_field, password_field, agree_field}
 
@@ -13,10 +13,6 @@ login_names = turn_field ∷ user_field ∷ password_field ∷ []
 
 abbrev pub consent_names : List Text
 consent_names = turn_field ∷ agree_field ∷ []
-
--- the form that was posted; an absent one is empty
-abbrev pub posted : Option (List ℕ) → List ℕ
-posted body = unwrap_or body []
 
 -- the fields of the form that was posted
 abbrev pub fields_of : Option (List ℕ) → List Pair

@@ -3,8 +3,6 @@ use Rattle.std.specs.Prelude.{ℕ, Bool, true, false, List, Option, Some, None, 
 use Rattle.std.specs.Result.{result_ok}
 use Rattle.std.specs.Str.{bytes_eq}
 use Rattle.sso_base.specs.Words.{Text, word_of_text}
-use Rattle.sso_base.specs.declared.http.Method.{Method}
-use Rattle.sso_base.specs.declared.http.Method.TheVariants.{Post}
 use Rattle.sso_base.specs.declared.http.Ask.{Ask}
 use Rattle.hmac256.specs.Hmac.{proof_of}
 use Rattle.client_registry.specs.declared.records.User.{User}
@@ -14,7 +12,7 @@ use Rattle.client_registry.specs.Configuration.{Configuration}
 use Rattle.client_registry.specs.Numbers.{user_at, client_at}
 use Rattle.request_params.specs.declared.params.Params.{Params}
 use Rattle.request_params.specs.declared.no.AskNo.{AskNo}
-use Rattle.request_params.specs.Form.{Pair}
+use Rattle.request_params.specs.Form.{Pair, form_of}
 use Rattle.request_params.specs.Reading.{request_read}
 use Rattle.request_params.specs.Merging.{request_merged}
 use Rattle.auth_request.specs.declared.wish.Verdict.{Verdict}
@@ -28,7 +26,7 @@ use Rattle.op_exchange.specs.Fields.{turn_field, user_field, password_field, agr
 use Rattle.op_request.specs.declared.routes.Endpoint.{Endpoint}
 use Rattle.op_request.specs.declared.routes.Endpoint.TheVariants as endpoint
 use Rattle.op_request.specs.Routes.{endpoint_asked}
-use Rattle.op_request.specs.PostedForms.{login_names, consent_names, posted, fields_of, repeats_one, field}
+use Rattle.op_request.specs.PostedForms.{login_names, consent_names, fields_of, repeats_one, field}
 
 -- ---- an authorization request (OpenID Connect Core 1.0, 3.1.2.1)
 
@@ -59,11 +57,6 @@ judged c params = judged_by c params (client_named c params) params.request
 abbrev pub authorization_asked : Configuration → Ask → Result Params AskNo → OpAsk
 authorization_asked c request (Ok params) = ask.Authorize (judged c params) request.first request.second
 authorization_asked c request (Err why) = ask.Twice
-
--- the parameters stand in the body of a POST, else in the query (Core 3.1.2.1)
-abbrev pub parameters_of : Method → Ask → List ℕ
-parameters_of Post request = posted request.body
-parameters_of method request = request.query
 
 -- ---- the forms of the provider's own pages
 
@@ -99,7 +92,7 @@ abbrev pub asked_at : Configuration → Ask → Option Endpoint → OpAsk
 asked_at c request None = ask.NotHere
 asked_at c request (Some endpoint.Metadata) = ask.Metadata
 asked_at c request (Some endpoint.Keys) = ask.Keys
-asked_at c request (Some endpoint.Authorization) = authorization_asked c request (request_read (parameters_of request.method request))
+asked_at c request (Some endpoint.Authorization) = authorization_asked c request (request_read (form_of request.method request))
 asked_at c request (Some endpoint.Login) = login_asked c request (fields_of request.body)
 asked_at c request (Some endpoint.Consent) = consent_asked request (fields_of request.body)
 asked_at c request (Some endpoint.Token) = ask.Token (grant_read c request.auth request.body)

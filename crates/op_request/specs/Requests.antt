@@ -9,8 +9,8 @@ use Rattle.client_registry.specs.declared.records.Client.{Client}
 use Rattle.client_registry.specs.Configuration.{Configuration}
 use Rattle.client_registry.specs.Numbers.{user_at, client_at}
 use Rattle.request_params.specs.declared.params.Params.{Params}
-use Rattle.request_params.specs.Form.{Pair}
-use Rattle.request_params.specs.Reading.{kept_pairs, Has, HasRequest, RepeatsFirst}
+use Rattle.request_params.specs.Form.{Pair, form_of}
+use Rattle.request_params.specs.Reading.{kept_pairs, Has, HasRequest, RepeatsFirst, StandsTwice}
 use Rattle.request_params.specs.Merging.{IsMerged}
 use Rattle.auth_request.specs.declared.wish.Wish.{Wish}
 use Rattle.auth_request.specs.declared.wish.Verdict.TheVariants.{Grant}
@@ -24,7 +24,6 @@ use Rattle.op_request.specs.declared.routes.Endpoint.{Endpoint}
 use Rattle.op_request.specs.declared.routes.Endpoint.TheVariants as endpoint
 use Rattle.op_request.specs.Routes.{Route, routes_of}
 use Rattle.op_request.specs.PostedForms.{login_names, consent_names, fields_of}
-use Rattle.op_request.specs.Prepared.{parameters_of}
 
 -- ---- where a request goes
 
@@ -52,15 +51,6 @@ own_endpoint ask.Twice = None
 own_endpoint ask.NotHere = None
 
 -- ---- fields of a form
-
--- two fields have the name
-pub record StandsTwice (name : Text) (fields : List Pair) : Type 0 where
-  pub before : List Pair
-  pub first : Text
-  pub between : List Pair
-  pub second : Text
-  pub after : List Pair
-  pub cut : fields ≡ before ++ (name, first) ∷ (between ++ (name, second) ∷ after)
 
 -- one of the names does
 pub record RepeatsName (names : List Text) (fields : List Pair) : Type 0 where
@@ -97,7 +87,7 @@ pub record RepeatsField (c : Configuration) (request : Ask) (e : Endpoint) (name
 pub record RepeatsParameter (c : Configuration) (request : Ask) : Type 0 where
   pub to : IsTo c request endpoint.Authorization
   pub name : Text
-  pub repeats : RepeatsFirst (kept_pairs (parameters_of request.method request)) name
+  pub repeats : RepeatsFirst (kept_pairs (form_of request.method request)) name
 
 abbrev pub RepeatsAName : Configuration → Ask → Type 0
 RepeatsAName c request = RepeatsParameter c request ⊎ (RepeatsField c request endpoint.Login login_names ⊎ RepeatsField c request endpoint.Consent consent_names)

@@ -10,6 +10,7 @@ ghost use Rattle.client_registry.specs.Registered.{IsRegistry};
 ghost use Rattle.request_params.specs.declared.params.Params.{Params};
 ghost use Rattle.request_params.specs.Reading.{Has, HasRequest};
 ghost use Rattle.request_params.specs.Merging.{IsMerged};
+ghost use Rattle.request_params.specs.Form.{form_of};
 ghost use Rattle.auth_request.specs.declared.wish.Wish.{Wish};
 ghost use Rattle.auth_request.specs.declared.wish.Verdict.TheVariants as verdict;
 ghost use Rattle.auth_request.specs.Judgement.{judgement};
@@ -20,7 +21,7 @@ ghost use Rattle.op_request.specs.declared.routes.Endpoint.{Endpoint};
 ghost use Rattle.op_request.specs.declared.routes.Endpoint.TheVariants as endpoint;
 ghost use Rattle.op_exchange.specs.Asks.{is_prepared};
 ghost use Rattle.op_request.specs.PostedForms.{login_names, fields_of, repeats_one, field};
-ghost use Rattle.op_request.specs.Prepared.{parameters_of, prepared};
+ghost use Rattle.op_request.specs.Prepared.{prepared};
 ghost use Rattle.op_request.specs.Requests.{IsTo, own_endpoint, ShowsPassword, IsTurn, RepeatsAName, IsWhole, IsGranted, HasCookies};
 
 /// A request finds nothing here exactly where it is to no endpoint: its path is not the provider's path with a path behind it that
@@ -57,10 +58,10 @@ pub fn forms_have_their_turn()
 /// request whose object is none, or does not fit what stands beside it, is judged as one whose object was refused, by what stands
 /// beside it.
 pub fn wishes_are_granted_by_the_judgement()
-    ensures granted { (c : Configuration) (request : Ask) (wish : Wish) (browser session : Option Word) → prepared c request ≡ ask.Authorize (verdict.Grant wish) browser session → IsGranted c (parameters_of request.method request) wish }
-    ensures judged { (c : Configuration) (request : Ask) (beside whole : Params) → IsRegistry c → IsTo c request endpoint.Authorization → HasRequest (parameters_of request.method request) beside → IsWhole c beside whole → prepared c request ≡ ask.Authorize (judgement c whole false) request.first request.second }
-    ensures grants { (c : Configuration) (request : Ask) (wish : Wish) → IsRegistry c → IsTo c request endpoint.Authorization → IsGranted c (parameters_of request.method request) wish → prepared c request ≡ ask.Authorize (verdict.Grant wish) request.first request.second }
-    ensures refused { (c : Configuration) (request : Ask) (beside : Params) (n : ℕ) (client : Client) (object : Text) → IsRegistry c → IsTo c request endpoint.Authorization → HasRequest (parameters_of request.method request) beside → client_at c n ≡ Some client → beside.client_id ≡ Some client.id → beside.request ≡ Some object → ((inside whole : Params) → IsRequestObject client c.provider.issuer object inside → IsMerged beside inside whole → ⊥) → prepared c request ≡ ask.Authorize (judgement c beside true) request.first request.second }
+    ensures granted { (c : Configuration) (request : Ask) (wish : Wish) (browser session : Option Word) → prepared c request ≡ ask.Authorize (verdict.Grant wish) browser session → IsGranted c (form_of request.method request) wish }
+    ensures judged { (c : Configuration) (request : Ask) (beside whole : Params) → IsRegistry c → IsTo c request endpoint.Authorization → HasRequest (form_of request.method request) beside → IsWhole c beside whole → prepared c request ≡ ask.Authorize (judgement c whole false) request.first request.second }
+    ensures grants { (c : Configuration) (request : Ask) (wish : Wish) → IsRegistry c → IsTo c request endpoint.Authorization → IsGranted c (form_of request.method request) wish → prepared c request ≡ ask.Authorize (verdict.Grant wish) request.first request.second }
+    ensures refused { (c : Configuration) (request : Ask) (beside : Params) (n : ℕ) (client : Client) (object : Text) → IsRegistry c → IsTo c request endpoint.Authorization → HasRequest (form_of request.method request) beside → client_at c n ≡ Some client → beside.client_id ≡ Some client.id → beside.request ≡ Some object → ((inside whole : Params) → IsRequestObject client c.provider.issuer object inside → IsMerged beside inside whole → ⊥) → prepared c request ≡ ask.Authorize (judgement c beside true) request.first request.second }
 {}
 
 /// An ask has the words of the request's cookies: the browser's is the first, the session's the second.

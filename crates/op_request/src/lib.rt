@@ -3,7 +3,7 @@
 //!
 //! | Module | What it has |
 //! |---|---|
-//! | `prepare` | [`prepare_op`] reads a request, and [`parameters_of`] finds the form of an authorization request |
+//! | `prepare` | [`prepare_op`] reads a request |
 //! | `routes` | which endpoint a request is to |
 //! | `posted_forms` | the fields of the forms that the provider's own pages post |
 //! | `law` | what holds of the asks that requests give, for the crates above |
@@ -19,4 +19,4 @@ pub use law::{
     prepared_asks_are_given_by_requests, repeated_names_are_refused,
     requests_are_told_by_method_and_path, wishes_are_granted_by_the_judgement,
 };
-pub use prepare::{parameters_of, prepare_op};
+pub use prepare::prepare_op;

@@ -4,19 +4,9 @@ ghost use Rattle.std.specs.Prelude.{◌≡◌, IfOk};
 ghost use Rattle.op_request.specs.PostedForms as spec;
 
 use op_exchange::{AGREE_FIELD, PASSWORD_FIELD, TURN_FIELD, USER_FIELD};
-use request_params::{Pair, read_pairs, value_of};
+use request_params::{Pair, posted, read_pairs, value_of};
 use sso_base::{Blob, NoMemory};
 use std::alloc::Global;
-
-// The form that was posted; an absent one is empty.
-pub(crate) fn posted(body: &Option<Blob>) -> &[u8]
-    ensures { result.now ≡ spec.posted body.now }
-{
-    match body {
-        Some(form) => form.as_bytes(),
-        None => &[],
-    }
-}
 
 // The fields of the form that was posted.
 pub(crate) fn posted_fields(alloc: Global, body: &Option<Blob>) -> Result<Vec<Pair>, NoMemory>

@@ -7,15 +7,15 @@ ghost use Rattle.token_endpoint.specs.Request.{grant_read};
 ghost use Rattle.op_request.specs.PostedForms.{fields_of};
 ghost use Rattle.op_request.specs.Prepared as spec;
 
-use crate::posted_forms::{field, posted, posted_fields, repeats_in_consent, repeats_in_login};
+use crate::posted_forms::{field, posted_fields, repeats_in_consent, repeats_in_login};
 use crate::routes::{Endpoint, endpoint_asked};
 use auth_request::{Verdict, judge};
 use client_registry::{Client, Registry, User};
 use hmac256::{proof, same};
 use op_exchange::{AGREE_FIELD, AGREE_VALUE, OpAsk, PASSWORD_FIELD, TURN_FIELD, USER_FIELD};
 use request_object::{ObjNo, unseal_request};
-use request_params::{AskNo, Params, merge, read_request};
-use sso_base::{Ask, Blob, Method, NoMemory, Text, Word, bytes_if};
+use request_params::{AskNo, Params, form_of, merge, read_request};
+use sso_base::{Ask, Blob, NoMemory, Text, Word, bytes_if};
 use std::alloc::Global;
 use token_endpoint::{GrantNo, read_grant};
 use userinfo::read_bearer;
@@ -104,16 +104,6 @@ fn authorization(
         browser: ask.first,
         session: ask.second,
     })
-}
-
-/// The form of the parameters of an authorization request: the body of a POST, else the query (OpenID Connect Core 1.0, 3.1.2.1).
-pub fn parameters_of(ask: &Ask) -> &[u8]
-    ensures { result.now ≡ spec.parameters_of ask.now.method ask.now }
-{
-    match ask.method {
-        Method::Post => posted(&ask.body),
-        _ => ask.query.as_bytes(),
-    }
 }
 
 // Whether the proof of the password is the user's (RFC 8018, 5.2).
@@ -230,7 +220,7 @@ pub fn prepare_op(alloc: Global, registry: &Registry, ask: &Ask) -> Result<OpAsk
     match endpoint {
         Endpoint::Metadata => Ok(OpAsk::Metadata),
         Endpoint::Keys => Ok(OpAsk::Keys),
-        Endpoint::Authorization => authorization(alloc, registry, ask, parameters_of(ask)),
+        Endpoint::Authorization => authorization(alloc, registry, ask, form_of(ask)),
         Endpoint::Login => login(alloc, registry, ask),
         Endpoint::Consent => consent(alloc, ask),
         Endpoint::Token => token(alloc, registry, ask),

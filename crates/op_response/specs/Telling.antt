@@ -8,6 +8,7 @@ use Rattle.http_reply.specs.Replies.{html, plain, sent_to}
 use Rattle.client_registry.specs.Configuration.{Configuration}
 use Rattle.oidc_words.specs.declared.scopes.Scopes.{Scopes}
 use Rattle.oidc_words.specs.Errors.{invalid_token}
+use Rattle.oidc_words.specs.TokenTypes.{bearer_word}
 use Rattle.auth_request.specs.declared.wish.PageNo.{PageNo}
 use Rattle.auth_answer.specs.Printing.{answer_location, refusal_location}
 use Rattle.token_endpoint.specs.declared.error.TokenError.{TokenError}
@@ -58,8 +59,8 @@ token_refused other = token_response 400 None (error_text other)
 
 -- a token that is not good is an error, and no token is none (RFC 6750, 3.1)
 abbrev pub bearer_challenge : Bool → Text
-bearer_challenge true = codes "Bearer error=\"" ++ invalid_token ++ codes "\""
-bearer_challenge false = codes "Bearer realm=\"sso\""
+bearer_challenge true = bearer_word ++ codes " error=\"" ++ invalid_token ++ codes "\""
+bearer_challenge false = bearer_word ++ codes " realm=\"sso\""
 
 -- ---- each reply
 

@@ -12,7 +12,7 @@ use auth_answer::{print_answer, print_refusal};
 use auth_request::PageNo;
 use client_registry::Registry;
 use http_reply::{html, joined, phrase, plain};
-use oidc_words::{INVALID_TOKEN, Scopes};
+use oidc_words::{BEARER, INVALID_TOKEN, Scopes};
 use op_exchange::OpReply;
 use sso_base::{Blob, HttpReply, Kind, NoMemory, Text, Texts, Word};
 use std::alloc::Global;
@@ -94,12 +94,12 @@ fn token_refused(alloc: Global, code: TokenError) -> Result<HttpReply, NoMemory>
 fn bearer_challenge(alloc: Global, given: bool) -> Result<Text, NoMemory>
     ensures { IfOk result (λ t. t ≡ spec.bearer_challenge given) }
 {
-    if given {
-        let challenge = joined(alloc, &["Bearer error=\"", INVALID_TOKEN, "\""])?;
-        Ok(Text::from_string(challenge))
+    let challenge = if given {
+        joined(alloc, &[BEARER, " error=\"", INVALID_TOKEN, "\""])?
     } else {
-        Text::new(alloc, "Bearer realm=\"sso\"")
-    }
+        joined(alloc, &[BEARER, " realm=\"sso\""])?
+    };
+    Ok(Text::from_string(challenge))
 }
 
 fn login_shown(

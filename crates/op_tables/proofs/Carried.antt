@@ -16,10 +16,11 @@ use Rattle.op_exchange.specs.declared.ask.OpAsk.{OpAsk}
 use Rattle.op_exchange.specs.declared.ask.OpAsk.TheVariants as ask
 use Rattle.op_exchange.specs.declared.reply.OpReply.{OpReply}
 use Rattle.op_exchange.specs.declared.reply.OpReply.TheVariants as reply
+use Rattle.op_exchange.specs.Replied.{code_in}
 use Rattle.op_answer.specs.Past.{OpPair, OpPast}
 use Rattle.op_answer.specs.Turns.{turns, turn_started, turn_made, turn_kept}
 use Rattle.op_answer.specs.Sessions.{sessions, session_set, signed_user, session_by, live_in, session_used, session_made_by, session_made, session_kept, session_of, wish_by}
-use Rattle.op_answer.specs.Codes.{codes_issued, code_issued, code_in, code_made_by, code_made, code_kept, code_of}
+use Rattle.op_answer.specs.Codes.{codes_issued, code_issued, code_made_by, code_made, code_kept, code_of}
 use Rattle.op_answer.specs.AccessTokens.{accesses, access_issued, access_answered, access_redeemed, access_given, access_made, access_kept}
 use Rattle.op_answer.specs.Consents.{granted_by, turn_agreed}
 use Rattle.op_tables.specs.Agreeing.{Agrees, IsBegun}

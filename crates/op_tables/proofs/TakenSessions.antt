@@ -16,11 +16,11 @@ use Rattle.op_exchange.specs.declared.ask.OpAsk.{OpAsk}
 use Rattle.op_exchange.specs.declared.ask.OpAsk.TheVariants as ask
 use Rattle.op_exchange.specs.declared.reply.OpReply.{OpReply}
 use Rattle.op_exchange.specs.declared.reply.OpReply.TheVariants as reply
+use Rattle.op_exchange.specs.Replied.{code_in, access_in}
 use Rattle.op_answer.specs.Past.{OpPair, OpPast}
 use Rattle.op_answer.specs.Sessions.{session_set, signed_user, session_used, and_client, client_answered, session_before, session_by, live_in, session_made_by, session_made, ends_session, session_kept, sessions, live_sessions, live_session}
 use Rattle.op_answer.specs.Replies.{if_of_user, session_renewed, session_left, session_after}
-use Rattle.op_answer.specs.Room.{sessions_beside, lacks_turn, lacks_session, lacks_new_session, lacks_code, lacks_access, access_in}
-use Rattle.op_answer.specs.Codes.{code_in}
+use Rattle.op_answer.specs.Room.{sessions_beside, lacks_turn, lacks_session, lacks_new_session, lacks_code, lacks_access}
 use Rattle.op_answer.specs.Answering.{op_answer}
 use Rattle.op_answer.specs.Causes.{is_own, ConsentPageCause, AnsweredCause, RefusedCause}
 use Rattle.op_answer.proofs.KeptNames.{some_same, session_names}

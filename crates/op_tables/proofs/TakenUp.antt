@@ -26,13 +26,14 @@ use Rattle.op_exchange.specs.declared.reply.OpReply.{OpReply}
 use Rattle.op_exchange.specs.declared.reply.OpReply.TheVariants as reply
 use Rattle.auth_request.specs.Values.{is_short_nonce}
 use Rattle.op_exchange.specs.Asks.{is_prepared_wish}
+use Rattle.op_exchange.specs.Replied.{code_in, access_in}
 use Rattle.op_answer.specs.Past.{OpPair, OpPast}
 use Rattle.op_answer.specs.Turns.{turns, turn_started, turn_made, turn_kept, live_turns}
 use Rattle.op_answer.specs.Sessions.{sessions, session_made, session_kept, live_sessions, session_of, session_used, client_answered, wish_by}
-use Rattle.op_answer.specs.Codes.{codes_issued, code_issued, code_in, code_made_by, code_made, code_kept, code_of, code_named, held_code}
+use Rattle.op_answer.specs.Codes.{codes_issued, code_issued, code_made_by, code_made, code_kept, code_of, code_named, held_code}
 use Rattle.op_answer.specs.AccessTokens.{accesses, access_issued, access_answered, access_redeemed, access_given, access_made, access_kept}
 use Rattle.op_answer.specs.Consents.{granted_by, turn_agreed}
-use Rattle.op_answer.specs.Room.{lacks_turn, lacks_session, lacks_code, lacks_access, access_in}
+use Rattle.op_answer.specs.Room.{lacks_turn, lacks_session, lacks_code, lacks_access}
 use Rattle.op_answer.specs.Causes.{is_own}
 use Rattle.op_answer.proofs.KeptNames.{some_same, turn_names, code_names, access_names}
 use Rattle.op_answer.proofs.Standing.{own_replies_stand}

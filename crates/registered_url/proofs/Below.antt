@@ -448,10 +448,18 @@ first_two : (a b c : Bool) → ((a && b) && c) ≡ true → a ≡ true
 first_two true b c h = refl
 first_two false b c h = absurd (true≢false (sym h))
 
-front_all : (test : ℕ → Bool) (xs ys : List ℕ) → list_all test (xs ++ ys) ≡ true → list_all test xs ≡ true
+-- a text that is a URL without a query has neither mark
+pub unmarked_url : (t : List ℕ) (u : WebUrl) → url_of t ≡ Some u → u.query ≡ None → IsUnmarked t
+unmarked_url t u is no_query =
+    let (parts, keeps, kept) = urls_keep t u is in
+    let query : parts.query ≡ None = ap (λ (w : WebUrl). w.query) (sym kept) ∙ no_query in
+    let bare : is_bare parts ≡ true = (and_parts (is_bare parts) (is_https parts || is_local_http parts) keeps.allowed).0 in
+    unmarked t parts keeps.visible keeps.parsed query (no_fragment parts.fragment (first_two _ _ _ bare))
+
+pub front_all : (test : ℕ → Bool) (xs ys : List ℕ) → list_all test (xs ++ ys) ≡ true → list_all test xs ≡ true
 front_all test xs ys h = (and_parts (list_all test xs) (list_all test ys) (sym (list_all-append test xs ys) ∙ h)).0
 
-both_all : (test : ℕ → Bool) (xs ys : List ℕ) → list_all test xs ≡ true → list_all test ys ≡ true → list_all test (xs ++ ys) ≡ true
+pub both_all : (test : ℕ → Bool) (xs ys : List ℕ) → list_all test xs ≡ true → list_all test ys ≡ true → list_all test (xs ++ ys) ≡ true
 both_all test xs ys h g = list_all-append test xs ys ∙ and_from _ _ h g
 
 -- a path that may stand at the end of a URL
@@ -469,10 +477,7 @@ pub record UrlBelow (t path : List ℕ) (old : WebUrl) : Type 0 where
 pub path_below : (front tail path : List ℕ) (u : WebUrl) → IsCutFrom front tail → IsPathText path → length (front ++ path) ≤ 512 → url_of (front ++ tail) ≡ Some u → u.query ≡ None → UrlBelow (front ++ path) path u
 path_below front tail path u cut g short is no_query =
     let (parts, keeps, kept) = urls_keep (front ++ tail) u is in
-    let query : parts.query ≡ None = ap (λ (w : WebUrl). w.query) (sym kept) ∙ no_query in
-    let bare : is_bare parts ≡ true = (and_parts (is_bare parts) (is_https parts || is_local_http parts) keeps.allowed).0 in
-    let fragment : parts.fragment ≡ None = no_fragment parts.fragment (first_two _ _ _ bare) in
-    let none : IsUnmarked (front ++ tail) = unmarked (front ++ tail) parts keeps.visible keeps.parsed query fragment in
+    let none : IsUnmarked (front ++ tail) = unmarked_url (front ++ tail) u is no_query in
     let visible : list_all is_visible (front ++ path) ≡ true = both_all is_visible front path (front_all is_visible front tail keeps.visible) g.visible in
     let bare_path : IsUnmarked (front ++ path) = (
       both_all (λ b. not (b == 35)) front path (front_all (λ b. not (b == 35)) front tail none.0) g.unmarked.0,

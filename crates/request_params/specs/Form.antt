@@ -1,8 +1,11 @@
--- Pairs of texts as a form, read and written (the URL Standard, 5.1 and 5.2).
-use Rattle.std.specs.Prelude.{ℕ, List, [], map}
+-- Pairs of texts as a form, read and written (the URL Standard, 5.1 and 5.2), and the form of a request.
+use Rattle.std.specs.Prelude.{ℕ, List, [], map, Option, unwrap_or}
 use Rattle.std.specs.Str.Lossy.{utf8_lossy}
 use Rattle.form_urlencoded.specs.Form.{raw_pairs, decode, extend_pairs}
 use Rattle.sso_base.specs.Words.{Text}
+use Rattle.sso_base.specs.declared.http.Method.{Method}
+use Rattle.sso_base.specs.declared.http.Method.TheVariants.{Post}
+use Rattle.sso_base.specs.declared.http.Ask.{Ask}
 
 -- a name and its value
 abbrev pub Pair : Type 0
@@ -22,3 +25,12 @@ form_pairs form = map pair_of (raw_pairs form)
 -- the form that is written of pairs
 unfoldable pub form_text : List Pair → Text
 form_text pairs = extend_pairs [] pairs
+
+-- the form that was posted; an absent one is empty
+abbrev pub posted : Option (List ℕ) → List ℕ
+posted body = unwrap_or body []
+
+-- the form of a request: the body of a POST, else the query (OpenID Connect Core 1.0, 3.1.2.1)
+abbrev pub form_of : Method → Ask → List ℕ
+form_of Post request = posted request.body
+form_of method request = request.query

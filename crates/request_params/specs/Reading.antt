@@ -61,6 +61,15 @@ abbrev pub Has : List Pair → Pair → Type 0
 Has [] pair = ⊥
 Has (first ∷ pairs) pair = (first ≡ pair) ⊎ Has pairs pair
 
+-- two pairs have the name
+pub record StandsTwice (name : Text) (pairs : List Pair) : Type 0 where
+  pub before : List Pair
+  pub first : Text
+  pub between : List Pair
+  pub second : Text
+  pub after : List Pair
+  pub cut : pairs ≡ before ++ (name, first) ∷ (between ++ (name, second) ∷ after)
+
 -- no name stands twice
 abbrev pub StandOnce : List Pair → Type 0
 StandOnce [] = ⊤

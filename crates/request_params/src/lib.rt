@@ -6,6 +6,7 @@
 //! | `name` | [`ParamName`], the names of the parameters, and [`ALL_NAMES`] |
 //! | `params` | [`Params`], the parameters of a request |
 //! | `no` | [`AskNo`], why a request is refused |
+//! | `form` | [`form_of`] finds the form of a request |
 //! | `pairs` | [`read_pairs`] reads the pairs of a form, [`value_of`] looks one up |
 //! | `reading` | [`read_request`] reads a form as a request |
 //! | `merging` | [`merge`] puts the parameters of a request object over those beside it |
@@ -15,6 +16,7 @@
 //! | `law` | what holds of requests, for the crates above |
 #![tactic(auto)]
 
+mod form;
 mod law;
 mod location;
 mod merging;
@@ -26,6 +28,7 @@ mod printing;
 mod reading;
 mod scheme;
 
+pub use form::{form_of, posted};
 pub use law::{
     forms_have_their_parameters, merged_parameters_agree, parameters_have_names,
     printed_requests_are_read, refused_forms_repeat_a_name, refused_merges_have_a_cause,

@@ -9,6 +9,7 @@ ghost use Rattle.sso_base.specs.Journal.{most_pairs};
 ghost use Rattle.sso_base.specs.declared.history.Entry.{Entry};
 ghost use Rattle.sso_base.specs.declared.message.Message.{Message};
 ghost use Rattle.oidc_words.specs.declared.response_types.Types.{Types};
+ghost use Rattle.oidc_words.specs.Lives.{seen_life};
 ghost use Rattle.id_token.specs.declared.claims.IdClaims.{IdClaims};
 ghost use Rattle.id_token.specs.Reading.{id_read};
 ghost use Rattle.logout_token.specs.declared.claims.LogoutClaims.{LogoutClaims};
@@ -107,7 +108,7 @@ pub fn sessions_end_by_leaving_and_logout()
 /// In any legal past two logout tokens of one `jti` are accepted 661 seconds or more apart (OpenID Connect Back-Channel Logout
 /// 1.0, 2.6, step 8). None is good for so long, so each is accepted once.
 pub fn logout_tokens_are_accepted_once()
-    ensures apart { (s : PartySetup) (later between earlier : RpPast) (p q : RpPair) → IsLegalRp s (later ++ q ∷ (between ++ p ∷ earlier)) → (first second : LogoutClaims) → Accepts p first → Accepts q second → first.jti ≡ second.jti → p.entry.at + 661 ≤ q.entry.at }
+    ensures apart { (s : PartySetup) (later between earlier : RpPast) (p q : RpPair) → IsLegalRp s (later ++ q ∷ (between ++ p ∷ earlier)) → (first second : LogoutClaims) → Accepts p first → Accepts q second → first.jti ≡ second.jti → p.entry.at + seen_life ≤ q.entry.at }
     ensures once { (s : PartySetup) (later between earlier : RpPast) (p q : RpPair) → IsLegalRp s (later ++ q ∷ (between ++ p ∷ earlier)) → (claims : LogoutClaims) → Accepts p claims → Accepts q claims → ⊥ }
 {}
 

@@ -12,13 +12,14 @@ use Rattle.logout_token.specs.declared.claims.LogoutClaims.{LogoutClaims}
 use Rattle.logout_token.specs.declared.no.LogoutNo.TheVariants as logout_no
 use Rattle.auth_answer.specs.declared.heard.Heard.{Heard}
 use Rattle.auth_answer.specs.declared.no.AnswerNo.TheVariants as answer_no
+use Rattle.auth_answer.specs.Reading.{IsHeard}
 use Rattle.token_endpoint.specs.declared.reading.Tokens.{Tokens}
 use Rattle.token_endpoint.specs.declared.no.TokensNo.TheVariants as tokens_no
 use Rattle.userinfo.specs.declared.no.InfoNo.TheVariants as info_no
 use Rattle.rp_exchange.specs.declared.ask.RpAsk.TheVariants as ask
 use Rattle.rp_exchange.specs.Asks.{is_prepared}
 use Rattle.client_registry.specs.Numbers.{party_secret, party_name}
-use Rattle.rp_exchange.specs.Values.{IsHeardValue, IsIdValue, IsLogoutValue, IsTokensValue, IsRpAsk}
+use Rattle.rp_exchange.specs.Values.{IsIdValue, IsLogoutValue, IsTokensValue, IsRpAsk}
 use Rattle.rp_exchange.specs.Weight.{ask_weight}
 use Rattle.rp_exchange.proofs.Sample.{word, shop_client, sample, alice}
 
@@ -129,7 +130,7 @@ no_text = refl
 other_bytes_are_no_text : IsUtf8 (255 ∷ []) → ⊥
 other_bytes_are_no_text h = true≢false (sym (is_utf8-from_IsUtf8 (255 ∷ []) h) ∙ no_text)
 
-heard_is_a_value : IsHeardValue heard
+heard_is_a_value : IsHeard heard
 heard_is_a_value = record {
   state = record { long = refl; bytes = IsBytes-from_all_bytes (word 2) refl };
   code = IsUtf8-are_ascii (codes "x") refl;
@@ -137,7 +138,7 @@ heard_is_a_value = record {
   id = tt;
 }
 
-a_state_of_31_bytes_is_none : IsHeardValue (record heard { state = Some (replicate 31 0) }) → ⊥
+a_state_of_31_bytes_is_none : IsHeard (record heard { state = Some (replicate 31 0) }) → ⊥
 a_state_of_31_bytes_is_none h = let long : ◌≡◌ {A = ℕ} 31 32 = h.state.long in absurd (omega (arith, long))
 
 claims_are_a_value : IsIdValue alice

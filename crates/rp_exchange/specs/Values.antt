@@ -18,6 +18,7 @@ use Rattle.logout_token.specs.declared.no.LogoutNo.TheVariants as logout_no
 use Rattle.auth_answer.specs.declared.heard.Heard.{Heard}
 use Rattle.auth_answer.specs.declared.no.AnswerNo.{AnswerNo}
 use Rattle.auth_answer.specs.declared.no.AnswerNo.TheVariants as answer_no
+use Rattle.auth_answer.specs.Reading.{IsHeard}
 use Rattle.token_endpoint.specs.declared.reading.Tokens.{Tokens}
 use Rattle.token_endpoint.specs.declared.no.TokensNo.{TokensNo}
 use Rattle.token_endpoint.specs.declared.no.TokensNo.TheVariants as tokens_no
@@ -27,12 +28,6 @@ use Rattle.rp_exchange.specs.declared.ask.RpAsk.{RpAsk}
 use Rattle.rp_exchange.specs.declared.ask.RpAsk.TheVariants as ask
 
 -- ---- what is read
-
-pub record IsHeardValue (heard : Heard) : Type 0 where
-  pub state : IfSome heard.state IsWord
-  pub code : IfSome heard.code IsUtf8
-  pub access : IfSome heard.access IsUtf8
-  pub id : IfSome heard.id IsUtf8
 
 pub record IsIdValue (claims : IdClaims) : Type 0 where
   pub iss : IsUtf8 claims.iss
@@ -99,7 +94,7 @@ IsLogoutNoValue other = Unit {0}
 -- ---- asks
 
 abbrev pub IsHeardRead : Result Heard AnswerNo → Type 0
-IsHeardRead (Ok heard) = IsHeardValue heard
+IsHeardRead (Ok heard) = IsHeard heard
 IsHeardRead (Err why) = IsAnswerNoValue why
 
 abbrev pub IsClaimsRead : Result IdClaims IdNo → Type 0

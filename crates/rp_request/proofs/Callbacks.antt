@@ -18,9 +18,10 @@ use Rattle.rp_exchange.specs.declared.ask.RpAsk.{RpAsk}
 use Rattle.rp_exchange.specs.declared.ask.RpAsk.TheVariants as ask
 use Rattle.rp_request.specs.declared.routes.Endpoint.{Endpoint}
 use Rattle.rp_request.specs.declared.routes.Endpoint.TheVariants as endpoint
-use Rattle.rp_request.specs.Prepared.{response_in, callback_asked, wants_page, asked_at, endpoint_at, prepared}
+use Rattle.rp_request.specs.Prepared.{callback_asked, wants_page, asked_at, endpoint_at, prepared}
 use Rattle.rp_request.specs.Requests.{IsTo, IsOpened}
 use Rattle.rp_request.proofs.Routing.{response_asked}
+use Rattle.request_params.specs.Form.{form_of}
 
 abbrev pub IdRead : Type 0
 IdRead = Result IdClaims IdNo
@@ -68,7 +69,7 @@ refused_in secret presented (Err e) why id browser h =
 
 module _ (c : Configuration) (n : ℕ) (request : Ask) where
   abbrev response : List ℕ
-  response = response_in request.method request
+  response = form_of request.method request
 
   no_page : (page : Bool) (asked : RpAsk) (r : Result Heard AnswerNo) (id : Option IdRead) (browser : Option Word) → cond page ask.Fragment asked ≡ ask.Callback r id browser → asked ≡ ask.Callback r id browser
   no_page true asked r id browser h = absurd (cc)

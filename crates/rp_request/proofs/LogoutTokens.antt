@@ -6,14 +6,14 @@ use Rattle.std.proofs.lemmas.Grind.{common_steps}
 use Rattle.sso_base.specs.Words.{Text}
 use Rattle.sso_base.proofs.RowLaws.{bytes_true}
 use Rattle.request_params.specs.Form.{Pair, form_pairs}
-use Rattle.request_params.specs.Reading.{has_name, value_of}
+use Rattle.request_params.specs.Reading.{has_name, value_of, StandsTwice}
 use Rattle.jws_compact.specs.declared.no.JwsNo.TheVariants as jws_no
 use Rattle.jws_compact.proofs.OnLiterals.{jws_on_literals}
 use Rattle.logout_token.specs.declared.no.LogoutNo.TheVariants as logout_no
 use Rattle.logout_token.specs.LogoutToken.{logout_read}
 use Rattle.logout_token.proofs.Unsealed.{unsealed_reason}
 use Rattle.rp_request.specs.Prepared.{only_value, logout_token_in}
-use Rattle.rp_request.specs.Requests.{StandsAlone, StandsTwice}
+use Rattle.rp_request.specs.Requests.{StandsAlone}
 use Rattle.rp_request.proofs.Parties.{neither}
 
 module _ (name : Text) where

@@ -17,9 +17,10 @@ use Rattle.rp_exchange.specs.declared.ask.RpAsk.{RpAsk}
 use Rattle.rp_exchange.specs.declared.ask.RpAsk.TheVariants as ask
 use Rattle.rp_request.specs.declared.routes.Endpoint.{Endpoint}
 use Rattle.rp_request.specs.declared.routes.Endpoint.TheVariants as endpoint
-use Rattle.rp_request.specs.Prepared.{posted, response_in, callback_asked, wants_page, logout_token_in, asked_at, endpoint_at, prepared}
+use Rattle.rp_request.specs.Prepared.{callback_asked, wants_page, logout_token_in, asked_at, endpoint_at, prepared}
 use Rattle.rp_request.specs.Requests.{IsTo, IsLogoutOpened}
 use Rattle.rp_request.proofs.Routing.{prepared_at}
+use Rattle.request_params.specs.Form.{form_of, posted}
 
 abbrev LogoutRead : Type 0
 LogoutRead = Result LogoutClaims LogoutNo
@@ -49,7 +50,7 @@ module _ (c : Configuration) (n : ℕ) (request : Ask) where
   logout_at (Some endpoint.Home) claims h = absurd (cc)
   logout_at (Some endpoint.Leave) claims h = absurd (cc)
   logout_at (Some endpoint.Redirection) claims h =
-      absurd (no_logout_there (wants_page (party_row c n).types request) (party_secret c n) (answer_read (response_in request.method request)) claims h)
+      absurd (no_logout_there (wants_page (party_row c n).types request) (party_secret c n) (answer_read (form_of request.method request)) claims h)
   logout_at (Some endpoint.Logout) claims h = same_claims (logout_read (party_secret c n) token) claims h
 
   logout_of : (claims : LogoutRead) → prepared c n request ≡ ask.Logout claims → logout_read (party_secret c n) token ≡ claims

@@ -21,8 +21,9 @@ use Rattle.rp_exchange.specs.declared.ask.RpAsk.TheVariants as ask
 use Rattle.rp_exchange.specs.Asks.{is_read_of, is_tokens_refusal, is_prepared}
 use Rattle.rp_request.specs.declared.routes.Endpoint.{Endpoint}
 use Rattle.rp_request.specs.declared.routes.Endpoint.TheVariants as endpoint
-use Rattle.rp_request.specs.Prepared.{posted, response_in, callback_asked, wants_page, logout_token_in, asked_at, endpoint_at, prepared, tokens_asked, tokens_prepared, info_prepared}
+use Rattle.rp_request.specs.Prepared.{callback_asked, wants_page, logout_token_in, asked_at, endpoint_at, prepared, tokens_asked, tokens_prepared, info_prepared}
 use Rattle.rp_request.proofs.Refused.{id_is_read, tokens_refused, info_is_read, logout_is_read}
+use Rattle.request_params.specs.Form.{form_of, posted}
 
 read_if_there : (secret : Text) (o : Option Text) → is_read_of o (option_map (id_read secret) o) ≡ true
 read_if_there secret None = refl
@@ -42,7 +43,7 @@ prepared_at secret types request None = refl
 prepared_at secret types request (Some endpoint.Login) = refl
 prepared_at secret types request (Some endpoint.Home) = refl
 prepared_at secret types request (Some endpoint.Redirection) =
-    let form = response_in request.method request in
+    let form = form_of request.method request in
     redirected_prepared (wants_page types request) (callback_asked secret request.first (answer_read form)) (callback_prepared secret request.first form (answer_read form) refl)
 prepared_at secret types request (Some endpoint.Leave) = refl
 prepared_at secret types request (Some endpoint.Logout) = logout_is_read secret (logout_token_in (posted request.body))

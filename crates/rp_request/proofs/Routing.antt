@@ -23,9 +23,10 @@ use Rattle.rp_exchange.specs.declared.ask.RpAsk.TheVariants as ask
 use Rattle.rp_request.specs.declared.routes.Endpoint.{Endpoint}
 use Rattle.rp_request.specs.declared.routes.Endpoint.TheVariants as endpoint
 use Rattle.rp_request.specs.Routes.{Route, get_routes, post_routes, routes_of, endpoint_of, endpoint_asked}
-use Rattle.rp_request.specs.Prepared.{response_in, callback_asked, wants_page, redirected, asked_at, logout_path, endpoint_at, prepared}
+use Rattle.rp_request.specs.Prepared.{callback_asked, wants_page, redirected, asked_at, logout_path, endpoint_at, prepared}
 use Rattle.rp_request.specs.Requests.{IsListed, IsTo, own_endpoint, HasCookies}
 use Rattle.rp_request.proofs.Parties.{HasOtherPath, redirects_elsewhere, IsApart, logs_out_elsewhere}
+use Rattle.request_params.specs.Form.{form_of}
 
 -- ---- the listed paths
 
@@ -119,16 +120,16 @@ module _ (c : Configuration) (n : ℕ) (request : Ask) where
   -- ---- the redirection URI: the page, or a response
 
   page_or : (secret : Text) (types : Types) (page : Bool) → wants_page types request ≡ page
-      → redirected secret types request ≡ cond page ask.Fragment (callback_asked secret request.first (answer_read (response_in request.method request)))
+      → redirected secret types request ≡ cond page ask.Fragment (callback_asked secret request.first (answer_read (form_of request.method request)))
   page_or secret types page is =
-      let P : Bool → RpAsk = λ b. cond b ask.Fragment (callback_asked secret request.first (answer_read (response_in request.method request))) in
+      let P : Bool → RpAsk = λ b. cond b ask.Fragment (callback_asked secret request.first (answer_read (form_of request.method request))) in
       ap P is
 
   pub page_asked : IsRegistry c → IsTo c n request endpoint.Redirection → wants_page (party_row c n).types request ≡ true → prepared c n request ≡ ask.Fragment
   page_asked r to is = prepared_at endpoint.Redirection r to ∙ page_or (party_secret c n) (party_row c n).types true is
 
   pub response_asked : IsRegistry c → IsTo c n request endpoint.Redirection → wants_page (party_row c n).types request ≡ false
-      → prepared c n request ≡ callback_asked (party_secret c n) request.first (answer_read (response_in request.method request))
+      → prepared c n request ≡ callback_asked (party_secret c n) request.first (answer_read (form_of request.method request))
   response_asked r to is = prepared_at endpoint.Redirection r to ∙ page_or (party_secret c n) (party_row c n).types false is
 
   no_page_heard : (secret : Text) (r : Result Heard AnswerNo) → ¬ (callback_asked secret request.first r ≡ ask.Fragment)
@@ -147,7 +148,7 @@ module _ (c : Configuration) (n : ℕ) (request : Ask) where
   page_at (Some endpoint.Leave) is h = absurd (cc)
   page_at (Some endpoint.Logout) is h = absurd (cc)
   page_at (Some endpoint.Redirection) is h =
-      (asked_to endpoint.Redirection is, page_by (party_secret c n) (answer_read (response_in request.method request)) (wants_page (party_row c n).types request) h)
+      (asked_to endpoint.Redirection is, page_by (party_secret c n) (answer_read (form_of request.method request)) (wants_page (party_row c n).types request) h)
 
   pub page_wanted : prepared c n request ≡ ask.Fragment → IsTo c n request endpoint.Redirection × (wants_page (party_row c n).types request ≡ true)
   unfolding prepared
@@ -172,7 +173,7 @@ module _ (c : Configuration) (n : ℕ) (request : Ask) where
   heard_somewhere secret (Err why) = λ h. cc
 
   redirected_somewhere : (secret : Text) (types : Types) → ¬ (redirected secret types request ≡ ask.NotHere)
-  redirected_somewhere secret types = one_of (wants_page types request) (callback_asked secret request.first (answer_read (response_in request.method request))) (heard_somewhere secret (answer_read (response_in request.method request)))
+  redirected_somewhere secret types = one_of (wants_page types request) (callback_asked secret request.first (answer_read (form_of request.method request))) (heard_somewhere secret (answer_read (form_of request.method request)))
 
   none_at : (o : Option Endpoint) → asked_at (party_secret c n) (party_row c n).types request o ≡ ask.NotHere → o ≡ None
   none_at None h = refl
@@ -201,7 +202,7 @@ module _ (c : Configuration) (n : ℕ) (request : Ask) where
   own_at None e h = absurd (cc)
   own_at (Some endpoint.Login) e h = h
   own_at (Some endpoint.Home) e h = h
-  own_at (Some endpoint.Redirection) e h = redirected_own (wants_page (party_row c n).types request) (party_secret c n) (answer_read (response_in request.method request)) e h
+  own_at (Some endpoint.Redirection) e h = redirected_own (wants_page (party_row c n).types request) (party_secret c n) (answer_read (form_of request.method request)) e h
   own_at (Some endpoint.Leave) e h = h
   own_at (Some endpoint.Logout) e h = h
 
@@ -223,7 +224,7 @@ module _ (c : Configuration) (n : ℕ) (request : Ask) where
   cookies_at None = tt
   cookies_at (Some endpoint.Login) = refl
   cookies_at (Some endpoint.Home) = refl
-  cookies_at (Some endpoint.Redirection) = redirected_cookies (wants_page (party_row c n).types request) (party_secret c n) (answer_read (response_in request.method request))
+  cookies_at (Some endpoint.Redirection) = redirected_cookies (wants_page (party_row c n).types request) (party_secret c n) (answer_read (form_of request.method request))
   cookies_at (Some endpoint.Leave) = refl
   cookies_at (Some endpoint.Logout) = tt
 

@@ -5,7 +5,7 @@ use Rattle.sso_base.proofs.Spelling.{IsBytes-from_all_bytes}
 use Rattle.registered_url.specs.Rule.{parts_of}
 use Rattle.client_registry.specs.Registered.{AllHoldClaims, IsClient, IsParty, FitsClient, IsRegistry}
 use Rattle.request_params.specs.Form.{form_pairs}
-use Rattle.request_params.specs.Reading.{has_name}
+use Rattle.request_params.specs.Reading.{has_name, StandsTwice}
 use Rattle.sso_base.specs.Words.{Text}
 use Rattle.sso_base.specs.declared.http.Method.{Method}
 use Rattle.sso_base.specs.declared.http.Method.TheVariants.{Get, Post, Other}
@@ -41,7 +41,7 @@ use Rattle.logout_token.specs.LogoutToken as logout
 use Rattle.logout_token.proofs.Unsealed as logout_sealed
 use Rattle.logout_token.specs.Token.{IsLogoutToken}
 use Rattle.rp_request.specs.Prepared.{logout_token_in, prepared, tokens_prepared, info_prepared}
-use Rattle.rp_request.specs.Requests.{IsTo, IsOpened, StandsAlone, StandsTwice}
+use Rattle.rp_request.specs.Requests.{IsTo, IsOpened, StandsAlone}
 use Rattle.rp_request.proofs.Routing.{asked_to, page_wanted, page_asked, not_here_to_none}
 use Rattle.rp_request.proofs.Callbacks.{has_answer, hears_answer, refuses_answer, answer_refuses, callback_opened}
 use Rattle.rp_request.proofs.TokenAnswers.{has_tokens, tokens_opened}

@@ -3,7 +3,7 @@ use Rattle.std.specs.Prelude.{ℕ, ◌==◌, nat_lt, Bool, true, false, ◌&&◌
 use Rattle.std.specs.Str.{bytes_eq}
 use Rattle.sso_base.specs.Words.{Word, Text}
 use Rattle.sso_base.specs.declared.http.Method.{Method}
-use Rattle.sso_base.specs.declared.http.Method.TheVariants.{Get, Post}
+use Rattle.sso_base.specs.declared.http.Method.TheVariants.{Get}
 use Rattle.sso_base.specs.declared.http.Ask.{Ask}
 use Rattle.sso_base.specs.declared.message.Answered.{Answered}
 use Rattle.oidc_words.specs.declared.response_types.Types.{Types}
@@ -13,7 +13,7 @@ use Rattle.client_registry.specs.declared.records.Client.{Client}
 use Rattle.client_registry.specs.declared.records.Party.{Party}
 use Rattle.client_registry.specs.Configuration.{Configuration}
 use Rattle.client_registry.specs.Numbers.{client_at, party_at, party_row, party_secret}
-use Rattle.request_params.specs.Form.{Pair, form_pairs}
+use Rattle.request_params.specs.Form.{Pair, form_pairs, posted, form_of}
 use Rattle.request_params.specs.Reading.{value_of}
 use Rattle.id_token.specs.Reading.{id_read}
 use Rattle.logout_token.specs.LogoutToken.{logout_read}
@@ -32,15 +32,6 @@ use Rattle.rp_request.specs.Routes.{endpoint_asked}
 
 -- ---- an authorization response (OpenID Connect Core 1.0, 3.1.2.5 and 3.2.2.5)
 
--- the form that was posted; an absent one is empty
-abbrev pub posted : Option (List ℕ) → List ℕ
-posted body = unwrap_or body []
-
--- the response stands in the body of a POST, else in the query
-abbrev pub response_in : Method → Ask → List ℕ
-response_in Post request = posted request.body
-response_in method request = request.query
-
 -- an ID Token in it is read under the secret
 abbrev pub callback_asked : Text → Option Word → Result Heard AnswerNo → RpAsk
 callback_asked secret browser (Ok heard) = ask.Callback (Ok heard) (option_map (id_read secret) heard.id) browser
@@ -58,7 +49,7 @@ wants_page types request = is_get request.method && (length request.query == 0 &
 
 abbrev pub redirected : Text → Types → Ask → RpAsk
 redirected secret types request =
-    if wants_page types request then ask.Fragment else callback_asked secret request.first (answer_read (response_in request.method request))
+    if wants_page types request then ask.Fragment else callback_asked secret request.first (answer_read (form_of request.method request))
 
 -- ---- a logout request (OpenID Connect Back-Channel Logout 1.0, 2.5)
 

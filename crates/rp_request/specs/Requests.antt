@@ -64,15 +64,6 @@ pub record StandsAlone (name value : Text) (pairs : List Pair) : Type 0 where
   pub none_before : IsFalse (has_name name before)
   pub none_after : IsFalse (has_name name after)
 
--- the name stands twice among the pairs, or more often
-pub record StandsTwice (name : Text) (pairs : List Pair) : Type 0 where
-  pub before : List Pair
-  pub first : Text
-  pub between : List Pair
-  pub second : Text
-  pub after : List Pair
-  pub cut : pairs ≡ before ++ (name, first) ∷ (between ++ (name, second) ∷ after)
-
 -- what was read of a text: the claims of the logout token that it is under this secret, or a refusal where it is none
 abbrev pub IsLogoutOpened : Text → Text → Result LogoutClaims LogoutNo → Type 0
 IsLogoutOpened secret text (Ok claims) = IsLogoutToken secret text claims

@@ -7,8 +7,8 @@ ghost use Rattle.sso_base.specs.declared.message.Answered.{Answered};
 ghost use Rattle.client_registry.specs.Configuration.{Configuration};
 ghost use Rattle.client_registry.specs.Numbers.{party_row, party_secret};
 ghost use Rattle.client_registry.specs.Registered.{IsRegistry};
-ghost use Rattle.request_params.specs.Form.{form_pairs};
-ghost use Rattle.request_params.specs.Reading.{has_name};
+ghost use Rattle.request_params.specs.Form.{form_pairs, form_of, posted};
+ghost use Rattle.request_params.specs.Reading.{has_name, StandsTwice};
 ghost use Rattle.id_token.specs.declared.claims.IdClaims.{IdClaims};
 ghost use Rattle.id_token.specs.declared.no.IdNo.{IdNo};
 ghost use Rattle.id_token.specs.Token.{IsIdToken};
@@ -31,8 +31,8 @@ ghost use Rattle.rp_exchange.specs.declared.ask.RpAsk.TheVariants as ask;
 ghost use Rattle.rp_exchange.specs.Asks.{is_prepared};
 ghost use Rattle.rp_request.specs.declared.routes.Endpoint.{Endpoint};
 ghost use Rattle.rp_request.specs.declared.routes.Endpoint.TheVariants as endpoint;
-ghost use Rattle.rp_request.specs.Prepared.{posted, response_in, wants_page, logout_token_in, prepared, tokens_prepared, info_prepared};
-ghost use Rattle.rp_request.specs.Requests.{IsTo, own_endpoint, IsOpened, IsLogoutOpened, StandsAlone, StandsTwice, HasCookies};
+ghost use Rattle.rp_request.specs.Prepared.{wants_page, logout_token_in, prepared, tokens_prepared, info_prepared};
+ghost use Rattle.rp_request.specs.Requests.{IsTo, own_endpoint, IsOpened, IsLogoutOpened, StandsAlone, HasCookies};
 
 /// A request finds nothing here exactly where it is to no endpoint: its path is neither one that is listed for its method nor that of
 /// the redirection URI or of the logout URI. Any other ask is that of the endpoint that the request is to.
@@ -53,10 +53,10 @@ pub fn the_page_is_asked_for_without_a_query()
 /// heard exactly where no name of a part stands twice in the form, and it is refused with the first such name elsewhere (RFC 6749,
 /// 3.1).
 pub fn callbacks_are_read_from_forms()
-    ensures heard { (c : Configuration) (n : ℕ) (request : Ask) (heard : Heard) (id : Option (Result IdClaims IdNo)) (browser : Option Word) → prepared c n request ≡ ask.Callback (Ok heard) id browser → HasAnswer (response_in request.method request) heard }
-    ensures hears { (c : Configuration) (n : ℕ) (request : Ask) (heard : Heard) → IsRegistry c → IsTo c n request endpoint.Redirection → wants_page (party_row c n).types request ≡ false → HasAnswer (response_in request.method request) heard → prepared c n request ≡ ask.Callback (Ok heard) (option_map (id_read (party_secret c n)) heard.id) request.first }
-    ensures refused { (c : Configuration) (n : ℕ) (request : Ask) (why : AnswerNo) (id : Option (Result IdClaims IdNo)) (browser : Option Word) → prepared c n request ≡ ask.Callback (Err why) id browser → RefusesAnswer (response_in request.method request) why }
-    ensures refuses { (c : Configuration) (n : ℕ) (request : Ask) (why : AnswerNo) → IsRegistry c → IsTo c n request endpoint.Redirection → wants_page (party_row c n).types request ≡ false → RefusesAnswer (response_in request.method request) why → prepared c n request ≡ ask.Callback (Err why) None request.first }
+    ensures heard { (c : Configuration) (n : ℕ) (request : Ask) (heard : Heard) (id : Option (Result IdClaims IdNo)) (browser : Option Word) → prepared c n request ≡ ask.Callback (Ok heard) id browser → HasAnswer (form_of request.method request) heard }
+    ensures hears { (c : Configuration) (n : ℕ) (request : Ask) (heard : Heard) → IsRegistry c → IsTo c n request endpoint.Redirection → wants_page (party_row c n).types request ≡ false → HasAnswer (form_of request.method request) heard → prepared c n request ≡ ask.Callback (Ok heard) (option_map (id_read (party_secret c n)) heard.id) request.first }
+    ensures refused { (c : Configuration) (n : ℕ) (request : Ask) (why : AnswerNo) (id : Option (Result IdClaims IdNo)) (browser : Option Word) → prepared c n request ≡ ask.Callback (Err why) id browser → RefusesAnswer (form_of request.method request) why }
+    ensures refuses { (c : Configuration) (n : ℕ) (request : Ask) (why : AnswerNo) → IsRegistry c → IsTo c n request endpoint.Redirection → wants_page (party_row c n).types request ≡ false → RefusesAnswer (form_of request.method request) why → prepared c n request ≡ ask.Callback (Err why) None request.first }
 {}
 
 /// What is read of the ID Token in an authorization response are its claims, exactly where it is an ID Token under the secret of the

@@ -4,12 +4,12 @@ ghost use Rattle.std.specs.Prelude.{◌≡◌, IfOk, length, filter};
 ghost use Rattle.std.specs.Option.{option_copied};
 ghost use Rattle.std.specs.Str.{bytes_eq};
 ghost use Rattle.sso_base.specs.Words.{Text};
+ghost use Rattle.request_params.specs.Form.{posted as posted_form};
 ghost use Rattle.logout_token.specs.LogoutToken.{logout_read};
 ghost use Rattle.rp_request.specs.Prepared as spec;
 
-use crate::prepare::posted;
 use logout_token::{LogoutClaims, LogoutNo, read_logout};
-use request_params::{Pair, read_pairs, value_of};
+use request_params::{Pair, posted, read_pairs, value_of};
 use rp_exchange::RpAsk;
 use sso_base::{Ask, NoMemory, Text};
 use std::alloc::Global;
@@ -53,7 +53,7 @@ fn logout_token_in(alloc: Global, form: &[u8]) -> Result<Text, NoMemory>
 
 /// The logout token of a logout request. Where its form has none, or more than one, it is the empty text.
 pub fn logout_token_of(alloc: Global, ask: &Ask) -> Result<Text, NoMemory>
-    ensures { IfOk result (λ t. t ≡ spec.logout_token_in (spec.posted ask.now.body)) }
+    ensures { IfOk result (λ t. t ≡ spec.logout_token_in (posted_form ask.now.body)) }
 {
     logout_token_in(alloc, posted(&ask.body))
 }

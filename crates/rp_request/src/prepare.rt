@@ -13,8 +13,9 @@ use auth_answer::{AnswerNo, read_answer};
 use client_registry::{Client, Registry};
 use id_token::{IdClaims, IdNo, read_id};
 use oidc_words::Types;
+use request_params::{form_of, posted};
 use rp_exchange::RpAsk;
-use sso_base::{Answered, Ask, Blob, Method, NoMemory, Text, Word};
+use sso_base::{Answered, Ask, Method, NoMemory, Text, Word};
 use std::alloc::Global;
 use token_endpoint::{TokensNo, read_tokens};
 use userinfo::{InfoNo, read_info};
@@ -90,26 +91,6 @@ fn read_if_there(
     }
 }
 
-// The form that was posted; an absent one is empty.
-pub(crate) fn posted(body: &Option<Blob>) -> &[u8]
-    ensures { result.now ≡ spec.posted body.now }
-{
-    match body {
-        Some(form) => form.as_bytes(),
-        None => &[],
-    }
-}
-
-// The form of an authorization response: the body of a POST, else the query.
-fn response_in(ask: &Ask) -> &[u8]
-    ensures { result.now ≡ spec.response_in ask.now.method ask.now }
-{
-    match ask.method {
-        Method::Post => posted(&ask.body),
-        _ => ask.query.as_bytes(),
-    }
-}
-
 // Whether the page of the fragment is asked for.
 fn wants_page(types: &Types, ask: &Ask) -> bool
     ensures { result ≡ spec.wants_page types.now ask.now }
@@ -152,7 +133,7 @@ fn redirected(alloc: Global, secret: &[u8], types: &Types, ask: &Ask) -> Result<
     if wants_page(types, ask) {
         return Ok(RpAsk::Fragment);
     }
-    callback(alloc, secret, ask.first, response_in(ask))
+    callback(alloc, secret, ask.first, form_of(ask))
 }
 
 /// What a request asks of the relying party of this number in the registry. `first` of the request is the browser's cookie and

@@ -3,8 +3,6 @@ use Rattle.std.proofs.Common.{◌≡◌, suc, List, ◌∷◌, length, Option, S
 use Rattle.sso_base.specs.Words.{Text}
 use Rattle.sso_base.proofs.RowLaws.{option_cases}
 use Rattle.client_registry.specs.Configuration.{Configuration}
-use Rattle.op_answer.specs.Codes.{code_in}
-use Rattle.op_answer.specs.Room.{access_in}
 use Rattle.sso_places.specs.declared.types.Broken.{Broken}
 use Rattle.sso_places.specs.declared.types.To.{To}
 use Rattle.sso_places.specs.declared.types.To.TheVariants as to
@@ -29,6 +27,7 @@ use Rattle.running_world.specs.Running.{place_asked, kept_place}
 use Rattle.running_world.specs.Whole.{Answers}
 use Rattle.running_world.proofs.HalfDigests.{clash_is_found}
 use Rattle.running_world.proofs.KeptPlaces.{place_issues}
+use Rattle.op_exchange.specs.Replied.{code_in, access_in}
 
 or_else_none : (o : Option Broken) → or_else o None ≡ o
 or_else_none None = refl

@@ -4,8 +4,6 @@ use Rattle.std.specs.Prelude.{ℕ, List, Option, None}
 use Rattle.sso_base.specs.Words.{Text}
 use Rattle.client_registry.specs.Configuration.{Configuration}
 use Rattle.op_request.specs.Prepared.{prepared as op_prepared}
-use Rattle.op_answer.specs.Codes.{code_in}
-use Rattle.op_answer.specs.Room.{access_in}
 use Rattle.sso_places.specs.declared.types.Broken.{Broken}
 use Rattle.sso_places.specs.declared.types.To.{To}
 use Rattle.sso_places.specs.declared.types.To.TheVariants as to
@@ -21,6 +19,7 @@ use Rattle.sso_places.specs.World.{World}
 use Rattle.world_index.specs.declared.halves.Issued.{Issued}
 use Rattle.running_world.specs.Clashing.{clash_found}
 use Rattle.running_world.specs.Judging.{judged}
+use Rattle.op_exchange.specs.Replied.{code_in, access_in}
 
 -- what is asked of a role after a world, by this number
 abbrev pub judged_asked : Configuration → World → ℕ → To → WorldAsk → Option Broken

@@ -13,8 +13,7 @@ use Rattle.code_grant.specs.declared.rows.SessionRow.{SessionRow}
 use Rattle.op_exchange.specs.declared.ask.OpAsk.TheVariants as op_ask
 use Rattle.op_exchange.specs.declared.reply.OpReply.{OpReply}
 use Rattle.op_exchange.specs.declared.reply.OpReply.TheVariants as op
-use Rattle.op_answer.specs.Codes.{code_in}
-use Rattle.op_answer.specs.Room.{access_in}
+use Rattle.op_exchange.specs.Replied.{code_in, access_in}
 use Rattle.sso_places.specs.declared.types.Jar.{Jar}
 use Rattle.sso_places.specs.declared.types.To.{To}
 use Rattle.sso_places.specs.declared.types.To.TheVariants as to

@@ -4,7 +4,6 @@ ghost use Rattle.std.specs.Prelude.{◌≡◌};
 ghost use Rattle.running_world.specs.Breaking.{clash_told};
 ghost use Rattle.running_world.specs.Clashing as spec;
 
-use crate::told::{access_in, code_in};
 use id_token::half_hash;
 use sso_base::Word;
 use sso_places::{Broken, WorldReply};
@@ -51,8 +50,8 @@ pub(crate) fn clash_in(halves: &Halves, number: u64, reply: &WorldReply) -> Opti
     let WorldReply::Provider(reply) = reply else {
         return None;
     };
-    let code = code_in(reply);
-    let access = access_in(reply);
+    let code = reply.code();
+    let access = reply.access();
     match earlier_of(clash_of(halves, &code), clash_of(halves, &access)) {
         Some(place) => Some(Broken::HashClash(place, number)),
         None if both_clash(&code, &access) => Some(Broken::HashClash(number, number)),

@@ -13,8 +13,7 @@ ghost use Rattle.running_world.specs.Judging.{tokens_in};
 use client_registry::Registry;
 use jws_compact::{JwsNo, unseal};
 use op_exchange::OpAsk;
-use op_request::parameters_of;
-use request_params::{AskNo, Params, read_request};
+use request_params::{AskNo, Params, form_of, read_request};
 use rp_exchange::RpAsk;
 use rp_request::logout_token_of;
 use sso_base::{Ask, NoMemory, Text};
@@ -93,7 +92,7 @@ pub(crate) fn checked_by_provider(
     ensures token { IfOk result (λ o. tokens_in o ≡ spec.op_checked registry.now request.now asked.now) }
 {
     match asked {
-        OpAsk::Authorize { .. } => object_in(alloc, registry, parameters_of(request)),
+        OpAsk::Authorize { .. } => object_in(alloc, registry, form_of(request)),
         _ => Ok(None),
     }
 }

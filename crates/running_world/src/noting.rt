@@ -15,7 +15,7 @@ ghost use Rattle.running_world.specs.Whole.{IsWhole, IsOfRole};
 
 use crate::foreknown::Foreknown;
 use crate::kept::{Asked, Kept};
-use crate::told::{access_in, code_in, jar_set};
+use crate::told::jar_set;
 use crate::writing::{note_op_written, note_rp_written};
 use client_registry::Registry;
 use sso_base::{NoMemory, Word};
@@ -86,8 +86,8 @@ fn note_issued(halves: &mut Halves, reply: &WorldReply, place: u64) -> Result<()
     let WorldReply::Provider(reply) = reply else {
         return Ok(());
     };
-    note_half(halves, &code_in(reply), place)?;
-    note_half(halves, &access_in(reply), place)
+    note_half(halves, &reply.code(), place)?;
+    note_half(halves, &reply.access(), place)
 }
 
 // The texts that a place writes are written.

@@ -1,8 +1,6 @@
-// What a reply sets and issues: cookies, a code and an access token.
+// The cookies that a reply sets.
 
 ghost use Rattle.std.specs.Prelude.{◌≡◌};
-ghost use Rattle.op_answer.specs.Codes.{code_in as code_of};
-ghost use Rattle.op_answer.specs.Room.{access_in as access_of};
 ghost use Rattle.op_response.specs.Told.{browser_given as op_browser_of};
 ghost use Rattle.rp_response.specs.Told.{browser_given as rp_browser_of, session_given as rp_session_of};
 ghost use Rattle.sso_places.specs.Cookies.{set_by};
@@ -59,27 +57,6 @@ fn rp_session(reply: &RpReply) -> Option<Word>
 {
     match reply {
         RpReply::Entered { session, .. } => Some(*session),
-        _ => None,
-    }
-}
-
-/// The code that a reply issues.
-pub(crate) fn code_in(reply: &OpReply) -> Option<Word>
-    ensures { result ≡ code_of reply.now }
-{
-    match reply {
-        OpReply::Answered { answer, .. } => answer.code,
-        _ => None,
-    }
-}
-
-/// The access token that a reply issues.
-pub(crate) fn access_in(reply: &OpReply) -> Option<Word>
-    ensures { result ≡ access_of reply.now }
-{
-    match reply {
-        OpReply::Answered { answer, .. } => answer.access,
-        OpReply::Tokens { access, .. } => Some(*access),
         _ => None,
     }
 }

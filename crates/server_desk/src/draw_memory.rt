@@ -1,12 +1,13 @@
 ghost use Rattle.std.specs.Prelude.{◌≡◌, ◌+◌, ◌-◌, ◌^◌, min};
-ghost use Rattle.server_desk.specs.Ahead.{IsTold, MovedOn, words_ahead, word_of_number};
+ghost use Rattle.server_desk.specs.Ahead as spec;
+ghost use Rattle.server_desk.specs.Ahead.{IsTold, MovedOn, words_ahead};
 
 use crate::draw::Draw;
 use sso_base::Word;
 use std::marker::Model;
 
-/// A draw in memory. Its words are those of the numbers from 1: a seed of 24 bytes, then the number in 8 bytes, greatest
-/// first. The last number of 64 bits comes again and again. Nobody may take these words for random ones.
+/// A draw in memory. Its words are those of the numbers from 1, by [`word_of_number`]. The last number of 64 bits comes again and
+/// again. Nobody may take these words for random ones.
 #[derive(Drop)]
 pub struct MemoryDraw {
     seed: [u8; 24],
@@ -21,9 +22,9 @@ impl Model for MemoryDraw {
     ghost view = { λ d. record { seed = d.seed; number = d.number } };
 }
 
-// The word of a number.
-fn word_of(seed: &[u8; 24], number: u64) -> Word
-    ensures { result ≡ word_of_number seed.now number }
+/// The word of a number: a seed of 24 bytes, then the number in 8 bytes, greatest first.
+pub fn word_of_number(seed: &[u8; 24], number: u64) -> Word
+    ensures { result ≡ spec.word_of_number seed.now number }
 {
     let mut bytes = [0u8; 32];
     let (front, behind) = bytes.split_at_mut(24);
@@ -47,10 +48,10 @@ impl Draw for MemoryDraw {
     fn word(&mut self) -> Word
         ensures told { IsTold (words_ahead self.old 0) result }
         ensures moved { MovedOn (words_ahead self.old) (words_ahead self.new) 1 }
-        ensures word { result ≡ word_of_number self.old.seed self.old.number }
+        ensures word { result ≡ spec.word_of_number self.old.seed self.old.number }
         ensures number { self.new ≡ record self.old { number = min (self.old.number + 1) (2 ^ 64 - 1) } }
     {
-        let word = word_of(&self.seed, self.number);
+        let word = word_of_number(&self.seed, self.number);
         self.number = self.number.saturating_add(1);
         word
     }

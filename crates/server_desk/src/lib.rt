@@ -11,7 +11,7 @@
 //! | `source_memory` | [`MemorySource`] and [`FaultySource`], sources in memory |
 //! | `door_memory` | [`MemoryDoor`] and [`FaultyDoor`], doors in memory |
 //! | `link_memory` | [`MemoryLink`] and [`FaultyLink`], links in memory, and [`Exchanged`], what they keep |
-//! | `clock_memory`, `draw_memory` | [`MemoryClock`] and [`MemoryDraw`]: moments and words from memory |
+//! | `clock_memory`, `draw_memory` | [`MemoryClock`] and [`MemoryDraw`]: moments and words from memory, and [`word_of_number`] |
 #![tactic(auto)]
 
 mod clock;
@@ -34,7 +34,7 @@ pub use desk::Desk;
 pub use door::{Door, DoorFault};
 pub use door_memory::{FaultyDoor, MemoryDoor};
 pub use draw::Draw;
-pub use draw_memory::MemoryDraw;
+pub use draw_memory::{MemoryDraw, word_of_number};
 pub use link::{Link, LinkNo};
 pub use link_memory::{Exchanged, FaultyLink, MemoryLink};
 pub use source::{Source, SourceFault, read_whole};

@@ -24,10 +24,11 @@ use Rattle.userinfo.specs.declared.no.InfoNo.{InfoNo}
 use Rattle.rp_exchange.specs.declared.ask.RpAsk.{RpAsk}
 use Rattle.rp_exchange.specs.declared.ask.RpAsk.TheVariants as ask
 use Rattle.rp_request.specs.Routes.{Route, logout_routes, routes_of, endpoint_of, endpoint_asked}
-use Rattle.rp_request.specs.Prepared.{response_in, callback_asked, wants_page, redirected, asked_at, logout_path, prepared, tokens_asked, tokens_prepared, info_prepared}
+use Rattle.rp_request.specs.Prepared.{callback_asked, wants_page, redirected, asked_at, logout_path, prepared, tokens_asked, tokens_prepared, info_prepared}
 use Rattle.sso_places.specs.declared.types.WorldAsk.{WorldAsk}
 use Rattle.sso_places.specs.declared.types.WorldAsk.TheVariants.{Http, Tokens, Info}
 use Rattle.sso_places.specs.Legal.{party_prepared}
+use Rattle.request_params.specs.Form.{form_of}
 
 -- the answer of a token endpoint, or of UserInfo
 abbrev pub is_answer : RpAsk → Bool
@@ -43,9 +44,9 @@ heard_kind secret shown (Err why) = refl
 
 redirected_kind : (secret : Text) (types : Types) (request : Ask) → is_answer (redirected secret types request) ≡ false
 redirected_kind secret types request =
-    let C : RpAsk = callback_asked secret request.first (answer_read (response_in request.method request)) in
+    let C : RpAsk = callback_asked secret request.first (answer_read (form_of request.method request)) in
     let F : Bool → Bool = λ b. is_answer (cond b ask.Fragment C) in
-    elim (bool_cases (wants_page types request)) [ inl page ↦ ap F page | inr none ↦ ap F none ∙ heard_kind secret request.first (answer_read (response_in request.method request)) ]
+    elim (bool_cases (wants_page types request)) [ inl page ↦ ap F page | inr none ↦ ap F none ∙ heard_kind secret request.first (answer_read (form_of request.method request)) ]
 
 -- at every endpoint of the list
 abbrev IsKind : Text → Types → Ask → Route → Type 0

@@ -28,10 +28,10 @@ use Rattle.op_issue.specs.IdTokens.{hash_of}
 use Rattle.op_exchange.specs.declared.ask.OpAsk.{OpAsk}
 use Rattle.op_exchange.specs.declared.reply.OpReply.{OpReply}
 use Rattle.op_exchange.specs.declared.reply.OpReply.TheVariants as op
+use Rattle.op_exchange.specs.Replied.{code_in, access_in}
 use Rattle.op_answer.specs.Past.{OpPair, OpPast}
-use Rattle.op_answer.specs.Codes.{codes_issued, code_in, held_code}
+use Rattle.op_answer.specs.Codes.{codes_issued, held_code}
 use Rattle.op_answer.specs.AccessTokens.{accesses}
-use Rattle.op_answer.specs.Room.{access_in}
 use Rattle.op_answer.specs.Causes.{TokensForCode, TokensCause, InfoForToken, InfoCause}
 use Rattle.op_answer.specs.Drawn.{CodeDrawn, InResponse, ForCode, AccessDrawn}
 use Rattle.op_answer.proofs.TokenResponses.{tokens_have_a_cause}

@@ -30,7 +30,7 @@ use Rattle.rp_exchange.specs.declared.ask.RpAsk.{RpAsk}
 use Rattle.rp_exchange.specs.declared.ask.RpAsk.TheVariants as ask
 use Rattle.rp_exchange.specs.declared.reply.RpReply.TheVariants as rp
 use Rattle.rp_exchange.specs.Values.{IsRpAsk}
-use Rattle.rp_request.specs.Prepared.{posted, logout_token_in}
+use Rattle.rp_request.specs.Prepared.{logout_token_in}
 use Rattle.rp_request.proofs.Logouts.{logout_opened}
 use Rattle.rp_answer.specs.Past.{RpPair, RpPast}
 use Rattle.rp_answer.specs.Setup.{PartySetup, client_of}
@@ -50,7 +50,7 @@ use Rattle.sso_places.specs.Tokens.{TokenText}
 use Rattle.sso_places.specs.Written.{written}
 use Rattle.sso_places.specs.Checked.{rp_checked, logout_checked}
 use Rattle.sso_places.specs.Premises.{HasDistinctWords, forges}
-use Rattle.sso_places.specs.Reading.{machine_of, party_steps, end_of, is_given, jti_at, has_jti, message_named, user_of_subject}
+use Rattle.sso_places.specs.Reading.{machine_of, party_steps, end_of, jti_at, has_jti, message_named, user_of_subject}
 use Rattle.sso_places.specs.Agreement.{IsSameSession, rows_of}
 use Rattle.sso_places.proofs.Numbers.{place_at_has}
 use Rattle.sign_on.proofs.Lists.{each_filter, each_length, each_weaker, filter_other, all_kept}
@@ -61,6 +61,8 @@ use Rattle.sign_on.proofs.Texts.{logout_is_sealed}
 use Rattle.sign_on.proofs.AskKinds.{IsRequest, as_request}
 use Rattle.sign_on.proofs.LiveRows.{settled, sessions_settled}
 use Rattle.sign_on.proofs.RpPlaces.{Does, fewer_done}
+use Rattle.request_params.specs.Form.{posted}
+use Rattle.id_token.specs.Judging.{is_given}
 
 -- ---- which message a `jti` names
 

@@ -25,7 +25,7 @@ use Rattle.op_exchange.specs.Asks.{is_prepared}
 use Rattle.client_registry.specs.Numbers.{is_user}
 use Rattle.op_exchange.specs.Values.{IsOpAsk}
 use Rattle.op_exchange.specs.Replied.{ends_turn, session_given}
-use Rattle.op_request.specs.Prepared.{prepared, parameters_of}
+use Rattle.op_request.specs.Prepared.{prepared}
 use Rattle.op_request.specs.Requests.{IsGranted}
 use Rattle.op_request.proofs.GrantedWishes.{wish_granted}
 use Rattle.op_request.proofs.PreparedAsks.{always_prepared}
@@ -39,6 +39,7 @@ use Rattle.sso_places.specs.Legal.{IsLegalWorld}
 use Rattle.sign_on.proofs.Lists.{all_rows}
 use Rattle.sign_on.proofs.Registry.{uri_finds}
 use Rattle.sign_on.proofs.Invariant.{IsKnownWish}
+use Rattle.request_params.specs.Form.{form_of}
 
 -- ---- wishes
 
@@ -50,7 +51,7 @@ short_nonce (Some t) short = (let low : length t ≤ 255 = short in le-leb (leng
 pub wish_is_known : (c : Configuration) (request : Ask) (wish : Wish) (browser session : Option Word) → IsRegistry c → IsOpAsk (Authorize (Grant wish) browser session)
     → prepared c request ≡ Authorize (Grant wish) browser session → IsKnownWish c wish
 wish_is_known c request wish browser session registry value asked =
-    let granted : IsGranted c (parameters_of request.method request) wish = wish_granted c request wish browser session asked in
+    let granted : IsGranted c (form_of request.method request) wish = wish_granted c request wish browser session asked in
     let keeps : IsWish c wish = wish_keeps c granted.whole false wish granted.granted in
     record {
       client = keeps.below;

@@ -9,7 +9,7 @@ use Rattle.sso_base.proofs.OnLiterals.{base64url_on_literals}
 use Rattle.sso_base.proofs.Spelling.{IsBytes-from_all_bytes}
 use Rattle.sso_base.specs.Faults.{Rose, HasCause}
 use Rattle.sso_base.specs.Outside.{Content, Takes, TakesFront, content_of, Fetches}
-use Rattle.sso_base.specs.Texts.{has_text, is_only}
+use Rattle.sso_base.specs.Texts.{is_ascii, has_text, is_only}
 use Rattle.sso_base.specs.Values.{AreWords}
 use Rattle.sso_base.specs.Weights.{told_weight, texts_bytes}
 use Rattle.sso_base.specs.Journal.{IsLegalHistoryBy, entry_moment, extended, history_weight}
@@ -418,7 +418,13 @@ legal_history-of_one_pair = record { past = (tt, record { moment = omega arith; 
 legal_history-not_of_too_much : IsLegalHistoryBy Any counted (weighs_it 268435457) (pair 7 0 ∷ []) → ⊥
 legal_history-not_of_too_much legal = (let heavy : 268435457 ≤ 268435456 = legal.light in omega arith)
 
--- ---- texts in a list
+-- ---- texts in ASCII, and texts in a list
+
+is_ascii-up_to_127 : is_ascii (0 ∷ 127 ∷ []) ≡ true
+is_ascii-up_to_127 = refl
+
+is_ascii-not_from_128 : is_ascii (97 ∷ 128 ∷ []) ≡ false
+is_ascii-not_from_128 = refl
 
 has_text-the_second : has_text (codes "b") (codes "a" ∷ codes "b" ∷ []) ≡ true
 has_text-the_second = refl

@@ -7,6 +7,7 @@ use Rattle.std.proofs.lemmas.List.Folds.{list_all-append}
 use Rattle.std.proofs.lemmas.Str.{IsUtf8-from_ascii}
 use Rattle.std.proofs.lemmas.Str.Ascii.{IsAscii-from_all}
 use Rattle.std.proofs.lemmas.Grind.{common_steps}
+use Rattle.sso_base.specs.Texts.{is_ascii}
 use lib.Utf8.{encode, encodes, next, scalar, scalars, scalar_cases}
 
 abbrev IsByte : ℕ → Type 0
@@ -64,9 +65,9 @@ bytes-IsUtf8 bs h = all_bytes bs (are_bytes-IsUtf8 bs h)
 abbrev IsLow : ℕ → Type 0
 IsLow b = b < 128
 
-all_low : (bs : List ℕ) → list_all (λ b. nat_lt b 128) bs ≡ true → All IsLow bs
+all_low : (bs : List ℕ) → is_ascii bs ≡ true → All IsLow bs
 all_low [] h = All-nil IsLow
-all_low (b ∷ bs) h = let parts = both (nat_lt b 128) (list_all (λ x. nat_lt x 128) bs) h in All-cons IsLow b bs (below_of b 128 parts.0) (all_low bs parts.1)
+all_low (b ∷ bs) h = let parts = both (nat_lt b 128) (is_ascii bs) h in All-cons IsLow b bs (below_of b 128 parts.0) (all_low bs parts.1)
 
-pub IsUtf8-are_ascii : (bs : List ℕ) → list_all (λ b. nat_lt b 128) bs ≡ true → IsUtf8 bs
+pub IsUtf8-are_ascii : (bs : List ℕ) → is_ascii bs ≡ true → IsUtf8 bs
 IsUtf8-are_ascii bs h = IsUtf8-from_ascii bs (IsAscii-from_all bs (all_low bs h))

@@ -4,7 +4,7 @@ use Rattle.std.proofs.lemmas.Bool.{and_parts, ltb-true}
 use Rattle.std.proofs.lemmas.Str.{IsUtf8-from_ascii}
 use Rattle.std.specs.Str.{IsUtf8}
 use Rattle.std.specs.Result.{IsOk, MatchResult}
-use Rattle.sso_http.specs.Ascii.{is_ascii}
+use Rattle.sso_base.specs.Texts.{is_ascii}
 
 ascii_below : (bs : List ℕ) (i : ℕ) → is_ascii bs ≡ true → get_or bs i 0 < 128
 ascii_below [] i h = omega arith

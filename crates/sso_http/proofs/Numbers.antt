@@ -6,7 +6,7 @@ use Rattle.std.specs.Str.Parse.{digits_value, ParsesUnsigned}
 use Rattle.std.specs.Result.{OkIff, result_unwrap_or}
 use Rattle.std.proofs.lemmas.Bool.{and_parts, leb-true, ltb-true, lt-ltb, le-leb, cases_lt}
 use Rattle.std.proofs.lemmas.Str.Parse.{IsNumeralModel, numerals_by_value, parse_digits, digits_value_short}
-use Rattle.sso_http.specs.Ascii.{is_ascii}
+use Rattle.sso_base.specs.Texts.{is_ascii}
 use Rattle.sso_http.specs.Decimals.{is_decimal}
 
 abbrev Digits : List ℕ → Type 0

@@ -1,10 +1,7 @@
 -- Texts in ASCII.
-use Rattle.std.specs.Prelude.{ℕ, nat_lt, Bool, List, codes, Option, Some, None, option_and_then, if◌then◌else◌}
-use Rattle.std.specs.List.{list_all}
+use Rattle.std.specs.Prelude.{ℕ, List, codes, Option, Some, None, option_and_then, if◌then◌else◌}
+use Rattle.sso_base.specs.Texts.{is_ascii}
 use Rattle.sso_http.specs.Fields.{Fields, values_of, first_of}
-
-abbrev pub is_ascii : List ℕ → Bool
-is_ascii text = list_all (λ b. nat_lt b 128) text
 
 abbrev pub if_ascii : List ℕ → Option (List ℕ)
 if_ascii text = if is_ascii text then Some text else None

@@ -1,6 +1,7 @@
 // Values in ASCII are texts.
 
 ghost use Rattle.std.specs.Prelude.{◌≡◌, true, map, option_and_then, IfOk};
+ghost use Rattle.sso_base.specs.Texts as texts;
 ghost use Rattle.sso_http.specs.Ascii as spec;
 ghost use Rattle.sso_http.specs.Fields.{first_of};
 
@@ -10,14 +11,14 @@ use std::alloc::Global;
 
 // Whether each byte is ASCII.
 fn is_ascii(value: &[u8]) -> bool
-    ensures { result ≡ spec.is_ascii value.now }
+    ensures { result ≡ texts.is_ascii value.now }
 {
     value.iter().all(|&b| b < 128)
 }
 
 /// The text of bytes that are ASCII.
 pub(crate) fn ascii_text(bytes: &[u8]) -> &str
-    requires { spec.is_ascii bytes.now ≡ true }
+    requires { texts.is_ascii bytes.now ≡ true }
     ensures { result.now ≡ bytes.now }
 {
     std::str::from_utf8(bytes).unwrap()

@@ -5,13 +5,13 @@ use Rattle.client_registry.specs.Configuration.{Configuration}
 use Rattle.request_params.specs.declared.params.Params.{Params}
 use Rattle.request_params.specs.declared.no.AskNo.{AskNo}
 use Rattle.request_params.specs.Reading.{request_read}
+use Rattle.request_params.specs.Form.{form_of, posted}
 use Rattle.auth_request.specs.Judgement.{client_number}
 use Rattle.op_exchange.specs.declared.ask.OpAsk.{OpAsk}
 use Rattle.op_exchange.specs.declared.ask.OpAsk.TheVariants as op_ask
-use Rattle.op_request.specs.Prepared.{parameters_of}
 use Rattle.rp_exchange.specs.declared.ask.RpAsk.{RpAsk}
 use Rattle.rp_exchange.specs.declared.ask.RpAsk.TheVariants as rp_ask
-use Rattle.rp_request.specs.Prepared.{posted, logout_token_in}
+use Rattle.rp_request.specs.Prepared.{logout_token_in}
 use Rattle.sso_places.specs.declared.types.WorldAsk.{WorldAsk}
 use Rattle.sso_places.specs.declared.types.WorldAsk.TheVariants.{Http, Tokens, Info}
 use Rattle.sso_places.specs.Site.{Site, client_of_party}
@@ -25,7 +25,7 @@ object_in c (Err why) = []
 
 -- such a request gives the ask Authorize, and no other does
 abbrev pub op_checked : Configuration → Ask → OpAsk → List TokenText
-op_checked c request (op_ask.Authorize verdict browser session) = object_in c (request_read (parameters_of request.method request))
+op_checked c request (op_ask.Authorize verdict browser session) = object_in c (request_read (form_of request.method request))
 op_checked c request asked = []
 
 -- the logout token of a logout request; it is the empty text where there is none, or more than one

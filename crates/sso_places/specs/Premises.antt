@@ -8,8 +8,6 @@ use Rattle.sso_base.specs.Words.{Word, Text, word_text}
 use Rattle.sso_model.specs.Lists.{Has, AreDistinct}
 use Rattle.client_registry.specs.Numbers.{client_secret}
 use Rattle.id_token.specs.HalfHash.{half_hash_of}
-use Rattle.op_answer.specs.Codes.{code_in}
-use Rattle.op_answer.specs.Room.{access_in}
 use Rattle.rp_exchange.specs.declared.reply.RpReply.{RpReply}
 use Rattle.rp_exchange.specs.declared.reply.RpReply.TheVariants as rp
 use Rattle.sso_places.specs.declared.types.WorldAsk.{WorldAsk}
@@ -20,6 +18,7 @@ use Rattle.sso_places.specs.Cookies.{words_in, set_at, presented}
 use Rattle.sso_places.specs.Tokens.{TokenText, is_token, is_sealed}
 use Rattle.sso_places.specs.Written.{written}
 use Rattle.sso_places.specs.Checked.{checked}
+use Rattle.op_exchange.specs.Replied.{code_in, access_in}
 
 -- ---- unforged: each text that is checked and is sealed under the client's secret was written for this client at an earlier
 -- place. This is the one premise in which MACs count: it holds, but for chance, where HMAC with SHA-256 is unforgeable and only

@@ -29,6 +29,7 @@ use Rattle.rp_answer.specs.Visits.{visit_by}
 use Rattle.sso_places.specs.Site.{Site, client_of_party, types_at}
 use Rattle.sso_places.specs.World.{Place, Provider, Party, Nothing, World, place_at, op_past, rp_past, fresh_of, moment_of, op_place, entered_as}
 use Rattle.sso_places.specs.Told.{told_clients, session_ended}
+use Rattle.id_token.specs.Judging.{is_given}
 
 -- ---- the provider: a right password
 
@@ -121,10 +122,6 @@ drop_of (Some event) client from = drop event client from
 drop_of None client from = unnamed
 
 -- ---- a logout token is accepted: the message that its `jti` names (OpenID Connect Back-Channel Logout 1.0, 2.4)
-
-abbrev pub is_given : Text → Option Text → Bool
-is_given jti None = false
-is_given jti (Some text) = bytes_eq text jti
 
 -- the `jti` of a message is made of the word that was drawn for the sign-out, and of the client
 abbrev pub jti_at : ℕ → Option Place → Option Text

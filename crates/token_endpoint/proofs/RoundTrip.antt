@@ -10,6 +10,7 @@ use Rattle.base64.specs.GeneralPurpose.{IsBytes}
 use Rattle.form_urlencoded.specs.Form.{byte_serialize, IsUnchanged, serialize_pair, append_pair}
 use Rattle.form_urlencoded.proofs.FormLemmas.{IsSerializedByte, All-byte_serialize, IsAscii-byte_serialize, decode-byte_serialize}
 use Rattle.sso_base.specs.Words.{Text}
+use Rattle.sso_base.specs.Texts.{is_ascii}
 use Rattle.configuration_rows.specs.declared.kind.Alphabet.{Alphabet}
 use Rattle.configuration_rows.specs.declared.kind.Alphabet.TheVariants.{ClientId, Visible}
 use Rattle.configuration_rows.specs.Kinds.{allows, is_within, is_name}
@@ -38,7 +39,7 @@ id_byte b h = grind (arith, nat_tests)
 visible_byte : (b : ℕ) → allows Visible b ≡ true → nat_lt b 128 ≡ true
 visible_byte b h = grind (arith, nat_tests)
 
-all_ascii : (alphabet : Alphabet) → ((b : ℕ) → allows alphabet b ≡ true → nat_lt b 128 ≡ true) → (t : List ℕ) → list_all (allows alphabet) t ≡ true → list_all (λ b. nat_lt b 128) t ≡ true
+all_ascii : (alphabet : Alphabet) → ((b : ℕ) → allows alphabet b ≡ true → nat_lt b 128 ≡ true) → (t : List ℕ) → list_all (allows alphabet) t ≡ true → is_ascii t ≡ true
 all_ascii alphabet small [] h = refl
 all_ascii alphabet small (b ∷ t) h =
     let parts = both_true (allows alphabet b) (list_all (allows alphabet) t) h in

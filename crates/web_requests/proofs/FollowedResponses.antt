@@ -14,7 +14,7 @@ use Rattle.client_registry.specs.Configuration.{Configuration}
 use Rattle.client_registry.specs.Numbers.{party_row, party_client, party_secret, no_party}
 use Rattle.client_registry.specs.Registered.{IsRegistry}
 use Rattle.form_urlencoded.proofs.FormLemmas.{raw_pairs-nil}
-use Rattle.request_params.specs.Form.{pair_of, form_pairs}
+use Rattle.request_params.specs.Form.{pair_of, form_pairs, form_of}
 use Rattle.id_token.specs.Reading.{id_read}
 use Rattle.auth_answer.specs.declared.answer.Answer.{Answer}
 use Rattle.auth_answer.specs.declared.heard.Heard.{Heard}
@@ -27,7 +27,7 @@ use Rattle.auth_answer.proofs.Written.{answer_any_state, refusal_any_state}
 use Rattle.login_request.proofs.PartyRows.{KeepRules, rows_keep_rules}
 use Rattle.op_exchange.specs.declared.reply.OpReply.TheVariants as op
 use Rattle.rp_exchange.specs.declared.ask.RpAsk.TheVariants as rp_ask
-use Rattle.rp_request.specs.Prepared.{response_in, callback_asked, wants_page, prepared as rp_prepared}
+use Rattle.rp_request.specs.Prepared.{callback_asked, wants_page, prepared as rp_prepared}
 use Rattle.rp_request.proofs.Routing.{response_asked}
 use Rattle.sso_places.specs.declared.types.Jar.{Jar}
 use Rattle.sso_places.specs.declared.types.To.TheVariants as to
@@ -79,7 +79,7 @@ module _ (c : Configuration) (n : ℕ) (r : IsRegistry c) (low : n < length c.pa
   no_page true form jar some = refl
   no_page false form jar some = rw (not_none (behind (registered_query c party.redirect) form) (filled (registered_query c party.redirect) form some)) refl
 
-  read_there : (fragment : Bool) (form : List ℕ) (jar : Jar) → answer_read (response_in (request fragment form jar).method (request fragment form jar)) ≡ answer_read form
+  read_there : (fragment : Bool) (form : List ℕ) (jar : Jar) → answer_read (form_of (request fragment form jar).method (request fragment form jar)) ≡ answer_read form
   read_there true form jar = refl
   read_there false form jar = own_query (registered_query c party.redirect) form party.redirect_url (sym (query_found c n r low)) rules.party_rules.names
 
@@ -88,7 +88,7 @@ module _ (c : Configuration) (n : ℕ) (r : IsRegistry c) (low : n < length c.pa
   first_there false form jar = refl
 
   response_there : (fragment : Bool) (form : List ℕ) (jar : Jar) → ¬ (form ≡ [])
-      → rp_prepared c n (request fragment form jar) ≡ callback_asked (party_secret c n) (request fragment form jar).first (answer_read (response_in (request fragment form jar).method (request fragment form jar)))
+      → rp_prepared c n (request fragment form jar) ≡ callback_asked (party_secret c n) (request fragment form jar).first (answer_read (form_of (request fragment form jar).method (request fragment form jar)))
   response_there true form jar some =
       response_asked c n (request true form jar) r (record { party = party; there = some_row c.parties n no_party low; listed = inl refl }) (no_page true form jar some)
   response_there false form jar some =
@@ -97,7 +97,7 @@ module _ (c : Configuration) (n : ℕ) (r : IsRegistry c) (low : n < length c.pa
   response_read : (fragment : Bool) (form : List ℕ) (jar : Jar) → ¬ (form ≡ []) → rp_prepared c n (request fragment form jar) ≡ callback_asked (party_secret c n) jar.first (answer_read form)
   response_read fragment form jar some =
       response_there fragment form jar some
-      ∙ ap (λ o. callback_asked (party_secret c n) o (answer_read (response_in (request fragment form jar).method (request fragment form jar)))) (first_there fragment form jar)
+      ∙ ap (λ o. callback_asked (party_secret c n) o (answer_read (form_of (request fragment form jar).method (request fragment form jar)))) (first_there fragment form jar)
       ∙ ap (callback_asked (party_secret c n) jar.first) (read_there fragment form jar)
 
   -- ---- the location

@@ -32,17 +32,26 @@ pub fn answer(alloc: Global, fields: &[&str]) -> Option<Result<String, NoMemory>
     }
 }
 
-// The rules of the client `c` of the provider `i`, which asked at 1000, with the nonce `n`, for a login within 100 seconds.
-fn rules(alloc: Global) -> Result<IdRules, NoMemory> {
+/// The rules of the client `c` of the provider `i`, which asked at 1000, with the nonce `n`, and no more.
+pub fn plain_rules(alloc: Global) -> Result<IdRules, NoMemory> {
     Ok(IdRules {
         issuer: Text::new(alloc, "i")?,
         client: Text::new(alloc, "c")?,
         nonce: Text::new(alloc, "n")?,
         begun: Moment::new(1000).unwrap(),
-        max_age: Some(100),
-        token: Half::Must(*b"0123456789012345678901"),
-        code: Half::IfThere(*b"abcdefghijklmnopqrstuv"),
+        max_age: None,
+        token: Half::Free,
+        code: Half::Free,
     })
+}
+
+// Those rules of a client that asked for a login within 100 seconds, and has a code and an access token.
+fn rules(alloc: Global) -> Result<IdRules, NoMemory> {
+    let mut rules = plain_rules(alloc)?;
+    rules.max_age = Some(100);
+    rules.token = Half::Must(*b"0123456789012345678901");
+    rules.code = Half::IfThere(*b"abcdefghijklmnopqrstuv");
+    Ok(rules)
 }
 
 // The name of a refusal, and what it names.

@@ -5,12 +5,12 @@ use crate::tokens::ids::told_subject;
 use crate::tokens::{ids, logouts};
 use case_lines::{told, told_refusal};
 use client_registry::Client;
-use id_token::{Half, IdRules, check_id, read_id};
+use id_token::{check_id, read_id};
 use logout_token::read_logout;
 use registered_url::WebUrls;
 use request_object::{ObjNo, unseal_request};
 use request_params::{AskNo, Params, read_request};
-use sso_base::{Moment, NoMemory, Text, Texts};
+use sso_base::{NoMemory, Text, Texts};
 use std::alloc::Global;
 
 /// What a call of this module answers; none where it is another's.
@@ -92,21 +92,8 @@ fn sealed_text(alloc: Global, kind: &str) -> Result<Option<Text>, NoMemory> {
     }
 }
 
-// The rules of the client for that login.
-fn rules(alloc: Global) -> Result<IdRules, NoMemory> {
-    Ok(IdRules {
-        issuer: Text::new(alloc, "i")?,
-        client: Text::new(alloc, "c")?,
-        nonce: Text::new(alloc, "n")?,
-        begun: Moment::new(1000).unwrap(),
-        max_age: None,
-        token: Half::Free,
-        code: Half::Free,
-    })
-}
-
 fn as_good_id_token(alloc: Global, text: &[u8]) -> Result<String, NoMemory> {
-    let rules = rules(alloc)?;
+    let rules = ids::plain_rules(alloc)?;
     let answer = check_id(alloc, &rules, b"secret", text, rules.begun);
     told_subject(alloc, &answer)
 }
