@@ -1,21 +1,12 @@
-//! Cases of tokens and messages, each a line that a person can read: what each is read as, or why it is refused, how it is written, and
-//! what a registry that is asked answers.
+//! Cases of messages, each a line that a person can read: what each is read as, or why it is refused, how it is written, and what a
+//! registry that is asked answers.
 //!
 //! The file `stdin` has the cases, and `stdout` the same with their answers. `case_lines` says how a line is read, and the comments
-//! there where the expected answers come from: the standards that are named, and other programs. A line `table|NAME` begins one of four
+//! there where the expected answers come from: the standards that are named, and other programs. A line `table|NAME` begins one of three
 //! tables, and those below are calls of it, in which `$NAME$` is a text of that table.
 //!
 //! | Module | Its calls |
 //! |---|---|
-//! | `tokens` | the table of MACs, sealed texts, claim sets and tokens: |
-//! | `tokens::macs` | MACs, and the proofs of passwords |
-//! | `tokens::sealed` | texts that are sealed and unsealed |
-//! | `tokens::claims` | claim sets that are read and asked |
-//! | `tokens::puts` | claims that are put into a set |
-//! | `tokens::ids` | ID Tokens |
-//! | `tokens::logouts` | logout tokens |
-//! | `tokens::kinds` | each kind of sealed text, read as another |
-//! | `tokens::names` | none; the texts that have names |
 //! | `registries` | the table of what a registry stands on, and of a registry that is asked: |
 //! | `registries::urls` | `url`, `same_server`, `query_names` and `urls` |
 //! | `registries::configurations` | `registry`, `file`, `users` and `rows` read configurations |
@@ -43,22 +34,19 @@ mod answers;
 mod clients;
 mod registries;
 mod requests;
-mod tokens;
 
 use crate::answers::AnswerCases;
 use crate::registries::RegistryCases;
 use crate::requests::RequestCases;
-use crate::tokens::TokenCases;
 use case_lines::{Cases, print_cases, told};
 use client_registry::RegNo;
 use sso_base::NoMemory;
 use std::alloc::Global;
 use std::{io, mem};
 
-// One of the four tables.
+// One of the three tables.
 #[derive(Drop)]
 enum Table {
-    Tokens(TokenCases),
     Registries(RegistryCases),
     Requests(RequestCases),
     Answers(AnswerCases),
@@ -67,7 +55,6 @@ enum Table {
 impl Cases for Table {
     fn answer(&mut self, alloc: Global, fields: &[&str]) -> Result<String, NoMemory> {
         match self {
-            Table::Tokens(cases) => cases.answer(alloc, fields),
             Table::Registries(cases) => cases.answer(alloc, fields),
             Table::Requests(cases) => cases.answer(alloc, fields),
             Table::Answers(cases) => cases.answer(alloc, fields),
@@ -76,7 +63,6 @@ impl Cases for Table {
 
     fn text(&self, name: &str) -> Option<&str> {
         match self {
-            Table::Tokens(cases) => cases.text(name),
             Table::Registries(cases) => cases.text(name),
             Table::Requests(cases) => cases.text(name),
             Table::Answers(cases) => cases.text(name),
@@ -99,7 +85,6 @@ fn answer_table(alloc: Global) -> Result<Option<Table>, RegNo> {
 // The table of this name, where there is one.
 fn table_of(alloc: Global, name: &str) -> Result<Option<Table>, RegNo> {
     match name {
-        "tokens" => Ok(Some(Table::Tokens(TokenCases {}))),
         "registries" => registry_table(alloc),
         "requests" => request_table(alloc),
         "answers" => answer_table(alloc),

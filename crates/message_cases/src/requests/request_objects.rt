@@ -23,8 +23,8 @@ fn listed(alloc: Global, params: &Params) -> Result<String, NoMemory> {
     or_else(list, "nothing")
 }
 
-/// The name of a refusal, and what it names.
-pub fn refusal(why: &ObjNo) -> (&str, &str) {
+// The name of a refusal, and what it names.
+fn refusal(why: &ObjNo) -> (&str, &str) {
     match why {
         ObjNo::NoMemory => ("NoMemory", ""),
         ObjNo::Jws(why) => ("Jws", why.name()),
@@ -78,8 +78,8 @@ pub fn object(
     }
 }
 
-/// How many bytes the claims of the object with these parameters have, and the object. None where it may not be sealed.
-pub fn sealed(
+// How many bytes the claims of the object with these parameters have, and the object. None where it may not be sealed.
+fn sealed(
     alloc: Global,
     client: &Client,
     issuer: &Text,

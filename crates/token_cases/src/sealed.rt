@@ -23,15 +23,32 @@ fn typ_named(name: &str) -> Option<Typ> {
     }
 }
 
+/// The payload, sealed under the key. None where it is too long.
+pub fn sealed_under(
+    alloc: Global,
+    typ: Typ,
+    key: &str,
+    payload: &[u8],
+) -> Result<Option<Text>, NoMemory> {
+    if payload.len() > 6000 {
+        return Ok(None);
+    }
+    Ok(Some(seal(alloc, key.as_bytes(), typ, payload)?))
+}
+
+fn told_sealed(alloc: Global, sealed: &Option<Text>) -> Result<String, NoMemory> {
+    match sealed {
+        Some(text) => told(alloc, text.as_str()),
+        None => told(alloc, "not to be sealed"),
+    }
+}
+
 // `seal|TYP|KEY|PAYLOAD`: the payload, sealed under the key.
 fn sealed(alloc: Global, typ: &str, key: &str, payload: &str) -> Result<String, NoMemory> {
     let payload = bytes(alloc, payload)?;
     match typ_named(typ) {
-        Some(typ) if payload.len() <= 6000 => {
-            let text = seal(alloc, key.as_bytes(), typ, payload.as_slice())?;
-            told(alloc, text.as_str())
-        }
-        _ => told(alloc, "not to be sealed"),
+        Some(typ) => told_sealed(alloc, &sealed_under(alloc, typ, key, payload.as_slice())?),
+        None => told(alloc, "not to be sealed"),
     }
 }
 

@@ -1,4 +1,20 @@
-// The table of MACs, sealed texts, claim sets and tokens.
+//! Cases of MACs, sealed texts, claim sets and tokens, each a line that a person can read: what each is read as, or why it is refused, and
+//! how it is written.
+//!
+//! The file `stdin` has the cases, and `stdout` the same with their answers. `case_lines` says how a line is read, and the comments
+//! there where the expected answers come from: the standards that are named, and other programs. `$NAME$` is a text of `names`.
+//!
+//! | Module | Its calls |
+//! |---|---|
+//! | `macs` | MACs, and the proofs of passwords |
+//! | `sealed` | texts that are sealed and unsealed |
+//! | `claims` | claim sets that are read and asked |
+//! | `puts` | claims that are put into a set |
+//! | `ids` | ID Tokens |
+//! | `logouts` | logout tokens |
+//! | `kinds` | each kind of sealed text, read as another |
+//! | `names` | none; the texts that have names |
+#![tactic(auto)]
 
 mod claims;
 mod ids;
@@ -9,13 +25,14 @@ mod names;
 mod puts;
 mod sealed;
 
-use case_lines::{Cases, told};
+use case_lines::{Cases, print_cases, told};
 use sso_base::NoMemory;
 use std::alloc::Global;
+use std::io;
 
-/// The calls of this table.
+/// The calls.
 #[derive(Drop)]
-pub struct TokenCases {}
+struct TokenCases {}
 
 // What a call on MACs and sealed texts answers, where there is one of this name.
 fn of_texts(alloc: Global, fields: &[&str]) -> Option<Result<String, NoMemory>> {
@@ -59,4 +76,8 @@ impl Cases for TokenCases {
     fn text(&self, name: &str) -> Option<&str> {
         names::text(name)
     }
+}
+
+fn main(rt: HostRuntime) -> io::Result<()> {
+    print_cases(&rt, &mut TokenCases {})
 }

@@ -1,6 +1,6 @@
 // ID Tokens.
 
-use crate::tokens::claims;
+use crate::claims;
 use case_lines::{
     claim_refusal, given_text, moment, told, told_bytes, told_number, told_refusal, told_text,
     told_texts, told_truth, written,

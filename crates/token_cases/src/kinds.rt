@@ -1,15 +1,16 @@
 // Each kind of sealed text, read as another. All are sealed under the secret of the client `c`.
 
-use crate::requests::request_objects::{refusal, sealed};
-use crate::tokens::ids::told_subject;
-use crate::tokens::{ids, logouts};
-use case_lines::{told, told_refusal};
+use crate::ids::told_subject;
+use crate::sealed::sealed_under;
+use crate::{ids, logouts};
+use case_lines::told;
 use client_registry::Client;
 use id_token::{check_id, read_id};
+use jws_compact::Typ;
 use logout_token::read_logout;
 use registered_url::WebUrls;
 use request_object::{ObjNo, unseal_request};
-use request_params::{AskNo, Params, read_request};
+use request_params::Params;
 use sso_base::{NoMemory, Text, Texts};
 use std::alloc::Global;
 
@@ -37,36 +38,9 @@ fn client(alloc: Global) -> Result<Client, NoMemory> {
     })
 }
 
-// A request of the client, as a form.
+// A request object of the client for the provider `i` (OpenID Connect Core 1.0, 6.1).
 const REQUEST: &str =
-    "response_type=id_token&client_id=c&redirect_uri=http://127.0.0.1:8081/cb&scope=openid&state=s&nonce=n";
-
-// The parameters to the issuer `i`, sealed.
-fn sealed_by(alloc: Global, client: &Client, params: &Params) -> Result<Option<Text>, NoMemory> {
-    let issuer = Text::new(alloc, "i")?;
-    Ok(text_alone(sealed(alloc, client, &issuer, params)?))
-}
-
-fn sealed_params(alloc: Global, params: &Params) -> Result<Option<Text>, NoMemory> {
-    let client = client(alloc)?;
-    sealed_by(alloc, &client, params)
-}
-
-fn sealed_request(
-    alloc: Global,
-    request: &Result<Params, AskNo>,
-) -> Result<Option<Text>, NoMemory> {
-    match request {
-        Ok(params) => sealed_params(alloc, params),
-        Err(AskNo::NoMemory) => Err(NoMemory),
-        Err(_) => Ok(None),
-    }
-}
-
-fn request_object(alloc: Global) -> Result<Option<Text>, NoMemory> {
-    let request = read_request(alloc, REQUEST.as_bytes());
-    sealed_request(alloc, &request)
-}
+    r#"{"aud":"i","client_id":"c","iss":"c","nonce":"n","redirect_uri":"http://127.0.0.1:8081/cb","response_type":"id_token","scope":"openid","state":"s"}"#;
 
 fn text_alone(sealed: Option<(usize, Text)>) -> Option<Text> {
     match sealed {
@@ -87,7 +61,7 @@ fn sealed_text(alloc: Global, kind: &str) -> Result<Option<Text>, NoMemory> {
         "a logout token of i" => {
             Ok(text_alone(logouts::seal_parts(alloc, "secret", "i", "c", "alice", "g")?))
         }
-        "a request object of c" => request_object(alloc),
+        "a request object of c" => sealed_under(alloc, Typ::Jwt, "secret", REQUEST.as_bytes()),
         _ => Ok(None),
     }
 }
@@ -111,7 +85,9 @@ fn as_logout_token(alloc: Global, text: &[u8]) -> Result<String, NoMemory> {
 fn told_request(alloc: Global, answer: &Result<Params, ObjNo>) -> Result<String, NoMemory> {
     match answer {
         Ok(_) => told(alloc, "good"),
-        Err(why) => told_refusal(alloc, refusal(why)),
+        Err(ObjNo::Issuer) => told(alloc, "Issuer"),
+        Err(ObjNo::Audience) => told(alloc, "Audience"),
+        Err(_) => told(alloc, "refused for another reason"),
     }
 }
 

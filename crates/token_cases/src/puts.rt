@@ -1,6 +1,6 @@
 // Claims that are put into a set.
 
-use crate::tokens::claims::{refused, set_of, written};
+use crate::claims::{refused, set_of, written};
 use case_lines::{given, given_text, given_texts, told};
 use claim_set::{ClaimNo, ClaimSet, read_claims};
 use sso_base::NoMemory;

@@ -1,6 +1,6 @@
 // Logout tokens.
 
-use crate::tokens::ids::told_sealed;
+use crate::ids::told_sealed;
 use case_lines::{
     claim_refusal, given_text, given_texts, moment, told, told_refusal, told_text, told_texts,
 };
