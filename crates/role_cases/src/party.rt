@@ -2,8 +2,11 @@
 
 ghost use Rattle.std.specs.Prelude.{◌≡◌, ◌<◌, length, IfOk};
 
-use crate::telling::{Telling, step_told};
-use case_lines::{Run, answered, field, moment, or_else, push_part, request, told, word_of};
+use crate::telling::{Telling, fill, step_told};
+use case_lines::{
+    Run, answered, field, moment, number, or_else, push_part, request, told, word_of,
+    words_of_place,
+};
 use client_registry::{Provider, RegNo, Registry, read_registry};
 use rp_core::RpCore;
 use rp_exchange::{RpAsk, RpReply};
@@ -130,6 +133,11 @@ impl Telling for RelyingParty {
         let line = rp_line(alloc, reply)?;
         run.told(alloc, call, line.as_str())
     }
+
+    fn try_nothing(&mut self, alloc: Global, at: Moment) -> Option<bool> {
+        let answer = self.core.step(alloc, at, words_of_place(1), RpAsk::NotHere);
+        nothing_found(&answer)
+    }
 }
 
 impl RelyingParty {
@@ -154,6 +162,7 @@ impl RelyingParty {
     /// | `ask|MOMENT|tokens|EXCHANGE|STATUS|BODY` | the line of the reply to the token endpoint's answer in this exchange |
     /// | `ask|MOMENT|info|EXCHANGE|STATUS|BODY` | the line of the reply to UserInfo's answer in this exchange |
     /// | `send|..`, with the same fields | the line, the reply in HTTP, and the message in it |
+    /// | `fill|MOMENT|COUNT` | how often nothing is found by asks for what is not here |
     /// | `held` | what the tables hold of the words 1 to 63 |
     pub fn answer(
         &mut self,
@@ -163,6 +172,7 @@ impl RelyingParty {
     ) -> Result<String, NoMemory> {
         match (fields, moment(field(fields, 1))) {
             (["held"], _) => held(alloc, self.core.tables()),
+            (["fill", _, count], Some(at)) => fill(alloc, self, at, number(count)),
             ([call @ ("ask" | "send"), _, asked @ ..], Some(at)) => {
                 self.ask(alloc, run, at, call, asked)
             }
@@ -211,6 +221,14 @@ impl RelyingParty {
         let asked = self.asked(alloc, fields)?;
         let answer = self.core.step(alloc, at, run.words(), asked);
         step_told(alloc, run, call, self, &answer)
+    }
+}
+
+fn nothing_found(answer: &Result<RpReply, CoreNo>) -> Option<bool> {
+    match answer {
+        Ok(RpReply::NotHere) => Some(true),
+        Err(CoreNo::NoMemory) => None,
+        _ => Some(false),
     }
 }
 

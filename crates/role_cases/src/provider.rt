@@ -1,6 +1,6 @@
 // A provider that is asked.
 
-use crate::telling::{Telling, step_told};
+use crate::telling::{Telling, fill, step_told};
 use case_lines::{Run, field, moment, number, request, told, told_bytes, word_of, words_of_place};
 use client_registry::{RegNo, Registry, read_registry};
 use jws_compact::{JwsNo, Unsealed, unseal};
@@ -68,6 +68,11 @@ impl Telling for Provider {
         let line = op_line(alloc, reply)?;
         run.told(alloc, call, line.as_str())
     }
+
+    fn try_nothing(&mut self, alloc: Global, at: Moment) -> Option<bool> {
+        let answer = self.core.step(alloc, at, words_of_place(1), OpAsk::NotHere);
+        nothing_found(&answer)
+    }
 }
 
 impl Provider {
@@ -116,7 +121,7 @@ impl Provider {
         match fields {
             [call @ ("ask" | "send"), _, request @ ..] => self.ask(alloc, run, at, call, request),
             ["login of user", _, user] => self.login(alloc, run, at, number(user)),
-            ["fill", _, count] => self.fill(alloc, at, number(count)),
+            ["fill", _, count] => fill(alloc, self, at, number(count)),
             ["logins", _, count] => self.logins(alloc, run, at, number(count)),
             _ => told(alloc, "no such call"),
         }
@@ -169,33 +174,6 @@ impl Provider {
     ) -> Result<String, NoMemory> {
         let answer = self.core.step(alloc, at, run.words(), asked);
         step_told(alloc, run, call, self, &answer)
-    }
-
-    // ---- many asks
-
-    // Whether an ask for what is not here finds nothing; none where memory ran out.
-    fn try_nothing(&mut self, alloc: Global, at: Moment) -> Option<bool> {
-        let answer = self.core.step(alloc, at, words_of_place(1), OpAsk::NotHere);
-        nothing_found(&answer)
-    }
-
-    // The same, tried once more where memory ran out.
-    fn finds_nothing(&mut self, alloc: Global, at: Moment) -> bool {
-        match self.try_nothing(alloc, at) {
-            Some(found) => found,
-            None => self.try_nothing(alloc, at) == Some(true),
-        }
-    }
-
-    // Asks so many times for what is not here. How often nothing is found.
-    fn fill(&mut self, alloc: Global, at: Moment, count: u32) -> Result<String, NoMemory> {
-        let mut found: u32 = 0;
-        for _ in 0..count {
-            if self.finds_nothing(alloc, at) {
-                found = found.wrapping_add(1);
-            }
-        }
-        Ok(format!(in alloc; "nothing, {found} times")?)
     }
 
     // ---- many logins
