@@ -25,7 +25,7 @@ use Rattle.sso_places.specs.Premises.{HasDistinctWords, asks_under, holds, holde
 use Rattle.sso_places.specs.Site.{own_site, setup_at}
 use Rattle.sso_places.specs.World.{Place, Provider, Party, Nothing, World, from_of, fresh_of, drawn, rp_past}
 use Rattle.sign_on.proofs.AskKinds.{IsTokens, as_tokens}
-use Rattle.sign_on.proofs.Shared.{distinct_before, drawn_more, drawn_other, fresh_drawn}
+use Rattle.sso_places.proofs.Places.{distinct_before, drawn_more, drawn_other, fresh_drawn}
 use Rattle.oidc_replay.proofs.Played.{Questioned, IsHanded, IsPartyPlace, IsPlaced, IsPlayed}
 
 -- ---- what a reply asks under a word

@@ -4,7 +4,9 @@ mod DrawnWords
 mod HashedLogins
 mod InOrder
 mod Joined
+mod LinesDo
 mod PlayLaws
+mod PlayTimes
 pub mod Played
 mod PlacesTaken
 mod Samples

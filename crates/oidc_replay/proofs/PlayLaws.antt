@@ -1,5 +1,5 @@
--- The play of a trace, line by line; its words are distinct and it is joined, so that the sign-on theorem needs no more of it than that
--- no text is forged and no cookie leaks.
+-- The play of a trace, line by line. Its words are distinct, it is joined and time goes on in it, so that the sign-on theorem needs no more
+-- of it than that no text is forged and no cookie leaks, and the theorem on honest logins nothing more.
 use Rattle.std.proofs.Common.{◌≡◌, ℕ, suc, ◌^◌, ◌<◌, ◌≤◌, List, [], ◌∷◌, ◌++◌, length, get_or, min, reverse, take, Option, Some, None, Result, Ok, Err, IfOk, refl, sym, ap, ◌∙◌, subst, arith}
 use Rattle.std.proofs.lemmas.List.{length-reverse, length-take, reverse-append, take_all}
 use Rattle.std.proofs.Math.Seq.{take-suc}
@@ -16,6 +16,7 @@ use Rattle.sso_places.proofs.FirstBroken.{none_broken}
 use Rattle.running_world.specs.Running.{world_of}
 use Rattle.running_world.specs.Theorem.{TheoremHolds}
 use Rattle.trace_lines.specs.declared.line.Line.{Line}
+use Rattle.trace_lines.specs.Order.{IsReadFor}
 use Rattle.trace_lines.specs.Trace.{Told}
 use Rattle.oidc_replay.specs.declared.replaying.ReplayEnd.{ReplayEnd}
 use Rattle.oidc_replay.specs.declared.replaying.ReplayEnd.TheVariants as end
@@ -29,6 +30,7 @@ use Rattle.oidc_replay.proofs.Played.{HasPlayed, lines_played}
 use Rattle.oidc_replay.proofs.Distinct.{play_distinct}
 use Rattle.oidc_replay.proofs.HashedLogins.{wholly_bound}
 use Rattle.oidc_replay.proofs.Joined.{play_joined}
+use Rattle.oidc_replay.proofs.PlayTimes.{time_goes_on}
 
 pub distinct : (c : Configuration) (seed : List ℕ) (lines : List Line) → length lines < 2 ^ 60 → HasDistinctWords (play_lines c seed lines).world
 distinct c seed lines room =
@@ -113,15 +115,17 @@ none_fails None None is = refl
 none_fails None (Some broken) is = absurd (cc)
 none_fails (Some place) broken is = absurd (cc)
 
-pub plays_well : (c : Configuration) (told : Told) (play : Playing) → TheoremHolds (own_site play.running.registry) (world_of play.running) → play.running.registry ≡ c → played_of play ≡ play_lines c told.seed told.lines
-    → length told.lines < 2 ^ 60 → IsRegistry c → PlaysWell c told
+pub plays_well : (c : Configuration) (told : Told) (play : Playing) → TheoremHolds play.running.registry (world_of play.running) → play.running.registry ≡ c → played_of play ≡ play_lines c told.seed told.lines
+    → IsReadFor c told → IsRegistry c → PlaysWell c told
 unfolding play_of end_of
-plays_well c told play holds registry played few read =
+plays_well c told play holds registry played lines read =
     let whole : Played = play_lines c told.seed told.lines in
     let W : World = whole.world in
     let world : world_of play.running ≡ W = ap (λ (p : Played). p.world) played in
-    let own : TheoremHolds (own_site c) (world_of play.running) = subst (λ (d : Configuration). TheoremHolds (own_site d) (world_of play.running)) registry holds in
-    let theorem : TheoremHolds (own_site c) W = subst (TheoremHolds (own_site c)) world own in
+    let own : TheoremHolds c (world_of play.running) = subst (λ (d : Configuration). TheoremHolds d (world_of play.running)) registry holds in
+    let theorem : TheoremHolds c W = subst (TheoremHolds c) world own in
+    let most : length told.lines ≤ 4194304 = lines.few in
+    let few : length told.lines < 2 ^ 60 = omega (arith, most) in
     let apart : HasDistinctWords W = distinct c told.seed told.lines few in
     let answered : IsJoined W = joined c told.seed told.lines few in
     let wholly : IsBound (own_site c) W → IsWhollyBound (own_site c) W = wholly_bound c told.seed W read theorem.legal (lines_played c told.seed told.lines).places in
@@ -132,6 +136,7 @@ plays_well c told play holds registry played few read =
       met = λ is.
           (let unbroken : IsUnbroken (own_site c) W = none_broken (own_site c) W (none_fails whole.ended (first_broken (own_site c) W) is) in
           (theorem.signs apart unbroken.unleaked unbroken.unforged answered, wholly (theorem.binds apart unbroken.unleaked unbroken.unforged answered unbroken.hashes)));
+      succeeds = theorem.succeeds apart (time_goes_on c told.seed told.lines lines.order);
     }
 
 -- whatever the answer is

@@ -27,8 +27,9 @@ mod text;
 mod words;
 
 pub use law::{
-    plays_are_distinct_and_joined, plays_have_the_places_of_their_lines,
-    tokens_that_are_read_were_given, user_info_is_asked_for_with_hashed_tokens,
+    lines_do_what_is_asked, plays_are_distinct_and_joined, plays_have_the_places_of_their_lines,
+    time_goes_on_in_plays, tokens_that_are_read_were_given,
+    user_info_is_asked_for_with_hashed_tokens,
 };
 pub use replaying::{ReplayEnd, Replayed, replay};
 pub use summary::storm;

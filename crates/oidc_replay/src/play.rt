@@ -166,9 +166,9 @@ impl Play {
         self.world.premises()
     }
 
-    /// The sign-on theorem of the world, as a law. The call does nothing.
+    /// The theorems on the world, as a law. The call does nothing.
     pub(crate) fn theorem(&self)
-        ensures { TheoremHolds (own_site self.now.running.registry) (world_of self.now.running) }
+        ensures { TheoremHolds self.now.running.registry (world_of self.now.running) }
     {
         self.world.theorem();
     }

@@ -1,6 +1,6 @@
 //! A world that runs: a provider and the relying parties of one registry, each a core, are asked at places, one after another.
 //! [`World`] keeps what was asked and replied at each place, the cookies of each browser, and the first premise of the sign-on
-//! theorem that fails. Its contract says what one more place is, that the world is legal, and that the sign-on theorem holds of it.
+//! theorem that fails. Its contract says what one more place is, that the world is legal, and that the theorems hold of it.
 //!
 //! | Module | What it has | Its definitions, in `specs/` |
 //! |---|---|---|

@@ -70,6 +70,9 @@ impl World {
     /// this one and the last one of the role. The cookies that the reply sets come into the jar of `from`, which is the number of a
     /// browser, or 0 for a server, which has no jar.
     ///
+    /// The world with the new place is legal, and the theorems hold of it: where the premises hold its reading is a run of the sign-on
+    /// machine, and honest logins succeed.
+    ///
     /// A party is one of the registry's, and only a party is asked with the answer of another server. Where it is refused, for want
     /// of memory or since the history of the role has no room for what is asked, nothing changes.
     pub fn step(
@@ -86,6 +89,7 @@ impl World {
         ensures registry { self.new.registry ≡ self.old.registry }
         ensures ok { OnOk result (world_of self.new ≡ stepped (own_site self.old.registry) from to at fresh ask (world_of self.old) ∷ world_of self.old) }
         ensures jars { OnOk result (self.new.jars ≡ jars_after (stepped (own_site self.old.registry) from to at fresh ask (world_of self.old)) self.old.jars) }
+        ensures theorem { OnOk result (TheoremHolds self.old.registry (world_of self.new)) }
         ensures err { OnErr result (self.new ≡ self.old) }
         ensures room { OnOk result (role_weight to (world_of self.old) + asked_weight self.old.registry to ask ≤ most_weight) }
         ensures full { (w : ℕ) → result ≡ Err (CoreNo.JournalFull w) → (w ≡ role_weight to (world_of self.old)) × (most_weight < w + asked_weight self.old.registry to ask) }
@@ -188,10 +192,10 @@ impl World {
         self.transcript.premises()
     }
 
-    /// The sign-on theorem of each world, as a law for the crates above: it is legal, and where the premises hold its reading is a run
-    /// of the sign-on machine. The call does nothing.
+    /// The theorems on each world, as a law for the crates above: it is legal, where the premises hold its reading is a run of the
+    /// sign-on machine, and honest logins succeed. The call does nothing.
     pub fn theorem(&self)
-        ensures { TheoremHolds (own_site self.now.registry) (world_of self.now) }
+        ensures { TheoremHolds self.now.registry (world_of self.now) }
     {
         // What every world keeps is known where a part of it is read.
         let _places = self.transcript.places();

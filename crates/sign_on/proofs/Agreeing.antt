@@ -23,7 +23,8 @@ use Rattle.op_answer.specs.Sessions.{sessions}
 use Rattle.op_answer.specs.Codes.{codes_issued}
 use Rattle.sso_places.specs.World.{op_past}
 use Rattle.sign_on.proofs.Invariant.{IsBegun, Agrees, Holds, IsKept}
-use Rattle.sign_on.proofs.Shared.{legal_before, distinct_before, party_legal, began_more, signed_more, answered_more, redeemed_more, entered_more, sessions_more, codes_more, each_more, events_more, texts_more, sent_more, logouts_more, bound_more, ended_more}
+use Rattle.sso_places.proofs.Places.{legal_before, distinct_before, party_legal}
+use Rattle.sign_on.proofs.Shared.{began_more, signed_more, answered_more, redeemed_more, entered_more, sessions_more, codes_more, each_more, events_more, texts_more, sent_more, logouts_more, bound_more, ended_more}
 use Rattle.sign_on.proofs.OpPlaces.{provider_kept}
 use Rattle.sign_on.proofs.RpPlaces.{Does, rp_frame, nothing_done, asked_done, user_done}
 use Rattle.sign_on.proofs.Entering.{entering_done}

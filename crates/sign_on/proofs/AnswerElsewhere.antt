@@ -49,8 +49,8 @@ use Rattle.sso_places.specs.World.{Place, Provider, Party, World, rp_past, drawn
 use Rattle.sso_places.specs.Legal.{IsLegalWorld}
 use Rattle.sso_places.specs.Premises.{HasDistinctWords, IsUnleaked, IsUnforged, IsJoined, is_written}
 use Rattle.sso_places.specs.Agreement.{SignsOn}
-use Rattle.sign_on.proofs.SmallSite.{configuration, site, registry, drawn_word, are_distinct, legal_entry, is_other}
-use Rattle.sign_on.proofs.LoginByCode.{begins, authorizes, logs_in, consents, brings_code, redeems, authorize_entry, callback_entry, token_entry, code_answer, exchange, our_wish, nonce_fits, code_text, past_consent, begin_is_asked, begin_is_answered, authorize_is_asked, login_is_asked, consent_is_asked, callback_is_asked, callback_is_answered, token_is_asked, code_is, wish_is_value, consent_legal}
+use Rattle.sso_places.proofs.SmallSite.{configuration, site, registry, drawn_word, are_distinct, legal_entry, is_other}
+use Rattle.sso_places.proofs.LoginByCode.{begins, authorizes, logs_in, consents, brings_code, redeems, authorize_entry, callback_entry, token_entry, code_answer, exchange, our_wish, nonce_fits, code_text, past_consent, begin_is_asked, begin_is_answered, authorize_is_asked, login_is_asked, consent_is_asked, callback_is_asked, callback_is_answered, token_is_asked, code_is, wish_is_value, consent_legal}
 
 -- ---- the provider gives tokens
 

@@ -60,7 +60,8 @@ use Rattle.sso_places.specs.Premises.{HasDistinctWords, HasDistinctHashes, IsUnl
 use Rattle.sso_places.specs.Binding.{HasCodeBeside, HasAccessBeside, IsRedeemed, CodesAreBound, CameTogether, IsInformed, AccessTokensAreBound, IsBound}
 use Rattle.sign_on.proofs.Lists.{row_of-has, lives_some}
 use Rattle.sign_on.proofs.Invariant.{IsIdOf, HasReplied, IsTokenBound, IsKept}
-use Rattle.sign_on.proofs.Shared.{party_legal, legal_before, legal_from, distinct_before, distinct_from, unleaked_from, was_written}
+use Rattle.sso_places.proofs.Places.{party_legal, legal_before, legal_from, distinct_before, distinct_from, unleaked_from}
+use Rattle.sign_on.proofs.Shared.{was_written}
 use Rattle.sign_on.proofs.Registry.{secret_is}
 use Rattle.sign_on.proofs.Texts.{read_is_sealed}
 use Rattle.sign_on.proofs.AskKinds.{IsRequest, as_request, IsTokens, as_tokens}

@@ -11,8 +11,8 @@ use Rattle.sso_places.specs.World.{World, Party, drawn}
 use Rattle.sso_places.specs.Legal.{IsLegalWorld}
 use Rattle.sso_places.specs.Premises.{HasDistinctWords, IsUnleaked, IsUnforged, IsJoined}
 use Rattle.sso_places.specs.Agreement.{SignsOn}
-use Rattle.sign_on.proofs.SmallSite.{site, site_is, are_distinct}
-use Rattle.sign_on.proofs.LoginByCode.{posted}
+use Rattle.sso_places.proofs.SmallSite.{site, site_is, are_distinct}
+use Rattle.sso_places.proofs.LoginByCode.{posted}
 use Rattle.sign_on.proofs.EqualWords as words
 use Rattle.sign_on.proofs.StolenCookie as cookie
 use Rattle.sign_on.proofs.ForgedToken as token

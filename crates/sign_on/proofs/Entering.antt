@@ -68,7 +68,8 @@ use Rattle.sso_places.specs.Agreement.{IsSameSession, rows_of}
 use Rattle.sso_places.proofs.Numbers.{place_at_last}
 use Rattle.sign_on.proofs.Lists.{each_push, all_back}
 use Rattle.sign_on.proofs.Invariant.{AnsweredAs, IsTokenAnswered, IsBegunAt, IsEnteredRow, IsBegun, IsBegunPlace, Agrees, Holds, IsKept}
-use Rattle.sign_on.proofs.Shared.{IsWhole, whole_places, past_own, party_legal, legal_before, legal_from, unleaked_from, distinct_before, has_words, drawn_other, place_drawn, own_browser, was_written, began_more, entered_more, begun_at_more, events_more, ended_more}
+use Rattle.sso_places.proofs.Places.{IsWhole, whole_places, past_own, party_legal, legal_before, legal_from, unleaked_from, distinct_before, has_words, drawn_other, place_drawn}
+use Rattle.sign_on.proofs.Shared.{own_browser, was_written, began_more, entered_more, begun_at_more, events_more, ended_more}
 use Rattle.sign_on.proofs.Registry.{secret_is, subject_finds, parties_apart}
 use Rattle.sign_on.proofs.Texts.{read_is_sealed}
 use Rattle.sign_on.proofs.AskKinds.{IsRequest, as_request, IsTokens, as_tokens, IsInfo, as_info}

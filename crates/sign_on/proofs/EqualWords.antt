@@ -13,8 +13,8 @@ use Rattle.sso_places.specs.World.{Party, World, rp_past}
 use Rattle.sso_places.specs.Legal.{IsLegalWorld}
 use Rattle.sso_places.specs.Premises.{HasDistinctWords, IsUnleaked, IsUnforged, IsJoined}
 use Rattle.sso_places.specs.Agreement.{SignsOn}
-use Rattle.sign_on.proofs.SmallSite.{site, legal_entry, is_other}
-use Rattle.sign_on.proofs.LoginByCode.{begins, begin_is_asked, begin_is_answered}
+use Rattle.sso_places.proofs.SmallSite.{site, legal_entry, is_other}
+use Rattle.sso_places.proofs.LoginByCode.{begins, begin_is_asked, begin_is_answered}
 use Rattle.sign_on.proofs.ForgedToken.{news_is_asked, news_is_answered}
 
 abbrev pub repeated : World

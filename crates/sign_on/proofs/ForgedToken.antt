@@ -36,8 +36,8 @@ use Rattle.sso_places.specs.Legal.{IsLegalWorld}
 use Rattle.sso_places.specs.Premises.{HasDistinctWords, IsUnleaked, IsUnforged, IsJoined}
 use Rattle.sso_places.specs.Agreement.{SignsOn}
 use Rattle.sign_on.proofs.Texts.{read_is_sealed}
-use Rattle.sign_on.proofs.SmallSite.{configuration, site, drawn_word, are_distinct, legal_entry, is_other}
-use Rattle.sign_on.proofs.LoginByCode.{begins, posted, nonce_text, nonce_fits}
+use Rattle.sso_places.proofs.SmallSite.{configuration, site, drawn_word, are_distinct, legal_entry, is_other}
+use Rattle.sso_places.proofs.LoginByCode.{begins, posted, nonce_text, nonce_fits}
 
 -- ---- the login begins
 

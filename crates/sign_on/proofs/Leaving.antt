@@ -33,7 +33,8 @@ use Rattle.sso_places.specs.Reading.{machine_of, party_steps, drop_of}
 use Rattle.sso_places.proofs.Numbers.{place_at_before, place_at_low, place_at_has}
 use Rattle.sign_on.proofs.Lists.{filter_had, filter_keeps, all_of}
 use Rattle.sign_on.proofs.Invariant.{IsKept}
-use Rattle.sign_on.proofs.Shared.{party_legal, ended_more}
+use Rattle.sso_places.proofs.Places.{party_legal}
+use Rattle.sign_on.proofs.Shared.{ended_more}
 use Rattle.sign_on.proofs.AskKinds.{IsRequest, as_request}
 use Rattle.sign_on.proofs.OpSessions.{has_found}
 use Rattle.sign_on.proofs.LiveRows.{is_ended, live_left}

@@ -12,7 +12,6 @@ pub mod IssuedHashes
 pub mod Leaving
 pub mod Lists
 pub mod LiveRows
-mod LoginByCode
 pub mod Logouts
 pub mod OpOuts
 pub mod OpPlaces
@@ -26,6 +25,5 @@ pub mod RpPlaces
 pub mod SameBrowser
 mod Samples
 pub mod Shared
-mod SmallSite
 mod StolenCookie
 pub mod Texts

@@ -1,14 +1,14 @@
 -- Lists: what a test that finds nothing says of each element, filters that follow one another, and lists whose elements stand
 -- in a relation.
-use Rattle.std.proofs.Common.{◌≡◌, ℕ, suc, zero, ◌<◌, Bool, true, false, not, cond, List, [], ◌∷◌, ◌++◌, length, filter, filter_map, Option, Some, None, option_and_then, inl, inr, refl, sym, ap, ◌∙◌, subst, slice_index_or, arith}
+use Rattle.std.proofs.Common.{◌≡◌, ℕ, suc, Bool, true, false, not, cond, List, [], ◌∷◌, ◌++◌, length, filter, filter_map, Option, Some, None, option_and_then, inl, inr, refl, sym, ap, ◌∙◌, subst}
 use Rattle.std.specs.List.{AllByRecursion, cons_option}
 use Rattle.std.specs.Str.{bytes_eq}
 use Rattle.std.proofs.lemmas.Option.{same_Some}
 use Rattle.sso_base.specs.Words.{Word}
 use Rattle.sso_base.specs.Rows.{without, put, row_of, lives, if_lives}
 use Rattle.sso_base.proofs.RowLaws.{bool_cases, option_cases, bytes_same, bytes_true, row_of-put}
-use Rattle.sso_model.specs.Lists.{Has, AreDistinct}
-use Rattle.sso_model.proofs.ListLaws.{all_append, has_append_left}
+use Rattle.sso_model.specs.Lists.{Has}
+use Rattle.sso_model.proofs.ListLaws.{all_append}
 use Rattle.sso_places.specs.Each.{Each}
 
 -- ---- filters
@@ -157,21 +157,6 @@ all_of P (x ∷ xs) holds = (holds x (inl refl), all_of P xs (λ y has. holds y 
 pub all_back : {A : Type 0} (P : A → Type 0) (xs ys : List A) → AllByRecursion P (xs ++ ys) → AllByRecursion P ys
 all_back P [] ys all = all
 all_back P (x ∷ xs) ys all = all_back P xs ys all.1
-
--- ---- by index, and apart
-
-pub index_has : {A : Type 0} (xs : List A) (k : ℕ) (d : A) → k < length xs → Has xs (slice_index_or xs k d)
-index_has [] k d low = absurd (omega arith)
-index_has (x ∷ xs) zero d low = inl refl
-index_has (x ∷ xs) (suc k) d low = inr (index_has xs k d (omega arith))
-
--- two elements of a list of distinct ones that stand at different places differ
-pub index_other : {A : Type 0} (xs ys : List A) (j k : ℕ) (d : A) → AreDistinct (xs ++ ys) → j < k → k < length xs → slice_index_or xs j d ≡ slice_index_or xs k d → ⊥
-index_other [] ys j k d distinct order low same = absurd (omega arith)
-index_other (x ∷ xs) ys j zero d distinct order low same = absurd (omega arith)
-index_other {A} (x ∷ xs) ys zero (suc k) d distinct order low same =
-    distinct.0 (has_append_left xs ys x (subst (Has xs) (sym same) (index_has xs k d (omega arith))))
-index_other (x ∷ xs) ys (suc j) (suc k) d distinct order low same = index_other xs ys j k d distinct.1 (omega arith) (omega arith) same
 
 -- ---- rows that a filter keeps or drops
 

@@ -55,7 +55,8 @@ use Rattle.sso_places.specs.Agreement.{IsSameSession, rows_of}
 use Rattle.sso_places.proofs.Numbers.{place_at_has}
 use Rattle.sign_on.proofs.Lists.{each_filter, each_length, each_weaker, filter_other, all_kept}
 use Rattle.sign_on.proofs.Invariant.{SentAs, IsTokenSent, IsSentRow, AreSentApart, IsEndedRow, IsKept}
-use Rattle.sign_on.proofs.Shared.{party_legal, distinct_before, past_own, drawn_other, place_drawn, was_written, at_more, ended_more}
+use Rattle.sso_places.proofs.Places.{party_legal, distinct_before, past_own, drawn_other, place_drawn}
+use Rattle.sign_on.proofs.Shared.{was_written, at_more, ended_more}
 use Rattle.sign_on.proofs.Registry.{secret_is, subject_finds, finds_subject, parties_apart}
 use Rattle.sign_on.proofs.Texts.{logout_is_sealed}
 use Rattle.sign_on.proofs.AskKinds.{IsRequest, as_request}

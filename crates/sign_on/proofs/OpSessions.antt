@@ -18,7 +18,7 @@ use Rattle.sso_places.specs.Site.{Site}
 use Rattle.sso_places.specs.World.{Place, Provider, Party, Nothing, World, op_past, fresh_of}
 use Rattle.sso_places.specs.Legal.{IsLegalWorld}
 use Rattle.sso_places.specs.Premises.{HasDistinctWords}
-use Rattle.sign_on.proofs.Shared.{IsWhole, whole_places, one_place}
+use Rattle.sso_places.proofs.Places.{IsWhole, whole_places, one_place}
 use Rattle.sso_model.proofs.ListLaws.{all_has}
 
 -- ---- rows by name

@@ -41,7 +41,8 @@ use Rattle.sso_places.specs.Premises.{HasDistinctWords, leaks}
 use Rattle.sso_places.specs.Reading.{machine_of, sign_of, sign_steps}
 use Rattle.sign_on.proofs.Lists.{all_rows, row_of-has, row_of-put_same, row_of-lacks, lives_some}
 use Rattle.sign_on.proofs.Invariant.{IsSetBy, Owns, IsDrawnText, IsSessionOwned, AnsweredBy, IsSessionAnswered, Holds, IsKept}
-use Rattle.sign_on.proofs.Shared.{fresh_drawn, fresh_is_word, drawn_other, drawn_more, text_more, signed_more, session_more, own_browser}
+use Rattle.sso_places.proofs.Places.{fresh_drawn, fresh_is_word, drawn_other, drawn_more}
+use Rattle.sign_on.proofs.Shared.{text_more, signed_more, session_more, own_browser}
 use Rattle.sign_on.proofs.OpRows.{user_is_known, KeptSession, kept_session, set_none, set_some}
 
 -- ---- cookies that a place presents

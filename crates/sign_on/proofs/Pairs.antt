@@ -31,7 +31,7 @@ use Rattle.sso_places.specs.Legal.{IsLegalWorld}
 use Rattle.sso_places.specs.Premises.{HasDistinctWords, asks_under, holds, holder, IsJoinedAt, IsJoined}
 use Rattle.sso_places.proofs.Numbers.{place_at_has}
 use Rattle.sign_on.proofs.Invariant.{IsBegunAt}
-use Rattle.sign_on.proofs.Shared.{legal_before, distinct_before, party_legal, drawn_other, place_drawn, one_place}
+use Rattle.sso_places.proofs.Places.{legal_before, distinct_before, party_legal, drawn_other, place_drawn, one_place}
 use Rattle.sign_on.proofs.AskKinds.{IsTokens, as_tokens}
 
 -- ---- where a pair stands

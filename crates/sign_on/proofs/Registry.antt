@@ -16,8 +16,7 @@ use Rattle.client_registry.specs.Registered.{AreApart, NumbersAreApart, HasNoneO
 use Rattle.client_registry.specs.Numbers.{client_of, client_secret, party_secret, secret_in, no_party, party_row}
 use Rattle.sso_places.specs.Written.{client_of_uri}
 use Rattle.sso_places.specs.Reading.{user_of_subject}
-use Rattle.sso_places.proofs.Lists.{any_none, any_has}
-use Rattle.sign_on.proofs.Lists.{index_has}
+use Rattle.sso_places.proofs.Lists.{any_none, any_has, index_has}
 
 -- ---- rows by number
 

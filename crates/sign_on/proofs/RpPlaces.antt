@@ -46,7 +46,8 @@ use Rattle.sso_places.specs.Each.{Each}
 use Rattle.sso_places.specs.Agreement.{IsSameSession, rows_of, SignsOn}
 use Rattle.sign_on.proofs.Lists.{each_has, each_filter, each_weaker, each_all, filter_had, filter_both, all_kept, all_of, row_of-has, lives_some}
 use Rattle.sign_on.proofs.Invariant.{IsDrawnNonce, IsTokenAnswered, IsTokenSent, IsEnteredRow, IsEndedRow, IsBegun, IsBegunPlace, Agrees, Holds, IsKept, IsTokenBound}
-use Rattle.sign_on.proofs.Shared.{past_own, past_other, party_legal, legal_before, distinct_before, fresh_drawn, fresh_is_word, drawn_other, began_more, signed_more, answered_more, redeemed_more, entered_more, sessions_more, codes_more, each_more, events_more, own_browser, texts_more, sent_more, logouts_more, bound_more, ended_more}
+use Rattle.sso_places.proofs.Places.{past_own, past_other, party_legal, legal_before, distinct_before, fresh_drawn, fresh_is_word, drawn_other}
+use Rattle.sign_on.proofs.Shared.{began_more, signed_more, answered_more, redeemed_more, entered_more, sessions_more, codes_more, each_more, events_more, own_browser, texts_more, sent_more, logouts_more, bound_more, ended_more}
 use Rattle.sign_on.proofs.Registry.{parties_apart}
 use Rattle.sign_on.proofs.Texts.{object_answered, object_sent, object_bound}
 use Rattle.sign_on.proofs.AskKinds.{IsRequest, as_request}

@@ -50,7 +50,8 @@ use Rattle.sso_places.specs.Told.{told_clients, session_ended}
 use Rattle.sso_places.specs.SameBrowser.{WishesNonce, IsAskedFrom, IsAskedOnlyFrom, IsAnsweredOnlyTo}
 use Rattle.sign_on.proofs.Lists.{all_rows, row_of-has, lives_some}
 use Rattle.sign_on.proofs.Invariant.{IsSetBy}
-use Rattle.sign_on.proofs.Shared.{legal_before, set_more, own_browser}
+use Rattle.sso_places.proofs.Places.{legal_before}
+use Rattle.sign_on.proofs.Shared.{set_more, own_browser}
 
 -- ---- what holds after every prefix
 

@@ -16,8 +16,8 @@ use Rattle.sso_places.specs.Agreement.{SignsOn}
 use Rattle.sso_places.specs.Binding.{IsBound}
 use Rattle.sign_on.proofs.Agreeing.{agrees}
 use Rattle.sign_on.proofs.Bound.{is_bound}
-use Rattle.sign_on.proofs.SmallSite.{site, site_is, are_distinct, legal_entry, is_other}
-use Rattle.sign_on.proofs.LoginByCode.{begins, begin_is_asked, begin_is_answered}
+use Rattle.sso_places.proofs.SmallSite.{site, site_is, are_distinct, legal_entry, is_other}
+use Rattle.sso_places.proofs.LoginByCode.{begins, begin_is_asked, begin_is_answered}
 
 -- browser 1 begins a login at the first party
 abbrev begun : World

@@ -9,8 +9,8 @@ use Rattle.sso_places.specs.World.{Provider, World, drawn}
 use Rattle.sso_places.specs.Legal.{IsLegalWorld}
 use Rattle.sso_places.specs.Premises.{HasDistinctWords, IsUnleaked, IsUnforged, IsJoined}
 use Rattle.sso_places.specs.Agreement.{SignsOn}
-use Rattle.sign_on.proofs.SmallSite.{site, are_distinct}
-use Rattle.sign_on.proofs.LoginByCode.{authorizes, logs_in, consents, authorize_entry, code_answer, authorize_is_asked, login_is_asked, consent_is_asked, consent_legal}
+use Rattle.sso_places.proofs.SmallSite.{site, are_distinct}
+use Rattle.sso_places.proofs.LoginByCode.{authorizes, logs_in, consents, authorize_entry, code_answer, authorize_is_asked, login_is_asked, consent_is_asked, consent_legal}
 
 abbrev signed : World
 signed = Provider 1 logs_in (op.pair_of op.login_entry op.consent_page) ∷ Provider 1 authorizes (op.pair_of authorize_entry op.login_page) ∷ []

@@ -37,6 +37,7 @@ use Rattle.oidc_replay.specs.Play.{play_of}
 use Rattle.oidc_replay.specs.End.{end_of}
 use Rattle.oidc_replay.specs.Text.{text_of}
 use Rattle.oidc_replay.specs.Bound.{IsWhollyBound}
+use Rattle.honest_places.specs.Login.{Visitor, IsHonestBut, begun, waited, went_on}
 use Rattle.oidc_replay.specs.Theorem.{PlaysWell}
 use Rattle.discovery_doc.specs.Reading.{discovery_read}
 use Rattle.op_exchange.specs.declared.ask.OpAsk.{OpAsk}
@@ -237,6 +238,11 @@ nothing_is_bound =
       access_tokens = λ n from request p later earlier id access is asks informed. absurd (no_place later earlier (Party n from request p) is);
     }
 
+no_login : (later before : World) (v : Visitor) (login : List Place) → [] ≡ later ++ before → IsHonestBut None configuration v before login → ⊥
+no_login later w v l is (begun world x begins) = no_place later world x is
+no_login later w v l is (waited world login x honest spares) = no_place later world x is
+no_login later w v l is (went_on world last earlier x honest continues) = no_place later world x is
+
 nothing_plays_well : PlaysWell configuration nothing_told
 unfolding play_of SignsOn
 nothing_plays_well =
@@ -244,6 +250,7 @@ nothing_plays_well =
       legal = record { provider = tt; parties = λ n. tt; asked = tt };
       signs = λ unforged unleaked. tt;
       binds = λ unforged unleaked hashes. nothing_is_bound;
+      succeeds = λ later before v last earlier is may honest. absurd (no_login later before v (last ∷ earlier) is honest);
       met = λ is. (tt, nothing_is_bound);
     }
 

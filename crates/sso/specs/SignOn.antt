@@ -1,4 +1,4 @@
--- The sign-on theorem of the program: of `replay CONFIG TRACE` where the trace was played, and of `storm NUMBER COUNT`. What a shelf
+-- The theorems of the program: of `replay CONFIG TRACE` where the trace was played, and of `storm NUMBER COUNT`. What a shelf
 -- holds and what a sink took is an option, since real files and a real output tell nothing.
 use Rattle.std.specs.Prelude.{◌≡◌, ℕ, List, Option, Some, Ok}
 use Rattle.sso_base.specs.Words.{Text}
@@ -18,7 +18,8 @@ use Rattle.sso.specs.Answer.{end_status}
 use Rattle.sso.specs.Outcomes.{IsContent}
 
 -- The configuration and the trace are accepted, and the text of the play was written. The status tells how the play ended: after the
--- last line with no premise that fails, or with one that does, or where a history was full. The sign-on theorem holds of that play.
+-- last line with no premise that fails, or with one that does, or where a history was full. The sign-on theorem holds of that
+-- play, and honest logins in it succeed.
 pub record Replays (contents : Option (List Content)) (words : List Text) (status : ℕ) (old new : Option (List ℕ)) : Type 0 where
   pub config_at : Text
   pub trace_at : Text

@@ -1,5 +1,5 @@
 //! The top call: what the words of the program ask for, over any shelf of files, any sink for the text, and any desks at which
-//! connections are served. The sign-on theorem is a clause of it.
+//! connections are served. The sign-on theorem, and that honest logins succeed, are clauses of it.
 //!
 //! | Module | What it has | Its definitions, in `specs/` |
 //! |---|---|---|

@@ -93,7 +93,8 @@ pub fn sso<R: Threads + Wait + Sync, H: Shelf, K: Sink, D: Door, L: Link, C: Clo
     requires few { length desks.old.items ≤ 64 }
     requires desks { All (λ desk. (desk.turns ≤ 2 ^ 56) × ((D.state desk.door).given < 2 ^ 63)) desks.old.items }
 
-    // The sign-on theorem is a part of these six clauses: it speaks of the very play whose text was written.
+    // The sign-on theorem, and that honest logins succeed, are parts of these six clauses: they are about the very play whose text was
+    // written.
     ensures replayed { result ≡ 0 → asks_replay (command_of words.now) ≡ true → Replays (H.contents shelf.old) words.now 0 (K.taken out.old) (K.taken out.new) }
     ensures broken { result ≡ 7 → asks_replay (command_of words.now) ≡ true → Replays (H.contents shelf.old) words.now 7 (K.taken out.old) (K.taken out.new) }
     ensures full { result ≡ 8 → asks_replay (command_of words.now) ≡ true → Replays (H.contents shelf.old) words.now 8 (K.taken out.old) (K.taken out.new) }

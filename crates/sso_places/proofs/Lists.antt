@@ -1,9 +1,10 @@
--- Lists: what a test that finds nothing says of each element, and where the element of a longer list stands.
-use Rattle.std.proofs.Common.{◌≡◌, Bool, true, false, List, [], ◌∷◌, ◌++◌, ◌||◌, ◌⊎◌, inl, inr, refl, sym, ap, ◌∙◌}
+-- Lists: what a test that finds nothing says of each element, where the element of a longer list stands, and elements by their index.
+use Rattle.std.proofs.Common.{◌≡◌, ◌<◌, ℕ, zero, suc, Bool, true, false, List, [], ◌∷◌, ◌++◌, length, slice_index_or, ◌||◌, ◌⊎◌, inl, inr, refl, sym, ap, ◌∙◌, subst, arith}
 use Rattle.std.proofs.lemmas.Bool.{or_parts}
 use Rattle.std.specs.List.{list_any}
 use Rattle.sso_base.proofs.RowLaws.{bool_cases}
-use Rattle.sso_model.specs.Lists.{Has}
+use Rattle.sso_model.specs.Lists.{Has, AreDistinct}
+use Rattle.sso_model.proofs.ListLaws.{has_append_left}
 
 -- a test that no element passes fails at each
 pub any_none : {A : Type 0} (test : A → Bool) (xs : List A) (x : A) → list_any test xs ≡ false → Has xs x → test x ≡ false
@@ -34,3 +35,18 @@ pub has_append : {A : Type 0} (xs ys : List A) (x : A) → Has (xs ++ ys) x → 
 has_append [] ys x has = inr has
 has_append (z ∷ xs) ys x (inl same) = inl (inl same)
 has_append (z ∷ xs) ys x (inr has) = elim (has_append xs ys x has) [ inl left ↦ inl (inr left) | inr right ↦ inr right ]
+
+-- ---- by index, and apart
+
+pub index_has : {A : Type 0} (xs : List A) (k : ℕ) (d : A) → k < length xs → Has xs (slice_index_or xs k d)
+index_has [] k d low = absurd (omega arith)
+index_has (x ∷ xs) zero d low = inl refl
+index_has (x ∷ xs) (suc k) d low = inr (index_has xs k d (omega arith))
+
+-- two elements of a list of distinct ones that stand at different places differ
+pub index_other : {A : Type 0} (xs ys : List A) (j k : ℕ) (d : A) → AreDistinct (xs ++ ys) → j < k → k < length xs → slice_index_or xs j d ≡ slice_index_or xs k d → ⊥
+index_other [] ys j k d distinct order low same = absurd (omega arith)
+index_other (x ∷ xs) ys j zero d distinct order low same = absurd (omega arith)
+index_other {A} (x ∷ xs) ys zero (suc k) d distinct order low same =
+    distinct.0 (has_append_left xs ys x (subst (Has xs) (sym same) (index_has xs k d (omega arith))))
+index_other (x ∷ xs) ys (suc j) (suc k) d distinct order low same = index_other xs ys j k d distinct.1 (omega arith) (omega arith) same

@@ -1,7 +1,7 @@
 -- The premises of the sign-on theorem: no token text is forged, no cookie is used under another number, all drawn words differ,
 -- and a provider's answer comes under the number of the question. For the binding of codes and access tokens there is one
--- more: their half digests differ.
-use Rattle.std.specs.Prelude.{◌≡◌, ℕ, Bool, false, ◌==◌, ◌&&◌, not, List, [], ◌∷◌, ◌++◌, Option, Some, None, if◌then◌else◌}
+-- more: their half digests differ. That honest logins succeed needs, beside the drawn words, that time goes on.
+use Rattle.std.specs.Prelude.{◌≡◌, ◌≤◌, ℕ, Bool, false, ◌==◌, ◌&&◌, not, List, [], ◌∷◌, ◌++◌, Option, Some, None, if◌then◌else◌}
 use Rattle.std.specs.List.{list_any}
 use Rattle.std.specs.Str.{bytes_eq}
 use Rattle.sso_base.specs.Words.{Word, Text, word_text}
@@ -13,7 +13,7 @@ use Rattle.rp_exchange.specs.declared.reply.RpReply.TheVariants as rp
 use Rattle.sso_places.specs.declared.types.WorldAsk.{WorldAsk}
 use Rattle.sso_places.specs.declared.types.WorldAsk.TheVariants.{Http, Tokens, Info}
 use Rattle.sso_places.specs.Site.{Site}
-use Rattle.sso_places.specs.World.{Place, Provider, Party, Nothing, World, from_of, drawn}
+use Rattle.sso_places.specs.World.{Place, Provider, Party, Nothing, World, from_of, moment_of, drawn}
 use Rattle.sso_places.specs.Cookies.{words_in, set_at, presented}
 use Rattle.sso_places.specs.Tokens.{TokenText, is_token, is_sealed}
 use Rattle.sso_places.specs.Written.{written}
@@ -105,3 +105,16 @@ IsJoined [] = Unit {0}
 IsJoined (Provider from request p ∷ world) = IsJoined world
 IsJoined (Party n from request p ∷ world) = IsJoined world × IsJoinedAt world from request
 IsJoined (Nothing ∷ world) = IsJoined world
+
+-- ---- time goes on: no place comes at an earlier moment than one before it. (Of the places of one role a legal world says so.)
+
+-- the moment of the newest place at which something was asked, and 0 before
+abbrev pub last_at : World → ℕ
+last_at [] = 0
+last_at (Provider from request p ∷ world) = p.entry.at
+last_at (Party n from request p ∷ world) = p.entry.at
+last_at (Nothing ∷ world) = last_at world
+
+abbrev pub IsInOrder : World → Type 0
+IsInOrder [] = Unit {0}
+IsInOrder (x ∷ world) = IsInOrder world × ((at : ℕ) → moment_of x ≡ Some at → last_at world ≤ at)

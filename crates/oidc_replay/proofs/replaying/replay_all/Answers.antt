@@ -66,8 +66,7 @@ returns-clause-end c =
 
 pub returns-clause-well : goal.returns-clause-well
 returns-clause-well c =
-    let few : length c.args.trace.now.lines ≤ 4194304 = c.requires.lines.few in
     always c.finish.result (plays_well c.args.play.now.running.registry c.args.trace.now c.loop-line.play c.theorem.ensures c.loop-line.invariant.registry
     (all_played c.args.play.now.running.registry c.args.trace.now c.lines-line-items.result.now c.loop-line.line-index (omega (arith, c.loop-line-test.false)) c.lines-line-items.ensures
     (played_of c.loop-line.play) c.loop-line.invariant.played)
-    (omega (arith, few)) c.requires.read)
+    c.requires.lines c.requires.read)

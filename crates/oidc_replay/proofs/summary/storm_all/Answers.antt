@@ -1,4 +1,4 @@
-use Rattle.std.proofs.Common.{◌≡◌, ◌≤◌, length, IfOk, subst, arith}
+use Rattle.std.proofs.Common.{◌≡◌, IfOk, subst}
 use Rattle.std.specs.Prelude.{string_bytes}
 use Rattle.sso_base.specs.Words.{Text}
 use Rattle.client_registry.specs.Configuration.{Configuration}
@@ -26,5 +26,4 @@ returns-clause-end c =
 
 pub returns-clause-well : goal.returns-clause-well
 returns-clause-well c =
-    let few : length c.args.trace.now.lines ≤ 4194304 = c.requires.lines.few in
-    always c.finish.result (plays_well c.args.play.now.running.registry c.args.trace.now c.play_all.new.play c.theorem.ensures c.in_ok-play_all.ensures.registry (lines_of_play c.args.play.now.running.registry c.args.trace.now (played_of c.play_all.new.play) c.in_ok-play_all.ensures.played) (omega (arith, few)) c.requires.read)
+    always c.finish.result (plays_well c.args.play.now.running.registry c.args.trace.now c.play_all.new.play c.theorem.ensures c.in_ok-play_all.ensures.registry (lines_of_play c.args.play.now.running.registry c.args.trace.now (played_of c.play_all.new.play) c.in_ok-play_all.ensures.played) c.requires.lines c.requires.read)

@@ -6,6 +6,7 @@ use Rattle.running_world.specs.Running.{Running, world_of}
 use Rattle.sso_places.specs.Legal.{IsRole}
 use Rattle.running_world.specs.Stepping.{role_weight, asked_weight}
 use Rattle.running_world.specs.Worlds.{shown}
+use Rattle.running_world.proofs.Signing.{op_theorem, rp_theorem}
 use Rattle.running_world.proofs.Steps.{op_keeps, rp_keeps, rp_found, rp_weighs}
 use Rattle.running_world.proofs.world.World.step.Goals as goal
 
@@ -14,6 +15,10 @@ use Rattle.running_world.proofs.world.World.step.Goals as goal
 pub invariant_of-self : goal.invariant_of-self
 invariant_of-self c =
     op_keeps c.ask_provider.result c.self.inside.provider c.ask_provider.new.provider c.self.inside.parties.items c.self.inside.transcript c.ask_provider.new.transcript c.args.from c.args.at c.args.fresh c.in-Http.request c.self.invariant c.ask_provider.ensures.ok c.ask_provider.ensures.provider c.ask_provider.ensures.transcript
+
+pub returns-clause-theorem : goal.returns-clause-theorem
+returns-clause-theorem c =
+    op_theorem c.ask_provider.result c.self.inside.provider c.ask_provider.new.provider c.self.inside.parties.items c.self.inside.transcript c.ask_provider.new.transcript c.args.from c.args.at c.args.fresh c.in-Http.request c.args.self.now c.self.view_is c.self.invariant c.ask_provider.ensures.ok
 
 -- ---- a party was
 
@@ -27,6 +32,10 @@ party_low inside now role n view is low =
 pub invariant_of-self-in-Party : goal.invariant_of-self-in-Party
 invariant_of-self-in-Party c =
     rp_keeps c.ask_party.result c.self.inside.provider c.self.inside.parties.items c.ask_party.new.parties.items c.self.inside.transcript c.ask_party.new.transcript c.args.from c.in-Party.party c.args.at c.args.fresh c.args.ask (party_low (shown c.self.inside.transcript) c.args.self.now c.args.to c.in-Party.party c.self.view_is c.in-Party.is c.requires.role) c.self.invariant c.ask_party.ensures.ok c.ask_party.ensures.parties c.ask_party.ensures.transcript
+
+pub returns-in-Party-clause-theorem : goal.returns-in-Party-clause-theorem
+returns-in-Party-clause-theorem c =
+    rp_theorem c.ask_party.result c.self.inside.provider c.self.inside.parties.items c.ask_party.new.parties.items c.self.inside.transcript c.ask_party.new.transcript c.args.from c.in-Party.party c.args.at c.args.fresh c.args.ask c.args.self.now (party_low (shown c.self.inside.transcript) c.args.self.now c.args.to c.in-Party.party c.self.view_is c.in-Party.is c.requires.role) c.self.view_is c.self.invariant c.ask_party.ensures.ok
 
 pub returns-in-Party-clause-full : goal.returns-in-Party-clause-full
 returns-in-Party-clause-full c =

@@ -1,5 +1,4 @@
 use Rattle.std.proofs.Common.{subst}
-use Rattle.sso_places.specs.Site.{own_site}
 use Rattle.running_world.specs.Running.{Running, world_of}
 use Rattle.running_world.specs.Theorem.{TheoremHolds}
 use Rattle.running_world.specs.Worlds.{shown}
@@ -9,5 +8,5 @@ use Rattle.running_world.proofs.world.World.theorem.Goals as goal
 pub returns : goal.returns
 returns c =
     let inside : Running = shown c.self.inside.transcript in
-    subst (λ (r : Running). TheoremHolds (own_site r.registry) (world_of r)) c.self.view_is
+    subst (λ (r : Running). TheoremHolds r.registry (world_of r)) c.self.view_is
     (theorem_holds inside.registry c.self.inside.provider c.self.inside.parties.items (world_of inside) c.self.invariant)

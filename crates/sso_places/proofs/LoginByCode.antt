@@ -50,7 +50,7 @@ use Rattle.rp_answer.specs.Answering.{rp_answer}
 use Rattle.rp_answer.proofs.Sample.{word, entry_at, op as provider, shop_client, shop, shop_uri}
 use Rattle.rp_answer.proofs.FirstVisit as rp
 use Rattle.sso_places.specs.Site.{setup_at}
-use Rattle.sign_on.proofs.SmallSite.{configuration, site, registry, drawn_word, legal_entry}
+use Rattle.sso_places.proofs.SmallSite.{configuration, site, registry, drawn_word, legal_entry}
 
 -- ---- requests
 

@@ -1,0 +1,7 @@
+pub mod Entering
+pub mod FromBrowser
+pub mod FromServer
+pub mod Going
+pub mod NextPlace
+pub mod Onward
+pub mod Thread

@@ -1,0 +1,9 @@
+pub mod Followed
+pub mod Judged
+pub mod OwnParty
+pub mod Persisting
+pub mod Places
+pub mod Replying
+pub mod Rows
+pub mod Steps
+pub mod Waiting

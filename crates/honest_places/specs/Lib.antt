@@ -1,0 +1,6 @@
+pub mod Conditions
+pub mod InTime
+pub mod Login
+pub mod Outcome
+pub mod OwnWish
+pub mod Shown

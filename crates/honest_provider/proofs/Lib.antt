@@ -1,0 +1,14 @@
+pub mod Answering
+pub mod AtPlace
+pub mod Authorizing
+pub mod Facts
+pub mod Living
+pub mod MadeWords
+pub mod Making
+pub mod Outcomes
+pub mod Places
+pub mod Posting
+pub mod Redeeming
+pub mod Rows
+pub mod Waiting
+pub mod Wanted
