@@ -1,5 +1,5 @@
 -- Honest logins succeed.
-use Rattle.std.proofs.Common.{◌≡◌, ◌≤◌, ◌+◌, ◌||◌, ℕ, Bool, true, false, cond, List, [], ◌∷◌, ◌++◌, length, Option, Some, None, is_some, ◌⊎◌, refl, sym, ap, ◌∙◌, subst, inl, inr, arith, true≢false, eq-eqb}
+use Rattle.std.proofs.Common.{◌≡◌, ◌≤◌, ◌||◌, ℕ, Bool, true, false, cond, List, [], ◌∷◌, ◌++◌, length, Option, Some, None, is_some, ◌⊎◌, refl, sym, ap, ◌∙◌, subst, inl, inr, arith, true≢false, eq-eqb}
 use Rattle.std.specs.List.{AllByRecursion, list_any}
 use Rattle.sso_base.specs.Words.{Word, Text, IsWord, fresh_word, word_text}
 use Rattle.claim_set.specs.Reading.{claims_text}
@@ -27,7 +27,7 @@ use Rattle.sso_places.specs.Cookies.{set_by, jar_set}
 use Rattle.sso_places.specs.Legal.{IsLegalWorld}
 use Rattle.sso_places.specs.Premises.{HasDistinctWords}
 use Rattle.sso_places.specs.Site.{own_site, setup_at}
-use Rattle.sso_places.specs.World.{Place, Provider, Party, World, rp_past, reply_at}
+use Rattle.sso_places.specs.World.{Place, Party, World, rp_past, reply_at}
 use Rattle.sso_places.proofs.Objects.{may_ask}
 use Rattle.cookie_jars.specs.Jars.{jar_with, set_or}
 use Rattle.web_requests.specs.declared.sent.Sent.{Sent}

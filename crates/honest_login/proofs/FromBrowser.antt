@@ -32,11 +32,10 @@ use Rattle.rp_answer.specs.Asked.{if_wanted, claims_read, claims_judged}
 use Rattle.rp_answer.specs.Replies.{entered}
 use Rattle.sso_base.specs.declared.history.Entry.{Entry}
 use Rattle.sso_places.specs.declared.types.Jar.{Jar}
-use Rattle.sso_places.specs.declared.types.To.TheVariants as to
 use Rattle.sso_places.specs.declared.types.WorldReply.{WorldReply}
 use Rattle.sso_places.specs.declared.types.WorldReply.TheVariants as reply
 use Rattle.sso_places.specs.Site.{own_site, setup_at}
-use Rattle.sso_places.specs.World.{Place, Provider, Party, World, rp_past}
+use Rattle.sso_places.specs.World.{Place, World, rp_past}
 use Rattle.web_requests.specs.declared.sent.Sent.{Sent}
 use Rattle.web_requests.specs.Following.{reply_followed}
 use Rattle.web_requests.specs.Posting.{login_posted, consent_posted}

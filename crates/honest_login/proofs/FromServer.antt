@@ -28,7 +28,7 @@ use Rattle.sso_places.specs.declared.types.To.TheVariants as to
 use Rattle.sso_places.specs.declared.types.WorldReply.{WorldReply}
 use Rattle.sso_places.specs.declared.types.WorldReply.TheVariants as reply
 use Rattle.sso_places.specs.Site.{own_site, setup_at}
-use Rattle.sso_places.specs.World.{Place, Provider, Party, World, rp_past, reply_at}
+use Rattle.sso_places.specs.World.{Place, World, rp_past, reply_at}
 use Rattle.web_requests.specs.declared.sent.Sent.{Sent}
 use Rattle.web_requests.specs.Carrying.{carried}
 use Rattle.web_requests.specs.Handing.{handed_back}
@@ -38,7 +38,7 @@ use Rattle.honest_places.specs.Login.{Visitor, sent_at, given_back, called_for}
 use Rattle.honest_places.specs.InTime.{IsRpInTime}
 use Rattle.honest_places.proofs.OwnWishValue.{own_wish_value}
 use Rattle.honest_places.proofs.Standing.{AtProvider}
-use Rattle.honest_party.proofs.Steps.{PendingStands, GotTokens, GotInfo, there, exchange_stands, tokens_there, got_tokens, fetch_stands, info_there, got_info}
+use Rattle.honest_party.proofs.Steps.{PendingStands, GotTokens, GotInfo, exchange_stands, tokens_there, got_tokens, fetch_stands, info_there, got_info}
 use Rattle.honest_login.proofs.Thread.{IsExchanging, IsGiven, IsFetching, IsTold, IsIn, Knows, is_given, is_fetching, is_told}
 use Rattle.honest_login.proofs.Going.{waiting_at_provider}
 use Rattle.std.proofs.lemmas.Bool.{ltb-true}

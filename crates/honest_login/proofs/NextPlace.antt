@@ -1,12 +1,11 @@
 -- The next place of an honest login: what is known of it before its reply.
-use Rattle.std.proofs.Common.{◌≡◌, ◌≤◌, ◌||◌, ℕ, true, false, List, ◌∷◌, length, Option, None, refl, sym, ap, ◌∙◌, subst, arith, true≢false}
+use Rattle.std.proofs.Common.{◌≡◌, ◌≤◌, ◌||◌, ℕ, false, List, ◌∷◌, length, Option, None, refl, sym, ap, ◌∙◌, subst, arith, true≢false}
 use Rattle.std.specs.List.{list_any}
 use Rattle.std.proofs.lemmas.Option.{same_Some}
 use Rattle.sso_base.specs.Words.{Word, IsWord, fresh_word}
 use Rattle.client_registry.specs.Configuration.{Configuration, subject_at}
 use Rattle.client_registry.specs.Numbers.{party_row}
 use Rattle.client_registry.specs.Registered.{IsRegistry}
-use Rattle.auth_request.specs.declared.wish.Wish.{Wish}
 use Rattle.login_request.specs.Parties.{MayAsk}
 use Rattle.op_exchange.specs.declared.ask.OpAsk.{OpAsk}
 use Rattle.rp_answer.specs.Past.{RpPair}
@@ -16,14 +15,12 @@ use Rattle.rp_answer.specs.Legal.{IsLegalRp}
 use Rattle.sso_places.specs.declared.types.To.{To}
 use Rattle.sso_places.specs.declared.types.To.TheVariants as to
 use Rattle.sso_places.specs.declared.types.WorldAsk.{WorldAsk}
-use Rattle.sso_places.specs.declared.types.WorldReply.TheVariants as reply
 use Rattle.sso_places.specs.Legal.{IsLegalWorld}
 use Rattle.sso_places.specs.Site.{own_site, setup_at}
-use Rattle.sso_places.specs.World.{Place, Provider, Party, World, moment_of, rp_past, reply_at}
+use Rattle.sso_places.specs.World.{Place, Party, World, moment_of, rp_past, reply_at}
 use Rattle.sso_places.proofs.Objects.{may_ask}
 use Rattle.web_requests.specs.declared.sent.Sent.{Sent}
 use Rattle.web_requests.specs.Sending.{sent}
-use Rattle.honest_places.specs.OwnWish.{own_wish}
 use Rattle.honest_places.specs.Login.{Visitor, wants_none, MayLogIn, sent_at, called_for, jar_after, FitsJar, is_full, Continues}
 use Rattle.honest_places.specs.InTime.{IsRpInTime, IsInTime}
 use Rattle.sso_places.specs.Premises.{last_at}

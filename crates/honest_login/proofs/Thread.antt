@@ -18,7 +18,6 @@ use Rattle.rp_answer.specs.Past.{RpPair}
 use Rattle.rp_answer.specs.Setup.{PartySetup}
 use Rattle.rp_answer.specs.Logins.{logins}
 use Rattle.rp_answer.specs.Replies.{exchange}
-use Rattle.sso_base.specs.declared.http.Ask.{Ask}
 use Rattle.sso_places.specs.declared.types.Jar.{Jar}
 use Rattle.sso_places.specs.declared.types.To.TheVariants as to
 use Rattle.sso_places.specs.declared.types.WorldAsk.{WorldAsk}

@@ -17,7 +17,7 @@ use Rattle.rp_login.specs.declared.rows.SessionRow.{SessionRow as VisitRow}
 use Rattle.code_grant.specs.declared.rows.SessionRow.{SessionRow}
 use Rattle.code_grant.specs.declared.rows.CodeRow.{CodeRow}
 use Rattle.sso_places.specs.Site.{Site}
-use Rattle.sso_places.specs.World.{Place, Provider, Party, Nothing, World, place_at, from_of, moment_of, op_past, rp_past, drawn, op_place}
+use Rattle.sso_places.specs.World.{Place, Provider, Party, Nothing, World, place_at, from_of, moment_of, op_past, rp_past, op_place}
 use Rattle.sso_places.specs.Reading.{jti_at}
 use Rattle.sso_places.specs.Cookies.{set_at, presented}
 use Rattle.sso_places.specs.Tokens.{TokenText, is_token, is_sealed}

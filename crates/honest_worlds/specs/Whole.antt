@@ -1,0 +1,39 @@
+-- An honest login to its end, in a world that has no place besides: it keeps all that is asked of a login and of a world, and at its
+-- last place the browser is let in as the user whose password it gave.
+use Rattle.std.specs.Prelude.{◌≡◌, ℕ, Bool, true, List, ◌∷◌, length}
+use Rattle.std.specs.List.{list_any}
+use Rattle.sso_base.specs.Words.{Text}
+use Rattle.oidc_words.specs.Types.{types_text}
+use Rattle.client_registry.specs.Configuration.{Configuration, subject_at}
+use Rattle.client_registry.specs.Numbers.{party_row}
+use Rattle.client_registry.specs.Registered.{IsRegistry}
+use Rattle.sso_places.specs.Legal.{IsLegalWorld}
+use Rattle.sso_places.specs.Premises.{IsUnforged, IsUnleaked, IsJoined, IsInOrder, HasDistinctWords, HasDistinctHashes}
+use Rattle.sso_places.specs.Site.{own_site}
+use Rattle.sso_places.specs.World.{Place}
+use Rattle.honest_places.specs.Login.{Visitor, MayLogIn, IsHonest}
+use Rattle.honest_places.specs.Outcome.{LetsIn, gives_password}
+
+-- at a party of this response type, that asks for UserInfo or does not, and with this many places
+pub record IsWholeLogin (response_type : Text) (asks_for_info : Bool) (places : ℕ) : Type 0 where
+  pub configuration : Configuration
+  pub visitor : Visitor
+  pub last : Place
+  pub earlier : List Place
+  pub type_is : types_text (party_row configuration visitor.party).types ≡ response_type
+  pub info_is : (party_row configuration visitor.party).userinfo ≡ asks_for_info
+  pub count : length (last ∷ earlier) ≡ places
+  -- the registry and the world
+  pub registry : IsRegistry configuration
+  pub legal : IsLegalWorld (own_site configuration) (last ∷ earlier)
+  pub order : IsInOrder (last ∷ earlier)
+  pub distinct : HasDistinctWords (last ∷ earlier)
+  pub hashes : HasDistinctHashes (last ∷ earlier)
+  pub unforged : IsUnforged (own_site configuration) (last ∷ earlier)
+  pub unleaked : IsUnleaked (last ∷ earlier)
+  pub joined : IsJoined (last ∷ earlier)
+  -- the login
+  pub may : MayLogIn configuration visitor
+  pub honest : IsHonest configuration visitor (last ∷ earlier) (last ∷ earlier)
+  pub password : list_any gives_password (last ∷ earlier) ≡ true
+  pub lets_in : LetsIn visitor last (subject_at configuration (party_row configuration visitor.party).client visitor.user)

@@ -1,0 +1,11 @@
+//! Worlds that show what the definition of an honest login is worth: whole logins keep it, and each of its conditions is needed. It has
+//! no running code, and nothing stands on it.
+//!
+//! | Module | What it has | Its definitions, in `specs/` |
+//! |---|---|---|
+//! | `law` | that whole logins are honest, and that no condition can be left out | `Whole`, `Needed` |
+#![tactic(auto)]
+
+mod law;
+
+pub use law::{no_condition_can_be_left_out, whole_logins_are_honest};
