@@ -30,7 +30,7 @@ use Rattle.rp_answer.proofs.KeptNames.{login_names, pending_names}
 use Rattle.rp_answer.proofs.Sending.{pending_found, named_row}
 use Rattle.honest_places.specs.Shown.{exchange_named}
 use Rattle.honest_places.proofs.OwnWords.{other_bytes}
-use Rattle.honest_places.proofs.Persisting.{persists}
+use Rattle.honest_places.proofs.Persisting.{stays}
 use Rattle.honest_party.specs.Sparing.{Spares}
 
 -- ---- logins
@@ -48,14 +48,9 @@ module _ (s : PartySetup) (w : Word) where
   pub login_persists : (later past : RpPast) (row : LoginRow) → IsLegalRp s (later ++ past) → AllByRecursion (Spares w) later → row_of login_name w (logins past) ≡ Some row
       → row_of login_name w (logins (later ++ past)) ≡ Some row
   login_persists later past row legal spared there =
-      let S : RpPair → Type 0 = λ p. Spares w p in
-      let f : LoginRow → LoginRow = λ r. r in
-      let found =
-      persists login_name login_made login_kept login_names (IsLegalRp s) (λ p q l. l.0) S f w row
+      stays login_name login_made login_kept login_names (IsLegalRp s) (λ p q l. l.0) (λ p. Spares w p) w row
       (λ q p l z. not_begun _ p.entry.at p.entry.fresh w p.entry.ask p.reply (other_bytes (fresh_word p.entry.fresh 1) w (z.undrawn 1 (omega arith))))
-      (λ q p r l z named same. record { after = r; left = login_left q p r z named; same = refl })
-      later past legal spared (record { row = row; there = there; same = refl }) in
-      found.there ∙ ap (λ (r : LoginRow). Some r) found.same
+      (λ q p l z named. login_left q p row z named) later past legal spared there
 
 -- ---- exchanges
 
@@ -126,11 +121,5 @@ module _ (s : PartySetup) (w : Word) where
   pub pending_persists : (later past : RpPast) (row : PendingRow) → IsLegalRp s (later ++ past) → AllByRecursion (Spares w) later → row_of pending_name w (pendings types past) ≡ Some row
       → row_of pending_name w (pendings types (later ++ past)) ≡ Some row
   pending_persists later past row legal spared there =
-      let S : RpPair → Type 0 = λ p. Spares w p in
-      let f : PendingRow → PendingRow = λ r. r in
-      let found =
-      persists pending_name (pending_made types) pending_kept pending_names (IsLegalRp s) (λ p q l. l.0) S f w row
-      (λ q p l z. none_waits q p l z)
-      (λ q p r l z named same. record { after = r; left = pending_left q p r z named; same = refl })
-      later past legal spared (record { row = row; there = there; same = refl }) in
-      found.there ∙ ap (λ (r : PendingRow). Some r) found.same
+      stays pending_name (pending_made types) pending_kept pending_names (IsLegalRp s) (λ p q l. l.0) (λ p. Spares w p) w row
+      none_waits (λ q p l z named. pending_left q p row z named) later past legal spared there

@@ -41,7 +41,18 @@ module _ {P R : Type 0} (name : R → Word) (made : List R → List P → P → 
 
   -- ---- more pairs
 
-  -- `Legal` is what is known of the whole past, `Sparing` of each pair, and `look` what is looked at of a row
+  -- a row stays as it is over pairs that make none of its name and leave it; `Legal` is what is known of the whole past, `Sparing` of each pair
+  pub stays : (Legal : List P → Type 0) → ((p : P) (past : List P) → Legal (p ∷ past) → Legal past) → (Sparing : P → Type 0) → (w : Word) (row : R)
+      → ((past : List P) (p : P) → Legal (p ∷ past) → Sparing p → is_named name w (made (rows past) past p) ≡ false)
+      → ((past : List P) (p : P) → Legal (p ∷ past) → Sparing p → name row ≡ w → kept past p row ≡ Some row)
+      → (later past : List P) → Legal (later ++ past) → AllByRecursion Sparing later → row_of name w (rows past) ≡ Some row → row_of name w (rows (later ++ past)) ≡ Some row
+  stays Legal earlier Sparing w row unmade left [] past legal spared there = there
+  stays Legal earlier Sparing w row unmade left (p ∷ later) past legal spared there =
+      let before = stays Legal earlier Sparing w row unmade left later past (earlier p (later ++ past) legal) spared.1 there in
+      kept_stands (later ++ past) p w row row (unmade (later ++ past) p legal spared.0) before
+      (left (later ++ past) p legal spared.0 (row_has_name name w (rows (later ++ past)) row before))
+
+  -- the same of a part of a row: `Legal` is what is known of the whole past, `Sparing` of each pair, and `look` what is looked at of a row
   module _ {X : Type 0} (Legal : List P → Type 0) (earlier : (p : P) (past : List P) → Legal (p ∷ past) → Legal past) (Sparing : P → Type 0) (look : R → X) (w : Word) (x : X) where
     -- a row of the name stands, and is this as to what is looked at
     pub record Found (past : List P) : Type 0 where

@@ -26,7 +26,7 @@ use Rattle.op_answer.specs.Codes.{found_spent}
 use Rattle.op_answer.specs.Legal.{IsLegalOp}
 use Rattle.op_answer.proofs.KeptNames.{turn_names, session_names, code_names, access_names}
 use Rattle.honest_provider.specs.Sparing.{Spares, session_shown, without_clients}
-use Rattle.honest_places.proofs.Persisting.{unnamed, persists}
+use Rattle.honest_places.proofs.Persisting.{unnamed, stays, persists}
 use Rattle.honest_provider.proofs.MadeWords.{turn_drawn, session_drawn, made_code_drawn, made_access_drawn}
 
 -- what is left of a session that is not ended, and may be used: all but its clients
@@ -51,14 +51,9 @@ module _ (c : Configuration) (w : Word) where
   pub turn_persists : (later past : OpPast) (row : TurnRow) → IsLegalOp c (later ++ past) → AllByRecursion (Spares w) later → row_of turn_name w (turns past) ≡ Some row
       → row_of turn_name w (turns (later ++ past)) ≡ Some row
   turn_persists later past row legal spared there =
-      let S : OpPair → Type 0 = λ p. Spares w p in
-      let f : TurnRow → TurnRow = λ r. r in
-      let found =
-      persists turn_name turn_made turn_kept turn_names (IsLegalOp c) (λ p past legal. legal.0) S f w row
+      stays turn_name turn_made turn_kept turn_names (IsLegalOp c) (λ p q l. l.0) (λ p. Spares w p) w row
       (λ q p l s. unnamed turn_name w (turn_made (turns q) q p) (λ r made named. no_turn_made q p l s r made named))
-      (λ q p r l s named same. record { after = r; left = turn_left q p r s named; same = refl })
-      later past legal spared (record { row = row; there = there; same = refl }) in
-      found.there ∙ ap (λ (r : TurnRow). Some r) found.same
+      (λ q p l s named. turn_left q p row s named) later past legal spared there
 
   -- ---- codes
 
@@ -75,14 +70,9 @@ module _ (c : Configuration) (w : Word) where
   pub code_persists : (later past : OpPast) (row : CodeRow) → IsLegalOp c (later ++ past) → AllByRecursion (Spares w) later → row_of code_name w (codes_issued past) ≡ Some row
       → row_of code_name w (codes_issued (later ++ past)) ≡ Some row
   code_persists later past row legal spared there =
-      let S : OpPair → Type 0 = λ p. Spares w p in
-      let f : CodeRow → CodeRow = λ r. r in
-      let found =
-      persists code_name code_made code_kept code_names (IsLegalOp c) (λ p past legal. legal.0) S f w row
+      stays code_name code_made code_kept code_names (IsLegalOp c) (λ p q l. l.0) (λ p. Spares w p) w row
       (λ q p l s. unnamed code_name w (code_made (codes_issued q) q p) (λ r made named. no_code_made q p l s r made named))
-      (λ q p r l s named same. record { after = r; left = code_left q p r s named; same = refl })
-      later past legal spared (record { row = row; there = there; same = refl }) in
-      found.there ∙ ap (λ (r : CodeRow). Some r) found.same
+      (λ q p l s named. code_left q p row s named) later past legal spared there
 
   -- ---- sessions: as to all but the clients
 
@@ -148,13 +138,6 @@ module _ (c : Configuration) (w : Word) where
   pub access_persists : (later past : OpPast) (row : TokenRow) → IsLegalOp c (later ++ past) → AllByRecursion (λ (p : OpPair). Spares w p × IfSome row.code (λ k. Spares k p)) later
       → row_of access_name w (accesses past) ≡ Some row → row_of access_name w (accesses (later ++ past)) ≡ Some row
   access_persists later past row legal spared there =
-      let S : OpPair → Type 0 = λ p. Spares w p × IfSome row.code (λ k. Spares k p) in
-      let f : TokenRow → TokenRow = λ r. r in
-      let found =
-      persists access_name access_made access_kept access_names (IsLegalOp c) (λ p past legal. legal.0) S f w row
+      stays access_name access_made access_kept access_names (IsLegalOp c) (λ p q l. l.0) (λ p. Spares w p × IfSome row.code (λ k. Spares k p)) w row
       (λ q p l s. unnamed access_name w (access_made (accesses q) q p) (λ r made named. no_access_made q p l s.0 r made named))
-      (λ q p r l s named same.
-      let C : TokenRow → Type 0 = λ t. IfSome t.code (λ k. Spares k p) in
-      record { after = r; left = access_left q p r (subst C (sym same) s.1); same = refl })
-      later past legal spared (record { row = row; there = there; same = refl }) in
-      found.there ∙ ap (λ (r : TokenRow). Some r) found.same
+      (λ q p l s named. access_left q p row s.1) later past legal spared there

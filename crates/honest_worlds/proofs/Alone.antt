@@ -1,4 +1,4 @@
---  A world that has one login alone and keeps all premises, and what its next place has to keep, at the provider and at a party. 
+-- A world that has one login alone and keeps all premises, and what its next place has to keep, at the provider and at a party.
 use Rattle.std.proofs.Common.{◌≡◌, ℕ, false, List, ◌∷◌, Option, Some, None, refl, sym, ap, ◌∙◌}
 use Rattle.std.proofs.lemmas.Option.{same_Some}
 use Rattle.sso_base.specs.declared.http.Ask.{Ask}

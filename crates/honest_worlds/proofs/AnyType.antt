@@ -1,4 +1,4 @@
---  The registry of the samples with a party of any response type, with UserInfo or without: its client may have each of the six, and 
+-- The registry of the samples with a party of any response type, with UserInfo or without: its client may have each of the six, and
 -- asks for consent. What the party asks for is computed once, and that tokens may be issued for it.
 use Rattle.std.proofs.Common.{◌≡◌, ◌||◌, ℕ, Bool, true, false, [], ◌∷◌, codes, Option, Some, None, slice_get, refl, ap, subst, arith}
 use Rattle.std.specs.Prelude.{IfSome}

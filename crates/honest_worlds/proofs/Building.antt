@@ -1,42 +1,32 @@
 -- How a legal world is built place by place, and when a login fails at its last place: it kept all conditions but one, and the reply
 -- leads nowhere.
-use Rattle.std.proofs.Common.{◌≡◌, ◌≤◌, ◌<◌, ◌==◌, ℕ, true, false, List, [], ◌∷◌, length, Option, Some, IfSome, refl, sym, subst, ◌∙◌, inl, inr, eqb-true, arith}
-use Rattle.std.proofs.lemmas.Option.{same_Some}
-use Rattle.sso_base.specs.declared.http.Ask.{Ask}
-use Rattle.sso_base.specs.Legal.{IsEntry, last_moment}
+use Rattle.std.proofs.Common.{◌≡◌, ◌≤◌, ◌<◌, ℕ, true, false, List, [], ◌∷◌, length, Option, Some, IfSome, refl, sym, subst, ◌∙◌, arith}
+use Rattle.sso_base.specs.Legal.{IsEntry}
 use Rattle.sso_base.specs.Rows.{lives}
 use Rattle.sso_base.specs.Values.{latest_moment}
-use Rattle.sso_base.proofs.RowLaws.{bool_cases}
 use Rattle.oidc_words.specs.Lives.{turn_life, session_life, login_life}
 use Rattle.client_registry.specs.Configuration.{Configuration}
 use Rattle.client_registry.specs.Registered.{IsRegistry}
 use Rattle.code_grant.specs.declared.rows.TurnRow.{TurnRow}
 use Rattle.code_grant.specs.declared.rows.SessionRow.{SessionRow}
-use Rattle.op_exchange.specs.Values.{IsOpAsk}
-use Rattle.op_request.specs.Prepared.{prepared as op_prepared}
-use Rattle.op_answer.specs.Past.{OpPair}
-use Rattle.op_answer.specs.Answering.{op_answer}
 use Rattle.rp_login.specs.declared.rows.LoginRow.{LoginRow}
 use Rattle.rp_exchange.specs.declared.reply.RpReply.{RpReply}
 use Rattle.rp_exchange.specs.Values.{IsRpAsk}
 use Rattle.rp_request.specs.Prepared.{prepared as rp_prepared}
-use Rattle.rp_answer.specs.Past.{RpPair}
-use Rattle.rp_answer.specs.Legal.{IsLegalRp}
 use Rattle.rp_answer.specs.Answering.{rp_answer}
 use Rattle.rp_answer.proofs.Sample.{words, pair_of}
 use Rattle.rp_answer.proofs.FirstVisit.{begin_entry}
-use Rattle.sso_places.specs.declared.types.WorldAsk.{WorldAsk}
 use Rattle.sso_places.specs.declared.types.WorldAsk.TheVariants.{Http}
-use Rattle.sso_places.specs.Legal.{IsLegalWorld, party_prepared}
-use Rattle.sso_places.specs.Premises.{HasDistinctWords, IsInOrder, last_at}
+use Rattle.sso_places.specs.Premises.{HasDistinctWords}
 use Rattle.sso_places.specs.Site.{own_site, setup_at}
-use Rattle.sso_places.specs.World.{Place, Provider, Party, World, moment_of, op_past, rp_past, reply_at}
+use Rattle.sso_places.specs.World.{Place, Party, World, reply_at}
 use Rattle.sso_places.proofs.SmallSite.{all_words, legal_entry}
 use Rattle.sso_places.proofs.LoginByCode.{begins}
 use Rattle.honest_places.specs.Conditions.{Condition, within_lives, Unless}
 use Rattle.honest_places.specs.Login.{Visitor, MayLogInBut, IsHonestBut, Continues, went_on}
 use Rattle.honest_places.specs.Outcome.{leads_on}
 use Rattle.honest_worlds.specs.Needed.{FailsWithout}
+use Rattle.honest_worlds.proofs.Growing.{Stands, nothing_stands, party_stands}
 
 -- ---- entries and rows
 
@@ -62,72 +52,10 @@ of_row P o holds row is = subst (λ x. IfSome x P) is holds
 -- ---- worlds
 
 module _ (c : Configuration) where
-  -- a world is legal, and time goes on in it
-  pub record Stands (world : World) : Type 0 where
-    pub legal : IsLegalWorld (own_site c) world
-    pub order : IsInOrder world
-
-  nothing_stands : Stands []
-  nothing_stands = record { legal = record { provider = tt; parties = λ n. tt; asked = tt }; order = tt }
-
-  in_order : (world : World) (x : Place) (at : ℕ) → moment_of x ≡ Some at → last_at world ≤ at → (moment : ℕ) → moment_of x ≡ Some moment → last_at world ≤ moment
-  in_order world x at is later moment same = subst (λ m. last_at world ≤ m) (same_Some at moment (sym is ∙ same)) later
-
-  -- what the provider is asked by a request after a world, and what it replies
-  pub record ProviderReplies (world : World) (request : Ask) (pair : OpPair) : Type 0 where
-    pub asked : op_prepared c request ≡ pair.entry.ask
-    pub entry : IsEntry IsOpAsk pair.entry
-    pub after_own : last_moment (op_past world) ≤ pair.entry.at
-    pub after_all : last_at world ≤ pair.entry.at
-    pub answered : op_answer c (op_past world) pair.entry ≡ pair.reply
-
-  pub provider_stands : (world : World) (from : ℕ) (request : Ask) (pair : OpPair) → Stands world → ProviderReplies world request pair → Stands (Provider from request pair ∷ world)
-  provider_stands world from request pair before next = record {
-    legal = record {
-      provider = (before.legal.provider, next.entry, next.after_own, sym next.answered);
-      parties = before.legal.parties;
-      asked = (sym next.asked, before.legal.asked);
-    };
-    order = (before.order, in_order world (Provider from request pair) pair.entry.at refl next.after_all);
-  }
-
-  -- the same of the party of a number
-  pub record PartyReplies (world : World) (n : ℕ) (request : WorldAsk) (pair : RpPair) : Type 0 where
-    pub known : n < length c.parties
-    pub asked : party_prepared c n request ≡ pair.entry.ask
-    pub entry : IsEntry IsRpAsk pair.entry
-    pub after_own : last_moment (rp_past n world) ≤ pair.entry.at
-    pub after_all : last_at world ≤ pair.entry.at
-    pub answered : rp_answer (setup_at (own_site c) n) (rp_past n world) pair.entry ≡ pair.reply
-
-  module _ (world : World) (n from : ℕ) (request : WorldAsk) (pair : RpPair) (before : Stands world) (next : PartyReplies world n request pair) where
-    abbrev there : World
-    there = Party n from request pair ∷ world
-
-    own_legal : IsLegalRp (setup_at (own_site c) n) (pair ∷ rp_past n world)
-    own_legal = (before.legal.parties n, next.entry, next.after_own, sym next.answered)
-
-    each_legal : (m : ℕ) → IsLegalRp (setup_at (own_site c) m) (rp_past m there)
-    each_legal m =
-        elim (bool_cases (n == m)) [
-          | inl same ↦ rw same (subst (λ k. IsLegalRp (setup_at (own_site c) k) (pair ∷ rp_past k world)) (eqb-true n m same) own_legal)
-          | inr other ↦ rw other (before.legal.parties m)
-        ]
-
-    pub party_stands : Stands there
-    party_stands = record {
-      legal = record {
-        provider = before.legal.provider;
-        parties = each_legal;
-        asked = ((next.known, sym next.asked), before.legal.asked);
-      };
-      order = (before.order, in_order world (Party n from request pair) pair.entry.at refl next.after_all);
-    }
-
   -- the first place of a world, where browser 1 begins a login at the party of a number
   pub begun_stands : (n : ℕ) (told : RpReply) → n < length c.parties → rp_prepared c n begins ≡ begin_entry.ask → rp_answer (setup_at (own_site c) n) [] begin_entry ≡ told
-      → Stands (Party n 1 (Http begins) (pair_of begin_entry told) ∷ [])
-  begun_stands n told known asked answered = party_stands [] n 1 (Http begins) (pair_of begin_entry told) nothing_stands (record {
+      → Stands c (Party n 1 (Http begins) (pair_of begin_entry told) ∷ [])
+  begun_stands n told known asked answered = party_stands c [] n 1 (Http begins) (pair_of begin_entry told) (nothing_stands c) (record {
     known = known;
     asked = asked;
     entry = legal_entry IsRpAsk 1 begin_entry.ask refl tt;
@@ -140,7 +68,7 @@ module _ (c : Configuration) where
 
   -- the last reply of a login that kept all conditions but one leads nowhere
   pub fails_there : (condition : Condition) (v : Visitor) (world : World) (x last : Place) (earlier : List Place)
-      → IsRegistry c → Stands (x ∷ world) → HasDistinctWords (x ∷ world) → MayLogInBut (Some condition) c v
+      → IsRegistry c → Stands c (x ∷ world) → HasDistinctWords (x ∷ world) → MayLogInBut (Some condition) c v
       → IsHonestBut (Some condition) c v world (last ∷ earlier) → Continues (Some condition) c v world x last earlier
       → leads_on (reply_at x) ≡ false → FailsWithout condition
   fails_there condition v world x last earlier registry stands distinct may so_far next bad = record {

@@ -1,4 +1,4 @@
---  A login at a party whose response type has a code, from the exchange of the code to the tokens that are given back. All premises 
+-- A login at a party whose response type has a code, from the exchange of the code to the tokens that are given back. All premises
 -- are kept, whatever the party replies to the tokens.
 use Rattle.std.proofs.Common.{◌≡◌, ℕ, Bool, true, false, List, [], ◌∷◌, Option, Some, None, Ok, refl, sym, ap, ◌∙◌, arith}
 use Rattle.sso_base.specs.Rows.{lives}

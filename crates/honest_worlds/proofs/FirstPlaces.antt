@@ -39,7 +39,8 @@ use Rattle.web_requests.specs.Carrying.{carried}
 use Rattle.honest_places.specs.Conditions.{Condition, right_password, Unless}
 use Rattle.honest_places.specs.InTime.{IsConsentInTime, IsResponseInTime}
 use Rattle.honest_places.specs.Login.{Visitor, MayLogInBut, called_for, IsHonestBut, begun, went_on}
-use Rattle.honest_worlds.proofs.Building.{TurnLives, SessionLives, LoginLives, of_row, Stands, provider_stands, party_stands, begun_stands}
+use Rattle.honest_worlds.proofs.Building.{TurnLives, SessionLives, LoginLives, of_row, begun_stands}
+use Rattle.honest_worlds.proofs.Growing.{Stands, provider_stands, party_stands}
 
 -- ---- who logs in
 

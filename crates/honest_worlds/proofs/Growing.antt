@@ -1,4 +1,4 @@
---  How a legal world grows by a place. 
+-- How a legal world grows by a place.
 use Rattle.std.proofs.Common.{◌≡◌, ◌≤◌, ◌<◌, ◌==◌, ℕ, Bool, cond, [], ◌∷◌, length, Some, inl, inr, refl, sym, ap, ◌∙◌, subst, eqb-true}
 use Rattle.std.proofs.lemmas.Option.{same_Some}
 use Rattle.sso_base.specs.Legal.{IsEntry, last_moment}

@@ -1,4 +1,4 @@
---  The last places of a login whose party asks for UserInfo: the request gets alice's claims, and these let her in. All premises are 
+-- The last places of a login whose party asks for UserInfo: the request gets alice's claims, and these let her in. All premises are
 -- kept.
 use Rattle.std.proofs.Common.{◌≡◌, ◌≤◌, Bool, true, List, [], ◌∷◌, codes, Option, Some, None, Ok, refl, sym, ap, arith}
 use Rattle.sso_base.specs.Legal.{last_moment}

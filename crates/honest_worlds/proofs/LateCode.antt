@@ -15,7 +15,8 @@ use Rattle.sso_places.proofs.LoginByCode.{past_consent, redeems, token_entry, to
 use Rattle.web_requests.specs.Sending.{sent}
 use Rattle.honest_places.specs.Conditions.{code_in_time}
 use Rattle.honest_worlds.specs.Needed.{FailsWithout}
-use Rattle.honest_worlds.proofs.Building.{entry_then, Stands, provider_stands, fails_there}
+use Rattle.honest_worlds.proofs.Building.{entry_then, fails_there}
+use Rattle.honest_worlds.proofs.Growing.{Stands, provider_stands}
 use Rattle.honest_worlds.proofs.FirstPlaces.{alice, alice_may, grant_asks, exchanges, answered, exchanged, exchanged_stands, second_jar, carries, exchanged_honestly}
 
 abbrev late_entry : Entry OpAsk

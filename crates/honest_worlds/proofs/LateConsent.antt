@@ -62,7 +62,8 @@ use Rattle.honest_places.specs.Conditions.{recent_sign_in}
 use Rattle.honest_places.specs.InTime.{IsConsentInTime}
 use Rattle.honest_places.specs.Login.{MayLogInBut, called_for, IsHonestBut, begun, went_on}
 use Rattle.honest_worlds.specs.Needed.{FailsWithout}
-use Rattle.honest_worlds.proofs.Building.{entry_then, SessionLives, of_row, Stands, provider_stands, party_stands, begun_stands, fails_there}
+use Rattle.honest_worlds.proofs.Building.{entry_then, SessionLives, of_row, begun_stands, fails_there}
+use Rattle.honest_worlds.proofs.Growing.{Stands, provider_stands, party_stands}
 use Rattle.honest_worlds.proofs.FirstPlaces.{alice, alice_may, party_jar, second_jar}
 use Rattle.honest_worlds.proofs.StrictSite.{strict, strict_registry, recent_shop}
 

@@ -69,7 +69,8 @@ use Rattle.honest_places.specs.InTime.{IsResponseInTime}
 use Rattle.honest_places.specs.Login.{MayLogInBut, called_for, IsHonestBut, begun, went_on}
 use Rattle.honest_party.proofs.Followed.{PartysWish, issued_utf8, answer_arrives}
 use Rattle.honest_worlds.specs.Needed.{FailsWithout}
-use Rattle.honest_worlds.proofs.Building.{entry_then, TurnLives, LoginLives, of_row, Stands, provider_stands, party_stands, begun_stands, fails_there}
+use Rattle.honest_worlds.proofs.Building.{entry_then, TurnLives, LoginLives, of_row, begun_stands, fails_there}
+use Rattle.honest_worlds.proofs.Growing.{Stands, provider_stands, party_stands}
 use Rattle.honest_worlds.proofs.FirstPlaces.{alice_may, first_jar, party_jar}
 use Rattle.honest_worlds.proofs.NewsRequest.{reader, news_query, news_wish, wish_is_value}
 

@@ -17,7 +17,8 @@ use Rattle.sso_places.proofs.LoginByCode.{past_authorize, logs_in, login_is_aske
 use Rattle.web_requests.specs.Sending.{sent}
 use Rattle.honest_places.specs.Conditions.{within_lives}
 use Rattle.honest_worlds.specs.Needed.{FailsWithout}
-use Rattle.honest_worlds.proofs.Building.{entry_then, Stands, provider_stands, fails_there}
+use Rattle.honest_worlds.proofs.Building.{entry_then, fails_there}
+use Rattle.honest_worlds.proofs.Growing.{Stands, provider_stands}
 use Rattle.honest_worlds.proofs.FirstPlaces.{alice, alice_may, shows, asked, shown, shown_stands, first_jar, fills_in, shown_honestly}
 
 abbrev late_entry : Entry OpAsk

@@ -23,7 +23,8 @@ use Rattle.sso_places.proofs.LoginByCode.{past_authorize}
 use Rattle.web_requests.specs.Sending.{sent}
 use Rattle.honest_places.specs.Conditions.{last_cookies}
 use Rattle.honest_worlds.specs.Needed.{FailsWithout}
-use Rattle.honest_worlds.proofs.Building.{Stands, provider_stands, fails_there}
+use Rattle.honest_worlds.proofs.Building.{fails_there}
+use Rattle.honest_worlds.proofs.Growing.{Stands, provider_stands}
 use Rattle.honest_worlds.proofs.FirstPlaces.{alice, alice_may, shows, asked, shown, shown_stands, party_jar, logs_in_with, fills_in, turn_in_time, shown_honestly}
 
 abbrev mixed_entry : Entry OpAsk

@@ -1,4 +1,4 @@
---  The fifth place of a login at a party of any response type: the answer comes to the party. All premises are kept, whatever the 
+-- The fifth place of a login at a party of any response type: the answer comes to the party. All premises are kept, whatever the
 -- party replies.
 use Rattle.std.proofs.Common.{◌≡◌, ◌||◌, not, ◌&&◌, ◌++◌, ◌+◌, ℕ, Bool, true, false, List, ◌∷◌, codes, Option, Some, None, option_map, Ok, refl, sym, ap, ◌∙◌, arith}
 use Rattle.std.specs.Prelude.{IfSome}

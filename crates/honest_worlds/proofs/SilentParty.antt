@@ -41,7 +41,8 @@ use Rattle.web_requests.specs.Following.{followed}
 use Rattle.honest_places.specs.Conditions.{party_may_ask}
 use Rattle.honest_places.specs.Login.{called_for, begun}
 use Rattle.honest_worlds.specs.Needed.{FailsWithout}
-use Rattle.honest_worlds.proofs.Building.{Stands, provider_stands, begun_stands, fails_there}
+use Rattle.honest_worlds.proofs.Building.{begun_stands, fails_there}
+use Rattle.honest_worlds.proofs.Growing.{Stands, provider_stands}
 use Rattle.honest_worlds.proofs.FirstPlaces.{alice_may}
 use Rattle.honest_worlds.proofs.NewsRequest.{reader, news_query, news_wish, wish_is_value}
 use Rattle.honest_worlds.proofs.StrictSite.{strict, strict_registry, silent_news}

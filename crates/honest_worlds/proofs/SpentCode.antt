@@ -24,7 +24,8 @@ use Rattle.web_requests.specs.Sending.{sent}
 use Rattle.honest_places.specs.Conditions.{own_words, code_in_time, Unless}
 use Rattle.honest_places.specs.Login.{waited}
 use Rattle.honest_worlds.specs.Needed.{FailsWithout}
-use Rattle.honest_worlds.proofs.Building.{of_row, Stands, provider_stands, fails_there}
+use Rattle.honest_worlds.proofs.Building.{of_row, fails_there}
+use Rattle.honest_worlds.proofs.Growing.{Stands, provider_stands}
 use Rattle.honest_worlds.proofs.FirstPlaces.{alice, alice_may, grant_asks, exchanges, answered, exchanged, exchanged_stands, second_jar, carries, exchanged_honestly}
 
 -- ---- the stranger, who is browser 2

@@ -1,5 +1,5 @@
---  The first four places of a login at a party of any response type: it begins, alice gets the login page, the consent page, and an 
--- answer. All premises are kept.
+-- The first four places of a login at a party of any response type: it begins, alice gets the login page, the consent page, and an
+-- answer. All premises are kept. All places of the samples are at the moment 1000, and each draws the next four words, from `word 1` on.
 use Rattle.std.proofs.Common.{◌≡◌, ◌-◌, ◌||◌, not, ◌&&◌, Bool, true, false, cond, List, [], ◌∷◌, Option, Some, None, option_and_then, Result, refl, sym, ap, ◌∙◌, arith}
 use Rattle.std.specs.List.{list_any}
 use Rattle.sso_base.specs.Rows.{lives}

@@ -1,5 +1,5 @@
---  Whole logins of the six response types. What is left to compute of each is what the party replies, and that no half digests are 
--- alike.
+-- Whole logins of the six response types. What is left to compute of each is what the party replies, and that no half digests are
+-- alike. The code of the answer is `word 15`, its access token `word 16`; that of the token response is `word 21`.
 use Rattle.std.proofs.Common.{◌≡◌, ℕ, Bool, true, false, List, ◌∷◌, length, codes, Some, refl, sym, ap, ◌∙◌, arith}
 use Rattle.std.specs.List.{list_any}
 use Rattle.std.specs.Str.{bytes_eq}

@@ -25,7 +25,8 @@ use Rattle.web_requests.specs.Posting.{login_posted}
 use Rattle.honest_places.specs.Conditions.{right_password}
 use Rattle.honest_places.specs.Login.{called_for}
 use Rattle.honest_worlds.specs.Needed.{FailsWithout}
-use Rattle.honest_worlds.proofs.Building.{Stands, provider_stands, fails_there}
+use Rattle.honest_worlds.proofs.Building.{fails_there}
+use Rattle.honest_worlds.proofs.Growing.{Stands, provider_stands}
 use Rattle.honest_worlds.proofs.FirstPlaces.{typing, may_log_in, shows, asked, shown, shown_stands, first_jar, turn_in_time, shown_honestly}
 
 abbrev guesses : Ask
