@@ -146,38 +146,59 @@ module _ (c : Configuration) (v : Visitor) (r : IsRegistry c) (m : MayLogIn c v)
         let R : WorldReply = reply.Party (rp.Ask (login_location (party_client c n) (party_row c n) c.provider a.state a.nonce) a.lb) in
         inr ((λ jar. is_called jar R _ a.replied (request_followed_read c n a.state a.nonce (may_at a.state a.nonce a.login.state_word a.login.nonce_word) jar b a.lb).is), omega (arith, a.short))
     ends (is_paged a) =
-        inr ((λ jar. is_called jar (reply.Provider (op.LoginPage a.page.turn a.page.browser false)) _ a.page.replied
-        (login_read c b jar a.page.turn a.page.browser false v.id v.password a.page.known.word m.id_text m.password_text).is), omega (arith, a.short))
+        inr (
+          (λ jar. is_called jar (reply.Provider (op.LoginPage a.page.turn a.page.browser false)) _ a.page.replied
+              (login_read c b jar a.page.turn a.page.browser false v.id v.password a.page.known.word m.id_text m.password_text).is),
+          omega (arith, a.short),
+        )
     ends (is_consenting a) =
-        inr ((λ jar. is_called jar (reply.Provider (op.ConsentPage a.page.turn a.page.browser a.page.given a.page.client a.page.scopes)) _ a.page.replied
-        (consent_read c b jar a.page.turn a.page.browser a.page.given a.page.client a.page.scopes true a.page.known.turn.word).is), omega (arith, a.short))
+        inr (
+          (λ jar. is_called jar (reply.Provider (op.ConsentPage a.page.turn a.page.browser a.page.given a.page.client a.page.scopes)) _ a.page.replied
+              (consent_read c b jar a.page.turn a.page.browser a.page.given a.page.client a.page.scopes true a.page.known.turn.word).is),
+          omega (arith, a.short),
+        )
     ends (is_answered a) =
         let w : Wish = own_wish c n a.state a.nonce in
-        inr ((λ jar. is_called jar (reply.Provider (op.Answered (issued c w a.answer.who a.answer.at a.answer.fresh) a.answer.given)) _ a.answer.replied
-        (answer_arrives c n r m.party w a.answer.who a.answer.at a.answer.fresh a.state a.answer.given b jar
-        (own_wish_partys c n r m.party a.state a.nonce a.login.state_word) a.answer.known.may (own_wish_value c n r m.party a.state a.nonce a.login.state_word a.login.nonce_word)).is), omega (arith, a.short))
+        inr (
+          (λ jar. is_called jar (reply.Provider (op.Answered (issued c w a.answer.who a.answer.at a.answer.fresh) a.answer.given)) _ a.answer.replied
+              (answer_arrives c n r m.party w a.answer.who a.answer.at a.answer.fresh a.state a.answer.given b jar
+              (own_wish_partys c n r m.party a.state a.nonce a.login.state_word) a.answer.known.may (own_wish_value c n r m.party a.state a.nonce a.login.state_word a.login.nonce_word)).is),
+          omega (arith, a.short),
+        )
     ends (is_exchanging a) =
-        inr ((λ jar. is_called jar (reply.Party (exchange S a.pair.entry (word_text (fresh_word a.fresh 2)))) _ (ap reply_at a.place ∙ ap (λ (q : RpReply). reply.Party q) a.replied)
-        (exchange_arrives c n r m.party (fresh_word a.pair.entry.fresh 0) (fresh_word a.fresh 2)).is), omega (arith, a.short))
+        inr (
+          (λ jar. is_called jar (reply.Party (exchange S a.pair.entry (word_text (fresh_word a.fresh 2)))) _ (ap reply_at a.place ∙ ap (λ (q : RpReply). reply.Party q) a.replied)
+              (exchange_arrives c n r m.party (fresh_word a.pair.entry.fresh 0) (fresh_word a.fresh 2)).is),
+          omega (arith, a.short),
+        )
     ends (is_given a) =
         let w : Wish = own_wish c n a.state a.nonce in
         let R : WorldReply = reply.Provider (op.Tokens a.giving.access (issued_id c w a.giving.who a.giving.at (Some a.giving.access) None)) in
-        inr ((λ jar. is_called jar R _ a.giving.replied
-        (ap (λ l. called_for c v jar l R) a.before.earlier_is ∙ ap (λ y. given_back c y R) a.before.place ∙ ap (λ (q : RpReply). handed_back c b (to.Party n) (reply.Party q) to.Provider R) a.before.replied
-        ∙ (tokens_arrive c n r m.party w a.giving.who a.giving.at b a.w a.giving.access a.message refl a.giving.may (own_wish_value c n r m.party a.state a.nonce a.state_word a.nonce_word)).is)), omega (arith, a.short))
+        inr (
+          (λ jar. is_called jar R _ a.giving.replied
+              (ap (λ l. called_for c v jar l R) a.before.earlier_is ∙ ap (λ y. given_back c y R) a.before.place ∙ ap (λ (q : RpReply). handed_back c b (to.Party n) (reply.Party q) to.Provider R) a.before.replied
+              ∙ (tokens_arrive c n r m.party w a.giving.who a.giving.at b a.w a.giving.access a.message refl a.giving.may (own_wish_value c n r m.party a.state a.nonce a.state_word a.nonce_word)).is)),
+          omega (arith, a.short),
+        )
     ends (is_fetching a) =
         let endpoint_is : c.provider.userinfo ≡ Some a.replied.endpoint = wanted (party_row c n).userinfo a.replied.endpoint a.replied.endpoint_is in
-        inr ((λ jar. is_called jar (reply.Party (fetched a.replied.endpoint (word_text a.access) a.w)) _ (ap reply_at a.place ∙ ap (λ (q : RpReply). reply.Party q) a.replied.reply_is)
-        (info_request_read c r a.replied.endpoint a.w a.access endpoint_is a.known.word).is), omega (arith, a.short))
+        inr (
+          (λ jar. is_called jar (reply.Party (fetched a.replied.endpoint (word_text a.access) a.w)) _ (ap reply_at a.place ∙ ap (λ (q : RpReply). reply.Party q) a.replied.reply_is)
+              (info_request_read c r a.replied.endpoint a.w a.access endpoint_is a.known.word).is),
+          omega (arith, a.short),
+        )
       where
         wanted : (flag : Bool) (endpoint : Text) → cond flag c.provider.userinfo None ≡ Some endpoint → c.provider.userinfo ≡ Some endpoint
         wanted true endpoint h = h
         wanted false endpoint h = absurd (cc)
     ends (is_told a) =
         let R : WorldReply = reply.Provider (op.Info (claims_text (info_members c (party_row c n).client a.user a.telling.scopes a.telling.asked))) in
-        inr ((λ jar. is_called jar R _ a.telling.replied
-        (ap (λ l. called_for c v jar l R) a.before.earlier_is ∙ ap (λ y. given_back c y R) a.before.place ∙ ap (λ (q : RpReply). handed_back c b (to.Party n) (reply.Party q) to.Provider R) a.before.replied
-        ∙ (info_handed c b n (party_row c n).client a.user a.w a.message a.telling.scopes a.telling.asked r).is)), omega (arith, a.short))
+        inr (
+          (λ jar. is_called jar R _ a.telling.replied
+              (ap (λ l. called_for c v jar l R) a.before.earlier_is ∙ ap (λ y. given_back c y R) a.before.place ∙ ap (λ (q : RpReply). handed_back c b (to.Party n) (reply.Party q) to.Provider R) a.before.replied
+              ∙ (info_handed c b n (party_row c n).client a.user a.w a.message a.telling.scopes a.telling.asked r).is)),
+          omega (arith, a.short),
+        )
     ends (is_in a) = inl (subject_at c (party_row c n).client a.user, record { request = a.request; pair = a.pair; word = a.word; place = a.place; replied = a.replied })
 
     -- ---- whom it lets in

@@ -244,7 +244,7 @@ module _ {c : Configuration} {v : Visitor} {world : World} {last : Place} {earli
                 }))
             | inr id ↦
                 (let way = split_front S (own_wish c v.party a.state a.nonce).types.token p.entry word (fresh_word fresh 3) sub p.reply
-                    (res.enters (ap (λ (t : Types). t.code) types_are ∙ id.0) (ap (λ (t : Types). t.id_token) types_are ∙ id.1)) in
+                (res.enters (ap (λ (t : Types). t.code) types_are ∙ id.0) (ap (λ (t : Types). t.id_token) types_are ∙ id.1)) in
                 elim way [
                   | inl f ↦
                       (let front = a.answer.known.known.access f.0 in

@@ -27,11 +27,17 @@ module _ (c : Configuration) (v : Visitor) where
       record {
         row = k.row;
         stands = login_waits_on c v.party login world state k.own x now spares k.row k.stands;
-        state_is = k.state_is; nonce_is = k.nonce_is; browser_is = k.browser_is; begun_is = k.begun_is;
+        state_is = k.state_is;
+        nonce_is = k.nonce_is;
+        browser_is = k.browser_is;
+        begun_is = k.begun_is;
         own = own_later login world x state k.own;
-        state_word = k.state_word; nonce_word = k.nonce_word;
+        state_word = k.state_word;
+        nonce_word = k.nonce_word;
         past = omega (arith, k.past, later_at x world now.order);
-        jar = k.jar; jar_is = k.jar_is; first = k.first;
+        jar = k.jar;
+        jar_is = k.jar_is;
+        first = k.first;
       }
 
   pub login_at_provider : (login : List Place) (world : World) (x : Place) (number : ℕ) (request : Ask) (p : OpPair) (state nonce lb : Word) (from : ℕ) → x ≡ Provider number request p → IsInOrder (x ∷ world)
@@ -41,11 +47,19 @@ module _ (c : Configuration) (v : Visitor) where
       let O : Place → Type 0 = λ z. IsInOrder (z ∷ world) in
       let K : Place → Type 0 = λ z. LoginKnown v (z ∷ login) (z ∷ world) state nonce lb from in
       subst K (sym is) (record {
-        row = k.row; stands = k.stands; state_is = k.state_is; nonce_is = k.nonce_is; browser_is = k.browser_is; begun_is = k.begun_is;
+        row = k.row;
+        stands = k.stands;
+        state_is = k.state_is;
+        nonce_is = k.nonce_is;
+        browser_is = k.browser_is;
+        begun_is = k.begun_is;
         own = own_grown login world y state k.own;
-        state_word = k.state_word; nonce_word = k.nonce_word;
+        state_word = k.state_word;
+        nonce_word = k.nonce_word;
         past = omega (arith, k.past, later_at y world (subst O is order));
-        jar = k.jar; jar_is = k.jar_is; first = k.first;
+        jar = k.jar;
+        jar_is = k.jar_is;
+        first = k.first;
       })
 
   waiting_waited : (login : List Place) (world : World) (x : Place) (w : Word) (waits : Stage) (nonce : Word) (from at : ℕ) (sub : Text) → Now c x world → Spares login x
@@ -87,7 +101,8 @@ module _ (c : Configuration) (v : Visitor) where
 
     answer_waited : (state nonce : Word) (from : ℕ) (who : Authentication) (at : ℕ) (fresh : List Word) → AnswerKnown c v L world state nonce from who at fresh → AnswerKnown c v L (x ∷ world) state nonce from who at fresh
     answer_waited state nonce from who at fresh k = record {
-      may = k.may; age = k.age;
+      may = k.may;
+      age = k.age;
       past = omega (arith, k.past, later_at x world now.order);
       known = answer_later c v L world x now spares state nonce who fresh k.known;
       visitor = k.visitor;
@@ -95,69 +110,133 @@ module _ (c : Configuration) (v : Visitor) where
 
     pub stays : K world last earlier → K (x ∷ world) last earlier
     stays (is_asking k) = is_asking (record {
-      state = k.state; nonce = k.nonce; lb = k.lb; from = k.from;
+      state = k.state;
+      nonce = k.nonce;
+      lb = k.lb;
+      from = k.from;
       login = login_waited c v L world x k.state k.nonce k.lb k.from now spares k.login;
-      replied = k.replied; short = k.short; quiet = k.quiet;
+      replied = k.replied;
+      short = k.short;
+      quiet = k.quiet;
     })
     stays (is_paged k) = is_paged (record {
-      state = k.state; nonce = k.nonce; lb = k.lb; from = k.from;
+      state = k.state;
+      nonce = k.nonce;
+      lb = k.lb;
+      from = k.from;
       login = login_waited c v L world x k.state k.nonce k.lb k.from now spares k.login;
       page = record {
-        turn = k.page.turn; browser = k.page.browser; replied = k.page.replied;
+        turn = k.page.turn;
+        browser = k.page.browser;
+        replied = k.page.replied;
         known = turn_later c v L world x now spares k.page.turn k.page.browser k.state k.nonce k.page.known;
       };
       short = k.short;
     })
     stays (is_consenting k) = is_consenting (record {
-      state = k.state; nonce = k.nonce; lb = k.lb; from = k.from;
+      state = k.state;
+      nonce = k.nonce;
+      lb = k.lb;
+      from = k.from;
       login = login_waited c v L world x k.state k.nonce k.lb k.from now spares k.login;
       page = record {
-        turn = k.page.turn; browser = k.page.browser; given = k.page.given; client = k.page.client; scopes = k.page.scopes; replied = k.page.replied;
+        turn = k.page.turn;
+        browser = k.page.browser;
+        given = k.page.given;
+        client = k.page.client;
+        scopes = k.page.scopes;
+        replied = k.page.replied;
         known = consent_later c v L world x now spares k.page.turn k.page.browser k.state k.nonce k.from k.page.known;
       };
       short = k.short;
     })
     stays (is_answered k) = is_answered (record {
-      state = k.state; nonce = k.nonce; lb = k.lb; from = k.from;
+      state = k.state;
+      nonce = k.nonce;
+      lb = k.lb;
+      from = k.from;
       login = login_waited c v L world x k.state k.nonce k.lb k.from now spares k.login;
       answer = record {
-        who = k.answer.who; at = k.answer.at; fresh = k.answer.fresh; given = k.answer.given; replied = k.answer.replied;
+        who = k.answer.who;
+        at = k.answer.at;
+        fresh = k.answer.fresh;
+        given = k.answer.given;
+        replied = k.answer.replied;
         known = answer_waited k.state k.nonce k.from k.answer.who k.answer.at k.answer.fresh k.answer.known;
       };
       short = k.short;
     })
     stays (is_exchanging k) = is_exchanging (record {
-      state = k.state; nonce = k.nonce; from = k.from; state_word = k.state_word; nonce_word = k.nonce_word; who = k.who; at = k.at; fresh = k.fresh;
-      request = k.request; pair = k.pair; place = k.place; replied = k.replied; code = k.code;
+      state = k.state;
+      nonce = k.nonce;
+      from = k.from;
+      state_word = k.state_word;
+      nonce_word = k.nonce_word;
+      who = k.who;
+      at = k.at;
+      fresh = k.fresh;
+      request = k.request;
+      pair = k.pair;
+      place = k.place;
+      replied = k.replied;
+      code = k.code;
       known = answer_waited k.state k.nonce k.from k.who k.at k.fresh k.known;
       waits = waiting_waited c v L world x (fresh_word k.pair.entry.fresh 0) stage.Tokens k.nonce k.from k.pair.entry.at (subject_at c (party_row c v.party).client k.who.user) now spares k.waits;
       short = k.short;
     })
     stays (is_given k) = is_given (record {
-      state = k.state; nonce = k.nonce; from = k.from; since = k.since; state_word = k.state_word; nonce_word = k.nonce_word; user = k.user;
+      state = k.state;
+      nonce = k.nonce;
+      from = k.from;
+      since = k.since;
+      state_word = k.state_word;
+      nonce_word = k.nonce_word;
+      user = k.user;
       visitor = k.visitor;
       giving = record {
-        who = k.giving.who; at = k.giving.at; access = k.giving.access; replied = k.giving.replied; may = k.giving.may; age = k.giving.age;
+        who = k.giving.who;
+        at = k.giving.at;
+        access = k.giving.access;
+        replied = k.giving.replied;
+        may = k.giving.may;
+        age = k.giving.age;
         after = k.giving.after;
         past = omega (arith, k.giving.past, later_at x world now.order);
         user_is = k.giving.user_is;
         known = access_later c v L world x now spares k.giving.access k.user k.giving.known;
       };
-      w = k.w; message = k.message; before = k.before;
+      w = k.w;
+      message = k.message;
+      before = k.before;
       waits = waiting_waited c v L world x k.w stage.Tokens k.nonce k.from k.since (subject_at c (party_row c v.party).client k.user) now spares k.waits;
       short = k.short;
     })
     stays (is_fetching k) = is_fetching (record {
-      nonce = k.nonce; from = k.from; since = k.since; user = k.user; visitor = k.visitor; w = k.w; access = k.access;
+      nonce = k.nonce;
+      from = k.from;
+      since = k.since;
+      user = k.user;
+      visitor = k.visitor;
+      w = k.w;
+      access = k.access;
       known = access_later c v L world x now spares k.access k.user k.known;
-      request = k.request; pair = k.pair; place = k.place; replied = k.replied;
+      request = k.request;
+      pair = k.pair;
+      place = k.place;
+      replied = k.replied;
       waits = waiting_waited c v L world x k.w stage.Info k.nonce k.from k.since (subject_at c (party_row c v.party).client k.user) now spares k.waits;
       short = k.short;
     })
     stays (is_told k) = is_told (record {
-      nonce = k.nonce; from = k.from; since = k.since; user = k.user; visitor = k.visitor;
+      nonce = k.nonce;
+      from = k.from;
+      since = k.since;
+      user = k.user;
+      visitor = k.visitor;
       telling = record { scopes = k.telling.scopes; asked = k.telling.asked; replied = k.telling.replied };
-      w = k.w; message = k.message; before = k.before;
+      w = k.w;
+      message = k.message;
+      before = k.before;
       waits = waiting_waited c v L world x k.w stage.Info k.nonce k.from k.since (subject_at c (party_row c v.party).client k.user) now spares k.waits;
       short = k.short;
     })

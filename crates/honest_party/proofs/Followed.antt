@@ -165,7 +165,7 @@ module _ (c : Configuration) (n : ℕ) (r : IsRegistry c) (low : n < length c.pa
   tokens_arrive wish who at from pending access message client may value =
       let text : Text = issued_id c wish who at (Some access) None in
       let A : Result IdClaims IdNo → Type 0 = λ read. AnswersTokens c from n pending (handed_back c from (to.Party n) (PartyReply (rp.Exchange pending message)) to.Provider (ProviderReply (op.Tokens access text)))
-          (rp_ask.Tokens pending (Ok (record { access = word_text access; id = text })) (Some read)) in
+      (rp_ask.Tokens pending (Ok (record { access = word_text access; id = text })) (Some read)) in
       subst A (issued_is_read wish who at (Some access) None client may value) (tokens_handed c from n pending access message text (issued_utf8 c wish who at (Some access) None))
 
   -- ---- its own wish

@@ -225,18 +225,20 @@ module _ (c : Configuration) (n : ℕ) (r : IsRegistry c) (low : n < length c.pa
           place = there.place;
           exchanges = λ code.
               (let told : p.reply ≡ exchange s p.entry (word_text (fresh_word fresh 2)) =
-              w.legal.3 ∙ callback_exchanges s own past p.entry w.room wish who at fresh state jar.first login partys time (login_lives past p.entry.at state login stands soon) same there.ask code in
-              (told, record {
-                row = pending_started (party_of s).types p.entry.at (ask.Callback (Ok heard) id jar.first) (fresh_word p.entry.fresh 0) stage.Tokens login;
-                found = ap (λ l. row_of pending_name (fresh_word p.entry.fresh 0) (pendings (party_of s).types l)) w.past
-                    ∙ exchange_waits (party_of s).types past p (fresh_word p.entry.fresh 0) (token_message (party_client c n) c.provider.token (word_text (fresh_word fresh 2)) (party_row c n).redirect) (ask.Callback (Ok heard) id jar.first) login there.ask told stands;
-                word = refl;
-                stage = refl;
-                nonce = refl;
-                begun = refl;
-                since = refl;
-                subject = front_subject s own past p.entry w.room wish who at fresh state jar.first login partys time (login_lives past p.entry.at state login stands soon) same there.ask (fresh_word p.entry.fresh 0);
-              }));
+              w.legal.3 ∙ callback_exchanges s own past p.entry w.room wish who at fresh state jar.first login partys time (login_lives past p.entry.at state login stands soon) same there.ask code in (
+                told,
+                record {
+                  row = pending_started (party_of s).types p.entry.at (ask.Callback (Ok heard) id jar.first) (fresh_word p.entry.fresh 0) stage.Tokens login;
+                  found = ap (λ l. row_of pending_name (fresh_word p.entry.fresh 0) (pendings (party_of s).types l)) w.past
+                      ∙ exchange_waits (party_of s).types past p (fresh_word p.entry.fresh 0) (token_message (party_client c n) c.provider.token (word_text (fresh_word fresh 2)) (party_row c n).redirect) (ask.Callback (Ok heard) id jar.first) login there.ask told stands;
+                  word = refl;
+                  stage = refl;
+                  nonce = refl;
+                  begun = refl;
+                  since = refl;
+                  subject = front_subject s own past p.entry w.room wish who at fresh state jar.first login partys time (login_lives past p.entry.at state login stands soon) same there.ask (fresh_word p.entry.fresh 0);
+                },
+              ));
           enters = λ code id_token.
               subst (FetchesOrEnters s p.entry (fresh_word p.entry.fresh 0) (issued_access wish fresh) sub) (sym w.legal.3)
               (callback_enters s own past p.entry w.room wish who at fresh state jar.first login partys time (login_lives past p.entry.at state login stands soon) same there.ask code id_token);

@@ -159,16 +159,40 @@ module _ (c : Configuration) (n : ℕ) (state nonce : Word) (m : MayAsk c n c.pr
   no_errors : (object : Option Text) → NoneHolds (errors client (asked object) (asking_of (asked object)) false)
   unfolding errors asking_of claims_of
   no_errors object =
-      let age : age_of (option_map decimal party.max_age) ≡ party.max_age = age_read party.max_age rules.party_rules.age in
-      (refl, (refl, (refl, (refl,
-      (ap is_none number_is,
-      (ap (λ o. not (may_ask client o)) number_is ∙ ap (λ o. not (unwrap_or o false)) rules.fit.has_type,
-      (refl,
-      (ap not (openid_there party.scope rules.party_rules.scope),
-      (ap (λ l. not (nat_le l 255)) (length-b64u_32 nonce m.nonce_word.long),
-      (ap (λ b. b && has_other none_word (parameter_words party.prompt)) silent,
-      (ap (λ o. is_some (option_map decimal party.max_age) && is_none o) age ∙ both_ages party.max_age,
-      (refl, tt))))))))))))
+      let age : age_of (option_map decimal party.max_age) ≡ party.max_age = age_read party.max_age rules.party_rules.age in (
+        refl,
+        (
+          refl,
+          (
+            refl,
+            (
+              refl,
+              (
+                ap is_none number_is,
+                (
+                  ap (λ o. not (may_ask client o)) number_is ∙ ap (λ o. not (unwrap_or o false)) rules.fit.has_type,
+                  (
+                    refl,
+                    (
+                      ap not (openid_there party.scope rules.party_rules.scope),
+                      (
+                        ap (λ l. not (nat_le l 255)) (length-b64u_32 nonce m.nonce_word.long),
+                        (
+                          ap (λ b. b && has_other none_word (parameter_words party.prompt)) silent,
+                          (
+                            ap (λ o. is_some (option_map decimal party.max_age) && is_none o) age ∙ both_ages party.max_age,
+                            (refl, tt),
+                          ),
+                        ),
+                      ),
+                    ),
+                  ),
+                ),
+              ),
+            ),
+          ),
+        ),
+      )
 
   registered : (object : Option Text) → IsRegistered c (asked object) party.client party.redirect
   registered object = record { client = client; there = some_row c.clients party.client no_client (client_is_known c n m.registry m.party); named = refl; asked = refl; registered = rules.fit.redirect }

@@ -16,8 +16,8 @@ pub invariant_of-self : goal.invariant_of-self
 invariant_of-self c =
     op_keeps c.ask_provider.result c.self.inside.provider c.ask_provider.new.provider c.self.inside.parties.items c.self.inside.transcript c.ask_provider.new.transcript c.args.from c.args.at c.args.fresh c.in-Http.request c.self.invariant c.ask_provider.ensures.ok c.ask_provider.ensures.provider c.ask_provider.ensures.transcript
 
-pub returns-clause-theorem : goal.returns-clause-theorem
-returns-clause-theorem c =
+pub returns-in-Http-clause-theorem : goal.returns-in-Http-clause-theorem
+returns-in-Http-clause-theorem c =
     op_theorem c.ask_provider.result c.self.inside.provider c.ask_provider.new.provider c.self.inside.parties.items c.self.inside.transcript c.ask_provider.new.transcript c.args.from c.args.at c.args.fresh c.in-Http.request c.args.self.now c.self.view_is c.self.invariant c.ask_provider.ensures.ok
 
 -- ---- a party was
