@@ -15,7 +15,7 @@ use Rattle.honest_login.proofs.Thread.{LoginKnown, Waiting, Knows, is_asking, is
 use Rattle.honest_places.proofs.OwnWords.{own_later, own_grown}
 use Rattle.honest_places.proofs.Worlds.{Now, later_at}
 use Rattle.honest_provider.proofs.Facts.{turn_later, consent_later, access_later, answer_later}
-use Rattle.honest_provider.proofs.Outcomes.{AnswerKnown}
+use Rattle.honest_provider.proofs.Outcomes.{Paged, Consenting, AnswerKnown}
 use Rattle.honest_party.proofs.Waiting.{login_waits_on, pending_waits_on}
 
 module _ (c : Configuration) (v : Visitor) where
@@ -108,6 +108,25 @@ module _ (c : Configuration) (v : Visitor) where
       visitor = k.visitor;
     }
 
+    paged_waited : (state nonce : Word) → Paged c v L world last state nonce → Paged c v L (x ∷ world) last state nonce
+    paged_waited state nonce page = record {
+      turn = page.turn;
+      browser = page.browser;
+      replied = page.replied;
+      known = turn_later c v L world x now spares page.turn page.browser state nonce page.known;
+    }
+
+    consenting_waited : (state nonce : Word) (from : ℕ) → Consenting c v L world last state nonce from → Consenting c v L (x ∷ world) last state nonce from
+    consenting_waited state nonce from page = record {
+      turn = page.turn;
+      browser = page.browser;
+      given = page.given;
+      client = page.client;
+      scopes = page.scopes;
+      replied = page.replied;
+      known = consent_later c v L world x now spares page.turn page.browser state nonce from page.known;
+    }
+
     pub stays : K world last earlier → K (x ∷ world) last earlier
     stays (is_asking k) = is_asking (record {
       state = k.state;
@@ -125,12 +144,7 @@ module _ (c : Configuration) (v : Visitor) where
       lb = k.lb;
       from = k.from;
       login = login_waited c v L world x k.state k.nonce k.lb k.from now spares k.login;
-      page = record {
-        turn = k.page.turn;
-        browser = k.page.browser;
-        replied = k.page.replied;
-        known = turn_later c v L world x now spares k.page.turn k.page.browser k.state k.nonce k.page.known;
-      };
+      page = paged_waited k.state k.nonce k.page;
       short = k.short;
     })
     stays (is_consenting k) = is_consenting (record {
@@ -139,15 +153,7 @@ module _ (c : Configuration) (v : Visitor) where
       lb = k.lb;
       from = k.from;
       login = login_waited c v L world x k.state k.nonce k.lb k.from now spares k.login;
-      page = record {
-        turn = k.page.turn;
-        browser = k.page.browser;
-        given = k.page.given;
-        client = k.page.client;
-        scopes = k.page.scopes;
-        replied = k.page.replied;
-        known = consent_later c v L world x now spares k.page.turn k.page.browser k.state k.nonce k.from k.page.known;
-      };
+      page = consenting_waited k.state k.nonce k.from k.page;
       short = k.short;
     })
     stays (is_answered k) = is_answered (record {
