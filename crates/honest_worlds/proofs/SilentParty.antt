@@ -32,7 +32,7 @@ use Rattle.rp_answer.proofs.FirstVisit.{begin_entry}
 use Rattle.sso_places.specs.declared.types.To.TheVariants as to
 use Rattle.sso_places.specs.declared.types.WorldAsk.TheVariants.{Http}
 use Rattle.sso_places.specs.Cookies.{no_jar}
-use Rattle.sso_places.specs.World.{Place, Provider, Party, World, drawn, reply_at}
+use Rattle.sso_places.specs.World.{Place, Provider, Party, drawn, reply_at}
 use Rattle.sso_places.proofs.SmallSite.{are_distinct, legal_entry}
 use Rattle.sso_places.proofs.LoginByCode.{begins, got}
 use Rattle.web_requests.specs.Sending.{sent}
@@ -55,12 +55,9 @@ sends_on = rp.Ask (login_location news_client silent_news provider (word 2) (wor
 abbrev asks : Place
 asks = Party 1 1 (Http begins) (pair_of begin_entry sends_on)
 
-abbrev asked : World
-asked = asks ∷ []
-
-asked_stands : Stands strict asked
+asks_stands : Stands strict (asks ∷ [])
 unfolding rp_prepared rp_answer
-asked_stands = begun_stands strict 1 sends_on (omega arith) refl refl
+asks_stands = begun_stands strict 1 sends_on (omega arith) refl refl
 
 -- ---- the provider may show no page
 
@@ -84,8 +81,8 @@ authorize_is_answered = refl
 abbrev fails : Place
 fails = Provider 1 authorizes (op.pair_of authorize_entry refused)
 
-stands : Stands strict (fails ∷ asked)
-stands = provider_stands strict asked 1 authorizes (op.pair_of authorize_entry refused) asked_stands (record {
+stands : Stands strict (fails ∷ asks ∷ [])
+stands = provider_stands strict (asks ∷ []) 1 authorizes (op.pair_of authorize_entry refused) asks_stands (record {
   asked = authorize_is_asked;
   entry = legal_entry IsOpAsk 5 authorize_entry.ask refl (wish_is_value true, tt, tt);
   after_own = omega arith;
@@ -99,7 +96,7 @@ follows = refl
 
 pub silent_party_fails : FailsWithout party_may_ask
 silent_party_fails =
-    fails_there strict party_may_ask reader asked fails asks [] strict_registry stands (are_distinct (drawn (fails ∷ asked)) refl)
+    fails_there strict party_may_ask reader (asks ∷ []) fails asks [] strict_registry stands (are_distinct (drawn (fails ∷ asks ∷ [])) refl)
     (let may = alice_may (Some party_may_ask) in
     record { party = omega arith; may_ask = λ kept. absurd (kept refl); id_text = may.id_text; password_text = may.password_text; right = may.right })
     (begun [] asks (record { jar = no_jar; asked = refl; room = λ kept. refl }))
