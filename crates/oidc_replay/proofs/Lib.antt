@@ -1,3 +1,4 @@
+mod Beginnings
 mod Counting
 mod Distinct
 mod DrawnWords

@@ -1,5 +1,5 @@
 -- The play of a trace, line by line. Its words are distinct, it is joined and time goes on in it, so that the sign-on theorem needs no more
--- of it than that no text is forged and no cookie leaks, and the theorem on honest logins nothing more.
+-- of it than that no text is forged and no cookie leaks, and the theorem on honest logins nothing more. So it plays well.
 use Rattle.std.proofs.Common.{◌≡◌, ℕ, suc, ◌^◌, ◌<◌, ◌≤◌, List, [], ◌∷◌, ◌++◌, length, get_or, min, reverse, take, Option, Some, None, Result, Ok, Err, IfOk, refl, sym, ap, ◌∙◌, subst, arith}
 use Rattle.std.proofs.lemmas.List.{length-reverse, length-take, reverse-append, take_all}
 use Rattle.std.proofs.Math.Seq.{take-suc}
@@ -7,10 +7,9 @@ use Rattle.sso_base.specs.Words.{Text}
 use Rattle.client_registry.specs.Configuration.{Configuration}
 use Rattle.client_registry.specs.Registered.{IsRegistry}
 use Rattle.sso_places.specs.declared.types.Broken.{Broken}
-use Rattle.sso_places.specs.Binding.{IsBound}
 use Rattle.sso_places.specs.FirstBroken.{first_broken, IsUnbroken}
-use Rattle.sso_places.specs.Premises.{HasDistinctWords, IsJoined}
-use Rattle.sso_places.specs.Site.{own_site}
+use Rattle.sso_places.specs.Premises.{HasDistinctWords, HasDistinctHashes, IsUnleaked, IsUnforged, IsJoined}
+use Rattle.sso_places.specs.Site.{Site, own_site}
 use Rattle.sso_places.specs.World.{World}
 use Rattle.sso_places.proofs.FirstBroken.{none_broken}
 use Rattle.running_world.specs.Running.{world_of}
@@ -25,10 +24,10 @@ use Rattle.oidc_replay.specs.Play.{Played, Playing, played_of, play_on, play_lin
 use Rattle.oidc_replay.specs.End.{ended_by, play_end, end_of}
 use Rattle.oidc_replay.specs.Storm.{counts_text, storm_text}
 use Rattle.oidc_replay.specs.Text.{line_told, lines_told, end_line, text_of}
-use Rattle.oidc_replay.specs.Theorem.{PlaysWell}
-use Rattle.oidc_replay.proofs.Played.{HasPlayed, lines_played}
+use Rattle.oidc_replay.specs.Theorem.{SignsOnWell, PlaysWell}
+use Rattle.oidc_replay.proofs.Beginnings.{WasPlayed, answers_who_asked, signs_well, binds_wholly, holds_until}
+use Rattle.oidc_replay.proofs.Played.{HasPlayed, IsPlayed, lines_played}
 use Rattle.oidc_replay.proofs.Distinct.{play_distinct}
-use Rattle.oidc_replay.proofs.HashedLogins.{wholly_bound}
 use Rattle.oidc_replay.proofs.Joined.{play_joined}
 use Rattle.oidc_replay.proofs.PlayTimes.{time_goes_on}
 
@@ -115,28 +114,40 @@ none_fails None None is = refl
 none_fails None (Some broken) is = absurd (cc)
 none_fails (Some place) broken is = absurd (cc)
 
+-- where it ends with one that fails, that one does
+one_fails : (ended : Option ℕ) (first : Option Broken) (broken : Broken) → ended_by ended first ≡ end.Broken broken → first ≡ Some broken
+one_fails None None broken is = absurd (cc)
+one_fails None (Some b) broken is = (let ends : end.Broken b ≡ end.Broken broken = is in let same : b ≡ broken = cc in ap (λ (x : Broken). Some x) same)
+one_fails (Some place) first broken is = absurd (cc)
+
 pub plays_well : (c : Configuration) (told : Told) (play : Playing) → TheoremHolds play.running.registry (world_of play.running) → play.running.registry ≡ c → played_of play ≡ play_lines c told.seed told.lines
     → IsReadFor c told → IsRegistry c → PlaysWell c told
 unfolding play_of end_of
 plays_well c told play holds registry played lines read =
     let whole : Played = play_lines c told.seed told.lines in
     let W : World = whole.world in
+    let s : Site = own_site c in
     let world : world_of play.running ≡ W = ap (λ (p : Played). p.world) played in
     let own : TheoremHolds c (world_of play.running) = subst (λ (d : Configuration). TheoremHolds d (world_of play.running)) registry holds in
     let theorem : TheoremHolds c W = subst (TheoremHolds c) world own in
     let most : length told.lines ≤ 4194304 = lines.few in
     let few : length told.lines < 2 ^ 60 = omega (arith, most) in
-    let apart : HasDistinctWords W = distinct c told.seed told.lines few in
-    let answered : IsJoined W = joined c told.seed told.lines few in
-    let wholly : IsBound (own_site c) W → IsWhollyBound (own_site c) W = wholly_bound c told.seed W read theorem.legal (lines_played c told.seed told.lines).places in
+    let places : IsPlayed c told.seed W = (lines_played c told.seed told.lines).places in
+    let was : WasPlayed c told.seed W = record { legal = theorem.legal; places = places; distinct = distinct c told.seed told.lines few } in
+    let well : IsUnforged s W → IsUnleaked W → SignsOnWell s W = signs_well c told.seed read W was in
+    let bound : IsUnforged s W → IsUnleaked W → HasDistinctHashes W → IsWhollyBound s W = binds_wholly c told.seed read W was in
     record {
       legal = theorem.legal;
-      signs = λ unforged unleaked. theorem.signs apart unleaked unforged answered;
-      binds = λ unforged unleaked hashes. wholly (theorem.binds apart unleaked unforged answered hashes);
+      signs = λ unforged unleaked. (well unforged unleaked).signs;
+      founded = λ unforged unleaked. (let all : SignsOnWell s W = well unforged unleaked in (all.founded, all.once));
+      same_browser = answers_who_asked c told.seed read W was;
+      binds = bound;
+      succeeds = theorem.succeeds was.distinct (time_goes_on c told.seed told.lines lines.order);
       met = λ is.
-          (let unbroken : IsUnbroken (own_site c) W = none_broken (own_site c) W (none_fails whole.ended (first_broken (own_site c) W) is) in
-          (theorem.signs apart unbroken.unleaked unbroken.unforged answered, wholly (theorem.binds apart unbroken.unleaked unbroken.unforged answered unbroken.hashes)));
-      succeeds = theorem.succeeds apart (time_goes_on c told.seed told.lines lines.order);
+          (let unbroken : IsUnbroken s W = none_broken s W (none_fails whole.ended (first_broken s W) is) in
+          (well unbroken.unforged unbroken.unleaked, bound unbroken.unforged unbroken.unleaked unbroken.hashes));
+      until = λ broken later before ends is.
+          holds_until c told.seed read W was later before is broken (one_fails whole.ended (first_broken s W) broken ends);
     }
 
 -- whatever the answer is

@@ -1,14 +1,16 @@
 -- The definitions of a play, computed on short traces over a small registry.
-use Rattle.std.proofs.Common.{◌≡◌, ℕ, true, false, List, [], ◌∷◌, ◌++◌, Some, None, Ok, codes, inl, inr, refl, sym, subst}
+use Rattle.std.proofs.Common.{◌≡◌, ℕ, true, false, List, [], ◌∷◌, ◌++◌, Some, None, Ok, codes, inl, inr, refl, sym, subst, arith}
 use Rattle.std.specs.Fmt.{digits}
 use Rattle.sso_base.specs.Words.{Text, word_text}
 use Rattle.sso_base.specs.declared.http.Ask.{Ask}
 use Rattle.sso_base.specs.declared.http.Method.TheVariants.{Get}
 use Rattle.sso_base.specs.declared.message.Message.{Message}
 use Rattle.token_endpoint.specs.declared.reading.Tokens.{Tokens}
+use Rattle.client_registry.specs.ClientSets.{no_clients}
 use Rattle.userinfo.specs.declared.header.Bearer.TheVariants.{Given}
 use Rattle.op_exchange.specs.declared.ask.OpAsk.TheVariants as op_ask
 use Rattle.op_exchange.specs.declared.reply.OpReply.TheVariants as op
+use Rattle.op_answer.proofs.FirstLogin as login
 use Rattle.rp_exchange.specs.declared.ask.RpAsk.TheVariants as rp_ask
 use Rattle.rp_exchange.specs.declared.reply.RpReply.{RpReply}
 use Rattle.auth_request.specs.declared.wish.PageNo.TheVariants as page
@@ -23,9 +25,12 @@ use Rattle.sso_places.specs.declared.types.Broken.TheVariants.{Forged, Leaked, H
 use Rattle.sso_places.specs.declared.types.To.TheVariants as to
 use Rattle.sso_places.specs.declared.types.WorldAsk.TheVariants.{Http}
 use Rattle.sso_places.specs.declared.types.WorldReply.TheVariants as reply
+use Rattle.sso_places.specs.Agreement.{SignsOn}
 use Rattle.sso_places.specs.Binding.{HasAccessBeside, IsInformed, IsReplied}
+use Rattle.sso_places.specs.SameBrowser.{IsAskedOnlyFrom}
 use Rattle.sso_places.specs.Site.{own_site}
 use Rattle.sso_places.specs.World.{Place, Provider, Party, Nothing, World}
+use Rattle.sso_places.proofs.Story.{site, shows, authorized}
 use Rattle.trace_lines.specs.declared.line.Line.{Line}
 use Rattle.trace_lines.specs.declared.line.Line.TheVariants.{At, Steal, Show, Begin, Follow, Visit, Carry, Back, Raw}
 use Rattle.trace_lines.specs.declared.line.Shown.TheVariants as shown
@@ -43,6 +48,7 @@ use Rattle.oidc_replay.specs.End.{end_of}
 use Rattle.oidc_replay.specs.declared.tally.Kind.TheVariants.{Entered, Stale, WrongBrowser, Turn}
 use Rattle.oidc_replay.specs.Storm.{is_of, storm_line, count_line, counts_text, storm_text}
 use Rattle.oidc_replay.specs.Text.{end_line, text_of}
+use Rattle.oidc_replay.specs.Theorem.{AnswersWhoAsked, SignsOnWell, HoldsUntil}
 
 -- ---- words: the seed, then the number, greatest byte first
 
@@ -186,6 +192,52 @@ not_beside h =
 unbound : EachAccessTokenIsBound (own_site sample) unanswered → ⊥
 unbound bound =
     not_beside (bound 0 1 (Http got) (answered (rp.Fetch (word 17) message)) [] (informing ∷ []) (codes "id") (word_text (word 21)) refl asks informed)
+
+-- ---- what is true of a beginning, by the first premise that fails
+
+nothing_signs_well : SignsOnWell (own_site sample) []
+unfolding SignsOn
+nothing_signs_well =
+    record { signs = tt; founded = tt; once = record { entered = tt; redeemed = tt; ended = tt }; same_browser = λ browser nonce only. tt }
+
+-- browser 1 asked and signed in, and browser 2 posted its consent page and was answered
+abbrev answered_elsewhere : World
+answered_elsewhere =
+    Provider 2 (shows (Some (word 5)) (Some (word 9))) (login.pair_of login.consent_entry login.code_answer)
+    ∷ Provider 1 (shows (Some (word 5)) None) (login.pair_of login.login_entry login.consent_page)
+    ∷ Provider 1 (shows None None) authorized
+    ∷ []
+
+only_one_asked : IsAskedOnlyFrom answered_elsewhere 1 (Some (word_text (word 3)))
+only_one_asked = (λ never. absurd never, (λ never. absurd never, (λ nonce. refl, tt)))
+
+another_was_answered : AnswersWhoAsked site answered_elsewhere → ⊥
+unfolding no_clients
+another_was_answered only =
+    let same : ◌≡◌ {A = ℕ} 2 1 = (only 1 (Some (word_text (word 3))) only_one_asked).0 refl in
+    absurd (omega (arith, same))
+
+-- a party shows who is logged in, where nobody is
+abbrev shows_somebody : World
+shows_somebody = Party 0 1 (Http got) (answered (rp.User (codes "alice"))) ∷ []
+
+signs_nobody_on : SignsOnWell (own_site sample) shows_somebody → ⊥
+unfolding SignsOn
+signs_nobody_on well = well.signs.1.0
+
+-- nothing is said of what has the place at which a token is forged, and all of what ends before it
+forged_there : HoldsUntil (own_site sample) (Forged 1) shows_somebody
+forged_there few = absurd (omega (arith, few))
+
+forged_later : HoldsUntil (own_site sample) (Forged 2) shows_somebody → ⊥
+forged_later holds = signs_nobody_on (holds (omega arith)).0
+
+leaked_later : HoldsUntil (own_site sample) (Leaked 2) shows_somebody → ⊥
+leaked_later holds = signs_nobody_on (holds (omega arith)).0
+
+-- where half digests clash, all but the binding is said of it, too
+clashes_there : HoldsUntil (own_site sample) (HashClash 1 1) shows_somebody → ⊥
+clashes_there holds = signs_nobody_on (holds.0 (omega arith))
 
 -- ---- the summary of a storm
 

@@ -104,10 +104,11 @@ fn replay_all(alloc: Global, play: &mut Play, trace: &Trace) -> Result<Replayed,
 /// line. The trace was read for this registry.
 ///
 /// The text has a line for each place, one for each place that is shown, and a last one for the end. The world that is played is
-/// legal. Its reading is a run of the sign-on machine at every prefix, and its live rows are the sessions of the parties, wherever no
-/// token text is forged in it and no cookie leaks, also where half digests clash or a history had no more room. Where none clash,
-/// codes and all access tokens are bound. All this is so where the play ends as [`ReplayEnd::Met`]. Honest logins succeed, however the
-/// play ends.
+/// legal. If no token text is forged in it and no cookie leaks, its reading is a run of the sign-on machine at every prefix, its live
+/// rows are the sessions of the parties, each of them is founded, and nothing was entered, redeemed or ended twice. This is true also
+/// if half digests clash or a history had no more room. If none clash, codes and all access tokens are bound. All this is true if the
+/// play ends as [`ReplayEnd::Met`], and for its places before the one at which a premise fails if it ends as [`ReplayEnd::Broken`].
+/// Honest logins succeed, however the play ends.
 pub fn replay(alloc: Global, registry: Registry, trace: &Trace) -> Result<Replayed, NoMemory>
     requires { IsReadFor registry trace.now }
     ensures text { IfOk result (λ r. r.text ≡ text.text_of registry trace.now) }

@@ -38,7 +38,7 @@ use Rattle.oidc_replay.specs.End.{end_of}
 use Rattle.oidc_replay.specs.Text.{text_of}
 use Rattle.oidc_replay.specs.Bound.{IsWhollyBound}
 use Rattle.honest_places.specs.Login.{Visitor, IsHonestBut, begun, waited, went_on}
-use Rattle.oidc_replay.specs.Theorem.{PlaysWell}
+use Rattle.oidc_replay.specs.Theorem.{SignsOnWell, PlaysWell}
 use Rattle.discovery_doc.specs.Reading.{discovery_read}
 use Rattle.op_exchange.specs.declared.ask.OpAsk.{OpAsk}
 use Rattle.op_exchange.specs.declared.reply.OpReply.{OpReply}
@@ -243,15 +243,23 @@ no_login later w v l is (begun world x begins) = no_place later world x is
 no_login later w v l is (waited world login x honest spares) = no_place later world x is
 no_login later w v l is (went_on world last earlier x honest continues) = no_place later world x is
 
+nothing_signs_well : SignsOnWell (own_site configuration) []
+unfolding SignsOn
+nothing_signs_well =
+    record { signs = tt; founded = tt; once = record { entered = tt; redeemed = tt; ended = tt }; same_browser = λ browser nonce only. tt }
+
 nothing_plays_well : PlaysWell configuration nothing_told
-unfolding play_of SignsOn
+unfolding play_of end_of SignsOn
 nothing_plays_well =
     record {
       legal = record { provider = tt; parties = λ n. tt; asked = tt };
       signs = λ unforged unleaked. tt;
+      founded = λ unforged unleaked. (tt, nothing_signs_well.once);
+      same_browser = λ unleaked. nothing_signs_well.same_browser;
       binds = λ unforged unleaked hashes. nothing_is_bound;
       succeeds = λ later before v last earlier is may honest. absurd (no_login later before v (last ∷ earlier) is honest);
-      met = λ is. (tt, nothing_is_bound);
+      met = λ is. (nothing_signs_well, nothing_is_bound);
+      until = λ broken later before ends is. (let never : end.Met ≡ end.Broken broken = ends in absurd (cc));
     }
 
 replayed : Replays (Some (with small header)) words 0 (Some []) (Some (codes "premises met\n"))
