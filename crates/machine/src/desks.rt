@@ -1,6 +1,7 @@
 //! Desks over this machine.
 
 ghost use Rattle.std.specs.Prelude.{◌≡◌, ◌^◌, IfOk};
+ghost use Rattle.server_desk.specs.Links.{untold_link};
 ghost use Rattle.machine.specs.Doors.{counted};
 
 use crate::clock::SystemClock;
@@ -26,7 +27,7 @@ where
     ensures turns { IfOk result (λ desk. desk.turns ≡ 2 ^ 56) }
     ensures door { IfOk result (λ desk. ⟦<TcpDoor<'a, R> as Door>⟧.state desk.door ≡ counted 0 0) }
     ensures door_faults { IfOk result (λ desk. ⟦<TcpDoor<'a, R> as Door>⟧.faults desk.door ≡ 0) }
-    ensures link_faults { IfOk result (λ desk. ⟦<TcpLink<'a, R> as Link>⟧.faults desk.link ≡ 0) }
+    ensures link { IfOk result (λ desk. ⟦<TcpLink<'a, R> as Link>⟧.state desk.link ≡ untold_link 0 0) }
 {
     Ok(Desk {
         door: TcpDoor::new(rt),

@@ -1,6 +1,7 @@
 //! TCP as a link.
 
-ghost use Rattle.std.specs.Prelude.{◌≡◌, ◌≤◌, None, IfSome, length};
+ghost use Rattle.std.specs.Prelude.{◌≡◌, ◌≤◌, IfSome, length};
+ghost use Rattle.server_desk.specs.Links.{untold_link};
 
 use crate::connection::connection_over;
 use crate::limit::Limit;
@@ -17,20 +18,25 @@ const EXCHANGE: u64 = 10;
 #[derive(Drop)]
 pub struct TcpLink<'a, R: Net<Stream = TcpStream> + Clock> {
     rt: &'a R,
+    calls: u64,
     faults: u64,
 }
 
 impl<'a, R: Net<Stream = TcpStream> + Clock + Sync + AllocGlobal> TcpLink<'a, R> {
-    /// A link that never failed.
+    /// A link that was not called yet.
     pub fn new(rt: &'a R) -> TcpLink<'a, R>
-        ensures { ⟦<TcpLink<'a, R> as Link>⟧.faults result ≡ 0 }
+        ensures { ⟦<TcpLink<'a, R> as Link>⟧.state result ≡ untold_link 0 0 }
     {
-        TcpLink { rt, faults: 0 }
+        TcpLink {
+            rt,
+            calls: 0,
+            faults: 0,
+        }
     }
 
     /// How often it has failed.
     pub fn faults(&self) -> u64
-        ensures { result ≡ ⟦<TcpLink<'a, R> as Link>⟧.faults self.now }
+        ensures { result ≡ (⟦<TcpLink<'a, R> as Link>⟧.state self.now).faults }
     {
         self.faults
     }
@@ -69,9 +75,7 @@ fn exchange_within<R: Net<Stream = TcpStream> + Clock + AllocGlobal>(
 }
 
 impl<'a, R: Net<Stream = TcpStream> + Clock + Sync + AllocGlobal> Link for TcpLink<'a, R> {
-    ghost exchanges = { λ _. None };
-
-    ghost faults = { λ l. l.faults };
+    ghost state = { λ l. untold_link l.calls l.faults };
 
     fn exchange(
         &mut self,
@@ -80,6 +84,7 @@ impl<'a, R: Net<Stream = TcpStream> + Clock + Sync + AllocGlobal> Link for TcpLi
         asked: &[u8],
         most: usize,
     ) -> Result<Blob, LinkNo> {
+        self.calls = self.calls.saturating_add(1);
         let Ok(mut back) = vec![in alloc; 0u8; most] else {
             return Err(LinkNo::NoMemory);
         };

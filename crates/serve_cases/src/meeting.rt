@@ -1,6 +1,7 @@
 // A link and a source that wait until both of two have begun.
 
 ghost use Rattle.std.specs.Prelude.{◌≡◌, None, Some};
+ghost use Rattle.server_desk.specs.Links.{untold_link};
 
 use server_desk::{Link, LinkNo, MemorySource, Source, SourceFault};
 use sso_base::{Blob, Text};
@@ -31,20 +32,25 @@ fn meet(begun: &AtomicU64) -> bool {
 #[derive(Drop)]
 pub struct MeetingLink<'a> {
     begun: &'a AtomicU64,
+    calls: u64,
     faults: u64,
 }
 
 impl<'a> MeetingLink<'a> {
-    /// A link that counts the exchanges that have begun there.
-    pub fn new(begun: &'a AtomicU64) -> MeetingLink<'a> {
-        MeetingLink { begun, faults: 0 }
+    /// A link that was not called yet. It counts the exchanges that have begun there.
+    pub fn new(begun: &'a AtomicU64) -> MeetingLink<'a>
+        ensures { ⟦<MeetingLink<'a> as Link>⟧.state result ≡ untold_link 0 0 }
+    {
+        MeetingLink {
+            begun,
+            calls: 0,
+            faults: 0,
+        }
     }
 }
 
 impl<'a> Link for MeetingLink<'a> {
-    ghost exchanges = { λ _. None };
-
-    ghost faults = { λ l. l.faults };
+    ghost state = { λ l. untold_link l.calls l.faults };
 
     fn exchange(
         &mut self,
@@ -53,6 +59,7 @@ impl<'a> Link for MeetingLink<'a> {
         _asked: &[u8],
         most: usize,
     ) -> Result<Blob, LinkNo> {
+        self.calls = self.calls.saturating_add(1);
         if REFUSAL.len() <= most && meet(self.begun) {
             Ok(Blob::new(alloc, REFUSAL)?)
         } else {

@@ -1,11 +1,11 @@
 -- The definitions computed on small cases: what each accepts, and what it refuses.
-use Rattle.std.proofs.Common.{◌≡◌, ◌≢◌, ℕ, ◌+◌, ◌-◌, ◌^◌, ◌∷◌, ◌++◌, [], List, Some, None, Ok, Err, arith, drop, map, ap, refl}
+use Rattle.std.proofs.Common.{◌≡◌, ◌≢◌, ◌≤◌, ℕ, ◌+◌, ◌-◌, ◌^◌, ◌∷◌, ◌++◌, [], List, Some, None, Ok, Err, arith, drop, map, ap, refl}
 use Rattle.std.specs.Prelude.{codes, option_map}
 use Rattle.server_desk.specs.declared.connection.Connection.{Connection}
 use Rattle.server_desk.specs.declared.link.LinkNo.TheVariants.{NoMemory, Failed}
 use Rattle.server_desk.specs.Ahead.{IsTold, MovedOn, ClockMemory, moments_ahead, clock_behind, word_of_number, words_ahead}
 use Rattle.server_desk.specs.Doors.{DoorMemory, grown, started, shared, GaveConnection, with_served, told_state, new_door, with_fault, GaveFirst, with_back}
-use Rattle.server_desk.specs.Links.{next_answer, after_exchange}
+use Rattle.server_desk.specs.Links.{next_answer, after_exchange, TookCall, untold_link, told_link}
 use Rattle.server_desk.specs.Sources.{Gives, GivesFront, IsSpent}
 
 two_of_three : Gives (Some (1 ∷ 2 ∷ 3 ∷ [])) (Some (3 ∷ [])) (1 ∷ 2 ∷ [])
@@ -183,3 +183,19 @@ a_failure_is_not_left_out e = absurd cc
 
 nothing_was_sent : after_exchange (Some []) (codes "h:1") (1 ∷ []) (Err NoMemory) ≡ Some []
 nothing_was_sent = refl
+
+-- a link that tells nothing, and failed at its only call
+a_failure_is_counted : TookCall (untold_link 0 0) (untold_link 1 1) (codes "h:1") (1 ∷ []) (Err Failed)
+a_failure_is_counted = record { told = refl; counted = refl; later = omega arith; failed = λ e. omega arith }
+
+a_call_without_memory_is_counted : TookCall (untold_link 4 0) (untold_link 5 0) (codes "h:1") (1 ∷ []) (Err NoMemory)
+a_call_without_memory_is_counted = record { told = refl; counted = refl; later = omega arith; failed = λ e. absurd (cc e) }
+
+it_was_not_called : (to : List ℕ) (asked : List ℕ) → TookCall (untold_link 0 0) (untold_link 0 0) to asked (Err NoMemory) → ⊥
+it_was_not_called to asked took = let e : 0 ≡ 1 = took.counted in absurd (omega (arith, e))
+
+no_failure_without_a_fault : TookCall (untold_link 0 0) (untold_link 1 0) (codes "h:1") (1 ∷ []) (Err Failed) → ⊥
+no_failure_without_a_fault took = let rose : 1 ≤ 0 = took.failed refl in absurd (omega (arith, rose))
+
+it_tells_its_calls : (told_link (record { answers = []; exchanges = []; calls = 3 })).calls ≡ 3
+it_tells_its_calls = refl

@@ -1,6 +1,5 @@
-ghost use Rattle.std.specs.Prelude.{◌≡◌, ℕ, ◌≤◌, List, Option, length, Err, IfOk};
-ghost use Rattle.sso_base.specs.Faults.{Rose};
-ghost use Rattle.server_desk.specs.Links.{after_exchange};
+ghost use Rattle.std.specs.Prelude.{◌≤◌, length, IfOk};
+ghost use Rattle.server_desk.specs.Links.{TookCall};
 
 use sso_base::{Blob, NoMemory, Text};
 use std::alloc::Global;
@@ -27,13 +26,11 @@ impl From<NoMemory> for LinkNo {
 
 /// What carries messages to other servers.
 pub trait Link: Send + Drop {
-    ghost use Rattle.server_desk.specs.Links.{Exchange};
+    ghost use Rattle.server_desk.specs.Links.{LinkState};
 
-    /// What was exchanged over it, failed exchanges too, where it tells.
-    ghost exchanges: { Self → Option (List Exchange) };
-
-    /// How often it has failed.
-    ghost faults: { Self → ℕ };
+    /// What was exchanged over it, failed exchanges too, where it tells; how often it was called, and how often it failed. Nothing but
+    /// `exchange` changes it.
+    ghost state: { Self → LinkState };
 
     /// Sends the bytes to this place, `HOST:PORT`, and answers what comes back, at most the first `most` bytes of it.
     fn exchange(
@@ -43,8 +40,6 @@ pub trait Link: Send + Drop {
         asked: &[u8],
         most: usize,
     ) -> Result<Blob, LinkNo>
-        ensures told { exchanges self.new ≡ after_exchange (exchanges self.old) to.now asked.now result }
-        ensures bound { IfOk result (λ back. length back ≤ most) }
-        ensures later { faults self.old ≤ faults self.new }
-        ensures failed { result ≡ Err LinkNo.Failed → Rose (faults self.old) (faults self.new) };
+        ensures called { TookCall (state self.old) (state self.new) to.now asked.now result }
+        ensures bound { IfOk result (λ back. length back ≤ most) };
 }

@@ -1,7 +1,7 @@
-ghost use Rattle.std.specs.Prelude.{◌≡◌, ◌≢◌, ◌+◌, ◌-◌, ◌^◌, ◌≤◌, ◌==◌, ◌++◌, min, true, false, [], ◌∷◌, length, take, drop, Some, Err, IfOk, OnOk, OnErr, IsErr};
+ghost use Rattle.std.specs.Prelude.{◌≡◌, ◌≢◌, ◌≤◌, ◌==◌, ◌++◌, true, false, [], ◌∷◌, length, take, drop, Err, IfOk, OnOk, OnErr, IsErr};
 ghost use Rattle.std.specs.List.{list_any};
-ghost use Rattle.sso_base.specs.Faults.{Rose};
-ghost use Rattle.server_desk.specs.Links.{after_exchange, next_answer};
+ghost use Rattle.server_desk.specs.Doors.{grown};
+ghost use Rattle.server_desk.specs.Links.{next_answer, TookCall, told_link, told_faulty_link};
 
 use crate::link::{Link, LinkNo};
 use sso_base::{Blob, NoMemory, Text};
@@ -34,6 +34,7 @@ pub struct MemoryLink {
     answers: Vec<Blob>,
     place: usize,
     exchanges: Vec<Exchanged>,
+    calls: u64,
 }
 
 impl Model for MemoryLink {
@@ -42,7 +43,7 @@ impl Model for MemoryLink {
 
     ghost Value = { LinkMemory };
 
-    ghost view = { λ l. record { answers = drop l.place l.answers.items; exchanges = l.exchanges.items } };
+    ghost view = { λ l. record { answers = drop l.place l.answers.items; exchanges = l.exchanges.items; calls = l.calls } };
 
     ghost invariant = { λ l. l.place ≤ length l.answers.items };
 }
@@ -70,14 +71,15 @@ fn front(bytes: &[u8], most: usize) -> &[u8]
 }
 
 impl MemoryLink {
-    /// A link over which these answers will come back, in this order.
+    /// A link that was not called yet, over which these answers will come back, in this order.
     pub fn new(alloc: Global, answers: Vec<Blob>) -> MemoryLink
-        ensures { result ≡ record { answers = answers.items; exchanges = [] } }
+        ensures { result ≡ record { answers = answers.items; exchanges = []; calls = 0 } }
     {
         MemoryLink {
             answers,
             place: 0,
             exchanges: Vec::new(alloc),
+            calls: 0,
         }
     }
 
@@ -126,9 +128,7 @@ impl MemoryLink {
 }
 
 impl Link for MemoryLink {
-    ghost exchanges = { λ l. Some l.exchanges };
-
-    ghost faults = { λ _. 0 };
+    ghost state = { told_link };
 
     fn exchange(
         &mut self,
@@ -137,15 +137,14 @@ impl Link for MemoryLink {
         asked: &[u8],
         most: usize,
     ) -> Result<Blob, LinkNo>
-        ensures told { Some self.new.exchanges ≡ after_exchange (Some self.old.exchanges) to.now asked.now result }
+        ensures called { TookCall (told_link self.old) (told_link self.new) to.now asked.now result }
         ensures bound { IfOk result (λ back. length back ≤ most) }
-        ensures later { 0 ≤ 0 }
-        ensures failed { result ≡ Err LinkNo.Failed → Rose 0 0 }
         ensures answer { IfOk result (λ back. back ≡ take most (next_answer self.old.answers)) }
         ensures answers { OnOk result (self.new.answers ≡ drop 1 self.old.answers) }
-        ensures kept { OnErr result (self.new ≡ self.old) }
+        ensures kept { OnErr result (self.new ≡ record self.old { calls = grown self.old.calls }) }
         ensures sure { result ≢ Err LinkNo.Failed }
     {
+        self.calls = self.calls.saturating_add(1);
         let back = self.answer(alloc, most)?;
         let kept = back.copy(alloc)?;
         self.keep(alloc, to, asked, Some(kept))?;
@@ -194,9 +193,7 @@ impl FaultyLink {
 }
 
 impl Link for FaultyLink {
-    ghost exchanges = { λ l. Some l.link.exchanges };
-
-    ghost faults = { λ l. l.faults };
+    ghost state = { told_faulty_link };
 
     fn exchange(
         &mut self,
@@ -205,16 +202,13 @@ impl Link for FaultyLink {
         asked: &[u8],
         most: usize,
     ) -> Result<Blob, LinkNo>
-        ensures told { Some self.new.link.exchanges ≡ after_exchange (Some self.old.link.exchanges) to.now asked.now result }
+        ensures called { TookCall (told_faulty_link self.old) (told_faulty_link self.new) to.now asked.now result }
         ensures bound { IfOk result (λ back. length back ≤ most) }
-        ensures later { self.old.faults ≤ self.new.faults }
-        ensures failed { result ≡ Err LinkNo.Failed → Rose self.old.faults self.new.faults }
         ensures answer { IfOk result (λ back. back ≡ take most (next_answer self.old.link.answers)) }
         ensures answers { OnOk result (self.new.link.answers ≡ drop 1 self.old.link.answers) }
         ensures kept { OnErr result (self.new.link.answers ≡ self.old.link.answers) }
         ensures quiet { result ≢ Err LinkNo.Failed → self.new.faults ≡ self.old.faults }
-        ensures risen { result ≡ Err LinkNo.Failed → self.new.faults ≡ min (self.old.faults + 1) (2 ^ 64 - 1) }
-        ensures counted { self.new.calls ≡ min (self.old.calls + 1) (2 ^ 64 - 1) }
+        ensures risen { result ≡ Err LinkNo.Failed → self.new.faults ≡ grown self.old.faults }
         ensures same { self.new.failing ≡ self.old.failing }
         ensures fails { list_any (λ call. call == self.new.calls) self.old.failing ≡ true → IsErr result }
         ensures gives { list_any (λ call. call == self.new.calls) self.old.failing ≡ false → result ≢ Err LinkNo.Failed }

@@ -6,14 +6,15 @@ use Rattle.sso_base.specs.declared.message.Message.{Message}
 use Rattle.sso_base.specs.declared.message.Answered.{Answered}
 use Rattle.server_desk.specs.declared.link.LinkNo.{LinkNo}
 use Rattle.server_desk.specs.declared.link.LinkNo.TheVariants as link_no
-use Rattle.server_desk.specs.Links.{Exchange}
+use Rattle.server_desk.specs.Links.{LinkState}
 use Rattle.sso_http.specs.declared.no.HttpNo.{HttpNo}
 use Rattle.sso_http.specs.Peers.{IsAnswer, IsNoAnswer}
 use Rattle.serving.specs.declared.no_reply.NoReply.{NoReply}
 use Rattle.serving.specs.declared.no_reply.NoReply.TheVariants.{NoMemory, Http, Link, Peer, Full}
-use Rattle.serving.specs.LinkCalls.{LinkCall, after_calls}
+use Rattle.serving.specs.LinkCalls.{LinkCall, TookCalls}
 use Rattle.serving.specs.Manner.{Manner}
 use Rattle.serving.specs.Steps.{Stepped, pair_from, history_after, IsFull, IsNoStep}
+use Rattle.serving.proofs.Calls.{took_none}
 use Rattle.serving.specs.Serving.{IsPeerAnswer, AskedPeer, IsAsked, IsUnread, IsAskedBack, IsAnswered, Cause, RoundMade, RoundFailed}
 
 heard : (given : Result (List ℕ) LinkNo) (answer : Answered) → IsPeerAnswer given (Ok answer) → (bytes : List ℕ) × (given ≡ Ok bytes) × IsAnswer bytes answer
@@ -43,25 +44,26 @@ never_full (Err link_no.NoMemory) is = is
 
 module _ {A R : Type 0} (m : Manner A R) where
   -- the link was called so, and this came of the question
-  abbrev pub AskedSo : Option (List Exchange) → Option (List Exchange) → R → Result A NoReply → Type 0
-  AskedSo before after reply result = (calls : List LinkCall) × (after ≡ after_calls before calls) × IsAnswered m reply calls result
+  abbrev pub AskedSo : LinkState → LinkState → R → Result A NoReply → Type 0
+  AskedSo before after reply result = (calls : List LinkCall) × TookCalls before after calls × IsAnswered m reply calls result
 
-  pub answered : (before after : Option (List Exchange)) (reply : R) (question : Message) (answer : Answered) (asked : A)
+  pub answered : (before after : LinkState) (reply : R) (question : Message) (answer : Answered) (asked : A)
       → m.question reply ≡ Some question → AskedPeer before after question (Ok answer) → asked ≡ m.answered reply answer → AskedSo before after reply (Ok asked)
   answered before after reply question answer asked puts (inl call) is =
       let said = heard call.0.answer answer call.3 in
       (call.0 ∷ [], call.2, (call.0, refl, (question, puts, call.1), (said.0, answer, said.1, said.2, is)))
   answered before after reply question answer asked puts (inr none) is = absurd (cc none.1)
 
-  pub answered_no_memory : (before after : Option (List Exchange)) (reply : R) (question : Message) (answer : Answered)
+  pub answered_no_memory : (before after : LinkState) (reply : R) (question : Message) (answer : Answered)
       → m.question reply ≡ Some question → AskedPeer before after question (Ok answer) → AskedSo before after reply (Err NoMemory)
   answered_no_memory before after reply question answer puts (inl call) = (call.0 ∷ [], call.2, inr (call.0, refl, (question, puts, call.1)))
   answered_no_memory before after reply question answer puts (inr none) = absurd (cc none.1)
 
-  pub unanswered : (before after : Option (List Exchange)) (reply : R) (question : Message) (why : NoReply)
+  pub unanswered : (before after : LinkState) (reply : R) (question : Message) (why : NoReply)
       → m.question reply ≡ Some question → AskedPeer before after question (Err why) → AskedSo before after reply (Err why)
   unanswered before after reply question NoMemory puts (inl call) = (call.0 ∷ [], call.2, inr (call.0, refl, (question, puts, call.1)))
-  unanswered before after reply question NoMemory puts (inr none) = ([], none.0, inl refl)
+  unanswered before after reply question NoMemory puts (inr none) =
+      ([], subst (λ (link : LinkState). TookCalls before link []) (sym none.0) (took_none before), inl refl)
   unanswered before after reply question (Http why) puts (inl call) = absurd (never_http call.0.answer why call.3)
   unanswered before after reply question (Http why) puts (inr none) = absurd (cc none.1)
   unanswered before after reply question Link puts (inl call) = (call.0 ∷ [], call.2, (call.0, refl, (question, puts, call.1), no_link call.0.answer call.3))

@@ -4,15 +4,15 @@ use Rattle.std.proofs.lemmas.List.{append-nil, length-append}
 use Rattle.sso_base.specs.Words.{Word, fresh_word}
 use Rattle.sso_base.specs.declared.history.Pair.{Pair}
 use Rattle.server_desk.specs.Ahead.{IsTold, MovedOn}
-use Rattle.server_desk.specs.Links.{Exchange}
+use Rattle.server_desk.specs.Links.{LinkState}
 use Rattle.turn_store.specs.declared.store.Pass.{Pass}
 use Rattle.turn_store.specs.Places.{Begins}
 use Rattle.turn_store.specs.Passes.{front_of, calls_of}
-use Rattle.serving.specs.LinkCalls.{LinkCall, after_calls}
+use Rattle.serving.specs.LinkCalls.{LinkCall, TookCalls}
 use Rattle.serving.specs.Steps.{Stepped, history_after, IsDrawn, Made}
 use Rattle.serving.specs.Work.{Work, DrawnFrom, MadeAll, Did}
 use Rattle.turn_store.proofs.Totals.{begins_on, begins_same}
-use Rattle.serving.proofs.Calls.{after_both}
+use Rattle.serving.proofs.Calls.{took_both}
 use Rattle.serving.proofs.Histories.{made_both}
 
 pub moved_none : {V : Type 0} (x : ℕ → Option V) → MovedOn x x 0
@@ -69,8 +69,8 @@ module _ {A R : Type 0} where
     none_made pass pass' later calls = record { later = later; lie = later; calls = calls ∙ sym (append-nil (calls_of pass)) }
 
     -- the link was called, and nothing else was done
-    pub did_calls : (pass : Pass C A R) (link link' : Option (List Exchange)) (moments : ℕ → Option ℕ) (words : ℕ → Option Word) (calls : List LinkCall)
-        → link' ≡ after_calls link calls → Did pass pass link link' moments moments words words (calls_alone calls)
+    pub did_calls : (pass : Pass C A R) (link link' : LinkState) (moments : ℕ → Option ℕ) (words : ℕ → Option Word) (calls : List LinkCall)
+        → TookCalls link link' calls → Did pass pass link link' moments moments words words (calls_alone calls)
     did_calls pass link link' moments words calls sent = record {
       made = none_made pass pass (begins_same (front_of pass)) refl;
       sent = sent;
@@ -81,8 +81,8 @@ module _ {A R : Type 0} where
     }
 
     -- the link was called, and then a step was refused
-    pub did_no_step : (pass pass' : Pass C A R) (link link' : Option (List Exchange)) (moments moments' : ℕ → Option ℕ) (words words' : ℕ → Option Word) (calls : List LinkCall)
-        → link' ≡ after_calls link calls → Begins (front_of pass) (front_of pass') → calls_of pass' ≡ calls_of pass → MovedOn moments moments' 1 → MovedOn words words' 4
+    pub did_no_step : (pass pass' : Pass C A R) (link link' : LinkState) (moments moments' : ℕ → Option ℕ) (words words' : ℕ → Option Word) (calls : List LinkCall)
+        → TookCalls link link' calls → Begins (front_of pass) (front_of pass') → calls_of pass' ≡ calls_of pass → MovedOn moments moments' 1 → MovedOn words words' 4
         → Did pass pass' link link' moments moments' words words' (no_step calls)
     did_no_step pass pass' link link' moments moments' words words' calls sent later refused clock draw = record {
       made = none_made pass pass' later refused;
@@ -94,8 +94,8 @@ module _ {A R : Type 0} where
     }
 
     -- the link was called, and then a step was made
-    pub did_one_step : (pass pass' : Pass C A R) (link link' : Option (List Exchange)) (moments moments' : ℕ → Option ℕ) (words words' : ℕ → Option Word) (calls : List LinkCall) (s : Stepped A R)
-        → link' ≡ after_calls link calls → Made pass pass' s → IsDrawn moments words 0 s → MovedOn moments moments' 1 → MovedOn words words' 4
+    pub did_one_step : (pass pass' : Pass C A R) (link link' : LinkState) (moments moments' : ℕ → Option ℕ) (words words' : ℕ → Option Word) (calls : List LinkCall) (s : Stepped A R)
+        → TookCalls link link' calls → Made pass pass' s → IsDrawn moments words 0 s → MovedOn moments moments' 1 → MovedOn words words' 4
         → Did pass pass' link link' moments moments' words words' (one_step calls s)
     did_one_step pass pass' link link' moments moments' words words' calls s sent made drawn clock draw =
         let whole : Begins (history_after s) (front_of pass') = subst (λ (h : List (Pair A R)). Begins (history_after s) h) (sym made.front) (begins_same (history_after s)) in
@@ -113,11 +113,11 @@ module _ {A R : Type 0} where
         }
 
     -- the link was called at last
-    pub did_then_calls : (pass pass' : Pass C A R) (link link' link'' : Option (List Exchange)) (moments moments' : ℕ → Option ℕ) (words words' : ℕ → Option Word) (w : Work A R) (calls : List LinkCall)
-        → Did pass pass' link link' moments moments' words words' w → link'' ≡ after_calls link' calls → Did pass pass' link link'' moments moments' words words' (with_calls w calls)
+    pub did_then_calls : (pass pass' : Pass C A R) (link link' link'' : LinkState) (moments moments' : ℕ → Option ℕ) (words words' : ℕ → Option Word) (w : Work A R) (calls : List LinkCall)
+        → Did pass pass' link link' moments moments' words words' w → TookCalls link' link'' calls → Did pass pass' link link'' moments moments' words words' (with_calls w calls)
     did_then_calls pass pass' link link' link'' moments moments' words words' w calls did sent = record {
       made = did.made;
-      sent = sent ∙ ap (λ (l : Option (List Exchange)). after_calls l calls) did.sent ∙ sym (after_both link w.calls calls);
+      sent = took_both link link' link'' w.calls calls did.sent sent;
       drawn = did.drawn;
       read = did.read;
       clock = did.clock;
@@ -125,7 +125,7 @@ module _ {A R : Type 0} where
     }
 
     -- the clock was read once for each step of the first part
-    pub did_both : (p q r : Pass C A R) (link link' link'' : Option (List Exchange)) (moments moments' moments'' : ℕ → Option ℕ) (words words' words'' : ℕ → Option Word) (v w : Work A R)
+    pub did_both : (p q r : Pass C A R) (link link' link'' : LinkState) (moments moments' moments'' : ℕ → Option ℕ) (words words' words'' : ℕ → Option Word) (v w : Work A R)
         → Did p q link link' moments moments' words words' v → v.readings ≡ length v.steps → Did q r link' link'' moments' moments'' words' words'' w
         → Did p r link link'' moments moments'' words words'' (with_work v w)
     did_both p q r link link' link'' moments moments' moments'' words words' words'' v w first read second =
@@ -135,7 +135,7 @@ module _ {A R : Type 0} where
         let from : v.readings + 0 ≡ length v.steps + 0 = ap (λ (n : ℕ). n + 0) read in
         record {
           made = made_both p q r v.steps w.steps first.made second.made;
-          sent = second.sent ∙ ap (λ (l : Option (List Exchange)). after_calls l w.calls) first.sent ∙ sym (after_both link v.calls w.calls);
+          sent = took_both link link' link'' v.calls w.calls first.sent second.sent;
           drawn = drawn_both moments words 0 v.steps w.steps first.drawn (subst (λ (i : ℕ). DrawnFrom moments words i w.steps) from (drawn_later moments moments' words words' v.readings 0 w.steps first.clock first.draw second.drawn));
           read = omega arith;
           clock = moved_both moments moments' moments'' v.readings w.readings first.clock second.clock;

@@ -1,6 +1,7 @@
 pub mod Making
 pub mod MemoryLine
 pub mod Calls
+pub mod LinkEnds
 pub mod Printed
 pub mod Doing
 pub mod Rounds

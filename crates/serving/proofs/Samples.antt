@@ -11,7 +11,7 @@ use Rattle.sso_base.specs.declared.message.Message.{Message}
 use Rattle.sso_base.specs.declared.message.Answered.{Answered}
 use Rattle.server_desk.specs.declared.link.LinkNo.TheVariants as link_no
 use Rattle.server_desk.specs.Ahead.{IsTold}
-use Rattle.server_desk.specs.Links.{Exchange}
+use Rattle.server_desk.specs.Links.{Exchange, LinkState, untold_link}
 use Rattle.server_desk.specs.declared.connection.Connection.{Connection}
 use Rattle.sso_http.proofs.OneHead.{unended}
 use Rattle.sso_http.proofs.Samples.{get_text, a_request}
@@ -27,7 +27,7 @@ use Rattle.turn_store.specs.declared.view.Called.{Called}
 use Rattle.serving.specs.declared.ends.ServedEnd.TheVariants as end
 use Rattle.serving.specs.declared.no_reply.NoReply.{NoReply}
 use Rattle.serving.specs.declared.no_reply.NoReply.TheVariants.{NoMemory, Http, Link, Peer, Full}
-use Rattle.serving.specs.LinkCalls.{LinkCall, sending_of, after_calls}
+use Rattle.serving.specs.LinkCalls.{LinkCall, sending_of, after_calls, grown_by, failures as failed_calls, TookCalls}
 use Rattle.serving.specs.Manner.{Manner, bytes_by}
 use Rattle.serving.specs.Serving.{IsPeerAnswer, IsAsked, IsUnasked, Asks, IsAskedBack, IsRun, IsLastReply, LeadsTo, IsStopped, Cause, Serves}
 use Rattle.serving.specs.Steps.{Stepped, history_after, called_of, IsDrawn, IsFull, IsNoStep, Made}
@@ -122,8 +122,28 @@ sent_in_vain = record { sent = sending_of (message 2); answer = Err link_no.Fail
 abbrev exchange_of : Message → Option (List ℕ) → Exchange
 exchange_of m back = record { to = (sending_of m).to; asked = (sending_of m).bytes; back = back }
 
+-- a link that told these exchanges after so many calls, and never failed
+abbrev pub link_with : List Exchange → ℕ → LinkState
+link_with exchanges calls = record { exchanges = Some exchanges; calls = calls; faults = 0 }
+
 both_calls_are_told : after_calls (Some []) (asked_and_answered ∷ sent_in_vain ∷ []) ≡ Some (exchange_of (message 1) (Some (reply_bytes (plain 200 []))) ∷ exchange_of (message 2) None ∷ [])
 both_calls_are_told = refl
+
+two_steps_on : grown_by 2 5 ≡ 7
+two_steps_on = refl
+
+one_of_them_failed : failed_calls (asked_and_answered ∷ sent_in_vain ∷ []) ≡ 1
+one_of_them_failed = refl
+
+-- a link that tells nothing took both calls
+took_both_calls : TookCalls (untold_link 3 0) (untold_link 5 1) (asked_and_answered ∷ sent_in_vain ∷ [])
+took_both_calls = record { told = refl; counted = refl; later = omega arith; failed = omega arith }
+
+not_took-a_call_that_is_not_counted : TookCalls (untold_link 3 0) (untold_link 3 0) (asked_and_answered ∷ []) → ⊥
+not_took-a_call_that_is_not_counted took = let e : 3 ≡ 4 = took.counted in absurd (omega (arith, e))
+
+not_took-a_failure_without_a_fault : TookCalls (untold_link 3 0) (untold_link 4 0) (sent_in_vain ∷ []) → ⊥
+not_took-a_failure_without_a_fault took = let rose : 1 ≤ 0 = took.failed in absurd (omega (arith, rose))
 
 -- ---- steps
 
@@ -217,10 +237,10 @@ module _ (any : Pass History ℕ ℕ) where
   not_made-without_its_call : MadeAll (knows [] []) (knows (history_after step1) []) (step1 ∷ []) → ⊥
   not_made-without_its_call all = let e : 0 ≡ 1 = ap (λ (l : List (Called (Pair ℕ ℕ))). length l) all.calls in absurd (omega (arith, e))
 
-  did-two_steps : Did (knows [] []) (knows (history_after step2) (called_of step1 ∷ called_of step2 ∷ [])) (Some []) (after_calls (Some []) (asked_and_answered ∷ [])) moments (λ i. Some (i + 2)) words (λ i. Some ((i + 8) ∷ [])) (record { steps = step1 ∷ step2 ∷ []; calls = asked_and_answered ∷ []; readings = 2 })
-  did-two_steps = record { made = made_both; sent = refl; drawn = drawn-one_after_another; read = omega arith; clock = λ i. refl; draw = λ i. refl }
+  did-two_steps : Did (knows [] []) (knows (history_after step2) (called_of step1 ∷ called_of step2 ∷ [])) (link_with [] 0) (link_with (exchange_of (message 1) (Some (reply_bytes (plain 200 []))) ∷ []) 1) moments (λ i. Some (i + 2)) words (λ i. Some ((i + 8) ∷ [])) (record { steps = step1 ∷ step2 ∷ []; calls = asked_and_answered ∷ []; readings = 2 })
+  did-two_steps = record { made = made_both; sent = record { told = refl; counted = refl; later = omega arith; failed = omega arith }; drawn = drawn-one_after_another; read = omega arith; clock = λ i. refl; draw = λ i. refl }
 
-  not_did-two_steps_with_one_reading : (old new : Pass History ℕ ℕ) (calls : List LinkCall) → Did old new (Some []) (Some []) moments moments words words (record { steps = step1 ∷ step2 ∷ []; calls = calls; readings = 1 }) → ⊥
+  not_did-two_steps_with_one_reading : (old new : Pass History ℕ ℕ) (calls : List LinkCall) → Did old new (link_with [] 0) (link_with [] 0) moments moments words words (record { steps = step1 ∷ step2 ∷ []; calls = calls; readings = 1 }) → ⊥
   not_did-two_steps_with_one_reading old new calls did = let two : 2 ≤ 1 = did.read in absurd (omega (arith, two))
 
 -- ---- one connection

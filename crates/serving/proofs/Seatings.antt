@@ -13,13 +13,14 @@ use Rattle.turn_store.specs.Passes.{number_of, front_of, calls_of, HasDoneNothin
 use Rattle.serving.specs.declared.seats.Seat.{Seat}
 use Rattle.serving.specs.declared.work.Worked.{Worked}
 use Rattle.serving.specs.declared.work.WorkEnd.TheVariants.{DoorFault}
-use Rattle.serving.specs.LinkCalls.{after_calls}
+use Rattle.serving.specs.LinkCalls.{TookCalls}
 use Rattle.serving.specs.Manner.{Manner}
 use Rattle.serving.specs.Steps.{called_of}
 use Rattle.serving.specs.Summaries.{Telling, ServedAt, Failed, EndedWell, DeskServed, places_in}
 use Rattle.serving.specs.Seating.{new_seat, is_fault, is_left, OpenedSo, SeatServed, SeatsServed}
 use Rattle.serving.specs.Working.{Service, steps_in, calls_in, readings_in, DrawnIn}
 use Rattle.serving.proofs.Histories.{lie_on, lie_at_all}
+use Rattle.serving.proofs.LinkEnds.{rose_by_some}
 use Rattle.serving.proofs.Workers.{at_desk_none, made_none, serves_all_on}
 
 -- ---- counts
@@ -123,7 +124,7 @@ module _ {O A R D L C W S K : Type 0} (t : Telling D L C W S K) where
       services = [];
       number = refl;
       made = made_none seat.pass;
-      served = at_desk_none m t.left t.read_faults t.taken t.write_faults (front_of seat.pass) (t.exchanges seat.desk.link) (t.moments seat.desk.clock) (t.words seat.desk.draw) (t.state seat.desk.door);
+      served = at_desk_none m t.left t.read_faults t.taken t.write_faults (front_of seat.pass) (t.link_state seat.desk.link) (t.moments seat.desk.clock) (t.words seat.desk.draw) (t.state seat.desk.door);
       count = none;
       bound = omega arith;
       turns = refl;
@@ -175,17 +176,20 @@ module _ {O A R D L C W S K : Type 0} (t : Telling D L C W S K) where
       served_as : (history : List (Pair A R)) → Begins (front_of new.pass) history → ServedAt t m history desk new.desk s.services
       served_as history b =
           let a = s.served in
+          let all = serves_all_on m t.left t.read_faults t.taken t.write_faults (front_of new.pass) history b s.services a.served in
+          let sent : TookCalls (t.link_state desk.link) (t.link_state new.desk.link) (calls_in s.services) = subst (λ (l : L). TookCalls (t.link_state l) (t.link_state new.desk.link) (calls_in s.services)) o.link a.sent in
           record {
             passed = record {
               coming = sym o.coming ∙ a.passed.coming;
               served = a.passed.served ∙ ap (λ l. option_map (λ before. before ++ map (λ (x : Service S K A R). x.went) s.services) l) o.served;
               given = a.passed.given ∙ ap (λ (n : ℕ). n + length s.services) o.given;
             };
-            sent = a.sent ∙ ap (λ (l : L). after_calls (t.exchanges l) (calls_in s.services)) o.link;
+            sent = sent;
             drawn = subst (λ (x : C). DrawnIn (t.moments x) (t.words desk.draw) 0 s.services) o.clock (subst (λ (x : W). DrawnIn (t.moments mid.desk.clock) (t.words x) 0 s.services) o.draw a.drawn);
             clock = subst (λ (x : C). MovedOn (t.moments x) (t.moments new.desk.clock) (readings_in s.services)) o.clock a.clock;
             draw = subst (λ (x : W). MovedOn (t.words x) (t.words new.desk.draw) (4 * readings_in s.services)) o.draw a.draw;
-            served = serves_all_on m t.left t.read_faults t.taken t.write_faults (front_of new.pass) history b s.services a.served;
+            served = all;
+            failed = rose_by_some m t.left t.read_faults t.taken t.write_faults history s.services (t.link_state desk.link) (t.link_state new.desk.link) sent all;
           }
 
       pub desk_served : (history : List (Pair A R)) → Begins (front_of new.pass) history → DeskServed t m history listening at desk new.desk s.services

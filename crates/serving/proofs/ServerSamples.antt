@@ -7,8 +7,8 @@ use Rattle.sso_base.specs.Words.{Text, Word}
 use Rattle.sso_base.specs.declared.history.Pair.{Pair}
 use Rattle.server_desk.specs.declared.connection.Connection.{Connection}
 use Rattle.server_desk.specs.declared.desk.Desk.{Desk}
-use Rattle.server_desk.specs.Doors.{DoorMemory, told_state, new_door, with_fault}
-use Rattle.server_desk.specs.Links.{Exchange}
+use Rattle.server_desk.specs.Doors.{DoorState, DoorMemory, told_state, new_door, with_fault}
+use Rattle.server_desk.specs.Links.{LinkState}
 use Rattle.turn_store.specs.declared.calls.Closed.{Closed}
 use Rattle.turn_store.specs.declared.store.Pass.{Pass}
 use Rattle.turn_store.specs.Places.{IsEachOnce}
@@ -21,27 +21,27 @@ use Rattle.serving.specs.declared.work.WorkEnd.TheVariants as work_end
 use Rattle.serving.specs.Manner.{bytes_by}
 use Rattle.serving.specs.Seating.{new_seat, seated, is_left, OpenedSo, Opened, SeatServed, SeatsServed}
 use Rattle.serving.specs.Steps.{history_after, called_of}
-use Rattle.serving.specs.Summaries.{Telling, Failed, EndedWell, SomeFailed, ServedAt, DeskServed, AllServed, ClosedSo, Summarises}
-use Rattle.serving.specs.Working.{Service, steps_in, readings_in, DrawnIn, Passed, IsNumber}
+use Rattle.serving.specs.Summaries.{Telling, Failed, Unopened, EndedWell, SomeFailed, ServedAt, DeskServed, AllServed, ClosedSo, Summarises}
+use Rattle.serving.specs.Working.{Service, steps_in, readings_in, DrawnIn, Passed, SomeEnded, IsNumber}
 use Rattle.sso_http.proofs.Samples.{get_text}
-use Rattle.serving.proofs.Samples.{Stream, held, failures, manner, History, moments, words, lone, step1, drawn-at_its_reading, came, went, done_in, served-a_reply, knows}
+use Rattle.serving.proofs.Samples.{Stream, held, failures, manner, History, moments, words, lone, step1, link_with, drawn-at_its_reading, came, went, done_in, served-a_reply, knows}
 
 -- ---- a desk with one connection
 
 abbrev Door : Type 0
 Door = DoorMemory Stream Stream
 
--- a clock and a draw are what they tell
+-- a link, a clock and a draw are what they tell
 abbrev Place : Type 0
-Place = Desk Door (List Exchange) (ℕ → Option ℕ) (ℕ → Option Word)
+Place = Desk Door LinkState (ℕ → Option ℕ) (ℕ → Option Word)
 
 -- everything is told
-abbrev telling : Telling Door (List Exchange) (ℕ → Option ℕ) (ℕ → Option Word) Stream Stream
+abbrev telling : Telling Door LinkState (ℕ → Option ℕ) (ℕ → Option Word) Stream Stream
 telling = record {
   state = λ (door : Door). told_state door;
   closings = λ (door : Door). door.closings;
   door_faults = λ (door : Door). door.faults;
-  exchanges = λ (exchanges : List Exchange). Some exchanges;
+  link_state = λ (link : LinkState). link;
   moments = λ (clock : ℕ → Option ℕ). clock;
   words = λ (draw : ℕ → Option Word). draw;
   left = held;
@@ -52,7 +52,12 @@ telling = record {
 
 -- a desk whose clock was not read yet
 abbrev desk_at : Door → Place
-desk_at door = record { door = door; link = []; clock = moments; draw = words; turns = 1 }
+desk_at door = record { door = door; link = link_with [] 0; clock = moments; draw = words; turns = 1 }
+
+-- how many connections the first of some desks gave
+abbrev given_at : List Place → ℕ
+given_at [] = 0
+given_at (desk ∷ desks) = desk.door.given
 
 abbrev before : Place
 before = desk_at (new_door (came get_text ∷ []))
@@ -83,14 +88,19 @@ passed-one_connection place = record { coming = refl; served = refl; given = ref
 not_passed-where_it_was_not_given_back : Passed (told_state before.door) (told_state (record served_door { served = [] })) (service ∷ []) → ⊥
 not_passed-where_it_was_not_given_back passed = let e : 0 ≡ 1 = ap (λ (o : Option (List (Connection Stream Stream))). length (unwrap_or o [])) passed.served in absurd (omega (arith, e))
 
+other_end : SomeEnded end.Link (service ∷ []) → Rose 0 0
+other_end (inl e) = absurd (cc e)
+other_end (inr none) = absurd none
+
 at_desk-one_connection : (place : Text) → ServedAt telling manner (history_after lone) (desk_at (record before.door { place = place })) after (service ∷ [])
 at_desk-one_connection place = record {
   passed = passed-one_connection place;
-  sent = refl;
+  sent = record { told = refl; counted = refl; later = omega arith; failed = omega arith };
   drawn = ((drawn-at_its_reading 0 [] 1 1, tt), omega arith, tt);
   clock = λ i. refl;
   draw = λ i. refl;
   served = (served-a_reply, tt);
+  failed = other_end;
 }
 
 not_at_desk-a_reading_too_few : ServedAt telling manner (history_after lone) before (desk_at served_door) (service ∷ []) → ⊥
@@ -148,6 +158,23 @@ all_served-one_desk = (λ e. absurd (cc e), desk_served, tt)
 
 not_all_served-a_desk_too_few : AllServed telling manner [] true (codes "h:1") (before ∷ []) [] [] → ⊥
 not_all_served-a_desk_too_few is = is
+
+-- the door failed as it was to listen, and nobody was served
+abbrev shut : Place
+shut = desk_at (with_fault before.door)
+
+unopened-by_a_fault : Unopened telling before shut
+unopened-by_a_fault = record { failed = failed-by_its_door; held = refl; same = refl }
+
+not_unopened-where_it_listens : Unopened telling before (desk_at (record (with_fault before.door) { place = codes "h:1" })) → ⊥
+not_unopened-where_it_listens un = let e : Some (codes "h:1") ≡ Some [] = ap (λ (s : DoorState Stream Stream). s.place) un.held in absurd cc
+
+not_unopened-without_a_fault : Unopened telling before before → ⊥
+not_unopened-without_a_fault un = let rose : 1 ≤ 0 = un.failed in absurd (omega (arith, rose))
+
+not_all_served-others_where_the_first_could_not_listen : AllServed telling manner [] false (codes "h:1") (before ∷ before ∷ []) (shut ∷ after ∷ []) ([] ∷ [] ∷ []) → ⊥
+not_all_served-others_where_the_first_could_not_listen served =
+    let e : 1 ≡ 0 = ap (λ (l : List Place). given_at l) (served.0 refl).1 in absurd (omega (arith, e))
 
 -- the core is its history, and a history is legal whose replies are what was asked
 abbrev IsEcho : Unit {0} → History → Type 0
@@ -219,7 +246,7 @@ not_summarises-a_fault_that_is_not_told s = not_ended_well-by_a_fault (s.well re
 -- ---- seats
 
 abbrev Sitting : Type 0
-Sitting = Seat History Door (List Exchange) (ℕ → Option ℕ) (ℕ → Option Word) ℕ ℕ
+Sitting = Seat History Door LinkState (ℕ → Option ℕ) (ℕ → Option Word) ℕ ℕ
 
 module _ (any : Pass History ℕ ℕ) where
   abbrev seat : Place → Bool → Pass History ℕ ℕ → Worked → Sitting

@@ -14,7 +14,7 @@ use Rattle.turn_store.specs.Passes.{number_of, front_of, calls_of, HasDoneNothin
 use Rattle.turn_store.proofs.Ending.{all_by, by_all}
 use Rattle.serving.specs.declared.seats.Seat.{Seat}
 use Rattle.serving.specs.Manner.{Manner}
-use Rattle.serving.specs.Summaries.{Telling, Failed, DesksServed, AllServed, SomeFailed, AllEndedWell, Summarises, places_in}
+use Rattle.serving.specs.Summaries.{Telling, Unopened, DesksServed, AllServed, SomeFailed, AllEndedWell, Summarises, places_in}
 use Rattle.serving.specs.Seating.{new_seat, seated, is_left, OpenedSo, AllOpened, Opened, SeatServed, SeatsServed, OpenedAndServed}
 use Rattle.serving.specs.Working.{Service}
 use Rattle.serving.proofs.Seatings.{rose_after, placed, OpenedAs, opened_as, left_as, Ready, ready_on, unlike, desk_served, seat_failed, seat_well, seat_calls, seat_number, seat_bound}
@@ -65,9 +65,9 @@ module _ {O A R D L C W : Type 0} where
   seated_length (d ∷ ds) (p ∷ ps) e = ap suc (seated_length ds ps (omega arith))
 
 -- a door that could not listen
-door_failed : {F G H : Type 0} (l : Bool) → l ≡ false → ((l ≡ true) × F) ⊎ ((l ≡ false) × G × H) → H
+door_failed : {F G H : Type 0} (l : Bool) → l ≡ false → ((l ≡ true) × F) ⊎ ((l ≡ false) × G × H) → G × H
 door_failed l off (inl x) = unlike l x.0 off
-door_failed l off (inr x) = x.2
+door_failed l off (inr x) = (x.1, x.2)
 
 -- one seat, from its desk and its pass to the end
 pub record Row {A R D L C W S K : Type 0} (O : Type 0) (t : Telling D L C W S K) (m : Manner A R) (listening : Bool) (at : Option Text → Option Text) : Type 0 where
@@ -113,19 +113,21 @@ module _ {O A R D L C W S K : Type 0} (t : Telling D L C W S K) where
       pub desks_are : ds ≡ map (λ (r : Row O t m listening (λ before. to)). r.desk) rows
       pub passes_are : ps ≡ map (λ (r : Row O t m listening (λ before. to)). r.pass) rows
       pub seats_are : news ≡ map (λ (r : Row O t m listening (λ before. to)). r.new) rows
+      pub left : listening ≡ false → map (λ (s : Seat O D L C W A R). s.desk) news ≡ ds
 
     no_others : (listening : Bool) (to : Option Text) → Others listening to [] [] []
-    no_others listening to = record { rows = []; desks_are = refl; passes_are = refl; seats_are = refl }
+    no_others listening to = record { rows = []; desks_are = refl; passes_are = refl; seats_are = refl; left = λ off. refl }
 
     one_more : (listening : Bool) (to : Option Text) (d : Desk D L C W) (ds : List (Desk D L C W)) (p : Pass O A R) (ps : List (Pass O A R)) (mid new : Seat O D L C W A R) (news : List (Seat O D L C W A R))
-        → OpenedAs t listening (λ before. to) d p mid → SeatServed t m mid new → Others listening to ds ps news → Others listening to (d ∷ ds) (p ∷ ps) (new ∷ news)
-    one_more listening to d ds p ps mid new news o s rest =
+        → OpenedAs t listening (λ before. to) d p mid → SeatServed t m mid new → (listening ≡ false → new.desk ≡ d) → Others listening to ds ps news → Others listening to (d ∷ ds) (p ∷ ps) (new ∷ news)
+    one_more listening to d ds p ps mid new news o s same rest =
         let row : Row O t m listening (λ before. to) = record { desk = d; pass = p; mid = mid; new = new; opened = o; served = s } in
         record {
           rows = row ∷ rest.rows;
           desks_are = ap (λ l. d ∷ l) rest.desks_are;
           passes_are = ap (λ l. p ∷ l) rest.passes_are;
           seats_are = ap (λ l. new ∷ l) rest.seats_are;
+          left = λ off. λ i. same off i ∷ rest.left off i;
         }
 
     others_opened : (first : DoorState S K) (to : Option Text) → first.place ≡ to → (ds : List (Desk D L C W)) (ps : List (Pass O A R)) (mids news : List (Seat O D L C W A R)) → length ps ≡ length ds
@@ -141,6 +143,7 @@ module _ {O A R D L C W S K : Type 0} (t : Telling D L C W S K) where
         one_more true to d ds p ps x n ns
         (subst (λ (q : Option Text). OpenedAs t true (λ before. q) d p x) e (opened_as t true (λ before. first.place) d p x (λ off. unlike true refl off) o.0))
         s.0
+        (λ off. unlike true refl off)
         (others_opened first to e ds ps xs ns (omega arith) o.1 s.1)
 
     others_left : (to : Option Text) (ds : List (Desk D L C W)) (ps : List (Pass O A R)) (news : List (Seat O D L C W A R)) → length ps ≡ length ds → SeatsServed t m (seated ds ps) news → Others false to ds ps news
@@ -149,7 +152,7 @@ module _ {O A R D L C W S K : Type 0} (t : Telling D L C W S K) where
     others_left to [] [] (n ∷ ns) l s = absurd s
     others_left to [] [] [] l s = no_others false to
     others_left to (d ∷ ds) (p ∷ ps) [] l s = absurd s
-    others_left to (d ∷ ds) (p ∷ ps) (n ∷ ns) l s = one_more false to d ds p ps (new_seat d p) n ns (left_as t false (λ before. to) d p refl) s.0 (others_left to ds ps ns (omega arith) s.1)
+    others_left to (d ∷ ds) (p ∷ ps) (n ∷ ns) l s = one_more false to d ds p ps (new_seat d p) n ns (left_as t false (λ before. to) d p refl) s.0 (λ off. ap (λ (x : Seat O D L C W A R). x.desk) (s.0.idle refl).0) (others_left to ds ps ns (omega arith) s.1)
 
     others_of : (b : Bool) (first : DoorState S K) (to : Option Text) → first.place ≡ to → (ds : List (Desk D L C W)) (ps : List (Pass O A R)) (mids news : List (Seat O D L C W A R)) → length ps ≡ length ds
         → (b ≡ true → AllOpened t.state t.closings t.door_faults (λ door. shared door first) (seated ds ps) mids) → (b ≡ false → mids ≡ seated ds ps) → SeatsServed t m mids news → Others b to ds ps news
@@ -160,14 +163,24 @@ module _ {O A R D L C W S K : Type 0} (t : Telling D L C W S K) where
     pub record Whole (place : Text) (ds : List (Desk D L C W)) (ps : List (Pass O A R)) (news : List (Seat O D L C W A R)) : Type 0 where
       pub listening : Bool
       pub first : Row O t m listening (λ before. option_map (λ p. place) before)
-      pub shut : listening ≡ false → Failed t first.desk first.new.desk
+      pub shut : listening ≡ false → Unopened t first.desk first.new.desk
       pub others : List (Row O t m listening (λ before. (t.state first.new.desk.door).place))
       pub desks_are : ds ≡ first.desk ∷ map (λ (r : Row O t m listening (λ before. (t.state first.new.desk.door).place)). r.desk) others
       pub passes_are : ps ≡ first.pass ∷ map (λ (r : Row O t m listening (λ before. (t.state first.new.desk.door).place)). r.pass) others
       pub seats_are : news ≡ first.new ∷ map (λ (r : Row O t m listening (λ before. (t.state first.new.desk.door).place)). r.new) others
+      pub left : listening ≡ false → map (λ (s : Seat O D L C W A R). s.desk) (map (λ (r : Row O t m listening (λ before. (t.state first.new.desk.door).place)). r.new) others) ≡ map (λ (r : Row O t m listening (λ before. (t.state first.new.desk.door).place)). r.desk) others
 
-    first_shut : (d : Desk D L C W) (p : Pass O A R) (mid new : Seat O D L C W A R) (so : DoorState S K → DoorState S K) → mid.listens ≡ false → OpenedSo t.state t.closings t.door_faults so (new_seat d p) mid → SeatServed t m mid new → Failed t d new.desk
-    first_shut d p mid new so off o s = rose_after (t.door_faults d.door) (t.door_faults mid.desk.door) (t.door_faults new.desk.door) (door_failed mid.listens off o.opened) s.later.1
+    first_shut : (d : Desk D L C W) (p : Pass O A R) (mid new : Seat O D L C W A R) (so : DoorState S K → DoorState S K) → mid.listens ≡ false → OpenedSo t.state t.closings t.door_faults so (new_seat d p) mid → SeatServed t m mid new → Unopened t d new.desk
+    first_shut d p mid new so off o s =
+        let shut = door_failed mid.listens off o.opened in
+        let still = (s.idle off).0 in
+        let as_was : mid.desk ≡ record d { door = mid.desk.door } =
+        λ i. record { door = mid.desk.door; link = o.same.link i; clock = o.same.clock i; draw = o.same.draw i; turns = o.same.turns i } in
+        record {
+          failed = rose_after (t.door_faults d.door) (t.door_faults mid.desk.door) (t.door_faults new.desk.door) shut.1 s.later.1;
+          held = ap (λ (x : Seat O D L C W A R). t.state x.desk.door) still ∙ shut.0;
+          same = ap (λ (x : Seat O D L C W A R). x.desk) still ∙ as_was ∙ ap (λ (x : Seat O D L C W A R). record d { door = x.desk.door }) (sym still);
+        }
 
     whole_of : (place : Text) (ds : List (Desk D L C W)) (ps : List (Pass O A R)) (d : Desk D L C W) (p : Pass O A R) (mid new : Seat O D L C W A R) (news : List (Seat O D L C W A R))
         → OpenedSo t.state t.closings t.door_faults (λ door. placed (λ before. option_map (λ q. place) before) door) (new_seat d p) mid → SeatServed t m mid new
@@ -182,6 +195,7 @@ module _ {O A R D L C W S K : Type 0} (t : Telling D L C W S K) where
           desks_are = ap (λ l. d ∷ l) rest.desks_are;
           passes_are = ap (λ l. p ∷ l) rest.passes_are;
           seats_are = ap (λ l. new ∷ l) rest.seats_are;
+          left = λ off. sym (ap (λ (l : List (Seat O D L C W A R)). map (λ (s : Seat O D L C W A R). s.desk) l) rest.seats_are) ∙ rest.left off ∙ rest.desks_are;
         }
 
     -- the doors were opened, and then all was served
@@ -284,7 +298,7 @@ module _ {O A R D L C W S K : Type 0} (t : Telling D L C W S K) where
       whole_desks history b =
           let b' : AllByRecursion (λ (p : Pass O A R). Begins (front_of p) history) (passes_in seats_new) = subst (λ (l : List (Seat O D L C W A R)). AllByRecursion (λ (p : Pass O A R). Begins (front_of p) history) (passes_in l)) w.seats_are b in
           let core : AllServed t m history w.listening place desks_old (desks_of seats_new) works_of = (
-            w.shut,
+            λ off. (w.shut off, w.left off),
             desk_served t m w.listening (λ before. option_map (λ p. place) before) w.first.desk w.first.pass w.first.mid w.first.new w.first.opened w.first.served history b'.0,
             rows_served w.listening to history w.others b'.1,
           ) in
@@ -305,7 +319,7 @@ module _ {O A R D L C W S K : Type 0} (t : Telling D L C W S K) where
           ∙ sym (sum_by-cons (λ (services : List (Service S K A R)). length services) w.first.served.services (map (λ (r : Row O t m w.listening to). r.served.services) w.others))
 
       failed_from : (b : Bool) → w.listening ≡ b → list_any is_left seats_new ≡ true → SomeFailed t desks_old (desks_of seats_new)
-      failed_from false off h = inl (w.shut off)
+      failed_from false off h = inl (w.shut off).failed
       failed_from true on h =
           ⊎_elim
           (λ (left : is_left w.first.new ≡ true). inl (seat_failed t m w.listening (λ before. option_map (λ p. place) before) w.first.desk w.first.pass w.first.mid w.first.new w.first.opened w.first.served on left))

@@ -2,7 +2,7 @@
 use Rattle.std.proofs.Common.{◌≡◌, ◌⊎◌, inl, inr, ℕ, ◌≤◌, List, [], map, length, Option, Some, Result, Ok, Err, refl, sym, ◌∙◌, subst}
 use Rattle.sso_base.specs.declared.history.Pair.{Pair}
 use Rattle.server_desk.specs.declared.connection.Connection.{Connection}
-use Rattle.server_desk.specs.Links.{Exchange}
+use Rattle.server_desk.specs.Links.{LinkState}
 use Rattle.serving.specs.declared.ends.Served.{Served}
 use Rattle.serving.specs.declared.ends.ServedEnd.{ServedEnd}
 use Rattle.serving.specs.declared.ends.ServedEnd.TheVariants.{Written}
@@ -15,11 +15,11 @@ use Rattle.serving.specs.Serving.{IsRun, Cause, notices_of, Tells, Serves}
 use Rattle.serving.specs.Told.{bytes_of, end_of}
 use Rattle.serving.specs.Work.{Work, LieBehind}
 use Rattle.serving.specs.Writing.{Wrote, WroteWithout}
-use Rattle.serving.proofs.Calls.{SentSo}
+use Rattle.serving.proofs.Calls.{SentSo, took_none}
 use Rattle.serving.proofs.Doing.{with_calls}
 
 module _ {A R K : Type 0} (m : Manner A R) (taken : K → Option (List ℕ)) (faults : K → ℕ) where
-  pub tells_reply : (link link' : Option (List Exchange)) (sink sink' : K) (reply : R) (end : ServedEnd) (page : List Sending) (bytes : List ℕ)
+  pub tells_reply : (link link' : LinkState) (sink sink' : K) (reply : R) (end : ServedEnd) (page : List Sending) (bytes : List ℕ)
       → page ≡ map sending_of (m.notices reply) → bytes ≡ bytes_by m reply → SentSo link link' page → Wrote taken faults sink sink' (Some bytes) Written end
       → Tells m link link' taken faults sink sink' reply end
   tells_reply link link' sink sink' reply end page bytes notices is sent wrote = (
@@ -31,10 +31,10 @@ module _ {A R K : Type 0} (m : Manner A R) (taken : K → Option (List ℕ)) (fa
     subst (λ (b : List ℕ). Wrote taken faults sink sink' (Some b) Written end) is wrote,
   )
 
-  pub tells_memory : (link : Option (List Exchange)) (sink sink' : K) (reply : R) (end : ServedEnd)
+  pub tells_memory : (link : LinkState) (sink sink' : K) (reply : R) (end : ServedEnd)
       → WroteWithout taken faults sink sink' NoMemory end → Tells m link link taken faults sink sink' reply end
-  tells_memory link sink sink' reply end (inl wrote) = (Err NoMemory, [], refl, refl, inr refl, wrote)
-  tells_memory link sink sink' reply end (inr wrote) = (Err NoMemory, [], refl, refl, inr refl, wrote)
+  tells_memory link sink sink' reply end (inl wrote) = (Err NoMemory, [], took_none link, refl, inr refl, wrote)
+  tells_memory link sink sink' reply end (inr wrote) = (Err NoMemory, [], took_none link, refl, inr refl, wrote)
 
 module _ {A R S K : Type 0} (m : Manner A R) (left : S → Option (List ℕ)) (read_faults : S → ℕ) (taken : K → Option (List ℕ)) (write_faults : K → ℕ) where
   -- the cause of what came out, at a connection that came and went so
@@ -63,7 +63,7 @@ module _ {A R S K : Type 0} (m : Manner A R) (left : S → Option (List ℕ)) (r
     few = few;
   }
 
-  pub serves_reply : (history : List (Pair A R)) (came went : Connection S K) (link link' : Option (List Exchange)) (w : Work A R) (served : Served) (reply : R) → LieBehind [] history w.steps
+  pub serves_reply : (history : List (Pair A R)) (came went : Connection S K) (link link' : LinkState) (w : Work A R) (served : Served) (reply : R) → LieBehind [] history w.steps
       → (told : Tells m link link' taken write_faults came.sink went.sink reply served.end)
       → IsRun m (left came.source) (left went.source) w.steps w.calls → CauseOf history came went w (Ok reply) → served.places ≡ length w.steps → served.places ≤ 3
       → Serves m left read_faults taken write_faults history came went (with_calls w told.1) served

@@ -7,22 +7,23 @@ use Rattle.sso_base.specs.Words.{Word}
 use Rattle.sso_base.specs.declared.history.Pair.{Pair}
 use Rattle.server_desk.specs.Ahead.{MovedOn}
 use Rattle.server_desk.specs.Doors.{DoorState, GaveConnection, with_served}
-use Rattle.server_desk.specs.Links.{Exchange}
+use Rattle.server_desk.specs.Links.{LinkState}
 use Rattle.server_desk.specs.declared.connection.Connection.{Connection}
 use Rattle.turn_store.specs.declared.store.Pass.{Pass}
 use Rattle.turn_store.specs.Places.{Begins}
 use Rattle.turn_store.specs.Passes.{front_of}
 use Rattle.turn_store.proofs.Totals.{begins_same}
-use Rattle.serving.specs.LinkCalls.{after_calls}
+use Rattle.serving.specs.LinkCalls.{LinkCall, TookCalls}
 use Rattle.serving.specs.Manner.{Manner}
 use Rattle.serving.specs.Serving.{Serves}
 use Rattle.serving.specs.Steps.{Stepped}
 use Rattle.serving.specs.Work.{Work, MadeAll, Did}
 use Rattle.serving.specs.Working.{Service, steps_in, calls_in, readings_in, DrawnIn, Passed, ServesAll, AtDesk}
 use Rattle.serving.specs.declared.ends.Served as ends
-use Rattle.serving.proofs.Calls.{after_both}
+use Rattle.serving.proofs.Calls.{took_none, took_both}
 use Rattle.serving.proofs.Doing.{moved_none, moved_both, drawn_later, none_made}
 use Rattle.serving.proofs.Histories.{serves_on, made_both}
+use Rattle.serving.proofs.LinkEnds.{rose_by_some}
 
 -- maps one behind the other
 map_twice : {A : Type 0} (f g h : A → A) → ((x : A) → f (g x) ≡ h x) → (o : Option A) → option_map f (option_map g o) ≡ option_map h o
@@ -99,29 +100,31 @@ module _ {S K A R : Type 0} where
     serves_both h [] ys a b = b
     serves_both h (x ∷ xs) ys a b = (a.0, serves_both h xs ys a.1 b)
 
-    module _ (history : List (Pair A R)) (link : Option (List Exchange)) (moments : ℕ → Option ℕ) (words : ℕ → Option Word) where
+    module _ (history : List (Pair A R)) (link : LinkState) (moments : ℕ → Option ℕ) (words : ℕ → Option Word) where
       -- nothing was done
       pub at_desk_none : (door : DoorState S K) → AtDesk m left read_faults taken write_faults history door door link link moments moments words words []
-      at_desk_none door = record { passed = passed_none door; sent = refl; drawn = tt; clock = moved_none moments; draw = moved_none words; served = tt }
+      at_desk_none door = record { passed = passed_none door; sent = took_none link; drawn = tt; clock = moved_none moments; draw = moved_none words; served = tt; failed = λ some. absurd some }
 
       -- one connection was served
-      pub at_desk_one : {C : Type 0} (p q : Pass C A R) (door mid door' : DoorState S K) (link' : Option (List Exchange)) (moments' : ℕ → Option ℕ) (words' : ℕ → Option Word) (came went : Connection S K) (served : ends.Served) (w : Work A R)
+      pub at_desk_one : {C : Type 0} (p q : Pass C A R) (door mid door' : DoorState S K) (link' : LinkState) (moments' : ℕ → Option ℕ) (words' : ℕ → Option Word) (came went : Connection S K) (served : ends.Served) (w : Work A R)
           → door.given + 1 < 2 ^ 64 → GaveConnection door mid came → door' ≡ with_served mid went
           → Did p q link link' moments moments' words words' w → Serves m left read_faults taken write_faults history came went w served
           → AtDesk m left read_faults taken write_faults history door door' link link' moments moments' words words' (record { came = came; went = went; work = w; served = served } ∷ [])
       at_desk_one p q door mid door' link' moments' words' came went served w small gave back did serves =
           let s : Service S K A R = record { came = came; went = went; work = w; served = served } in
           let all : w.readings + 0 ≡ w.readings = omega arith in
+          let sent : TookCalls link link' (calls_in (s ∷ [])) = subst (λ (calls : List LinkCall). TookCalls link link' calls) (sym (append-nil w.calls)) did.sent in
           record {
             passed = passed_one door mid door' s small gave back;
-            sent = did.sent ∙ ap (λ calls. after_calls link calls) (sym (append-nil w.calls));
+            sent = sent;
             drawn = (did.drawn, did.read, tt);
             clock = subst (λ (n : ℕ). MovedOn moments moments' n) (sym all) did.clock;
             draw = subst (λ (n : ℕ). MovedOn words words' (4 * n)) (sym all) did.draw;
             served = (serves, tt);
+            failed = rose_by_some m left read_faults taken write_faults history (s ∷ []) link link' sent (serves, tt);
           }
 
-    module _ (link mid link' : Option (List Exchange)) (moments moments1 moments' : ℕ → Option ℕ) (words words1 words' : ℕ → Option Word) where
+    module _ (link mid link' : LinkState) (moments moments1 moments' : ℕ → Option ℕ) (words words1 words' : ℕ → Option Word) where
       -- connections were served, and then more
       pub at_desk_both : (h k : List (Pair A R)) (door door1 door' : DoorState S K) (xs ys : List (Service S K A R)) → Begins h k
           → AtDesk m left read_faults taken write_faults h door door1 link mid moments moments1 words words1 xs
@@ -131,13 +134,17 @@ module _ {S K A R : Type 0} where
           let all = readings_both xs ys in
           let four : 4 * readings_in xs + 4 * readings_in ys ≡ 4 * readings_in (xs ++ ys) = omega arith in
           let from : readings_in xs + 0 ≡ 0 + readings_in xs = omega arith in
+          let sent : TookCalls link link' (calls_in (xs ++ ys)) =
+          subst (λ (calls : List LinkCall). TookCalls link link' calls) (sym (flat_map-append (λ (x : Service S K A R). x.work.calls) xs ys)) (took_both link mid link' (calls_in xs) (calls_in ys) a.sent c.sent) in
+          let served = serves_both k xs ys (serves_all_on h k b xs a.served) c.served in
           record {
             passed = passed_both door door1 door' xs ys a.passed c.passed;
-            sent = c.sent ∙ ap (λ o. after_calls o (calls_in ys)) a.sent ∙ sym (after_both link (calls_in xs) (calls_in ys)) ∙ sym (ap (λ calls. after_calls link calls) (flat_map-append (λ (x : Service S K A R). x.work.calls) xs ys));
+            sent = sent;
             drawn = drawn_both moments words 0 xs ys a.drawn (subst (λ (t : ℕ). DrawnIn moments words t ys) from (drawn_in_later moments moments1 words words1 (readings_in xs) 0 a.clock a.draw ys c.drawn));
             clock = subst (λ (n : ℕ). MovedOn moments moments' n) (sym all) (moved_both moments moments1 moments' (readings_in xs) (readings_in ys) a.clock c.clock);
             draw = subst (λ (n : ℕ). MovedOn words words' n) four (moved_both words words1 words' (4 * readings_in xs) (4 * readings_in ys) a.draw c.draw);
-            served = serves_both k xs ys (serves_all_on h k b xs a.served) c.served;
+            served = served;
+            failed = rose_by_some m left read_faults taken write_faults k (xs ++ ys) link link' sent served;
           }
 
   -- the steps of connections and then of more

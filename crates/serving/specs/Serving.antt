@@ -11,7 +11,7 @@ use Rattle.turn_store.specs.Places.{Begins}
 use Rattle.server_desk.specs.declared.connection.Connection.{Connection}
 use Rattle.server_desk.specs.declared.link.LinkNo.{LinkNo}
 use Rattle.server_desk.specs.declared.link.LinkNo.TheVariants.{Failed}
-use Rattle.server_desk.specs.Links.{Exchange}
+use Rattle.server_desk.specs.Links.{LinkState}
 use Rattle.sso_http.specs.Peers.{IsAnswer, IsNoAnswer}
 use Rattle.sso_http.specs.Requests.{IsAskRead, IsRefused}
 use Rattle.sso_http.specs.declared.no.HttpNo.{HttpNo}
@@ -20,7 +20,7 @@ use Rattle.serving.specs.declared.ends.Served.{Served}
 use Rattle.serving.specs.declared.ends.ServedEnd.{ServedEnd}
 use Rattle.serving.specs.declared.no_reply.NoReply.{NoReply}
 use Rattle.serving.specs.declared.no_reply.NoReply.TheVariants.{NoMemory, Http, Link, Peer, Full}
-use Rattle.serving.specs.LinkCalls.{LinkCall, sending_of, after_calls, sent_by}
+use Rattle.serving.specs.LinkCalls.{LinkCall, sending_of, sent_by, TookCalls}
 use Rattle.serving.specs.Manner.{Manner, bytes_by}
 use Rattle.serving.specs.Steps.{Stepped, IsFull}
 use Rattle.serving.specs.Told.{end_of, bytes_of}
@@ -36,9 +36,9 @@ IsPeerAnswer given (Err NoMemory) = Unit {0}
 IsPeerAnswer given result = ⊥
 
 -- a question was put to another server; where memory ran out, it was perhaps not sent
-abbrev pub AskedPeer : Option (List Exchange) → Option (List Exchange) → Message → Result Answered NoReply → Type 0
+abbrev pub AskedPeer : LinkState → LinkState → Message → Result Answered NoReply → Type 0
 AskedPeer before after question result =
-    ((call : LinkCall) × (call.sent ≡ sending_of question) × (after ≡ after_calls before (call ∷ [])) × IsPeerAnswer call.answer result)
+    ((call : LinkCall) × (call.sent ≡ sending_of question) × TookCalls before after (call ∷ []) × IsPeerAnswer call.answer result)
     ⊎ ((after ≡ before) × (result ≡ Err NoMemory))
 
 module _ {A R : Type 0} (m : Manner A R) where
@@ -165,10 +165,10 @@ module _ {A R : Type 0} (m : Manner A R) where
   notices_of (Err why) = []
 
   -- the last reply was told, with its notices, or that memory ran out
-  abbrev pub Tells : {K : Type 0} → Option (List Exchange) → Option (List Exchange) → (K → Option (List ℕ)) → (K → ℕ) → K → K → R → ServedEnd → Type 0
+  abbrev pub Tells : {K : Type 0} → LinkState → LinkState → (K → Option (List ℕ)) → (K → ℕ) → K → K → R → ServedEnd → Type 0
   Tells link link' taken faults sink sink' reply end =
       (outcome : Result R NoReply) × (calls : List LinkCall)
-      × (link' ≡ after_calls link calls) × (sent_by calls ≡ map sending_of (notices_of outcome))
+      × TookCalls link link' calls × (sent_by calls ≡ map sending_of (notices_of outcome))
       × ((outcome ≡ Ok reply) ⊎ (outcome ≡ Err NoMemory))
       × Wrote taken faults sink sink' (bytes_of (bytes_by m) outcome) (end_of outcome) end
 

@@ -5,7 +5,7 @@ use Rattle.sso_base.specs.Faults.{Rose}
 use Rattle.sso_base.specs.Words.{Text, Word}
 use Rattle.sso_base.specs.declared.history.Pair.{Pair}
 use Rattle.server_desk.specs.Doors.{DoorState}
-use Rattle.server_desk.specs.Links.{Exchange}
+use Rattle.server_desk.specs.Links.{LinkState}
 use Rattle.server_desk.specs.declared.desk.Desk.{Desk}
 use Rattle.turn_store.specs.declared.calls.Closed.{Closed}
 use Rattle.turn_store.specs.Places.{IsEachOnce, places_of}
@@ -20,7 +20,7 @@ pub record Telling (D L C W S K : Type 0) : Type 0 where
   pub state : D → DoorState S K
   pub closings : D → ℕ
   pub door_faults : D → ℕ
-  pub exchanges : L → Option (List Exchange)
+  pub link_state : L → LinkState
   pub moments : C → ℕ → Option ℕ
   pub words : W → ℕ → Option Word
   pub left : S → Option (List ℕ)
@@ -33,6 +33,12 @@ module _ {D L C W S K : Type 0} (t : Telling D L C W S K) where
   abbrev pub Failed : Desk D L C W → Desk D L C W → Type 0
   Failed old new = Rose (t.door_faults old.door) (t.door_faults new.door)
 
+  -- its door could not be opened: it failed and holds what it held, and all else is as it was
+  pub record Unopened (old new : Desk D L C W) : Type 0 where
+    pub failed : Failed old new
+    pub held : t.state new.door ≡ t.state old.door
+    pub same : new ≡ record old { door = new.door }
+
   -- it served as many connections as it has turns, or its door said that it is closed
   abbrev pub EndedWell : Desk D L C W → Desk D L C W → Type 0
   EndedWell old new =
@@ -43,7 +49,7 @@ module _ {D L C W S K : Type 0} (t : Telling D L C W S K) where
     -- these are the connections that it served, and its part of the history
     abbrev pub ServedAt : List (Pair A R) → Desk D L C W → Desk D L C W → List (Service S K A R) → Type 0
     ServedAt history old new services =
-        AtDesk m t.left t.read_faults t.taken t.write_faults history (t.state old.door) (t.state new.door) (t.exchanges old.link) (t.exchanges new.link) (t.moments old.clock) (t.moments new.clock) (t.words old.draw) (t.words new.draw) services
+        AtDesk m t.left t.read_faults t.taken t.write_faults history (t.state old.door) (t.state new.door) (t.link_state old.link) (t.link_state new.link) (t.moments old.clock) (t.moments new.clock) (t.words old.draw) (t.words new.draw) services
 
     -- One desk: it ended well or its door failed, unless the first door could not listen, and then it served nobody. A door that did
     -- not fail listens where it should. Its steps lie in the history, in their order.
@@ -61,10 +67,11 @@ module _ {D L C W S K : Type 0} (t : Telling D L C W S K) where
     DesksServed history listening place (old ∷ olds) (new ∷ news) (services ∷ works) = DeskServed history listening place old new services × DesksServed history listening place olds news works
     DesksServed history listening place olds news works = ⊥
 
-    -- the first desk listens at this place, and the others where it does; where it could not, its door failed
+    -- The first desk listens at this place, and the others where it does. Where its door could not be opened, the others are as they
+    -- were.
     abbrev pub AllServed : List (Pair A R) → Bool → Text → List (Desk D L C W) → List (Desk D L C W) → List (List (Service S K A R)) → Type 0
     AllServed history listening place (old ∷ olds) (new ∷ news) (services ∷ works) =
-        (listening ≡ false → Failed old new)
+        (listening ≡ false → Unopened old new × (news ≡ olds))
         × DeskServed history listening (λ before. option_map (λ p. place) before) old new services
         × DesksServed history listening (λ before. (t.state new.door).place) olds news works
     AllServed history listening place olds news works = ⊥
@@ -85,7 +92,7 @@ abbrev pub places_in : {S K A R : Type 0} → List (Service S K A R) → List �
 places_in {S} {K} {A} {R} services = places_of (map called_of (steps_in services))
 
 -- The closed store: its history is legal for the setup, each place of it is a step of one connection of one desk, and it stands there
--- once.
+-- once. It says whether the first door was opened.
 pub record ClosedSo {D L C W S K A R Core Setup : Type 0} (t : Telling D L C W S K) (m : Manner A R) (setup : Core → Setup) (history_of : Core → List (Pair A R)) (is_legal : Setup → List (Pair A R) → Type 0) (configured : Setup) (place : Text) (olds news : List (Desk D L C W)) (closed : Closed Core) (served entries : ℕ) : Type 0 where
   pub set_up : setup closed.core ≡ configured
   pub legal : is_legal configured (history_of closed.core)

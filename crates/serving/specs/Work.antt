@@ -4,11 +4,11 @@ use Rattle.std.specs.Prelude.{◌≡◌, ◌≤◌, ℕ, suc, ◌*◌, List, [],
 use Rattle.sso_base.specs.Words.{Word}
 use Rattle.sso_base.specs.declared.history.Pair.{Pair}
 use Rattle.server_desk.specs.Ahead.{MovedOn}
-use Rattle.server_desk.specs.Links.{Exchange}
+use Rattle.server_desk.specs.Links.{LinkState}
 use Rattle.turn_store.specs.declared.store.Pass.{Pass}
 use Rattle.turn_store.specs.Places.{Begins}
 use Rattle.turn_store.specs.Passes.{front_of, calls_of}
-use Rattle.serving.specs.LinkCalls.{LinkCall, after_calls}
+use Rattle.serving.specs.LinkCalls.{LinkCall, TookCalls}
 use Rattle.serving.specs.Steps.{Stepped, history_after, called_of, IsDrawn}
 
 pub record Work (A R : Type 0) : Type 0 where
@@ -34,9 +34,9 @@ module _ {A R : Type 0} where
     pub calls : calls_of new ≡ calls_of old ++ map called_of steps
 
   -- that is all that was done with the pass, the link, the clock and the draw; each step had a reading of its own
-  pub record Did {C : Type 0} (pass pass' : Pass C A R) (link link' : Option (List Exchange)) (moments moments' : ℕ → Option ℕ) (words words' : ℕ → Option Word) (w : Work A R) : Type 0 where
+  pub record Did {C : Type 0} (pass pass' : Pass C A R) (link link' : LinkState) (moments moments' : ℕ → Option ℕ) (words words' : ℕ → Option Word) (w : Work A R) : Type 0 where
     pub made : MadeAll pass pass' w.steps
-    pub sent : link' ≡ after_calls link w.calls
+    pub sent : TookCalls link link' w.calls
     pub drawn : DrawnFrom moments words 0 w.steps
     pub read : length w.steps ≤ w.readings
     pub clock : MovedOn moments moments' w.readings

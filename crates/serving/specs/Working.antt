@@ -1,14 +1,17 @@
 -- What a worker does: it serves the connections of a door, one after another.
-use Rattle.std.specs.Prelude.{◌≡◌, ◌≤◌, ℕ, ◌+◌, ◌*◌, List, [], ◌∷◌, ◌++◌, map, length, Option, option_map}
+use Rattle.std.specs.Prelude.{◌≡◌, ◌⊎◌, ◌≤◌, ℕ, ◌+◌, ◌*◌, List, [], ◌∷◌, ◌++◌, map, length, Option, option_map}
 use Rattle.std.specs.List.{AllByRecursion, flat_map}
+use Rattle.sso_base.specs.Faults.{Rose}
 use Rattle.sso_base.specs.Words.{Word}
 use Rattle.sso_base.specs.declared.history.Pair.{Pair}
 use Rattle.server_desk.specs.Ahead.{MovedOn}
 use Rattle.server_desk.specs.Doors.{DoorState}
-use Rattle.server_desk.specs.Links.{Exchange}
+use Rattle.server_desk.specs.Links.{LinkState}
 use Rattle.server_desk.specs.declared.connection.Connection.{Connection}
 use Rattle.serving.specs.declared.ends.Served as ends
-use Rattle.serving.specs.LinkCalls.{LinkCall, after_calls}
+use Rattle.serving.specs.declared.ends.ServedEnd.{ServedEnd}
+use Rattle.serving.specs.declared.ends.ServedEnd.TheVariants.{Link}
+use Rattle.serving.specs.LinkCalls.{LinkCall, TookCalls}
 use Rattle.serving.specs.Manner.{Manner}
 use Rattle.serving.specs.Serving.{Serves}
 use Rattle.serving.specs.Steps.{Stepped}
@@ -42,6 +45,11 @@ module _ {S K A R : Type 0} where
   DrawnIn moments words reading [] = Unit {0}
   DrawnIn moments words reading (s ∷ services) = DrawnFrom moments words reading s.work.steps × (length s.work.steps ≤ s.work.readings) × DrawnIn moments words (reading + s.work.readings) services
 
+  -- one of these connections ended so
+  abbrev pub SomeEnded : ServedEnd → List (Service S K A R) → Type 0
+  SomeEnded end [] = ⊥
+  SomeEnded end (s ∷ services) = (s.served.end ≡ end) ⊎ SomeEnded end services
+
   -- these connections were taken from the door and given back to it, in their order, and no others
   pub record Passed (door door' : DoorState S K) (services : List (Service S K A R)) : Type 0 where
     pub coming : door.coming ≡ option_map (λ rest. map (λ (s : Service S K A R). s.came) services ++ rest) door'.coming
@@ -53,14 +61,16 @@ module _ {S K A R : Type 0} where
     abbrev pub ServesAll : List (Pair A R) → List (Service S K A R) → Type 0
     ServesAll history services = AllByRecursion (λ (s : Service S K A R). Serves m left read_faults taken write_faults history s.came s.went s.work s.served) services
 
-    -- that is all that was done with the door, the link, the clock and the draw of a desk
-    pub record AtDesk (history : List (Pair A R)) (door door' : DoorState S K) (link link' : Option (List Exchange)) (moments moments' : ℕ → Option ℕ) (words words' : ℕ → Option Word) (services : List (Service S K A R)) : Type 0 where
+    -- that is all that was done with the door, the link, the clock and the draw of a desk; where a connection ended because of the
+    -- link, the link failed
+    pub record AtDesk (history : List (Pair A R)) (door door' : DoorState S K) (link link' : LinkState) (moments moments' : ℕ → Option ℕ) (words words' : ℕ → Option Word) (services : List (Service S K A R)) : Type 0 where
       pub passed : Passed door door' services
-      pub sent : link' ≡ after_calls link (calls_in services)
+      pub sent : TookCalls link link' (calls_in services)
       pub drawn : DrawnIn moments words 0 services
       pub clock : MovedOn moments moments' (readings_in services)
       pub draw : MovedOn words words' (4 * readings_in services)
       pub served : ServesAll history services
+      pub failed : SomeEnded Link services → Rose link.faults link'.faults
 
 -- how many connections were served
 abbrev pub IsNumber : Next → ℕ → Type 0

@@ -1,8 +1,8 @@
 // Messages are sent over a link.
 
-ghost use Rattle.std.specs.Prelude.{◌≡◌, ◌≤◌, ℕ, List, [], ◌∷◌, map, length, IfOk};
-ghost use Rattle.server_desk.specs.Links.{after_exchange};
-ghost use Rattle.serving.specs.LinkCalls.{LinkCall, sending_of, after_calls, sent_by};
+ghost use Rattle.std.specs.Prelude.{◌≡◌, List, map, IfOk};
+ghost use Rattle.server_desk.specs.Links.{TookCall};
+ghost use Rattle.serving.specs.LinkCalls.{LinkCall, sending_of, sent_by, TookCalls};
 
 use server_desk::{Link, LinkNo};
 use sso_base::{Blob, Message, Messages, NoMemory, Text};
@@ -44,16 +44,15 @@ pub fn printed_all(alloc: Global, messages: &Messages) -> Result<Vec<Sending>, N
 
 /// Sends a message, and answers what comes back, at most 65,536 bytes of it.
 pub fn send<L: Link>(alloc: Global, link: &mut L, sending: &Sending) -> Result<Blob, LinkNo>
-    ensures told { L.exchanges link.new ≡ after_exchange (L.exchanges link.old) sending.now.to sending.now.bytes result }
-    ensures later { L.faults link.old ≤ L.faults link.new }
+    ensures { TookCall (L.state link.old) (L.state link.new) sending.now.to sending.now.bytes result }
 {
     link.exchange(alloc, &sending.to, sending.bytes.as_bytes(), MOST_ANSWER)
 }
 
-/// Sends each message once, in their order. What comes back is of no interest, nor whether anything does.
+/// Sends each message once, in their order, by a call of the link for each. What comes back is of no interest, nor whether anything
+/// does.
 pub fn send_all<L: Link>(alloc: Global, link: &mut L, all: &[Sending])
-    ensures sent { (calls : List LinkCall) × (sent_by calls ≡ all.now) × (L.exchanges link.new ≡ after_calls (L.exchanges link.old) calls) }
-    ensures later { L.faults link.old ≤ L.faults link.new }
+    ensures { (calls : List LinkCall) × (sent_by calls ≡ all.now) × TookCalls (L.state link.old) (L.state link.new) calls }
 {
     for sending in all {
         let _ = send(alloc, link, sending);

@@ -1,10 +1,9 @@
 // One connection is served.
 
 ghost use Rattle.std.specs.Prelude.{◌≡◌, ◌≢◌, ◌⊎◌, ◌+◌, ◌≤◌, ◌<◌, ◌++◌, ◌∷◌, ℕ, List, [], map, length, Ok, Err, Some, None, IfOk, IfErr, IfSome, OnErr};
-ghost use Rattle.server_desk.specs.Ahead.{MovedOn};
-ghost use Rattle.server_desk.specs.Links.{after_exchange};
+ghost use Rattle.sso_base.specs.Faults.{Rose};
 ghost use Rattle.turn_store.specs.Passes.{IsPassOf, number_of, front_of};
-ghost use Rattle.serving.specs.LinkCalls.{LinkCall, sending_of, after_calls, sent_by};
+ghost use Rattle.serving.specs.LinkCalls.{LinkCall, sending_of, TookCalls};
 ghost use Rattle.serving.specs.Manner.{Manner, bytes_by};
 ghost use Rattle.serving.specs.Serving as spec;
 ghost use Rattle.serving.specs.Told.{bytes_of, end_of};
@@ -58,7 +57,7 @@ fn peer_answer(alloc: Global, back: Result<Blob, LinkNo>) -> Result<Answered, No
 
 // Sends a question, and reads its answer.
 fn answer_to<L: Link>(alloc: Global, link: &mut L, question: &Message) -> Result<Answered, NoReply>
-    ensures { spec.AskedPeer (L.exchanges link.old) (L.exchanges link.new) question.now result }
+    ensures { spec.AskedPeer (L.state link.old) (L.state link.new) question.now result }
 {
     let sending = printed(alloc, question)?;
     let back = send(alloc, link, &sending);
@@ -75,7 +74,7 @@ fn asked_back<X: Role, L: Link>(
 ) -> Result<<X::Core as Core>::Ask, NoReply>
     requires ready { X.ready role.now }
     requires question { (X.manner role.now).question reply.now ≡ Some question.now }
-    ensures { (calls : List LinkCall) × (L.exchanges link.new ≡ after_calls (L.exchanges link.old) calls) × spec.IsAnswered (X.manner role.now) reply.now calls result }
+    ensures { (calls : List LinkCall) × TookCalls (L.state link.old) (L.state link.new) calls × spec.IsAnswered (X.manner role.now) reply.now calls result }
 {
     let answer = answer_to(alloc, link, question)?;
     Ok(role.prepare_answer(alloc, reply, &answer)?)
@@ -99,7 +98,7 @@ fn follow<R: Wait, X: Role, L: Link, C: Clock, W: Draw>(
     requires places { places.old ≤ 2 }
     ensures pass { IsPassOf X.Core.setup X.Core.is_legal store.now pass.new }
     ensures number { number_of pass.new ≡ number_of pass.old }
-    ensures followed { (w : Work X.Core.Ask X.Core.Reply) × Did pass.old pass.new (L.exchanges link.old) (L.exchanges link.new) (C.ahead clock.old) (C.ahead clock.new) (W.ahead draw.old) (W.ahead draw.new) w × spec.Round (X.manner role.now) X.rounds (front_of pass.new) reply w result × (places.new ≡ places.old + length w.steps) }
+    ensures followed { (w : Work X.Core.Ask X.Core.Reply) × Did pass.old pass.new (L.state link.old) (L.state link.new) (C.ahead clock.old) (C.ahead clock.new) (W.ahead draw.old) (W.ahead draw.new) w × spec.Round (X.manner role.now) X.rounds (front_of pass.new) reply w result × (places.new ≡ places.old + length w.steps) }
 {
     let ask = match role.question(&reply) {
         None => return Ok(reply),
@@ -130,7 +129,7 @@ fn last_reply<R: Wait, X: Role, L: Link, C: Clock, W: Draw>(
     ensures pass { IsPassOf X.Core.setup X.Core.is_legal store.now pass.new }
     ensures number { number_of pass.new ≡ number_of pass.old }
     ensures places { places.new ≤ 3 }
-    ensures followed { (w : Work X.Core.Ask X.Core.Reply) × Did pass.old pass.new (L.exchanges link.old) (L.exchanges link.new) (C.ahead clock.old) (C.ahead clock.new) (W.ahead draw.old) (W.ahead draw.new) w × spec.Rest (X.manner role.now) (front_of pass.new) reply w.steps w.calls result × (places.new ≡ places.old + length w.steps) }
+    ensures followed { (w : Work X.Core.Ask X.Core.Reply) × Did pass.old pass.new (L.state link.old) (L.state link.new) (C.ahead clock.old) (C.ahead clock.new) (W.ahead draw.old) (W.ahead draw.new) w × spec.Rest (X.manner role.now) (front_of pass.new) reply w.steps w.calls result × (places.new ≡ places.old + length w.steps) }
 {
     let second = follow(
         rt, alloc, role, store, pass, link, clock, draw, places, reply,
@@ -160,7 +159,7 @@ fn reply_to<R: Wait, X: Role, S: Source, L: Link, C: Clock, W: Draw>(
     ensures number { number_of pass.new ≡ number_of pass.old }
     ensures places { places.new ≤ 3 }
     ensures memory { result ≢ Err (NoReply.Http HttpNo.NoMemory) }
-    ensures replied { (w : Work X.Core.Ask X.Core.Reply) × Did pass.old pass.new (L.exchanges link.old) (L.exchanges link.new) (C.ahead clock.old) (C.ahead clock.new) (W.ahead draw.old) (W.ahead draw.new) w × spec.IsRun (X.manner role.now) (S.left source.old) (S.left source.new) w.steps w.calls × spec.Cause (X.manner role.now) (S.left source.old) (S.left source.new) (S.faults source.old) (S.faults source.new) (front_of pass.new) w.steps w.calls result × (places.new ≡ length w.steps) }
+    ensures replied { (w : Work X.Core.Ask X.Core.Reply) × Did pass.old pass.new (L.state link.old) (L.state link.new) (C.ahead clock.old) (C.ahead clock.new) (W.ahead draw.old) (W.ahead draw.new) w × spec.IsRun (X.manner role.now) (S.left source.old) (S.left source.new) w.steps w.calls × spec.Cause (X.manner role.now) (S.left source.old) (S.left source.new) (S.faults source.old) (S.faults source.new) (front_of pass.new) w.steps w.calls result × (places.new ≡ length w.steps) }
 {
     let ask = asked(alloc, role, source)?;
     let first = step(rt, alloc, store, pass, clock, draw, ask)?;
@@ -206,7 +205,7 @@ fn tell<X: Role, K: Sink, L: Link>(
     reply: &<X::Core as Core>::Reply,
 ) -> ServedEnd
     requires { X.ready role.now }
-    ensures { spec.Tells (X.manner role.now) (L.exchanges link.old) (L.exchanges link.new) K.taken K.faults sink.old sink.new reply.now result }
+    ensures { spec.Tells (X.manner role.now) (L.state link.old) (L.state link.new) K.taken K.faults sink.old sink.new reply.now result }
 {
     match printed_page(alloc, role, reply) {
         Ok(page) => {
@@ -242,7 +241,8 @@ pub fn serve_connection<
     requires pass { IsPassOf X.Core.setup X.Core.is_legal store.now pass.old }
     ensures pass { IsPassOf X.Core.setup X.Core.is_legal store.now pass.new }
     ensures number { number_of pass.new ≡ number_of pass.old }
-    ensures served { (w : Work X.Core.Ask X.Core.Reply) × Did pass.old pass.new (L.exchanges link.old) (L.exchanges link.new) (C.ahead clock.old) (C.ahead clock.new) (W.ahead draw.old) (W.ahead draw.new) w × spec.Serves (X.manner role.now) S.left S.faults K.taken K.faults (front_of pass.new) connection.old connection.new w result }
+    ensures served { (w : Work X.Core.Ask X.Core.Reply) × Did pass.old pass.new (L.state link.old) (L.state link.new) (C.ahead clock.old) (C.ahead clock.new) (W.ahead draw.old) (W.ahead draw.new) w × spec.Serves (X.manner role.now) S.left S.faults K.taken K.faults (front_of pass.new) connection.old connection.new w result }
+    ensures link { result.end ≡ ServedEnd.Link → Rose (L.state link.old).faults (L.state link.new).faults }
 {
     let mut places = 0;
     let outcome = reply_to(

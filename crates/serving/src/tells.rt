@@ -30,7 +30,7 @@ impl<D: Door, L: Link, C: Clock, W: Draw> Tells for Desk<D, L, C, W> {
       state = D.state;
       closings = D.closings;
       door_faults = D.faults;
-      exchanges = L.exchanges;
+      link_state = L.state;
       moments = C.ahead;
       words = W.ahead;
       left = D.Source.left;

@@ -6,15 +6,15 @@ use Rattle.serving.proofs.serve_one.asked_back.Goals as goal
 pub returns-in_err-answer : goal.returns-in_err-answer
 returns-in_err-answer g c =
     let p = err_from_is_err_and c.from_residual.result c.from_residual.ensures.1 in
-    rw (p.1, p.2) (unanswered (g.X.Role.manner c.args.role.now) (g.L.Link.exchanges c.args.link.now) (g.L.Link.exchanges c.answer_to.new.link) c.args.reply.now c.args.question.now c.in_err-answer.field-0.0 c.requires.question c.in_err-answer.ensures)
+    rw (p.1, p.2) (unanswered (g.X.Role.manner c.args.role.now) (g.L.Link.state c.args.link.now) (g.L.Link.state c.answer_to.new.link) c.args.reply.now c.args.question.now c.in_err-answer.field-0.0 c.requires.question c.in_err-answer.ensures)
 
 -- src/serve_one.rt:81:8
 pub returns-in_err-prepare_answer : goal.returns-in_err-prepare_answer
 returns-in_err-prepare_answer g c =
     let p = err_from_is_err_and c.from_residual-in_err-prepare_answer.result c.from_residual-in_err-prepare_answer.ensures.1 in
-    rw (p.1, p.2) (answered_no_memory (g.X.Role.manner c.args.role.now) (g.L.Link.exchanges c.args.link.now) (g.L.Link.exchanges c.answer_to.new.link) c.args.reply.now c.args.question.now c.in_ok-answer.answer c.requires.question c.in_ok-answer.ensures)
+    rw (p.1, p.2) (answered_no_memory (g.X.Role.manner c.args.role.now) (g.L.Link.state c.args.link.now) (g.L.Link.state c.answer_to.new.link) c.args.reply.now c.args.question.now c.in_ok-answer.answer c.requires.question c.in_ok-answer.ensures)
 
 -- src/serve_one.rt:69:1
 pub returns : goal.returns
 returns g c =
-    answered (g.X.Role.manner c.args.role.now) (g.L.Link.exchanges c.args.link.now) (g.L.Link.exchanges c.answer_to.new.link) c.args.reply.now c.args.question.now c.in_ok-answer.answer c.in_ok-prepare_answer.field-0 c.requires.question c.in_ok-answer.ensures c.in_ok-prepare_answer.ensures
+    answered (g.X.Role.manner c.args.role.now) (g.L.Link.state c.args.link.now) (g.L.Link.state c.answer_to.new.link) c.args.reply.now c.args.question.now c.in_ok-answer.answer c.in_ok-prepare_answer.field-0 c.requires.question c.in_ok-answer.ensures c.in_ok-prepare_answer.ensures

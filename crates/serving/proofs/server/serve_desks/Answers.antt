@@ -17,7 +17,7 @@ open_and_serve-requires-clause-some g c κs within =
 
 pub open_and_serve-requires-clause-seats : goal.open_and_serve-requires-clause-seats
 open_and_serve-requires-clause-seats g c κs within =
-    let t : Telling g.row.D.Denot g.row.L.Denot g.row.C.Denot g.row.W.Denot g.row.D-Source.Denot g.row.D-Sink.Denot = record { state = g.D.Door.state; closings = g.D.Door.closings; door_faults = g.D.Door.faults; exchanges = g.L.Link.exchanges; moments = g.C.Clock.ahead; words = g.W.Draw.ahead; left = g.D.Source.Source.left; read_faults = g.D.Source.Source.faults; taken = g.D.Sink.Sink.taken; write_faults = g.D.Sink.Sink.faults } in
+    let t : Telling g.row.D.Denot g.row.L.Denot g.row.C.Denot g.row.W.Denot g.row.D-Source.Denot g.row.D-Sink.Denot = record { state = g.D.Door.state; closings = g.D.Door.closings; door_faults = g.D.Door.faults; link_state = g.L.Link.state; moments = g.C.Clock.ahead; words = g.W.Draw.ahead; left = g.D.Source.Source.left; read_faults = g.D.Source.Source.faults; taken = g.D.Sink.Sink.taken; write_faults = g.D.Sink.Sink.faults } in
     let sits = same_list c.as_mut_slice.result.now c.sit.new.seats.items (seated c.args.desks.now.items c.args.passes.items) c.as_mut_slice.ensures.value c.sit.ensures.seats in
     by_all (Ready t (IsPassOf g.X.Core.Core.setup g.X.Core.Core.is_legal c.args.store)) c.as_mut_slice.result.now
     (subst (λ l. AllByRecursion (Ready t (IsPassOf g.X.Core.Core.setup g.X.Core.Core.is_legal c.args.store)) l) (sym sits)
@@ -36,7 +36,7 @@ rise-count-requires-clause-few g c κs within =
 
 pub rise-count-requires-clause-served : goal.rise-count-requires-clause-served
 rise-count-requires-clause-served g c κs within =
-    let t : Telling g.row.D.Denot g.row.L.Denot g.row.C.Denot g.row.W.Denot g.row.D-Source.Denot g.row.D-Sink.Denot = record { state = g.D.Door.state; closings = g.D.Door.closings; door_faults = g.D.Door.faults; exchanges = g.L.Link.exchanges; moments = g.C.Clock.ahead; words = g.W.Draw.ahead; left = g.D.Source.Source.left; read_faults = g.D.Source.Source.faults; taken = g.D.Sink.Sink.taken; write_faults = g.D.Sink.Sink.faults } in
+    let t : Telling g.row.D.Denot g.row.L.Denot g.row.C.Denot g.row.W.Denot g.row.D-Source.Denot g.row.D-Sink.Denot = record { state = g.D.Door.state; closings = g.D.Door.closings; door_faults = g.D.Door.faults; link_state = g.L.Link.state; moments = g.C.Clock.ahead; words = g.W.Draw.ahead; left = g.D.Source.Source.left; read_faults = g.D.Source.Source.faults; taken = g.D.Sink.Sink.taken; write_faults = g.D.Sink.Sink.faults } in
     let sits = same_list c.as_mut_slice.result.now c.sit.new.seats.items (seated c.args.desks.now.items c.args.passes.items) c.as_mut_slice.ensures.value c.sit.ensures.seats in
     let many = seated_length c.args.desks.now.items c.args.passes.items c.requires.same in
     let count : length c.as_mut_slice.result.now ≡ length c.args.desks.now.items = ap (λ l. length l) sits ∙ many in
@@ -70,7 +70,7 @@ close-closed-requires-clause-passes g c κs within =
 
 pub close-closed-requires-clause-order : goal.close-closed-requires-clause-order
 close-closed-requires-clause-order g c κs within =
-    let t : Telling g.row.D.Denot g.row.L.Denot g.row.C.Denot g.row.W.Denot g.row.D-Source.Denot g.row.D-Sink.Denot = record { state = g.D.Door.state; closings = g.D.Door.closings; door_faults = g.D.Door.faults; exchanges = g.L.Link.exchanges; moments = g.C.Clock.ahead; words = g.W.Draw.ahead; left = g.D.Source.Source.left; read_faults = g.D.Source.Source.faults; taken = g.D.Sink.Sink.taken; write_faults = g.D.Sink.Sink.faults } in
+    let t : Telling g.row.D.Denot g.row.L.Denot g.row.C.Denot g.row.W.Denot g.row.D-Source.Denot g.row.D-Sink.Denot = record { state = g.D.Door.state; closings = g.D.Door.closings; door_faults = g.D.Door.faults; link_state = g.L.Link.state; moments = g.C.Clock.ahead; words = g.W.Draw.ahead; left = g.D.Source.Source.left; read_faults = g.D.Source.Source.faults; taken = g.D.Sink.Sink.taken; write_faults = g.D.Sink.Sink.faults } in
     let sits = same_list c.as_mut_slice.result.now c.sit.new.seats.items (seated c.args.desks.now.items c.args.passes.items) c.as_mut_slice.ensures.value c.sit.ensures.seats in
     let many = seated_length c.args.desks.now.items c.args.passes.items c.requires.same in
     let count : length c.as_mut_slice.result.now ≡ length c.args.desks.now.items = ap (λ l. length l) sits ∙ many in
@@ -83,7 +83,7 @@ close-closed-requires-clause-order g c κs within =
 
 pub returns : goal.returns
 returns g c =
-    let t : Telling g.row.D.Denot g.row.L.Denot g.row.C.Denot g.row.W.Denot g.row.D-Source.Denot g.row.D-Sink.Denot = record { state = g.D.Door.state; closings = g.D.Door.closings; door_faults = g.D.Door.faults; exchanges = g.L.Link.exchanges; moments = g.C.Clock.ahead; words = g.W.Draw.ahead; left = g.D.Source.Source.left; read_faults = g.D.Source.Source.faults; taken = g.D.Sink.Sink.taken; write_faults = g.D.Sink.Sink.faults } in
+    let t : Telling g.row.D.Denot g.row.L.Denot g.row.C.Denot g.row.W.Denot g.row.D-Source.Denot g.row.D-Sink.Denot = record { state = g.D.Door.state; closings = g.D.Door.closings; door_faults = g.D.Door.faults; link_state = g.L.Link.state; moments = g.C.Clock.ahead; words = g.W.Draw.ahead; left = g.D.Source.Source.left; read_faults = g.D.Source.Source.faults; taken = g.D.Sink.Sink.taken; write_faults = g.D.Sink.Sink.faults } in
     let sits = same_list c.as_mut_slice.result.now c.sit.new.seats.items (seated c.args.desks.now.items c.args.passes.items) c.as_mut_slice.ensures.value c.sit.ensures.seats in
     let many = seated_length c.args.desks.now.items c.args.passes.items c.requires.same in
     let count : length c.as_mut_slice.result.now ≡ length c.args.desks.now.items = ap (λ l. length l) sits ∙ many in

@@ -6,5 +6,5 @@ use Rattle.sso.proofs.command.rp_words.Goals as goal
 pub returns-in-Ok-clause-may : goal.returns-in-Ok-clause-may
 returns-in-Ok-clause-may g c =
     IfOk-weaker c.answer_rp.result _ _
-    (λ outcome is. inr (rp_fetched (record { state = g.D.Door.state; closings = g.D.Door.closings; door_faults = g.D.Door.faults; exchanges = g.L.Link.exchanges; moments = g.C.Clock.ahead; words = g.W.Draw.ahead; left = g.D.Source.Source.left; read_faults = g.D.Source.Source.faults; taken = g.D.Sink.Sink.taken; write_faults = g.D.Sink.Sink.faults }) _ _ _ _ _ _ c.as_bytes.result.now c.in-Ok.config c.in-Ok.metadata outcome c.as_bytes.ensures c.in-Ok.ensures.config c.in-Ok.ensures.metadata is))
+    (λ outcome is. inr (rp_fetched (record { state = g.D.Door.state; closings = g.D.Door.closings; door_faults = g.D.Door.faults; link_state = g.L.Link.state; moments = g.C.Clock.ahead; words = g.W.Draw.ahead; left = g.D.Source.Source.left; read_faults = g.D.Source.Source.faults; taken = g.D.Sink.Sink.taken; write_faults = g.D.Sink.Sink.faults }) _ _ _ _ _ _ c.as_bytes.result.now c.in-Ok.config c.in-Ok.metadata outcome c.as_bytes.ensures c.in-Ok.ensures.config c.in-Ok.ensures.metadata is))
     c.answer_rp.ensures
