@@ -15,8 +15,8 @@ fn is_number(alloc: Global, word: &str, low: u32, high: u32, number: u32) -> Res
     Ok(printed.as_str() == word && low <= number && number <= high)
 }
 
-/// The number of a word, from `low` to `high`; None exactly where the word is not what such a number prints, which has no leading
-/// zeros.
+/// The number of a word, from `low` to `high`; None exactly where the word is not what such a number prints, which has no
+/// leading zeros.
 pub(crate) fn read_number(
     alloc: Global,
     word: &str,

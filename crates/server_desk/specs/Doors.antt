@@ -12,8 +12,8 @@ pub record DoorState (S K : Type 0) : Type 0 where
   pub given : ℕ
   pub out : ℕ
 
--- a door in memory: the place at which it listens, the empty text before a start, the connections to come, those that were given
--- back, how many it gave, how many of these are out, how often it said that it is closed, and how often it failed
+-- a door in memory: the place at which it listens, the empty text before a start, the connections to come, those that were
+-- given back, how many it gave, how many of these are out, how often it said that it is closed, and how often it failed
 pub record DoorMemory (S K : Type 0) : Type 0 where
   pub place : Text
   pub coming : List (Connection S K)

@@ -47,7 +47,8 @@ after_exchange before to asked (Ok back) = with_exchange before (record { to = t
 after_exchange before to asked (Err Failed) = with_exchange before (record { to = to; asked = asked; back = None })
 after_exchange before to asked (Err NoMemory) = before
 
--- The link was called so, and this came of it: it tells the exchange, the call was counted, and the link's faults rose if it failed.
+-- The link was called so, and this came of it: it tells the exchange, the call was counted, and the link's faults rose if it
+-- failed.
 pub record TookCall (old new : LinkState) (to : Text) (asked : List ℕ) (result : Result (List ℕ) LinkNo) : Type 0 where
   pub told : new.exchanges ≡ after_exchange old.exchanges to asked result
   pub counted : new.calls ≡ grown old.calls

@@ -6,8 +6,8 @@ use crate::draw::Draw;
 use sso_base::Word;
 use std::marker::Model;
 
-/// A draw in memory. Its words are those of the numbers from 1, by [`word_of_number`]. The last number of 64 bits comes again and
-/// again. Nobody may take these words for random ones.
+/// A draw in memory. Its words are those of the numbers from 1, by [`word_of_number`]. The last number of 64 bits comes again
+/// and again. Nobody may take these words for random ones.
 #[derive(Drop)]
 pub struct MemoryDraw {
     seed: [u8; 24],

@@ -28,8 +28,8 @@ impl From<NoMemory> for LinkNo {
 pub trait Link: Send + Drop {
     ghost use Rattle.server_desk.specs.Links.{LinkState};
 
-    /// What was exchanged over it, failed exchanges too, where it tells; how often it was called, and how often it failed. Nothing but
-    /// `exchange` changes it.
+    /// What was exchanged over it, failed exchanges too, where it tells; how often it was called, and how often it failed.
+    /// Nothing but `exchange` changes it.
     ghost state: { Self → LinkState };
 
     /// Sends the bytes to this place, `HOST:PORT`, and answers what comes back, at most the first `most` bytes of it.

@@ -1,5 +1,5 @@
--- The rule of the turn, over the table's word, its slot and what all seats know. The word is twice the length of the history, and
--- one more while the turn is taken. The core lies in the slot, and is out with the seat that has the turn.
+-- The rule of the turn, over the table's word, its slot and what all seats know. The word is twice the length of the history,
+-- and one more while the turn is taken. The core lies in the slot, and is out with the seat that has the turn.
 use Rattle.std.specs.Prelude.{◌≡◌, ℕ, zero, suc, ◌+◌, ◌*◌, ◌<◌, ◌≤◌, ◌⊎◌, List, [], ◌∷◌, length, true, false, Option, Some}
 use Rattle.std.specs.List.{AllByRecursion}
 use mathlib.Core.Option.{some, none}
@@ -16,8 +16,8 @@ total_upto weight zero = 0
 total_upto weight (suc last) = total_upto weight last + weight (suc last)
 
 module _ {C E : Type 0} (start : C) (pass_count : ℕ) where
-  -- What all seats know of the history: their passes are sound, they are as many as were made, and their calls are the places of
-  -- the history, each once, since they weigh the same by every weight
+  -- What all seats know of the history: their passes are sound, they are as many as were made, and their calls are the places
+  -- of the history, each once, since they weigh the same by every weight
   pub record KeepsHistory (history : List E) (views : List (SeatView C E)) : Type 0 where
     pub sound : (id : ℕ) (v : SeatView C E) → get_elem? views id ≡ some v → AllByRecursion (IsSoundPass start history) v.passes
     pub count : total (λ (v : SeatView C E). length v.passes) views ≡ pass_count

@@ -1,5 +1,5 @@
--- What a seat at the turn knows, and how that changes. A seat has one pass mostly: at first one seat has all of them, and a seat
--- that was joined into another has none.
+-- What a seat at the turn knows, and how that changes. A seat has one pass mostly: at first one seat has all of them, and a
+-- seat that was joined into another has none.
 use Rattle.std.specs.Prelude.{◌≡◌, ℕ, zero, suc, List, [], ◌∷◌, ◌++◌, length, take, drop, true, false}
 use Rattle.std.specs.List.{AllByRecursion}
 use Rattle.turn_store.specs.declared.view.Called.{Called}
