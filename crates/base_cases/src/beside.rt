@@ -94,8 +94,8 @@ fn carried_out(
     }
 }
 
-/// `table|CALL / CALL`: what a table and a plain list answer to these calls, and the members that are left; the number of the
-/// call at which they differ, where they do.
+/// `table|CALL / CALL`: what a table and a plain list answer to these calls, and the members that are left; the number of the call
+/// at which they differ, where they do.
 pub fn table(alloc: Global, calls: &str) -> Result<String, NoMemory> {
     let mut both = Both::new(alloc);
     let mut answers = String::new(alloc);
@@ -143,8 +143,8 @@ fn all_answered(
     Ok(true)
 }
 
-/// `many|COUNT|CALL / CALL`: what a table and a plain list answer to these calls, after so many members were added, if they
-/// answer the same and hold the same members in the end; else `differ`.
+/// `many|COUNT|CALL / CALL`: what a table and a plain list answer to these calls, after so many members were added, if they answer
+/// the same and hold the same members in the end; else `differ`.
 pub fn many(alloc: Global, count: &str, calls: &str) -> Result<String, NoMemory> {
     let Ok(count) = count.parse::<u32>() else {
         return told(alloc, "no number");

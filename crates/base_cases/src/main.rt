@@ -1,8 +1,8 @@
 //! Cases of what all stands on, each a line that a person can read: texts, bytes, moments and words, rows with names and tables
 //! of them, sinks and shelves, scope values and response types.
 //!
-//! The file `stdin` has the cases, and `stdout` the same with their answers. `case_lines` says how a line is read, and the
-//! comments there where the expected answers come from.
+//! The file `stdin` has the cases, and `stdout` the same with their answers. `case_lines` says how a line is read, and the comments
+//! there where the expected answers come from.
 //!
 //! | Module | Its calls |
 //! |---|---|

@@ -2,9 +2,9 @@
 //! answer. So what it prints is a table that a person reads, and what it reads is the same table without answers.
 //!
 //! An empty line, and one that begins with `#`, is printed as it is. In every other line `|` stands between the fields. `$n$`
-//! stands for the text of the word of number n, which ends with n in four bytes and else has zeros. `$NAME$` stands for a text
-//! that the program gives a name to, and `no text of this name` for one that has none. No call here ensures anything: what the
-//! programs print is compared, and nothing else stands on it.
+//! stands for the text of the word of number n, which ends with n in four bytes and else has zeros. `$NAME$` stands for a text that the program
+//! gives a name to, and `no text of this name` for one that has none. No call here ensures anything: what the programs print is
+//! compared, and nothing else stands on it.
 //!
 //! Where memory runs out at a line, it is printed with `no memory`, and is asked once more: a step that finds no memory changes
 //! nothing, and so where one allocation fails, the table has at most that one line more.

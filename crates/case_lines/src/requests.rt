@@ -19,8 +19,8 @@ fn body(alloc: Global, field: &str) -> Result<Option<Blob>, NoMemory> {
     }
 }
 
-/// The request `METHOD|TARGET|BODY|BROWSER|SESSION|AUTHORIZATION`, where the cookies of the browser and of the session are
-/// texts of words. Fields that are left out are as `-`.
+/// The request `METHOD|TARGET|BODY|BROWSER|SESSION|AUTHORIZATION`, where the cookies of the browser and of the session are texts of
+/// words. Fields that are left out are as `-`.
 pub fn request(alloc: Global, fields: &[&str]) -> Result<Ask, NoMemory> {
     let target = field(fields, 1);
     let (path, query) = target.split_once('?').unwrap_or((target, ""));

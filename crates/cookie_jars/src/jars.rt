@@ -13,8 +13,8 @@ use sso_places::{Jar, To};
 use std::alloc::Global;
 use std::marker::Model;
 
-/// The jars of all browsers, seen as what changed them, the newest first. Room for a change of one jar is made before, so that
-/// the change takes no memory.
+/// The jars of all browsers, seen as what changed them, the newest first. Room for a change of one jar is made before, so that the
+/// change takes no memory.
 #[derive(Drop)]
 pub struct Jars {
     notes: Vec<JarNote>,
@@ -96,8 +96,7 @@ fn steal_in_all(maps: &mut Vec<JarMap>, thief: u32, owner: u32)
     }
 }
 
-// One more change is noted. Room was made for it. Each form stands here by name, so that the borrow checker finds its fields'
-// types.
+// One more change is noted. Room was made for it. Each form stands here by name, so that the borrow checker finds its fields' types.
 fn push_note(notes: &mut Vec<JarNote>, note: JarNote)
     requires { length notes.old.items < vec_capacity notes.old }
     ensures { notes.new.items ≡ notes.old.items ++ note ∷ [] }

@@ -1,6 +1,5 @@
-//! The cookies of browsers at the provider and the relying parties: the jar that a browser has at each role, by what changed
-//! the jars. A reply sets cookies in one jar; a thief copies the jars of another browser. The number 0, of a server, has no
-//! jar.
+//! The cookies of browsers at the provider and the relying parties: the jar that a browser has at each role, by what changed the jars.
+//! A reply sets cookies in one jar; a thief copies the jars of another browser. The number 0, of a server, has no jar.
 //!
 //! | Module | What it has | Its definitions, in `specs/` |
 //! |---|---|---|

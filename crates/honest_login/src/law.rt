@@ -8,10 +8,9 @@ ghost use Rattle.sso_places.specs.Site.{own_site};
 ghost use Rattle.sso_places.specs.World.{World};
 ghost use Rattle.honest_places.specs.Outcome.{HonestLoginsSucceed};
 
-/// Honest logins succeed. Let the registry be one that was read, and each party trust its provider. In every legal world whose
-/// words are distinct and in which time goes on, whatever else is asked, and for each of the six response types: each reply of
-/// an honest login leads on, and after at most nine places the party begins a session for the browser. Where the password was
-/// given, it is its user's.
+/// Honest logins succeed. Let the registry be one that was read, and each party trust its provider. In every legal world whose words are
+/// distinct and in which time goes on, whatever else is asked, and for each of the six response types: each reply of an honest login
+/// leads on, and after at most nine places the party begins a session for the browser. Where the password was given, it is its user's.
 pub fn honest_entry()
     ensures { (c : Configuration) (world : World) → IsRegistry c → IsLegalWorld (own_site c) world → HasDistinctWords world → IsInOrder world → HonestLoginsSucceed c world }
 {}

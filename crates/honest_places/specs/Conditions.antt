@@ -1,6 +1,5 @@
--- The conditions of an honest login. None of them can be left out: without it a login may fail, though all others are kept. For
--- each but the last there is such a login (`no_condition_can_be_left_out` of `honest_worlds`); the last one speaks of 65,536
--- rows.
+-- The conditions of an honest login. None of them can be left out: without it a login may fail, though all others are kept. For each but
+-- the last there is such a login (`no_condition_can_be_left_out` of `honest_worlds`); the last one speaks of 65,536 rows.
 use Rattle.std.specs.Prelude.{◌≡◌, Option, Some}
 
 pub data Condition : Type 0 where

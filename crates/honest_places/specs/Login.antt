@@ -1,6 +1,6 @@
--- An honest login among whatever else is asked: a browser begins a login at a relying party, and then each time does what the
--- last reply asks for, with the cookies that it was last given, in time, and with the password of one user. Nobody else
--- presents a word of the login.
+-- An honest login among whatever else is asked: a browser begins a login at a relying party, and then each time does what the last
+-- reply asks for, with the cookies that it was last given, in time, and with the password of one user. Nobody else presents a word of
+-- the login.
 use Rattle.std.specs.Prelude.{◌≡◌, ◌<◌, ℕ, Bool, true, false, List, [], ◌∷◌, length, Option, Some, None, option_and_then, if◌then◌else◌}
 use Rattle.std.specs.Str.{IsUtf8}
 use Rattle.sso_base.specs.Words.{Word, Text}
@@ -36,8 +36,8 @@ use Rattle.honest_places.specs.Shown.{shown_at, words_of}
 
 -- ---- who logs in
 
--- a browser, the number of the party at which it logs in, and the number of the user who sits at it, with the id and the
--- password that are typed
+-- a browser, the number of the party at which it logs in, and the number of the user who sits at it, with the id and the password
+-- that are typed
 pub record Visitor : Type 0 where
   pub browser : ℕ
   pub party : ℕ
@@ -70,9 +70,8 @@ abbrev pub given_back : Configuration → Place → WorldReply → Option Sent
 given_back c asking answer =
     option_and_then (λ role. handed_back c (from_of asking) role (reply_at asking) to.Provider answer) (role_at asking)
 
--- What the last reply of a login asks for, after its earlier places: to follow a location, to fill in the login form, to say
--- yes, to carry the message of a party to the provider, and to give its answer back. The browser has this jar at the role that
--- is asked.
+-- What the last reply of a login asks for, after its earlier places: to follow a location, to fill in the login form, to say yes, to
+-- carry the message of a party to the provider, and to give its answer back. The browser has this jar at the role that is asked.
 abbrev pub called_for : Configuration → Visitor → Jar → List Place → WorldReply → Option Sent
 called_for c v jar earlier (reply.Party (rp.Ask location b)) = reply_followed c v.browser (reply.Party (rp.Ask location b)) jar
 called_for c v jar earlier (reply.Provider (op.LoginPage w b again)) =

@@ -51,8 +51,8 @@ gives_password Nothing = false
 abbrev pub CallsOn : Configuration → Visitor → Place → List Place → Type 0
 CallsOn c v last earlier = (jar : Jar) → is_some (called_for c v jar earlier (reply_at last)) ≡ true
 
--- Each reply leads on. The last one begins the session, or asks for one more place; there are nine places at most. Where a
--- password was given, the session is its user's, as the party's client knows him (OpenID Connect Core 1.0, 8).
+-- Each reply leads on. The last one begins the session, or asks for one more place; there are nine places at most. Where a password
+-- was given, the session is its user's, as the party's client knows him (OpenID Connect Core 1.0, 8).
 pub record GoesWell (c : Configuration) (v : Visitor) (last : Place) (earlier : List Place) : Type 0 where
   pub good : AllByRecursion (λ (x : Place). leads_on (reply_at x) ≡ true) (last ∷ earlier)
   pub arrives : ((sub : Text) × LetsIn v last sub) ⊎ (CallsOn c v last earlier × (length (last ∷ earlier) ≤ 8))

@@ -1,5 +1,5 @@
--- The words that a request presents: its cookies, and the word of what it is about, which is a turn, a code, an access token,
--- the state of a login, or the exchange that an answer is to.
+-- The words that a request presents: its cookies, and the word of what it is about, which is a turn, a code, an access token, the
+-- state of a login, or the exchange that an answer is to.
 use Rattle.std.specs.Prelude.{List, [], ◌∷◌, ◌++◌, Option, Some, None}
 use Rattle.sso_base.specs.Words.{Word}
 use Rattle.userinfo.specs.declared.header.Bearer.TheVariants.{Given}

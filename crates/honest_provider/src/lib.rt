@@ -1,5 +1,5 @@
-//! What the provider does for an honest login: its rows stay while other requests present none of their words, and each place
-//! of the login gets the reply that leads on. It has no running code.
+//! What the provider does for an honest login: its rows stay while other requests present none of their words, and each place of the
+//! login gets the reply that leads on. It has no running code.
 //!
 //! | Module | What it has | Its definitions, in `specs/` |
 //! |---|---|---|

@@ -1,9 +1,9 @@
-//! Cases of HTTP as the servers speak it, each a line that a person can read: requests as they are read, replies and messages
-//! as they are written, and the answers of other servers.
+//! Cases of HTTP as the servers speak it, each a line that a person can read: requests as they are read, replies and messages as
+//! they are written, and the answers of other servers.
 //!
 //! The file `stdin` has the cases, and `stdout` the same with their answers. `case_lines` says how a line is read, and the
-//! comments there where the expected answers come from. In the bytes of a request or of an answer `\r` and `\n` are the two
-//! bytes of a line end, and what is printed in quotes has them so too.
+//! comments there where the expected answers come from. In the bytes of a request or of an answer `\r` and `\n` are the two bytes
+//! of a line end, and what is printed in quotes has them so too.
 //!
 //! | Module | Its calls |
 //! |---|---|

@@ -147,8 +147,8 @@ fn count_early(alloc: Global, bytes: &[u8]) -> Result<usize, NoMemory> {
     Ok(count)
 }
 
-/// `fronts|BYTES`: of how many shorter fronts of these bytes the answer is that the input ended early, how many bytes there
-/// are, and what is read of all of them.
+/// `fronts|BYTES`: of how many shorter fronts of these bytes the answer is that the input ended early, how many bytes there are,
+/// and what is read of all of them.
 pub fn fronts(alloc: Global, field: &str) -> Result<String, NoMemory> {
     let bytes = line_bytes(alloc, field)?;
     let count = count_early(alloc, &bytes)?;

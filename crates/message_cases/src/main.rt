@@ -1,9 +1,9 @@
-//! Cases of messages, each a line that a person can read: what each is read as, or why it is refused, how it is written, and
-//! what a registry that is asked answers.
+//! Cases of messages, each a line that a person can read: what each is read as, or why it is refused, how it is written, and what a
+//! registry that is asked answers.
 //!
-//! The file `stdin` has the cases, and `stdout` the same with their answers. `case_lines` says how a line is read, and the
-//! comments there where the expected answers come from: the standards that are named, and other programs. A line `table|NAME`
-//! begins one of three tables, and those below are calls of it, in which `$NAME$` is a text of that table.
+//! The file `stdin` has the cases, and `stdout` the same with their answers. `case_lines` says how a line is read, and the comments
+//! there where the expected answers come from: the standards that are named, and other programs. A line `table|NAME` begins one of three
+//! tables, and those below are calls of it, in which `$NAME$` is a text of that table.
 //!
 //! | Module | Its calls |
 //! |---|---|

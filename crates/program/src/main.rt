@@ -1,5 +1,5 @@
-//! The program: the top call `sso` with this machine's files for the shelf, standard output for the sink, and four desks
-//! (`desks`) over its network, its clock and its random bytes.
+//! The program: the top call `sso` with this machine's files for the shelf, standard output for the sink, and four desks (`desks`) over
+//! its network, its clock and its random bytes.
 #![tactic(auto)]
 
 use crate::desks::desks;

@@ -30,9 +30,9 @@ response_types = [\"code\", \"id_token token\"]
 consent = \"given\"
 ";
 
-// Two users with the password `password`, of whom the first has claims. The first client asks for consent and has a logout URI;
-// the second has all response types, a logout URI, and is told the session; the third has the response type `id_token token`
-// too. The second and the third have pairwise subjects.
+// Two users with the password `password`, of whom the first has claims. The first client asks for consent and has a logout URI; the second
+// has all response types, a logout URI, and is told the session; the third has the response type `id_token token` too. The second and
+// the third have pairwise subjects.
 fn shop(alloc: Global) -> Result<String, NoMemory> {
     let users = [
         PROVIDER,
@@ -71,8 +71,7 @@ fn below_a_path(alloc: Global) -> Result<String, NoMemory> {
     .concat(alloc)?)
 }
 
-// One user with the password `password`, and two clients, of which the first asks for consent. The provider's paths stand below
-// `/sso`.
+// One user with the password `password`, and two clients, of which the first asks for consent. The provider's paths stand below `/sso`.
 fn https(alloc: Global) -> Result<String, NoMemory> {
     let provider = provider_at(alloc, "https://op.example/sso/")?;
     let rows = [ALICE, SHOP_CLIENT, "consent = \"ask\"\n", WIKI_CLIENT].concat(alloc)?;

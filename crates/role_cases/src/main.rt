@@ -1,9 +1,9 @@
-//! Cases of the provider and of relying parties: runs, request by request, and logins that are carried through both roles, each
-//! a line that a person can read.
+//! Cases of the provider and of relying parties: runs, request by request, and logins that are carried through both roles, each a line
+//! that a person can read.
 //!
-//! The file `stdin` has the cases, and `stdout` the same with their answers. `case_lines` says how a line is read, and the
-//! comments there where the expected answers come from. What a line asks is read as a request, which goes the way that it goes
-//! in a server, through `prepare` and `step`, and its reply is told.
+//! The file `stdin` has the cases, and `stdout` the same with their answers. `case_lines` says how a line is read, and the comments
+//! there where the expected answers come from. What a line asks is read as a request, which goes the way that it goes in a server,
+//! through `prepare` and `step`, and its reply is told.
 //!
 //! There are two tables. A line `table|provider` or `table|party` begins a table, and all lines after it are asked of that one:
 //!
@@ -16,9 +16,9 @@
 //! | | `provider|..` | asks that provider what stands behind |
 //! | | any other | asks the relying party |
 //!
-//! `Provider` and `RelyingParty` say which calls they answer. Where one begins, the count of places begins anew, and so each
-//! run reads as a small story. The ask at place p, from 1, of whichever of them, draws the words 4p - 3 to 4p. Beside the texts
-//! of words, names stand for those of the last reply, for those of `texts`, and for tokens as `sealed` says.
+//! `Provider` and `RelyingParty` say which calls they answer. Where one begins, the count of places begins anew, and so each run reads
+//! as a small story. The ask at place p, from 1, of whichever of them, draws the words 4p - 3 to 4p. Beside the texts of words, names
+//! stand for those of the last reply, for those of `texts`, and for tokens as `sealed` says.
 //!
 //! | Module | What it has |
 //! |---|---|

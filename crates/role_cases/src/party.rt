@@ -141,9 +141,9 @@ impl Telling for RelyingParty {
 }
 
 impl RelyingParty {
-    /// The relying party of this name, which was asked nothing; none where the configuration is refused or has no such party.
-    /// Its logins begin at the authorization endpoint of the configuration's provider; or at this one, and then its provider
-    /// has no UserInfo.
+    /// The relying party of this name, which was asked nothing; none where the configuration is refused or has no such party. Its
+    /// logins begin at the authorization endpoint of the configuration's provider; or at this one, and then its provider has no
+    /// UserInfo.
     pub fn begin(
         alloc: Global,
         file: &str,

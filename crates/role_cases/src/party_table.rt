@@ -22,8 +22,8 @@ fn begin_elsewhere(alloc: Global, roles: &mut Roles, name: &str) -> Result<Strin
     roles.begin_party(alloc, file.as_str(), name, Some(ELSEWHERE_AUTHORIZE))
 }
 
-/// The answer to a call: `party|NAME`, `party|NAME|elsewhere` and `provider` begin a role, `provider` before a call asks the
-/// provider, and every other call the relying party.
+/// The answer to a call: `party|NAME`, `party|NAME|elsewhere` and `provider` begin a role, `provider` before a call asks the provider,
+/// and every other call the relying party.
 pub fn answer(alloc: Global, roles: &mut Roles, fields: &[&str]) -> Result<String, NoMemory> {
     match fields {
         ["party", name] => begin_party(alloc, roles, name),

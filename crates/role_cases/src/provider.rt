@@ -232,8 +232,8 @@ impl Provider {
         self.gives_tokens(alloc, run, at, &["POST", "/token", form.as_str()])
     }
 
-    // Makes so many logins. How many end with tokens. Where memory runs out, what was made stays, and the line that is asked
-    // again makes all of its own.
+    // Makes so many logins. How many end with tokens. Where memory runs out, what was made stays, and the line that is asked again makes all
+    // of its own.
     fn logins(
         &mut self,
         alloc: Global,

@@ -25,8 +25,7 @@ impl Roles {
         }
     }
 
-    // Whether this provider is one. Its run begins. (The one before is dropped by a call, and not where it stands: that proof
-    // is long.)
+    // Whether this provider is one. Its run begins. (The one before is dropped by a call, and not where it stands: that proof is long.)
     fn set_provider(&mut self, alloc: Global, provider: Option<Provider>) -> bool {
         let begins = provider.is_some();
         drop(mem::replace(&mut self.provider, provider));

@@ -1,5 +1,5 @@
-//! Rows of configurations, of which the programs of cases join those that they need: `[PROVIDER, ALICE,
-//! SHOP_CLIENT].concat(alloc)?` is a whole file, and a row takes the lines that are joined behind it.
+//! Rows of configurations, of which the programs of cases join those that they need: `[PROVIDER, ALICE, SHOP_CLIENT].concat(alloc)?`
+//! is a whole file, and a row takes the lines that are joined behind it.
 #![tactic(auto)]
 
 /// The head of a configuration: a provider on this machine.

@@ -18,8 +18,7 @@ no_setup history = tt
 abbrev pub IsLight : Unit {0} → List (Pair Tick ℕ) → Type 0
 IsLight s history = history_weight tick_weight history ≤ most_weight
 
--- The role over it: whatever is requested, it is asked more than half of what a history may weigh, and it replies with one
--- line.
+-- The role over it: whatever is requested, it is asked more than half of what a history may weigh, and it replies with one line.
 abbrev pub heavy_tick : Tick
 heavy_tick = record { more = 200000000 }
 

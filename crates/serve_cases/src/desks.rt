@@ -1,13 +1,13 @@
-// Desks in memory. A desk is written `TURNS DOOR LINK > PART > PART > ..`: how many connections it serves at most, and the
-// numbers of the calls of its door and of its link that fail; what is left out is 0, and a call of number 0 is none. A part is
+// Desks in memory. A desk is written `TURNS DOOR LINK > PART > PART > ..`: how many connections it serves at most, and the numbers of
+// the calls of its door and of its link that fail; what is left out is 0, and a call of number 0 is none. A part is
 //
 // - `answer BYTES`: what comes back over its link next;
 // - `cut MOST BYTES`: a connection that gives at most so many of its bytes at a call;
 // - `deaf BYTES`: a connection whose first write fails;
 // - `BYTES`: a connection with these bytes.
 //
-// In them `\r` and `\n` are the two bytes of a line end. The clock of each desk stands at 1000. The first desk draws the words
-// of the numbers from 1 on, and no other desk draws one of these.
+// In them `\r` and `\n` are the two bytes of a line end. The clock of each desk stands at 1000. The first desk draws the words of the
+// numbers from 1 on, and no other desk draws one of these.
 
 ghost use Rattle.std.specs.Prelude.{◌≡◌, ◌^◌, ◌≤◌, ◌<◌, IfOk};
 ghost use Rattle.std.specs.List.{All};
@@ -194,8 +194,7 @@ fn place_of(desk: &CaseDesk) -> &str {
     if place.is_empty() { "no place" } else { place }
 }
 
-/// Adds of each desk where its door listens, what was written to each connection that it served, and what was sent over its
-/// link.
+/// Adds of each desk where its door listens, what was written to each connection that it served, and what was sent over its link.
 pub fn push_desks(alloc: Global, out: &mut String, desks: &[CaseDesk]) -> Result<(), NoMemory> {
     for desk in desks {
         push_field(out, "at ", place_of(desk))?;

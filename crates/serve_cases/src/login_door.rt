@@ -9,8 +9,8 @@ use server_desk::{Connection, Door, DoorFault, MemorySource};
 use sso_base::{MemorySink, NoMemory, Text};
 use std::alloc::Global;
 
-/// A door that gives a login, then the callback of it with the code `x`, and then is closed. It does not tell what comes and
-/// what was served.
+/// A door that gives a login, then the callback of it with the code `x`, and then is closed. It does not tell what comes and what was
+/// served.
 #[derive(Drop)]
 pub struct LoginDoor {
     alloc: Global,
@@ -40,8 +40,8 @@ fn between<'a>(text: &'a str, before: &str, after: &str) -> Option<&'a str> {
     Some(found)
 }
 
-// The callback of a login that this was replied to, with the state of its location and its cookie. None where it has none, or
-// memory runs out.
+// The callback of a login that this was replied to, with the state of its location and its cookie. None where it has none, or memory
+// runs out.
 fn callback(alloc: Global, reply: &str) -> Option<Connection<MemorySource, MemorySink>> {
     let state = between(reply, "&state=", "&")?;
     let cookie = between(reply, "Set-Cookie: ", ";")?;

@@ -143,8 +143,7 @@ where
     Ok(out)
 }
 
-/// `machine|door`: what two doors that share a place give of their clients, and whether a third one listens there once they are
-/// gone.
+/// `machine|door`: what two doors that share a place give of their clients, and whether a third one listens there once they are gone.
 pub fn door<R>(rt: &R, alloc: Global) -> Result<String, NoMemory>
 where
     R: Threads + Net<Listener = TcpListener, Stream = TcpStream> + Clock + Sync + AllocGlobal,
@@ -159,8 +158,7 @@ where
     Ok(format!(in alloc; "{told} / again {again}")?)
 }
 
-/// `machine|unread`: what comes of a client whose request is not read whole, by when all of it was sent and none of the reply
-/// is read.
+/// `machine|unread`: what comes of a client whose request is not read whole, by when all of it was sent and none of the reply is read.
 pub fn unread<R>(rt: &R, alloc: Global) -> Result<String, NoMemory>
 where
     R: Threads + Net<Listener = TcpListener, Stream = TcpStream> + Clock + Sync + AllocGlobal,
@@ -275,8 +273,7 @@ fn ask_keys<R: Net<Stream = TcpStream> + Clock>(
     None
 }
 
-/// `machine|keys`: the status and the text of `op` with a desk of one turn, and what a client that asks for the keys is
-/// answered.
+/// `machine|keys`: the status and the text of `op` with a desk of one turn, and what a client that asks for the keys is answered.
 pub fn keys<R>(rt: &R, alloc: Global) -> Result<String, NoMemory>
 where
     R: Threads + Wait + Net<Listener = TcpListener, Stream = TcpStream>,

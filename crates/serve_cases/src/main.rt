@@ -1,10 +1,10 @@
-//! Cases of the servers and of the top call, each a line that a person can read: connections that are served at desks in
-//! memory, what is written to them, what is sent over the links, and how it ends.
+//! Cases of the servers and of the top call, each a line that a person can read: connections that are served at desks in memory, what
+//! is written to them, what is sent over the links, and how it ends.
 //!
-//! The file `stdin` has the cases, and `stdout` the same with their answers. `case_lines` says how a line is read, and the
-//! comments there where the expected answers come from. `desks` says how a desk is written, `$sample$` is a configuration with
-//! all roles, `$form$` the field of a request that has a form, `$header$` the first line of a trace, and `$provider$` and
-//! `$alice$` are rows of other configurations.
+//! The file `stdin` has the cases, and `stdout` the same with their answers. `case_lines` says how a line is read, and the comments
+//! there where the expected answers come from. `desks` says how a desk is written, `$sample$` is a configuration with all roles,
+//! `$form$` the field of a request that has a form, `$header$` the first line of a trace, and `$provider$` and `$alice$` are rows of
+//! other configurations.
 //!
 //! | Call | Answer |
 //! |---|---|
@@ -20,9 +20,9 @@
 //! | `words|NAME|WORD|..` | the words of a process |
 //! | `machine|CALL` | what the clock, the random words, a door, a link or the desk of this machine answer |
 //!
-//! `ends`, `work` and `serve` are over a role of their own, whose core is full after one ask, and `calls` and `two threads`
-//! over the core alone, which replies with the number of the entries before. The provider and the parties are served by the top
-//! call. SHELF and SINK are the numbers of the calls that fail, and 0 is none.
+//! `ends`, `work` and `serve` are over a role of their own, whose core is full after one ask, and `calls` and `two threads` over the core
+//! alone, which replies with the number of the entries before. The provider and the parties are served by the top call. SHELF and SINK are
+//! the numbers of the calls that fail, and 0 is none.
 //!
 //! | Module | What it has |
 //! |---|---|

@@ -35,8 +35,8 @@ impl Write for SlowWriter {
     }
 }
 
-/// `writer|CALL`: what a writer takes of `words` as a sink, one byte at a call, each other call interrupted and that of this
-/// number failing, and whether that was all.
+/// `writer|CALL`: what a writer takes of `words` as a sink, one byte at a call, each other call interrupted and that of this number
+/// failing, and whether that was all.
 pub fn writer(alloc: Global, failing: &str) -> Result<String, NoMemory> {
     let mut writer = SlowWriter {
         taken: Vec::new(alloc),

@@ -85,8 +85,8 @@ fn push_replies(alloc: Global, out: &mut String, desks: &[LoginDesk]) -> Result<
     Ok(())
 }
 
-/// `two logins`: each desk has a login and its callback, and its link holds the exchange until the other's has begun. Behind
-/// the text stands what was written to each callback.
+/// `two logins`: each desk has a login and its callback, and its link holds the exchange until the other's has begun. Behind the
+/// text stands what was written to each callback.
 pub fn logins<R: Threads + Wait + Sync>(
     rt: &R,
     alloc: Global,

@@ -15,8 +15,7 @@ use std::alloc::Global;
 use std::sync::Wait;
 use turn_store::{Pass, Turn};
 
-// Serves the next connection of the door, and adds how that ended, the number of steps, and what was written. False where none
-// came.
+// Serves the next connection of the door, and adds how that ended, the number of steps, and what was written. False where none came.
 fn push_end<R: Wait, X: Role>(
     rt: &R,
     alloc: Global,

@@ -42,8 +42,7 @@ abbrev pub failures : List LinkCall → ℕ
 failures [] = 0
 failures (call ∷ calls) = failures_of call.answer + failures calls
 
--- The link was called so, and no more often: it tells these exchanges, each call was counted, and its faults rose for each that
--- failed.
+-- The link was called so, and no more often: it tells these exchanges, each call was counted, and its faults rose for each that failed.
 pub record TookCalls (old new : LinkState) (calls : List LinkCall) : Type 0 where
   pub told : new.exchanges ≡ after_calls old.exchanges calls
   pub counted : new.calls ≡ grown_by (length calls) old.calls

@@ -1,6 +1,6 @@
 -- How one connection is served. One request is read, and the core is asked what it asks. As long as a reply puts a question to
--- another server, the question is sent, and the core is asked what the answer asks. The last reply is written, after its
--- notices were sent, each once and in order.
+-- another server, the question is sent, and the core is asked what the answer asks. The last reply is written, after its notices
+-- were sent, each once and in order.
 use Rattle.std.specs.Prelude.{◌≡◌, ◌≢◌, ◌⊎◌, ◌<◌, ◌≤◌, ℕ, suc, List, [], ◌∷◌, ◌++◌, map, length, Option, Some, None, Result, Ok, Err}
 use Rattle.sso_base.specs.Faults.{Rose}
 use Rattle.sso_base.specs.declared.http.Ask.{Ask}

@@ -51,8 +51,8 @@ module _ {D L C W S K : Type 0} (t : Telling D L C W S K) where
     ServedAt history old new services =
         AtDesk m t.left t.read_faults t.taken t.write_faults history (t.state old.door) (t.state new.door) (t.link_state old.link) (t.link_state new.link) (t.moments old.clock) (t.moments new.clock) (t.words old.draw) (t.words new.draw) services
 
-    -- One desk: it ended well or its door failed, unless the first door could not listen, and then it served nobody. A door
-    -- that did not fail listens where it should. Its steps lie in the history, in their order.
+    -- One desk: it ended well or its door failed, unless the first door could not listen, and then it served nobody. A door that did
+    -- not fail listens where it should. Its steps lie in the history, in their order.
     pub record DeskServed (history : List (Pair A R)) (listening : Bool) (at : Option Text → Option Text) (old new : Desk D L C W) (services : List (Service S K A R)) : Type 0 where
       pub served : ServedAt history old new services
       pub order : LieBehind [] history (steps_in services)
@@ -67,8 +67,8 @@ module _ {D L C W S K : Type 0} (t : Telling D L C W S K) where
     DesksServed history listening place (old ∷ olds) (new ∷ news) (services ∷ works) = DeskServed history listening place old new services × DesksServed history listening place olds news works
     DesksServed history listening place olds news works = ⊥
 
-    -- The first desk listens at this place, and the others where it does. Where its door could not be opened, the others are as
-    -- they were.
+    -- The first desk listens at this place, and the others where it does. Where its door could not be opened, the others are as they
+    -- were.
     abbrev pub AllServed : List (Pair A R) → Bool → Text → List (Desk D L C W) → List (Desk D L C W) → List (List (Service S K A R)) → Type 0
     AllServed history listening place (old ∷ olds) (new ∷ news) (services ∷ works) =
         (listening ≡ false → Unopened old new × (news ≡ olds))
@@ -91,8 +91,8 @@ module _ {D L C W S K : Type 0} (t : Telling D L C W S K) where
 abbrev pub places_in : {S K A R : Type 0} → List (Service S K A R) → List ℕ
 places_in {S} {K} {A} {R} services = places_of (map called_of (steps_in services))
 
--- The closed store: its history is legal for the setup, each place of it is a step of one connection of one desk, and it stands
--- there once. It says whether the first door was opened.
+-- The closed store: its history is legal for the setup, each place of it is a step of one connection of one desk, and it stands there
+-- once. It says whether the first door was opened.
 pub record ClosedSo {D L C W S K A R Core Setup : Type 0} (t : Telling D L C W S K) (m : Manner A R) (setup : Core → Setup) (history_of : Core → List (Pair A R)) (is_legal : Setup → List (Pair A R) → Type 0) (configured : Setup) (place : Text) (olds news : List (Desk D L C W)) (closed : Closed Core) (served entries : ℕ) : Type 0 where
   pub set_up : setup closed.core ≡ configured
   pub legal : is_legal configured (history_of closed.core)

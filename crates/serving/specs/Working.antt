@@ -61,8 +61,8 @@ module _ {S K A R : Type 0} where
     abbrev pub ServesAll : List (Pair A R) → List (Service S K A R) → Type 0
     ServesAll history services = AllByRecursion (λ (s : Service S K A R). Serves m left read_faults taken write_faults history s.came s.went s.work s.served) services
 
-    -- that is all that was done with the door, the link, the clock and the draw of a desk; where a connection ended because of
-    -- the link, the link failed
+    -- that is all that was done with the door, the link, the clock and the draw of a desk; where a connection ended because of the
+    -- link, the link failed
     pub record AtDesk (history : List (Pair A R)) (door door' : DoorState S K) (link link' : LinkState) (moments moments' : ℕ → Option ℕ) (words words' : ℕ → Option Word) (services : List (Service S K A R)) : Type 0 where
       pub passed : Passed door door' services
       pub sent : TookCalls link link' (calls_in services)

@@ -54,8 +54,8 @@ where
     }
 }
 
-/// Serves at these desks beside each other, one worker each, with this core, which was asked nothing yet. The first door
-/// listens at the place, and the others where it does. With no desk nothing is done.
+/// Serves at these desks beside each other, one worker each, with this core, which was asked nothing yet. The first door listens at
+/// the place, and the others where it does. With no desk nothing is done.
 ///
 /// There are at most 64 desks, each of at most 2^56 turns, whose doors gave fewer than 2^63 connections.
 ///

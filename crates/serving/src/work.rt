@@ -95,8 +95,8 @@ fn serve_next<R: Wait, X: Role, D: Door, L: Link, C: Clock, W: Draw>(
     }
 }
 
-/// Serves connections of the desk's door, one after another, until it served as many as the desk has turns, or the door says
-/// that it is closed, or fails. Each connection is given back to the door once it was served.
+/// Serves connections of the desk's door, one after another, until it served as many as the desk has turns, or the door says that it
+/// is closed, or fails. Each connection is given back to the door once it was served.
 pub fn serve_desk<R: Wait, X: Role, D: Door, L: Link, C: Clock, W: Draw>(
     rt: &R,
     alloc: Global,

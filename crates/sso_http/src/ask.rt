@@ -41,9 +41,9 @@ fn judge_head(alloc: Global, head: &Vec<u8>, first: &Text, second: &Text) -> Res
 /// Reads one request, and no byte past its body (RFC 9112, 2 to 6). `first` and `second` name the server's two cookies.
 ///
 /// What is answered is a function of the bytes that the source gives, however it cuts them. The head ends with its first empty
-/// line that follows a line which is not empty, and is read byte by byte. Only a POST has a body. The body of a request counts
-/// as absent where it is no form, and a cookie where it is no word's text. [`HttpNo`] says why a request is refused, which is
-/// judged when the head has ended and before a byte of the body is read.
+/// line that follows a line which is not empty, and is read byte by byte. Only a POST has a body. The body of a request counts as
+/// absent where it is no form, and a cookie where it is no word's text. [`HttpNo`] says why a request is refused, which is judged
+/// when the head has ended and before a byte of the body is read.
 pub fn read_ask<S: Source>(
     alloc: Global,
     source: &mut S,

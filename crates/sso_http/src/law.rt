@@ -34,9 +34,9 @@ pub fn whole_requests_are_read()
     ensures { (first second head body more : List ℕ) (ask : Ask) → IsRequest first second head body ask → Answers first second (head ++ body ++ more) more (Ok ask) }
 {}
 
-/// A request that meets no refusal is read, whatever follows it, and that is left: its head has at most 16,384 bytes and is one
-/// of HTTP/1.0 or HTTP/1.1 with at most 64 fields, without a transfer coding; the body has the length that the head says; the
-/// target begins with `/`; and neither cookie of the server stands twice.
+/// A request that meets no refusal is read, whatever follows it, and that is left: its head has at most 16,384 bytes and is one of
+/// HTTP/1.0 or HTTP/1.1 with at most 64 fields, without a transfer coding; the body has the length that the head says; the target
+/// begins with `/`; and neither cookie of the server stands twice.
 pub fn requests_without_a_cause_are_read()
     ensures { (first second head body more : List ℕ) (h : RequestHead) → IsShortHead head → IsHeadOf head h → MeetsNoCause first second h (length body) → (ask : Ask) × Answers first second (head ++ body ++ more) more (Ok ask) × Names h ask }
 {}

@@ -166,8 +166,8 @@ pub fn message_place(alloc: Global, message: &Message) -> Result<Text, NoMemory>
     place(alloc, &url)
 }
 
-/// The bytes of a message (RFC 9112, 3 to 6): a POST of a form where it has a body, else a GET, to the path and query of its
-/// URL; `Host` has what [`message_place`] answers. Where the message's `to` is no URL of http or https, the target is `/`.
+/// The bytes of a message (RFC 9112, 3 to 6): a POST of a form where it has a body, else a GET, to the path and query of its URL;
+/// `Host` has what [`message_place`] answers. Where the message's `to` is no URL of http or https, the target is `/`.
 #[tactic(auto, unfolding(crate::specs::Messages::message_bytes))]
 pub fn print_message(alloc: Global, message: &Message) -> Result<Blob, NoMemory>
     ensures { IfOk result (λ b. b ≡ spec.message_bytes message.now) }

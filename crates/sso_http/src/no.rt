@@ -14,8 +14,7 @@ pub enum HttpNo {
     EndedEarly,
     /// The first 16,384 bytes do not end a head.
     HeadTooLong,
-    /// The bytes up to the end of the head are no request head of HTTP/1.0 or HTTP/1.1 with at most 64 fields (RFC 9112, 2 to
-    /// 5).
+    /// The bytes up to the end of the head are no request head of HTTP/1.0 or HTTP/1.1 with at most 64 fields (RFC 9112, 2 to 5).
     BadHead,
     /// There is a `Transfer-Encoding` field (RFC 9112, 6.1).
     Transfer,

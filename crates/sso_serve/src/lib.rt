@@ -1,7 +1,7 @@
 //! The two roles of the sign-on system for servers over worker threads, and their servers.
 //!
-//! How a server serves is said once, by the crate `serving`; here is what is theirs: which cores they step, what requests ask
-//! of these, and how the replies go out.
+//! How a server serves is said once, by the crate `serving`; here is what is theirs: which cores they step, what requests ask of
+//! these, and how the replies go out.
 //!
 //! | Module | What it has |
 //! |---|---|

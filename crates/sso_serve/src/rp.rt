@@ -24,8 +24,8 @@ fn listen_of(registry: &Registry, party: u32) -> &Text
     &registry.party(party).listen
 }
 
-/// Serves the party of this number in the registry, which trusts this provider, at the party's `listen`, by one worker a desk
-/// beside each other. The provider's issuer is the registry's.
+/// Serves the party of this number in the registry, which trusts this provider, at the party's `listen`, by one worker a desk beside
+/// each other. The provider's issuer is the registry's.
 ///
 /// There are at most 64 desks, each of at most 2^56 turns, whose doors gave fewer than 2^63 connections.
 ///

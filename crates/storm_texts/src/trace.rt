@@ -40,10 +40,9 @@ fn header(alloc: Global, number: u64) -> Result<String, NoMemory>
     Ok(format!(in alloc; "sso-trace 1 {}\n", digits.as_str())?)
 }
 
-/// The trace of a storm: so many logins of as many browsers at three parties in turn, each in two to four requests to the
-/// provider, a fourth of them with an answer that is followed twice, a fourth with one that another browser follows, and a
-/// fourth with a login form that is posted twice. The users are chosen by a linear congruential generator that begins with the
-/// number.
+/// The trace of a storm: so many logins of as many browsers at three parties in turn, each in two to four requests to the provider,
+/// a fourth of them with an answer that is followed twice, a fourth with one that another browser follows, and a fourth with a login
+/// form that is posted twice. The users are chosen by a linear congruential generator that begins with the number.
 #[tactic(auto, unfolding(crate::specs::Trace::trace_text))]
 pub fn storm_trace(alloc: Global, number: u32, count: u32) -> Result<Blob, NoMemory>
     requires { count ≤ 10000 }

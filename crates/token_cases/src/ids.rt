@@ -190,8 +190,7 @@ pub fn seal_parts(
     )
 }
 
-/// `seal ID Token|KEY|ISSUER|SUBJECT|SESSION|HASH`, and the same of logout tokens: how many bytes the claims have, and the
-/// token.
+/// `seal ID Token|KEY|ISSUER|SUBJECT|SESSION|HASH`, and the same of logout tokens: how many bytes the claims have, and the token.
 pub fn told_sealed(
     alloc: Global,
     sealed: &Result<Option<(usize, Text)>, NoMemory>,

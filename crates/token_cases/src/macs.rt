@@ -21,8 +21,7 @@ fn mac(alloc: Global, key: &str, text: &str) -> Result<String, NoMemory> {
     told_hex(alloc, &hmac256::mac(key.as_slice(), text.as_slice()))
 }
 
-// `chain|COUNT`: the last of so many MACs of 200 times `t`, in hex. The first is under 32 times `k`, and each is the next one's
-// key.
+// `chain|COUNT`: the last of so many MACs of 200 times `t`, in hex. The first is under 32 times `k`, and each is the next one's key.
 fn chain(alloc: Global, count: &str) -> Result<String, NoMemory> {
     let mut last = [b'k'; 32];
     for _ in 0..count.parse::<u32>().unwrap_or(0) {

@@ -1,9 +1,8 @@
-//! Cases of MACs, sealed texts, claim sets and tokens, each a line that a person can read: what each is read as, or why it is
-//! refused, and how it is written.
+//! Cases of MACs, sealed texts, claim sets and tokens, each a line that a person can read: what each is read as, or why it is refused, and
+//! how it is written.
 //!
-//! The file `stdin` has the cases, and `stdout` the same with their answers. `case_lines` says how a line is read, and the
-//! comments there where the expected answers come from: the standards that are named, and other programs. `$NAME$` is a text of
-//! `names`.
+//! The file `stdin` has the cases, and `stdout` the same with their answers. `case_lines` says how a line is read, and the comments
+//! there where the expected answers come from: the standards that are named, and other programs. `$NAME$` is a text of `names`.
 //!
 //! | Module | Its calls |
 //! |---|---|

@@ -1,12 +1,12 @@
-//! Cases of traces, each a line that a person can read: which traces are read, what their lines say, and why others are
-//! refused; and how the play of a trace over a configuration ends, with what it prints.
+//! Cases of traces, each a line that a person can read: which traces are read, what their lines say, and why others are refused; and how
+//! the play of a trace over a configuration ends, with what it prints.
 //!
-//! The file `stdin` has the cases, and `stdout` the same with their answers. `case_lines` says how a line is read, and the
-//! comments there which configurations there are, and where the expected answers come from. ` / ` stands for a line feed.
-//! Beside the texts of words, names stand for those of `texts`.
+//! The file `stdin` has the cases, and `stdout` the same with their answers. `case_lines` says how a line is read, and the comments there
+//! which configurations there are, and where the expected answers come from. ` / ` stands for a line feed. Beside the texts of words,
+//! names stand for those of `texts`.
 //!
-//! There are two tables. A line `table|lines` or `table|plays` begins a table, and all lines after it are asked of that one.
-//! The traces of `lines` are read for a registry that has the parties shop, news and mail, whose numbers are 0, 1 and 2.
+//! There are two tables. A line `table|lines` or `table|plays` begins a table, and all lines after it are asked of that one. The traces of
+//! `lines` are read for a registry that has the parties shop, news and mail, whose numbers are 0, 1 and 2.
 //!
 //! | Module | What it has |
 //! |---|---|

@@ -2,8 +2,8 @@
 //!
 //! A trace is at most 4,194,304 bytes. Its lines end with a line feed, which the last one may lack, and have at most 65,536
 //! bytes without it. The first line is `sso-trace 1 SEED`, with 48 lower-case hexadecimal digits for the seed of the words that
-//! the roles draw. After it, empty lines and those that begin with `#` are skipped, but counted; each other line is one of
-//! these, of words of visible ASCII with one space between:
+//! the roles draw. After it, empty lines and those that begin with `#` are skipped, but counted; each other line is one of these,
+//! of words of visible ASCII with one space between:
 //!
 //! | Line | What it does |
 //! |---|---|

@@ -19,8 +19,8 @@ pub enum TraceNo {
     /// The line is longer than 65,536 bytes.
     LineTooLong(u64),
     /// The line is not words of visible ASCII with one space between; or its first word is not in the table, or the others are
-    /// more or fewer than the table says; or the choice in it is neither `yes` nor `no`, or the subject in it is longer than
-    /// 255 bytes.
+    /// more or fewer than the table says; or the choice in it is neither `yes` nor `no`, or the subject in it is longer than 255
+    /// bytes.
     Word(u64),
     /// A number in the line is not decimal, or has leading zeros, or is outside its range.
     Number(u64),

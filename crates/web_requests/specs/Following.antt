@@ -27,8 +27,8 @@ abbrev pub receiver : Configuration → Location → Option To
 receiver c (location.Provider query) = Some to.Provider
 receiver c (location.Client uri fragment form) = option_map to.Party (party_of_uri c uri)
 
--- A response at the path of a redirection URI. A form in the query comes with the GET; one in the fragment stays with the
--- browser (RFC 3986, 3.5), and the page that is served there posts it (OpenID Connect Core 1.0, 3.2.2.5 and 15.5.3).
+-- A response at the path of a redirection URI. A form in the query comes with the GET; one in the fragment stays with the browser
+-- (RFC 3986, 3.5), and the page that is served there posts it (OpenID Connect Core 1.0, 3.2.2.5 and 15.5.3).
 abbrev pub response_ask : Text → Bool → List ℕ → Jar → Ask
 response_ask path true form jar = posted path (Some form) jar
 response_ask path false form jar = got path form jar

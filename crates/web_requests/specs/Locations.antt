@@ -1,6 +1,6 @@
--- Where a reply sends a browser on (RFC 9110, 10.2.2): a party to the provider, with an authorization request; the provider to
--- a redirection URI, with an authorization response. A login that entered sends it to the party's own home page, which is a
--- visit of its own and no location here.
+-- Where a reply sends a browser on (RFC 9110, 10.2.2): a party to the provider, with an authorization request; the provider to a
+-- redirection URI, with an authorization response. A login that entered sends it to the party's own home page, which is a visit
+-- of its own and no location here.
 use Rattle.std.specs.Prelude.{ℕ, ◌==◌, Bool, true, false, List, ◌++◌, codes, Option, Some, None, option_and_then, slice_get}
 use Rattle.std.specs.List.{after_first, position_from}
 use Rattle.std.specs.Str.{bytes_eq}

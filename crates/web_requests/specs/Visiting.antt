@@ -1,5 +1,5 @@
--- What a browser sends of its own accord: to begin a login at a party, to ask there who is logged in, to leave it, and to sign
--- out at the provider.
+-- What a browser sends of its own accord: to begin a login at a party, to ask there who is logged in, to leave it, and to sign out
+-- at the provider.
 use Rattle.std.specs.Prelude.{ℕ, [], ◌++◌, None}
 use Rattle.oidc_words.specs.Paths.{begin_path, home_path, leave_path, signout_path}
 use Rattle.client_registry.specs.Configuration.{Configuration}

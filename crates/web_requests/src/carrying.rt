@@ -173,9 +173,9 @@ fn delivered(
     }
 }
 
-/// What arrives of the message of this number, from 0, of a reply: of the token request or the UserInfo request of a party
-/// (OpenID Connect Core 1.0, 3.1.3.1 and 5.3.1), or of the logout requests of a sign-out (Back-Channel Logout 1.0, 2.5). None
-/// where the reply has no such message, or no role has the URL that it is sent to.
+/// What arrives of the message of this number, from 0, of a reply: of the token request or the UserInfo request of a party (OpenID
+/// Connect Core 1.0, 3.1.3.1 and 5.3.1), or of the logout requests of a sign-out (Back-Channel Logout 1.0, 2.5). None where the
+/// reply has no such message, or no role has the URL that it is sent to.
 ///
 /// It is sent by a server, so under 0 and without cookies. The provider gets what is sent to its token endpoint or its UserInfo
 /// endpoint, and else the first party gets it whose client has that logout URI; several clients may have one.

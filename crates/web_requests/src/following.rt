@@ -106,12 +106,12 @@ pub fn receiver(registry: &Registry, location: &Location) -> Option<To>
     }
 }
 
-/// What the browser of this number sends that follows a location, with the cookies of its jar at the [`receiver`]; none where
-/// the location has no receiver.
+/// What the browser of this number sends that follows a location, with the cookies of its jar at the [`receiver`]; none where the
+/// location has no receiver.
 ///
-/// An authorization request is a GET of the provider's authorization endpoint. A response in the query is a GET of the path of
-/// the registered redirection URI. A response in the fragment is posted to this path, as the page does that is served there
-/// (OpenID Connect Core 1.0, 3.2.2.5 and 15.5.3).
+/// An authorization request is a GET of the provider's authorization endpoint. A response in the query is a GET of the path of the
+/// registered redirection URI. A response in the fragment is posted to this path, as the page does that is served there (OpenID
+/// Connect Core 1.0, 3.2.2.5 and 15.5.3).
 #[tactic(auto, unfolding(crate::specs::Following::followed))]
 pub fn followed(
     alloc: Global,

@@ -94,9 +94,9 @@ fn forged_answer(
 }
 
 /// Where an answer sends a browser on whose ID Token is forged: it has the same claims but for the subject, which is this user,
-/// and is sealed anew under the secret of the client that has the redirection URI. None for any other reply, where the answer
-/// has no ID Token of that client, and where the user is no subject (OpenID Connect Core 1.0, 2) or the claims would become too
-/// long to be sealed.
+/// and is sealed anew under the secret of the client that has the redirection URI. None for any other reply, where the answer has
+/// no ID Token of that client, and where the user is no subject (OpenID Connect Core 1.0, 2) or the claims would become too long
+/// to be sealed.
 #[tactic(auto, unfolding(crate::specs::Forging::forged))]
 pub fn forged(
     alloc: Global,

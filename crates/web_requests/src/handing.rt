@@ -64,9 +64,9 @@ fn handed(from: u32, role: &To, reply: &WorldReply, answer: Answered) -> Option<
     })
 }
 
-/// What hands the reply of another role, as it is [`printed`], back to the role of a reply, as the answer to the token request
-/// or the UserInfo request in it, under the number under which that was asked (OpenID Connect Core 1.0, 3.1.3.3, 3.1.3.4 and
-/// 5.3.2). None where the reply has no such request or its role is no party, and where the other's is no reply of that role.
+/// What hands the reply of another role, as it is [`printed`], back to the role of a reply, as the answer to the token request or
+/// the UserInfo request in it, under the number under which that was asked (OpenID Connect Core 1.0, 3.1.3.3, 3.1.3.4 and 5.3.2).
+/// None where the reply has no such request or its role is no party, and where the other's is no reply of that role.
 ///
 /// It may be any reply, whether or not it answers that request. The other role is one of the registry, as a condition.
 #[tactic(auto, unfolding(crate::specs::Handing::handed_back))]

@@ -55,16 +55,16 @@ pub fn authorization_requests_are_followed()
     ensures { (c : Configuration) (n : ℕ) (state nonce browser : Word) (from : ℕ) (jar : Jar) → MayAsk c n c.provider.issuer state nonce → AsksProvider c from (reply_followed c from (reply.Party (rp.Ask (login_location (party_client c n) (party_row c n) c.provider state nonce) browser)) jar) (op_ask.Authorize (judgement c (whole_params (party_client c n) (party_row c n) c.provider state nonce) false) jar.first jar.second) }
 {}
 
-/// What follows an answer or a refusal is sent to the party whose redirection URI it was sent to, which hears the parts that
-/// were given and no others, in the query as in the fragment, whatever is registered in the query (OpenID Connect Core 1.0,
-/// 3.1.2.5, 3.1.2.6 and 3.2.2.5). An ID Token is opened under the party's secret.
+/// What follows an answer or a refusal is sent to the party whose redirection URI it was sent to, which hears the parts that were
+/// given and no others, in the query as in the fragment, whatever is registered in the query (OpenID Connect Core 1.0, 3.1.2.5,
+/// 3.1.2.6 and 3.2.2.5). An ID Token is opened under the party's secret.
 pub fn responses_are_followed()
     ensures answer { (c : Configuration) (n : ℕ) (answer : Answer) (given : Option Word) (from : ℕ) (jar : Jar) → IsRegistry c → n < length c.parties → (party_row c n).redirect ≡ answer.redirect → has_part answer ≡ true → IfSome answer.state IsUtf8 → IfSome answer.id IsUtf8 → AsksParty c from n (reply_followed c from (reply.Provider (op.Answered answer given)) jar) (rp_ask.Callback (Ok (answer_heard answer (option_and_then word_of_text answer.state))) (option_map (id_read (party_secret c n)) answer.id) jar.first) }
     ensures refusal { (c : Configuration) (n : ℕ) (refusal : Refusal) (given : Option Word) (from : ℕ) (jar : Jar) → IsRegistry c → n < length c.parties → (party_row c n).redirect ≡ refusal.redirect → IfSome refusal.state IsUtf8 → AsksParty c from n (reply_followed c from (reply.Provider (op.Refused refusal given)) jar) (rp_ask.Callback (Ok (refusal_heard refusal (option_and_then word_of_text refusal.state))) None jar.first) }
 {}
 
-/// A location is mixed exactly where both locations have a parameter of the name. Then the name has the value that it has in
-/// the other, every other name has its own, and the receiver is the same.
+/// A location is mixed exactly where both locations have a parameter of the name. Then the name has the value that it has in the
+/// other, every other name has its own, and the receiver is the same.
 pub fn mixed_locations_differ_in_one_name()
     ensures value { (name : Text) (location other l : Location) → mixed name location other ≡ Some l → value_of name (form_pairs (form_of l)) ≡ value_of name (form_pairs (form_of other)) }
     ensures others { (name : Text) (location other l : Location) → mixed name location other ≡ Some l → (key : Text) → ¬ (key ≡ name) → value_of key (form_pairs (form_of l)) ≡ value_of key (form_pairs (form_of location)) }
@@ -72,18 +72,17 @@ pub fn mixed_locations_differ_in_one_name()
     ensures exactly { (name : Text) (location other : Location) → is_some (mixed name location other) ≡ (has_name name (form_pairs (form_of location)) && has_name name (form_pairs (form_of other))) }
 {}
 
-/// An ID Token that is forged with its own subject is the same text, so it is not forged at all; with another subject it is
-/// read, under the client's secret, as the claims with that subject. What follows a forged answer is sent to the party whose
-/// redirection URI the answer was sent to, which hears the parts of the answer, with this ID Token in place of the one that was
-/// given.
+/// An ID Token that is forged with its own subject is the same text, so it is not forged at all; with another subject it is read,
+/// under the client's secret, as the claims with that subject. What follows a forged answer is sent to the party whose redirection
+/// URI the answer was sent to, which hears the parts of the answer, with this ID Token in place of the one that was given.
 pub fn forged_tokens_differ_in_the_subject()
     ensures own { (secret : Text) (claims : IdClaims) → IsSealable claims → forged_id claims.sub (id_text secret claims) secret ≡ Some (id_text secret claims) }
     ensures other { (secret user : Text) (claims : IdClaims) (id : Text) → HasTexts claims → IsSealable claims → forged_id user (id_text secret claims) secret ≡ Some id → id_read secret id ≡ Ok (record claims { sub = user }) }
     ensures followed { (c : Configuration) (n : ℕ) (answer : Answer) (claims : IdClaims) (user : Text) (given : Option Word) (from : ℕ) (jar : Jar) (l : Location) → IsRegistry c → n < length c.parties → (party_row c n).redirect ≡ answer.redirect → answer.id ≡ Some (id_text (party_secret c n) claims) → HasTexts claims → IsSealable claims → IfSome answer.state IsUtf8 → forged c (reply.Provider (op.Answered answer given)) user ≡ Some l → AsksParty c from n (followed c from l jar) (rp_ask.Callback (Ok (answer_heard (with_id answer (id_text (party_secret c n) (record claims { sub = user }))) (option_and_then word_of_text answer.state))) (Some (Ok (record claims { sub = user }))) jar.first) }
 {}
 
-/// A form that is posted is read by the provider as that of its page's turn: a login as that of the user whose password it is,
-/// a consent as what was said.
+/// A form that is posted is read by the provider as that of its page's turn: a login as that of the user whose password it is, a
+/// consent as what was said.
 pub fn posted_forms_are_read()
     ensures login { (c : Configuration) (turn browser : Word) (again : Bool) (user password : Text) (from : ℕ) (jar : Jar) → IsWord turn → IsUtf8 user → IsUtf8 password → AsksProvider c from (login_posted c from (reply.Provider (op.LoginPage turn browser again)) user password jar) (op_ask.Login (Some turn) (signed_user c user password) jar.first jar.second) }
     ensures consent { (c : Configuration) (turn browser : Word) (given : Option Word) (client : Text) (scopes : Scopes) (agree : Bool) (from : ℕ) (jar : Jar) → IsWord turn → AsksProvider c from (consent_posted c from (reply.Provider (op.ConsentPage turn browser given client scopes)) agree jar) (op_ask.Consent (Some turn) agree jar.first jar.second) }
@@ -97,25 +96,25 @@ pub fn own_requests_are_read()
     ensures sign_out { (c : Configuration) (from : ℕ) (jar : Jar) → AsksProvider c from (Some (signed_out c from jar)) (op_ask.SignOut jar.second) }
 {}
 
-/// A message that is carried is read as what it says: a token request of a client as its grant, a UserInfo request as its
-/// access token (OpenID Connect Core 1.0, 3.1.3.1 and 5.3.1), and a logout request as what its logout token is under the secret
-/// of the first party whose client has the logout URI (OpenID Connect Back-Channel Logout 1.0, 2.5).
+/// A message that is carried is read as what it says: a token request of a client as its grant, a UserInfo request as its access
+/// token (OpenID Connect Core 1.0, 3.1.3.1 and 5.3.1), and a logout request as what its logout token is under the secret of the
+/// first party whose client has the logout URI (OpenID Connect Back-Channel Logout 1.0, 2.5).
 pub fn carried_messages_are_read()
     ensures token { (c : Configuration) (n : ℕ) (client : Client) (pending : Word) (code redirect : Text) → IsRegistry c → client_at c n ≡ Some client → IsUtf8 code → IsUtf8 redirect → AsksProvider c 0 (carried c (reply.Party (rp.Exchange pending (token_message client c.provider.token code redirect))) 0) (op_ask.Token (Ok (record { client = n; code = code; redirect = redirect }))) }
     ensures info { (c : Configuration) (endpoint : Text) (pending access : Word) → IsRegistry c → c.provider.userinfo ≡ Some endpoint → IsWord access → AsksProvider c 0 (carried c (reply.Party (rp.Fetch pending (info_message endpoint (word_text access)))) 0) (op_ask.Info (bearer.Given access)) }
     ensures logout { (c : Configuration) (n : ℕ) (uri token : Text) (messages : List Message) (number : ℕ) → IsRegistry c → party_of_logout c uri ≡ Some n → bytes_eq c.provider.token uri ≡ false → is_text c.provider.userinfo uri ≡ false → IsUtf8 token → slice_get messages number ≡ Some (record { to = uri; auth = None; body = Some (form_text (logout_pairs token)) }) → AsksParty c 0 n (carried c (reply.Provider (op.SignedOut messages)) number) (rp_ask.Logout (logout_read (party_secret c n) token)) }
 {}
 
-/// A response that is handed back is read by the party, in the exchange that asked for it, as what was given: the tokens, and
-/// the subject of the user whose claims the provider tells (OpenID Connect Core 1.0, 3.1.3.3 and 5.3.2).
+/// A response that is handed back is read by the party, in the exchange that asked for it, as what was given: the tokens, and the
+/// subject of the user whose claims the provider tells (OpenID Connect Core 1.0, 3.1.3.3 and 5.3.2).
 pub fn handed_responses_are_read()
     ensures tokens { (c : Configuration) (n from : ℕ) (pending access : Word) (message : Message) (id : Text) → IsUtf8 id → AnswersTokens c from n pending (handed_back c from (role.Party n) (reply.Party (rp.Exchange pending message)) role.Provider (reply.Provider (op.Tokens access id))) (rp_ask.Tokens pending (Ok (record { access = word_text access; id = id })) (Some (id_read (party_secret c n) id))) }
     ensures info { (c : Configuration) (n from client user : ℕ) (pending : Word) (message : Message) (scopes : Scopes) (asked : List Text) → IsRegistry c → AnswersInfo from n pending (handed_back c from (role.Party n) (reply.Party (rp.Fetch pending message)) role.Provider (reply.Provider (op.Info (claims_text (info_members c client user scopes asked))))) (rp_ask.Info pending (Ok (subject_at c client user))) }
 {}
 
-/// What follows a location is a request to its receiver, and there is one exactly where the location has a receiver. A message
-/// that is carried is a request by a server. Both go to a role of the registry. What is handed back goes to the party that it
-/// is handed to, under the number that asked, and to the provider nothing is handed.
+/// What follows a location is a request to its receiver, and there is one exactly where the location has a receiver. A message that
+/// is carried is a request by a server. Both go to a role of the registry. What is handed back goes to the party that it is handed
+/// to, under the number that asked, and to the provider nothing is handed.
 pub fn requests_go_to_roles()
     ensures followed { (c : Configuration) (from : ℕ) (l : Location) (jar : Jar) (s : Sent) → followed c from l jar ≡ Some s → (receiver c l ≡ Some s.to) × Arrives c from s }
     ensures exactly { (c : Configuration) (from : ℕ) (l : Location) (jar : Jar) → is_some (followed c from l jar) ≡ is_some (receiver c l) }

@@ -1,7 +1,7 @@
-//! What browsers and servers send to the provider and to its relying parties in the course of logins and logouts, as functions
-//! of a reply and of the cookies that a browser keeps (OpenID Connect Core 1.0, 3.1.2 and 3.2.2; OpenID Connect Back-Channel
-//! Logout 1.0, 2.5). The types of what is asked, of replies and of cookies are those of `sso_places`. Nothing is sent here:
-//! what is asked is made, and whoever has the roles asks them.
+//! What browsers and servers send to the provider and to its relying parties in the course of logins and logouts, as functions of a
+//! reply and of the cookies that a browser keeps (OpenID Connect Core 1.0, 3.1.2 and 3.2.2; OpenID Connect Back-Channel Logout 1.0,
+//! 2.5). The types of what is asked, of replies and of cookies are those of `sso_places`. Nothing is sent here: what is asked is
+//! made, and whoever has the roles asks them.
 //!
 //! | Module | What it has | Its definitions, in `specs/` |
 //! |---|---|---|

@@ -99,8 +99,8 @@ fn mixed_form(
 /// The location in which each parameter of this name has the value that the first of this name has in the other location. None
 /// where either location has no parameter of this name.
 ///
-/// The parameters are those of the form, also of one in the fragment, and of one in the query with what is registered there
-/// (the URL Standard, 5.1 and 5.2).
+/// The parameters are those of the form, also of one in the fragment, and of one in the query with what is registered there (the
+/// URL Standard, 5.1 and 5.2).
 #[tactic(auto, unfolding(crate::specs::Mixing::mixed))]
 pub fn mixed(
     alloc: Global,

@@ -69,8 +69,8 @@ fn consent_form(alloc: Global, turn: &Word, agree: bool) -> Result<Blob, NoMemor
     Ok(Blob::from_vec(form.finish().into_bytes()))
 }
 
-/// What the browser of this number sends that posts the login form of a reply, with this user and this password and the cookies
-/// of its jar at the provider (OpenID Connect Core 1.0, 3.1.2.3). None where the reply is no login page.
+/// What the browser of this number sends that posts the login form of a reply, with this user and this password and the cookies of
+/// its jar at the provider (OpenID Connect Core 1.0, 3.1.2.3). None where the reply is no login page.
 #[tactic(auto, unfolding(crate::specs::Posting::login_posted))]
 pub fn login_posted(
     alloc: Global,
@@ -93,8 +93,7 @@ pub fn login_posted(
 }
 
 /// What the browser of this number sends that posts the consent form of a reply, by the button that agrees or the one that does
-/// not, with the cookies of its jar at the provider (OpenID Connect Core 1.0, 3.1.2.4). None where the reply is no consent
-/// page.
+/// not, with the cookies of its jar at the provider (OpenID Connect Core 1.0, 3.1.2.4). None where the reply is no consent page.
 #[tactic(auto, unfolding(crate::specs::Posting::consent_posted))]
 pub fn consent_posted(
     alloc: Global,

@@ -92,11 +92,11 @@ fn raw_ask(
     })
 }
 
-/// A request to a role that is written out part by part: what is sent under this number, with this method, and with a target,
-/// two cookies (`first` the browser's, `second` the session's), an `Authorization` header and a body, each where it is there.
+/// A request to a role that is written out part by part: what is sent under this number, with this method, and with a target, two
+/// cookies (`first` the browser's, `second` the session's), an `Authorization` header and a body, each where it is there.
 ///
-/// The target is cut into path and query at its first `?` (RFC 9112, 3.2.1); an absent one is empty. The first colon of the
-/// header stands for a space. The body is that of a form. No part is judged here.
+/// The target is cut into path and query at its first `?` (RFC 9112, 3.2.1); an absent one is empty. The first colon of the header
+/// stands for a space. The body is that of a form. No part is judged here.
 #[tactic(auto, unfolding(crate::specs::Raw::raw_sent))]
 pub fn raw_sent(
     alloc: Global,

@@ -38,8 +38,7 @@ pub fn party_left(alloc: Global, from: u32, party: u32, jar: &Jar) -> Result<Sen
     Ok(under_number(from, To::Party(party), ask))
 }
 
-/// To sign out at the provider: a POST to `/signout` below its issuer (own), with the cookies of the browser's jar at the
-/// provider.
+/// To sign out at the provider: a POST to `/signout` below its issuer (own), with the cookies of the browser's jar at the provider.
 pub fn signed_out(
     alloc: Global,
     registry: &Registry,

@@ -1,6 +1,5 @@
 //! What is looked up of the places of a world by their words and texts: under which numbers a cookie was set, which token texts
-//! were written for a client, and which word has a half digest. Each change takes its memory first, so a failed one changes
-//! nothing.
+//! were written for a client, and which word has a half digest. Each change takes its memory first, so a failed one changes nothing.
 //!
 //! | Module | What it has |
 //! |---|---|

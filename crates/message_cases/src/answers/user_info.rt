@@ -25,8 +25,8 @@ fn client_place(registry: &Registry, id: &str) -> u32 {
     registry.find_client(id.as_bytes()).unwrap_or(u32::MAX)
 }
 
-/// `info_claims|CLIENT|USER|SCOPES|ASKED`: what UserInfo tells a client of a user, for scope values and the claims that are
-/// asked for by name.
+/// `info_claims|CLIENT|USER|SCOPES|ASKED`: what UserInfo tells a client of a user, for scope values and the claims that are asked
+/// for by name.
 pub fn info(
     alloc: Global,
     registry: &Registry,
