@@ -11,7 +11,7 @@
 //! | `mixing` | [`mixed`]: a location with the value of a parameter of another | `Mixing` |
 //! | `forging` | [`forged`]: the location of an answer whose ID Token is forged | `Forging` |
 //! | `posting` | [`login_posted`] and [`consent_posted`] post the forms of the provider's pages | `Posting` |
-//! | `visiting` | [`login_begun`], [`party_visited`], [`party_left`] and [`signed_out`], which a browser sends on its own | `Visiting` |
+//! | `visiting` | [`login_begun`], [`party_visited`], [`party_left`] and [`signed_out`], a browser's own requests | `Visiting` |
 //! | `carrying` | [`carried`]: a message from one server to another | `Carrying` |
 //! | `handing` | [`printed`]: a reply in HTTP; [`handed_back`]: that reply, passed to the party that waits for it | `Handing` |
 //! | `raw` | [`raw_sent`]: a request that is given part by part | `Raw` |
