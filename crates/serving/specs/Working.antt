@@ -63,7 +63,6 @@ module _ {S K A R : Type 0} where
 
     -- that is all that was done with the door, the link, the clock and the draw of a desk; if a connection ended because of the
     -- link, the link failed
-    -- link, the link failed
     pub record AtDesk (history : List (Pair A R)) (door door' : DoorState S K) (link link' : LinkState) (moments moments' : ℕ → Option ℕ) (words words' : ℕ → Option Word) (services : List (Service S K A R)) : Type 0 where
       pub passed : Passed door door' services
       pub sent : TookCalls link link' (calls_in services)
