@@ -4,8 +4,8 @@
 //! |---|---|---|
 //! | `config` | [`storm_config`] | `Config` |
 //! | `lines` | the lines of a trace | `Lines` |
-//! | `login` | what the logins are | `Logins` |
 //! | `login` | the logins | `Logins` |
+//! | `trace` | [`storm_trace`] | `Trace` |
 //! | `law` | [`storms_are_accepted`] | `Parties` |
 #![tactic(auto)]
 
