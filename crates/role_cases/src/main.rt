@@ -10,7 +10,7 @@
 //!
 //! | Table | Call | Effect |
 //! |---|---|---|
-//! | `provider` | `provider|NAME` | begins a provider with the configuration with this name |
+//! | `provider` | `provider|NAME` | begins a provider with the configuration of this name |
 //! | | any other | is a call of that provider |
 //! | `party` | `party|NAME`, `party|NAME|elsewhere` | begins a relying party, at the provider of the cases or at another |
 //! | | `provider` | begins the provider of the cases |

@@ -131,7 +131,7 @@ fn provider(alloc: Global, issuer: &str) -> Result<String, NoMemory> {
     Ok([provider.as_str(), ALICE, ALICES_CLAIMS, BOB].concat(alloc)?)
 }
 
-/// The configuration, with a provider with this issuer. Its parties:
+/// The configuration whose provider has this issuer. Its parties:
 ///
 /// | Party | Response type | Details |
 /// |---|---|---|

@@ -22,7 +22,7 @@ module _ {A R : Type 0} where
   LieBehind front history [] = Begins front history
   LieBehind front history (s ∷ steps) = Begins front s.before × LieBehind (history_after s) history steps
 
-  -- each step was called with the next reading of the clock, from this one on, and four words that were drawn then
+  -- each step was called with the next reading of the clock, starting with this one, and with the four words drawn then
   abbrev pub DrawnFrom : (ℕ → Option ℕ) → (ℕ → Option Word) → ℕ → List (Stepped A R) → Type 0
   DrawnFrom moments words reading [] = Unit {0}
   DrawnFrom moments words reading (s ∷ steps) = IsDrawn moments words reading s × DrawnFrom moments words (suc reading) steps

@@ -28,7 +28,7 @@ pub fn sessions_are_founded()
     ensures { (s : Site) (world : World) → SignsOn s world → HoldsOnlyFounded (machine_of s world) × OnceEach (machine_of s world) }
 {}
 
-/// In every legal world in which no cookie is used under another number: if all authorization requests with a nonce came from
+/// Take any legal world in which no cookie is used under another number. If all authorization requests with a nonce came from
 /// one browser, all answers to the nonce went to that browser.
 pub fn same_browser()
     ensures { (s : Site) (world : World) (browser : ℕ) (nonce : Option Text) → IsLegalWorld s world → IsUnleaked world → IsAskedOnlyFrom world browser nonce → IsAnsweredOnlyTo (machine_of s world).answered browser nonce }

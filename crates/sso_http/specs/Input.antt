@@ -23,7 +23,7 @@ NoHeadYet bytes left EndedEarly = (length bytes < most_head) × HasNoHead bytes 
 NoHeadYet bytes left HeadTooLong = (length bytes ≡ most_head) × HasNoHead bytes
 NoHeadYet bytes left e = ⊥
 
--- why no more than these bytes of a body was read, which has `count` bytes
+-- why no more than these bytes of a body of `count` bytes was read
 abbrev pub NoBodyYet : ℕ → List ℕ → Option (List ℕ) → HttpNo → Type 0
 NoBodyYet count bytes left NoMemory = Unit {0}
 NoBodyYet count bytes left ReadFault = Unit {0}

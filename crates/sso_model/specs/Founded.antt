@@ -4,7 +4,7 @@ use Rattle.sso_model.specs.Lists.{Has, AreDistinct}
 use Rattle.sso_model.specs.Rows.{Live, Machine}
 use Rattle.sso_model.specs.Machine.{began_row, signed_row, IsAnsweredFor}
 
--- the browser began this login at this client, the provider answered its nonce for this user, and the browser that received
+-- the browser began this login at this client; the provider answered its nonce for this user; and the browser that received
 -- that answer had signed in as this user by password
 pub record IsFounded (m : Machine) (row : Live) : Type 0 where
   pub began : Has m.began (began_row row)

@@ -7,8 +7,8 @@ ghost use Rattle.sso_model.specs.Machine.{start, after, after_all, IsRun};
 ghost use Rattle.sso_model.specs.Founded.{HoldsOnlyFounded, OnceEach};
 ghost use Rattle.sso_model.specs.Named.{IsNamed};
 
-/// After any run, a relying party holds a session for a browser only if that browser began that login there, and the provider
-/// answered its nonce for that session's user, to a browser that had signed in as that user by password.
+/// After any run, each session that a relying party holds for a browser is founded. That browser began that login there. The
+/// provider answered its nonce for that session's user, to a browser that had signed in as that user by password.
 pub fn begun_answered_signed()
     ensures { (steps : List Step) → IsRun start steps → HoldsOnlyFounded (after_all start steps) }
 {}

@@ -75,7 +75,7 @@ pub record IsFirstLeaked (s : Site) (world : World) (number : ℕ) : Type 0 wher
   pub unforged : forges s earlier place ≡ false
   pub leaked : leaks earlier place ≡ true
 
--- the other place is the earliest that clashes with it, this one included
+-- the other place is the earliest that clashes with this one; it may be this one itself
 pub record IsFirstClash (s : Site) (world : World) (other number : ℕ) : Type 0 where
   pub place : Place
   pub earlier : World

@@ -1,4 +1,4 @@
--- The premises of the sign-on theorem: no token is forged, no cookie is used under another browser number, all random words
+-- The sign-on theorem has four premises: no token is forged, no cookie is used under another browser number, all random words
 -- differ, and a provider's answer comes under the number of its request. The binding of codes and access tokens has one more:
 -- their half hashes differ. That honest logins succeed needs two: random words differ, and time goes on.
 use Rattle.std.specs.Prelude.{◌≡◌, ◌≤◌, ℕ, Bool, false, ◌==◌, ◌&&◌, not, List, [], ◌∷◌, ◌++◌, Option, Some, None, if◌then◌else◌}

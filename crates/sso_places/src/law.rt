@@ -46,7 +46,7 @@ pub fn logins_carry_the_written_objects()
 {}
 
 /// A merge of the provider's history and the relying parties' histories is a legal world, if their cores made these histories.
-/// Any HTTP requests will do that parse to the histories' entries, and any browser numbers.
+/// The HTTP requests may be any that parse to the histories' entries, and the browser numbers are free.
 pub fn merges_are_legal()
     ensures { (s : Site) (provider : List OpPair) (parties : ℕ → List RpPair) (world : World) → AreHistories s provider parties → IsMerge s provider parties world → IsLegalWorld s world }
 {}

@@ -40,7 +40,7 @@ rp_few_rounds (reply.Ended count) = (omega arith, λ question. absurd (question 
 rp_few_rounds (reply.Refused why) = (omega arith, λ question. absurd (question refl))
 rp_few_rounds reply.NotHere = (omega arith, λ question. absurd (question refl))
 
--- the request is a token response, or a UserInfo response
+-- the entry is a token response, or a UserInfo response
 abbrev IsTokens : RpAsk → Type 0
 IsTokens asked = (pending : Word) × (came : Result Tokens TokensNo) × (id : Option (Result IdClaims IdNo)) × (asked ≡ ask.Tokens pending came id)
 

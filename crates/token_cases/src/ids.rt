@@ -54,7 +54,7 @@ fn rules(alloc: Global) -> Result<IdRules, NoMemory> {
     Ok(rules)
 }
 
-// The name of a refusal, and the claim that it names.
+// The name of a refusal, and a detail: the name of a claim, or of an inner refusal.
 fn refusal(why: &IdNo) -> (&str, &str) {
     match why {
         IdNo::NoMemory => ("no memory", ""),
@@ -74,7 +74,7 @@ fn refusal(why: &IdNo) -> (&str, &str) {
     }
 }
 
-/// A refusal, with its moment or the name of its claim.
+/// A refusal, with its moment or its detail.
 pub fn refused(alloc: Global, why: &IdNo) -> Result<String, NoMemory> {
     let (name, what) = refusal(why);
     match why {

@@ -24,7 +24,7 @@ pub fn answer(alloc: Global, fields: &[&str]) -> Option<Result<String, NoMemory>
     }
 }
 
-// The name of a refusal, and the claim that it names.
+// The name of a refusal, and a detail: the name of a claim, or of an inner refusal.
 fn refusal(why: &LogoutNo) -> (&str, &str) {
     match why {
         LogoutNo::NoMemory => ("no memory", ""),
@@ -43,7 +43,7 @@ fn refusal(why: &LogoutNo) -> (&str, &str) {
     }
 }
 
-// A refusal, with its moment or the name of its claim.
+// A refusal, with its moment or its detail.
 fn refused(alloc: Global, why: &LogoutNo) -> Result<String, NoMemory> {
     let (name, what) = refusal(why);
     match why {

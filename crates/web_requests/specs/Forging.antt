@@ -1,4 +1,4 @@
--- An answer whose ID Token is forged: one with the same claims but for its subject, sealed by somebody who has the client's
+-- An answer whose ID Token is forged: one with the same claims except for its subject, sealed by somebody who has the client's
 -- secret.
 use Rattle.std.specs.Prelude.{◌<◌, ◌^◌, Bool, ◌&&◌, length, nat_le, Option, Some, None, option_map, option_and_then, IfSome, if◌then◌else◌}
 use Rattle.std.specs.Result.{result_ok}

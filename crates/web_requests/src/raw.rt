@@ -92,8 +92,8 @@ fn raw_ask(
     })
 }
 
-/// A request to a role that is given part by part: its sender's number, its method, and, if they are there, a target, two
-/// cookies (`first` the browser's, `second` the session's), an `Authorization` header and a body.
+/// A request to a role that is given part by part: its sender's number and its method. It may have a target, two cookies
+/// (`first` the browser's, `second` the session's), an `Authorization` header and a body.
 ///
 /// The target is split into path and query at its first `?` (RFC 9112, 3.2.1); an absent one is empty. The first colon of the
 /// header becomes a space. The body is that of a form. No part is checked here.

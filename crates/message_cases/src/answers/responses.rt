@@ -38,7 +38,7 @@ pub fn print(
     told(alloc, location.as_str())
 }
 
-/// `print_refusal|REDIRECT|PLACE|CODE|STATE`: the location of a refusal with the code with this name.
+/// `print_refusal|REDIRECT|PLACE|CODE|STATE`: the location of a refusal with the code of this name.
 pub fn refuse(
     alloc: Global,
     (redirect, place): (&str, &str),

@@ -25,9 +25,11 @@ pub fn sample(alloc: Global) -> Result<String, NoMemory> {
     Ok([users.as_str(), clients.as_str()].concat(alloc)?)
 }
 
-/// The text with this name: the credentials of clients by HTTP Basic, computed with Python's urllib and base64; those of the
-/// first client by parameters; the rest of a good token request; and a word of 32 equal bytes, in hex, with its text by
-/// Python's base64.
+/// The text with this name:
+///
+/// - the credentials of clients by HTTP Basic, computed with Python's urllib and base64;
+/// - those of the first client by parameters, and the rest of a good token request;
+/// - a word of 32 equal bytes, in hex, with its text by Python's base64.
 pub fn text(name: &str) -> Option<&'static str> {
     match name {
         "shop" => Some("Basic c2hvcC1jbGllbnQ6c2hvcC1zZWNyZXQtc2hvcC1zZWNyZXQtc2hvcC1zZWNyZXQ="),

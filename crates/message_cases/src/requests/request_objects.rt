@@ -23,7 +23,7 @@ fn listed(alloc: Global, params: &Params) -> Result<String, NoMemory> {
     or_else(list, "nothing")
 }
 
-// The name of a refusal, and the claim that it names.
+// The name of a refusal, and a detail: the name of a claim, or of an inner refusal.
 fn refusal(why: &ObjNo) -> (&str, &str) {
     match why {
         ObjNo::NoMemory => ("NoMemory", ""),
