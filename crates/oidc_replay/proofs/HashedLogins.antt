@@ -1,5 +1,6 @@
--- A party of a play requests UserInfo only with access tokens whose ID Token has an `at_hash`. That of an authorization response must
--- have it. A token response is a printed reply of the provider, which gives it to each ID Token with an access token.
+-- A party of a play requests UserInfo only with access tokens whose ID Token has an `at_hash`. That of an authorization
+-- response must have it. A token response is a printed reply of the provider, which gives it to each ID Token with an access
+-- token.
 use Rattle.std.proofs.Common.{◌≡◌, ℕ, true, List, [], ◌∷◌, Option, Some, None, is_some, Result, Ok, Err, refl, sym, ap, ◌∙◌, subst, inl, inr}
 use Rattle.std.proofs.lemmas.Option.{same_Some}
 use Rattle.sso_base.specs.Words.{Word, Text}

@@ -1,5 +1,5 @@
--- A play is joined: each answer of a server comes under the number of the place with its request, since the word of a request is
--- drawn for one place only.
+-- A play is joined: each answer of a server comes under the number of the place with its request, since the word of a request
+-- is drawn for one place only.
 use Rattle.std.proofs.Common.{◌≡◌, ◌⊎◌, ℕ, Bool, true, cond, List, [], ◌∷◌, length, Option, Some, Ok, inl, inr, refl, sym, ap, ◌∙◌, subst, arith}
 use Rattle.std.proofs.lemmas.Option.{same_Some}
 use Rattle.std.proofs.lemmas.Slice.Eq.{bytes_eq-Decides}

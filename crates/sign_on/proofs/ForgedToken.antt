@@ -1,6 +1,6 @@
 -- A world that breaks only one premise: browser 1 begins a login at a relying party of the type `id_token token`, and presents
--- an ID Token of alice that somebody sealed under the client's secret. The provider received no request. The party's answers are
--- real, and it accepts the login of browser 1.
+-- an ID Token of alice that somebody sealed under the client's secret. The provider received no request. The party's answers
+-- are real, and it accepts the login of browser 1.
 use Rattle.std.proofs.Common.{◌≡◌, ◌++◌, ℕ, zero, suc, ◌&&◌, ◌||◌, Bool, true, false, [], ◌∷◌, codes, Some, None, Ok, refl, sym, ap, ◌∙◌, arith}
 use Rattle.std.specs.Str.{IsUtf8, bytes_eq}
 use Rattle.sso_base.specs.Words.{Text}

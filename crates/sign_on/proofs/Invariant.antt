@@ -161,7 +161,8 @@ pub record SentAs (c : Configuration) (world : World) (sent : List Sent) (client
   pub subject : y.sub ≡ Some (subject_at c client row.user)
   pub sid : y.sid ≡ if_wished row.only row.sid
 
--- A text that is read as a logout token went out. This does not restrict an ID Token or a request object, since none is read so.
+-- A text that is read as a logout token went out. This does not restrict an ID Token or a request object, since none is read
+-- so.
 abbrev pub IsTokenSent : Configuration → World → List Sent → TokenText → Type 0
 IsTokenSent c world sent t = (y : LogoutClaims) → logout_read (client_secret c t.0) t.1 ≡ Ok y → SentAs c world sent t.0 y
 

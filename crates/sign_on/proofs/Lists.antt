@@ -1,5 +1,5 @@
--- Lists: what follows for each element from a test that finds nothing, filters that follow one another, and lists whose elements
--- are related.
+-- Lists: what follows for each element from a test that finds nothing, filters that follow one another, and lists whose
+-- elements are related.
 use Rattle.std.proofs.Common.{◌≡◌, ℕ, suc, Bool, true, false, not, cond, List, [], ◌∷◌, ◌++◌, length, filter, filter_map, Option, Some, None, option_and_then, inl, inr, refl, sym, ap, ◌∙◌, subst}
 use Rattle.std.specs.List.{AllByRecursion, cons_option}
 use Rattle.std.specs.Str.{bytes_eq}

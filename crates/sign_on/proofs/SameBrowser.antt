@@ -1,4 +1,5 @@
--- The browser that received the answer to a nonce is one that sent it: it is the same from the authorization request to the answer.
+-- The browser that received the answer to a nonce is one that sent it: it is the same from the authorization request to the
+-- answer.
 use Rattle.std.proofs.Common.{◌≡◌, ℕ, suc, not, Bool, true, false, cond, List, [], ◌∷◌, ◌++◌, length, map, filter, Option, Some, None, option_map, option_and_then, Ok, refl, sym, ap, ◌∙◌, subst, inl, inr}
 use Rattle.std.proofs.lemmas.Option.{same_Some}
 use Rattle.std.specs.List.{AllByRecursion}
