@@ -1,4 +1,4 @@
--- What names a member, and when it begins.
+-- The name of a member, and the moment at which it begins.
 use Rattle.std.specs.Prelude.{ℕ}
 use Rattle.sso_base.specs.Words.{Text}
 use Rattle.base_cases.specs.declared.members.Member.{Member}

@@ -1,4 +1,4 @@
-// The held rows of a table beside a plain list: what both answer to the same calls.
+// The held rows of a table compared with a plain list: the answers of both to the same calls.
 
 use crate::held::HeldMembers;
 use crate::plain::PlainMembers;
@@ -7,7 +7,7 @@ use case_lines::{push_part, told};
 use sso_base::{Moment, NoMemory};
 use std::alloc::Global;
 
-// Two tables that are asked the same.
+// Two tables that receive the same calls.
 #[derive(Drop)]
 struct Both {
     held: HeldMembers,
@@ -25,7 +25,7 @@ impl Both {
         }
     }
 
-    // What both answer to a call, whose words have spaces between; None where they differ.
+    // The answer of both to a call, whose words are separated by spaces, or `None` if they differ.
     fn answer(&mut self, alloc: Global, call: &str) -> Result<Option<String>, NoMemory> {
         let words: Vec<&str> = call.split(' ').collect(alloc)?;
         let held = ask(alloc, &mut self.held, words.as_slice())?;
@@ -41,7 +41,7 @@ impl Both {
         Ok(self.answer(alloc, call)?.is_some())
     }
 
-    // Whether both have the same member of a name, and as many of its groups.
+    // Whether both have the same member with a name, and as many of its groups.
     fn agree_on(
         &mut self,
         alloc: Global,
@@ -59,7 +59,7 @@ impl Both {
         )
     }
 
-    // The same of the member that a call adds or puts, if it does.
+    // The same for the member that a call adds or puts, if it does.
     fn agree_after(&mut self, alloc: Global, call: &str) -> Result<bool, NoMemory> {
         let words: Vec<&str> = call.split(' ').collect(alloc)?;
         match words.as_slice() {
@@ -68,7 +68,7 @@ impl Both {
         }
     }
 
-    // Whether both hold the same members, where these calls have added all that are held.
+    // Whether both hold the same members, if these calls have added all members that are held.
     fn agree(&mut self, alloc: Global, calls: &str) -> Result<bool, NoMemory> {
         for call in calls.split(" / ") {
             if !self.agree_after(alloc, call)? {
@@ -79,7 +79,7 @@ impl Both {
     }
 }
 
-// What a call answers, once both hold the same members after it; None where they differ.
+// The answer of a call, if both hold the same members after it, or `None` if they differ.
 fn carried_out(
     alloc: Global,
     both: &mut Both,
@@ -94,8 +94,8 @@ fn carried_out(
     }
 }
 
-/// `table|CALL / CALL`: what a table and a plain list answer to these calls, and the members that are left; the number of the call
-/// at which they differ, where they do.
+/// `table|CALL / CALL`: the answers of a table and a plain list to these calls, and the members that are left. If they differ,
+/// the number of the call at which they do.
 pub fn table(alloc: Global, calls: &str) -> Result<String, NoMemory> {
     let mut both = Both::new(alloc);
     let mut answers = String::new(alloc);
@@ -111,14 +111,15 @@ pub fn table(alloc: Global, calls: &str) -> Result<String, NoMemory> {
     Ok(format!(in alloc; "{answers}; left: {left}")?)
 }
 
-// The call that adds the member of this number, which begins at as many seconds. Its name is far from those of its neighbours.
+// The call that adds the member with this number, which begins at as many seconds. Its name is far from those of its
+// neighbours.
 fn added(alloc: Global, number: u32) -> Result<String, NoMemory> {
     let name = number.wrapping_mul(2_654_435_761);
     let (group, other) = (number % 3, number % 7);
     Ok(format!(in alloc; "add {name} g{group} h{other} {number} {number}")?)
 }
 
-// The calls that add so many members.
+// The calls that add `count` members.
 fn all_added(alloc: Global, count: u32) -> Result<String, NoMemory> {
     let mut calls = String::new(alloc);
     for number in 0..count {
@@ -127,7 +128,7 @@ fn all_added(alloc: Global, count: u32) -> Result<String, NoMemory> {
     Ok(calls)
 }
 
-// Whether both answer the same to each of these calls. The answers are added to those before.
+// Whether both answer these calls in the same way. The answers are added to those before.
 fn all_answered(
     alloc: Global,
     both: &mut Both,
@@ -143,8 +144,8 @@ fn all_answered(
     Ok(true)
 }
 
-/// `many|COUNT|CALL / CALL`: what a table and a plain list answer to these calls, after so many members were added, if they answer
-/// the same and hold the same members in the end; else `differ`.
+/// `many|COUNT|CALL / CALL`: the answers of a table and a plain list to these calls, after COUNT members were added, if they
+/// answer in the same way and hold the same members at the end. Otherwise `differ`.
 pub fn many(alloc: Global, count: &str, calls: &str) -> Result<String, NoMemory> {
     let Ok(count) = count.parse::<u32>() else {
         return told(alloc, "no number");

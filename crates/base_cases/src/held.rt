@@ -10,13 +10,13 @@ use held_rows::{Held, Test};
 use sso_base::{Moment, NoMemory};
 use std::alloc::Global;
 
-/// Held rows, and what has to be known of them before one is added.
+/// Held rows, with what must be known about them before one is added.
 #[derive(Drop)]
 pub struct HeldMembers {
     rows: Held<Member>,
-    // The latest moment of a member that was added or put.
+    // The latest moment of the members that were added or put.
     latest: Moment,
-    // How many were added.
+    // The number of members that were added.
     added: u32,
     ghost in_order: { none_after member_begun latest rows.rows ≡ true },
     ghost few: { length rows.rows ≤ added },

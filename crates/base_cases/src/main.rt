@@ -1,18 +1,18 @@
-//! Cases of what all stands on, each a line that a person can read: texts, bytes, moments and words, rows with names and tables
+//! Cases of the lowest crates, each a line that a person can read: texts, bytes, moments and words, rows with names and tables
 //! of them, sinks and shelves, scope values and response types.
 //!
-//! The file `stdin` has the cases, and `stdout` the same with their answers. `case_lines` says how a line is read, and the comments
-//! there where the expected answers come from.
+//! The file `stdin` has the cases, and `stdout` has them with their answers. The crate `case_lines` documents how a line is
+//! read. The comments in the table name the source of the expected answers.
 //!
 //! | Module | Its calls |
 //! |---|---|
 //! | `words` | texts, bytes, moments, and words with their texts |
 //! | `rows` | `put row`, `find row` and `remove row`: a table of rows with names |
-//! | `outside` | `write` and `fetch`: sinks and shelves in memory, of which some calls fail |
-//! | `scopes` | `claim`, `claims`, `asks`, `joined` and `covers`: scope values, and the claims that they ask for |
+//! | `outside` | `write` and `fetch`: sinks and shelves in memory, some of whose calls fail |
+//! | `scopes` | `claim`, `claims`, `asks`, `joined` and `covers`: scope values, and the claims that they request |
 //! | `types` | `types`: response types |
-//! | `beside` | `table` and `many`: the held rows of a table beside a plain list, both asked the same |
-//! | `table` | what is asked of the two |
+//! | `beside` | `table` and `many`: the held rows of a table compared with a plain list, with the same calls |
+//! | `table` | the calls of the two |
 //! | `held`, `plain` | members in the held rows of a table, and in a plain list |
 //! | `members` | members: rows with names and groups |
 #![tactic(auto)]

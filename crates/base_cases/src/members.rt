@@ -1,4 +1,4 @@
-// A small kind of row: members, who have names, and may be in a group and in another one.
+// A small kind of row: members, which have names, and may be in a group and in another one.
 
 ghost use Rattle.std.specs.Prelude.{◌≡◌, ◌&&◌, Some, option_map, refl};
 ghost use Rattle.std.proofs.lemmas.Bool.{and_parts};
@@ -11,7 +11,7 @@ ghost use Rattle.base_cases.specs.Groups.{is_text, fits_text};
 use held_rows::{By, Change, Row, Test};
 use sso_base::{Moment, Text, bytes_if};
 
-/// A member, for 600 seconds from the moment at which it begins.
+/// A member, which is live for 600 seconds from the moment at which it begins.
 #[derive(Drop)]
 pub struct Member {
     pub name: Text,
@@ -117,7 +117,7 @@ impl Test<Member> for InGroup<'_> {
     ghost are_found = { λ t row passes. found_by t.group.now (is_text t.group.now) refl (λ held same. bytes_same held t.group.now same) row.group passes };
 }
 
-/// The members of another group, who are also in the group that is given, if one is.
+/// The members of another group. If a group is given, they must also be in that.
 #[derive(Clone, Copy)]
 pub struct InOther<'a> {
     pub group: Option<&'a str>,

@@ -1,4 +1,4 @@
-// Sinks and shelves in memory, of which some calls fail.
+// Sinks and shelves in memory, some of whose calls fail.
 
 ghost use Rattle.std.specs.Prelude.{Some};
 
@@ -9,7 +9,7 @@ use sso_base::{
 };
 use std::alloc::{AllocError, Global};
 
-/// Takes at most so many bytes at a call, but one at least.
+/// A sink that takes at most a given number of bytes at a call, but at least one.
 #[derive(Drop)]
 struct SlowSink {
     sink: FaultySink,
@@ -31,7 +31,7 @@ impl Sink for SlowSink {
     }
 }
 
-// Writes the piece, and adds how that went.
+// Writes the piece, and adds the result.
 fn write_piece(told: &mut String, sink: &mut SlowSink, piece: &str) -> Result<(), AllocError> {
     match write_whole(sink, piece.as_bytes()) {
         Ok(()) => push_part(told, " ", "ok"),
@@ -39,7 +39,7 @@ fn write_piece(told: &mut String, sink: &mut SlowSink, piece: &str) -> Result<()
     }
 }
 
-// How each piece went, and what was taken of all.
+// The result of each piece, and the bytes that were taken.
 fn told_pieces(alloc: Global, sink: &mut SlowSink, pieces: &str) -> Result<String, NoMemory> {
     let mut told = String::new(alloc);
     for piece in pieces.split(',') {
@@ -49,8 +49,8 @@ fn told_pieces(alloc: Global, sink: &mut SlowSink, pieces: &str) -> Result<Strin
     Ok(format!(in alloc; "{}, {taken:?}", told.as_str())?)
 }
 
-/// `write|MOST|FAILING|PIECES`: whether each of the pieces, which have commas between, was written to a sink that takes at
-/// most so many bytes at a call and whose call of the second number fails, and what it took of all.
+/// `write|MOST|FAILING|PIECES`: whether each of the pieces, which are separated by commas, was written, and the bytes that were
+/// taken. The sink takes at most MOST bytes at a call, and its call number FAILING fails.
 pub fn write(alloc: Global, most: &str, failing: &str, pieces: &str) -> Result<String, NoMemory> {
     let (Ok(most), Ok(failing)) = (most.parse::<usize>(), failing.parse::<u64>()) else {
         return told(alloc, "no numbers");
@@ -70,13 +70,13 @@ fn file(alloc: Global) -> Result<File, NoMemory> {
     })
 }
 
-// A shelf of this file, whose call of this number fails.
+// A shelf with this file, whose call with this number fails.
 fn shelf(alloc: Global, failing: u64) -> Result<FaultyShelf, NoMemory> {
     let shelf = MemoryShelf::new(vec![in alloc; file(alloc)?]?);
     Ok(FaultyShelf::new(shelf, vec![in alloc; failing]?))
 }
 
-// Adds what was fetched, or why nothing was.
+// Adds the bytes that were fetched, or why there are none.
 fn push_fetched(
     alloc: Global,
     told: &mut String,
@@ -92,7 +92,7 @@ fn push_fetched(
     }
 }
 
-// Fetches the file of this name, and adds what came.
+// Fetches the file with this name, and adds the result.
 fn fetch_name(
     alloc: Global,
     told: &mut String,
@@ -118,8 +118,8 @@ fn told_names(
     Ok(told)
 }
 
-/// `fetch|FAILING|NAMES|MOST`: what each of these names, which have spaces between, gives up to so many bytes, on a shelf
-/// that has `hello` under the name `words` and whose call of the first number fails.
+/// `fetch|FAILING|NAMES|MOST`: the result of fetching each of these names, which are separated by spaces, up to MOST bytes. The
+/// shelf has `hello` under the name `words`, and its call number FAILING fails.
 pub fn fetch(alloc: Global, failing: &str, names: &str, most: &str) -> Result<String, NoMemory> {
     let (Ok(failing), Ok(most)) = (failing.parse::<u64>(), most.parse::<usize>()) else {
         return told(alloc, "no numbers");

@@ -1,4 +1,4 @@
-// Members in a plain list, which each call walks from its first member on.
+// Members in a plain list, which each call searches from its first member on.
 
 use crate::members::{Member, Numbered};
 use crate::table::{Table, told_member};
@@ -7,7 +7,7 @@ use held_rows::{Change, Row, Test};
 use sso_base::{Moment, NoMemory, is_live};
 use std::alloc::Global;
 
-/// A list of members, and the latest moment of one that was added or put.
+/// A list of members, and the latest moment of those that were added or put.
 #[derive(Drop)]
 pub struct PlainMembers {
     rows: Vec<Member>,
@@ -23,7 +23,7 @@ impl PlainMembers {
         }
     }
 
-    /// The members in their order, with commas between, or `-`.
+    /// The members in their order, separated by commas, or `-`.
     pub fn told(&self, alloc: Global) -> Result<String, NoMemory> {
         let mut list = String::new(alloc);
         for row in &self.rows {
@@ -33,7 +33,7 @@ impl PlainMembers {
     }
 }
 
-// Whether the member lives at the moment and passes the test.
+// Whether the member is live at the moment and passes the test.
 fn passes<T: Test<Member>>(row: &Member, test: &T, at: Moment) -> bool {
     is_live(Member::LIFE, row.begun, at) && test.passes(row)
 }

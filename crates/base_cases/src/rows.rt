@@ -4,7 +4,7 @@ use case_lines::{push_part, told};
 use sso_base::{Named, NoMemory, Word, find_row, put_row, remove_row};
 use std::alloc::{AllocError, Global};
 
-/// A door. The word that names it is a byte, 32 times.
+/// A door. Its name is a word that repeats one byte 32 times.
 #[derive(Drop)]
 pub struct Door {
     name: Word,
@@ -20,7 +20,7 @@ impl Named for Door {
     }
 }
 
-/// What a call of this module answers.
+/// The answer of a call of this module.
 pub fn answer(alloc: Global, doors: &mut Vec<Door>, fields: &[&str]) -> Result<String, NoMemory> {
     match fields {
         ["put row", number, colour] => put(alloc, doors, number, colour),

@@ -1,11 +1,11 @@
-// Scope values, and the claims that they ask for.
+// Scope values, and the claims that they request.
 
 use case_lines::{given_texts, scopes, told_scopes, told_truth, written};
 use oidc_words::{Scopes, is_standard_claim};
 use sso_base::NoMemory;
 use std::alloc::Global;
 
-// The scope values that ask for a claim alone.
+// The single scope values that request a claim.
 fn askers(name: &str) -> Scopes {
     Scopes {
         openid: Scopes::among(&["openid"]).ask_for(name),
@@ -16,7 +16,7 @@ fn askers(name: &str) -> Scopes {
     }
 }
 
-/// `claim|NAME`: the scope values that hold the claim, those that ask for it alone, and whether it is a standard claim.
+/// `claim|NAME`: the scope values that hold the claim, those that each request it, and whether it is a standard claim.
 pub fn claim(alloc: Global, name: &str) -> Result<String, NoMemory> {
     let name = written(alloc, name)?;
     let holders = told_scopes(alloc, Scopes::with_claim(name.as_str()))?;
@@ -31,7 +31,7 @@ pub fn claims(alloc: Global, names: &str) -> Result<String, NoMemory> {
     told_scopes(alloc, Scopes::with_claims(&names))
 }
 
-/// `asks|SCOPES|NAME`: whether these scope values ask for the claim.
+/// `asks|SCOPES|NAME`: whether these scope values request the claim.
 pub fn asks(alloc: Global, words: &str, name: &str) -> Result<String, NoMemory> {
     told_truth(alloc, scopes(alloc, words)?.ask_for(name))
 }

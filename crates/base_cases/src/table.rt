@@ -1,4 +1,4 @@
-// What is asked of a table of members.
+// The calls of a table of members.
 
 use crate::members::{InGroup, InOther, Member, Numbered};
 use case_lines::{given, moment, told, told_number, told_truth};
@@ -6,44 +6,44 @@ use held_rows::Test;
 use sso_base::{Moment, NoMemory, Text};
 use std::alloc::Global;
 
-/// A table of members. No two have one name, and they stand in the order in which they were added or put.
+/// A table of members. No two have the same name, and they are in the order in which they were added or put.
 pub trait Table {
-    /// The member of a name.
+    /// The member with this name.
     fn find(&self, name: &str) -> Option<&Member>;
 
-    /// Adds a member. `false` where none may be added: its name is held, or its moment is before the last one's.
+    /// Adds a member. `false` if it must not be added: its name is taken, or its moment is before the last one's.
     fn add(&mut self, row: Member) -> Result<bool, NoMemory>;
 
-    /// Puts a member at the end, in place of the one of its name. `false` where its name is not held, or its moment is before
-    /// the last one's.
+    /// Puts a member at the end, in place of the one with its name. `false` if there is none with its name, or its moment is
+    /// before the last one's.
     fn put(&mut self, name: &str, row: Member) -> Result<bool, NoMemory>;
 
-    /// Gives the member of a name another number.
+    /// Gives the member with this name another number.
     fn change(&mut self, name: &str, change: Numbered);
 
-    /// Takes out the member of a name.
+    /// Removes the member with this name.
     fn remove(&mut self, name: &str);
 
-    /// Takes out the members that pass the test, and answers their number.
+    /// Removes the members that pass the test, and returns their number.
     fn take_out<T: Test<Member>>(&mut self, test: &T) -> u64;
 
-    /// Takes out the members that do not live at the moment.
+    /// Removes the members that are not live at the moment.
     fn purge(&mut self, at: Moment);
 
-    /// Whether a member that lives at the moment passes the test.
+    /// Whether a member that is live at the moment passes the test.
     fn any_live<T: Test<Member>>(&self, test: &T, at: Moment) -> bool;
 
-    /// How many members live at the moment and pass the test.
+    /// The number of members that are live at the moment and pass the test.
     fn count_live<T: Test<Member>>(&self, test: &T, at: Moment) -> u64;
 
-    /// How many members live at the moment.
+    /// The number of members that are live at the moment.
     fn count_all_live(&self, at: Moment) -> u64;
 
     /// Whether there is room for one more member at the moment.
     fn has_room(&self, at: Moment) -> bool;
 }
 
-// A text of a call, where `''` is the empty one.
+// A text of a call; `''` is the empty one.
 fn text(word: &str) -> &str {
     if word == "''" { "" } else { word }
 }
@@ -83,7 +83,7 @@ fn quoted_if(text: &Option<Text>) -> &str {
     }
 }
 
-/// The member as a call writes it.
+/// The member as it is written in a call.
 pub fn told_member(alloc: Global, row: &Member) -> Result<String, NoMemory> {
     let name = quoted(row.name.as_str());
     let (group, other) = (quoted_if(&row.group), quoted_if(&row.other));
@@ -186,7 +186,7 @@ fn count<T: Table>(
     told_number(alloc, Some(count))
 }
 
-// What a call tells of the members that live at a moment.
+// What a call prints about the members that are live at a moment.
 fn ask_live<T: Table>(
     alloc: Global,
     table: &T,
@@ -204,15 +204,15 @@ fn ask_live<T: Table>(
     }
 }
 
-/// What a call answers that is asked of the table, and is carried out where it may be. Of the groups, `-` is none.
+/// The answer of a call of the table. It is carried out if its preconditions hold. A group `-` is none.
 ///
 /// | Call | Its answer |
 /// |---|---|
-/// | `add NAME GROUP OTHER BEGUN NUMBER`, `put ..` | `done`, or `may not` where it may not be called |
+/// | `add NAME GROUP OTHER BEGUN NUMBER`, `put ..` | `done`, or `may not` if its precondition is false |
 /// | `find NAME` | the member, or `none` |
 /// | `change NAME NUMBER`, `remove NAME`, `purge AT` | `done` |
-/// | `take GROUP OTHER` | how many members of each given group were taken out |
-/// | `any GROUP OTHER AT`, `count GROUP OTHER AT` | whether one of them lives, and how many do; `count - - AT` counts all |
+/// | `take GROUP OTHER` | the number of members of each given group that were removed |
+/// | `any GROUP OTHER AT`, `count GROUP OTHER AT` | whether one of them is live, and how many are; `count - - AT` counts all |
 /// | `room AT` | whether there is room for one more |
 pub fn ask<T: Table>(alloc: Global, table: &mut T, words: &[&str]) -> Result<String, NoMemory> {
     match words {

@@ -4,7 +4,7 @@ use case_lines::{as_text, bytes, given_texts, in_32, moment, told, told_hex, tol
 use sso_base::{Blob, Moment, NoMemory, Text, Word, is_live};
 use std::alloc::Global;
 
-/// What a call of this module answers.
+/// The answer of a call of this module.
 pub fn answer(alloc: Global, fields: &[&str]) -> Result<String, NoMemory> {
     match fields {
         ["text", text] => copied_text(alloc, text),
@@ -29,7 +29,7 @@ fn copied_text(alloc: Global, text: &str) -> Result<String, NoMemory> {
     Ok(format!(in alloc; "{text}, {copied}, {taken}")?)
 }
 
-// `texts|TEXT,TEXT`: how many texts the list has, and those of a copy.
+// `texts|TEXT,TEXT`: the number of texts in the list, and those of a copy.
 fn copied_texts(alloc: Global, texts: &str) -> Result<String, NoMemory> {
     let texts = given_texts(alloc, texts, ',')?;
     let copied = told_texts(alloc, &texts.copy(alloc)?)?;
@@ -42,7 +42,7 @@ fn equals(alloc: Global, text: &str, other: &str) -> Result<String, NoMemory> {
     Ok(format!(in alloc; "{equals}")?)
 }
 
-// `is only|TEXT,TEXT|TEXT`: whether there are texts, and each is this one.
+// `is only|TEXT,TEXT|TEXT`: whether there are texts, and all are this one.
 fn is_only(alloc: Global, texts: &str, text: &str) -> Result<String, NoMemory> {
     let is_only = given_texts(alloc, texts, ',')?.is_only(text);
     Ok(format!(in alloc; "{is_only}")?)
@@ -68,7 +68,7 @@ fn seconds(alloc: Global, field: &str) -> Result<String, NoMemory> {
     }
 }
 
-// `live|LIFE|BEGUN|AT`: whether what lives for so many seconds from one moment on is live at another.
+// `live|LIFE|BEGUN|AT`: whether something with a lifetime of LIFE seconds from one moment on is live at another.
 fn live(alloc: Global, life: &str, begun: &str, at: &str) -> Result<String, NoMemory> {
     match (life.parse::<u32>().ok(), moment(begun), moment(at)) {
         (Some(life), Some(begun), Some(at)) => {
@@ -94,7 +94,7 @@ fn word_text(alloc: Global, field: &str) -> Result<String, NoMemory> {
     Ok(format!(in alloc; "{}, {}", as_text(&text), copied.as_str())?)
 }
 
-// `read word|TEXT`: the bytes of the word that has the text, in hex.
+// `read word|TEXT`: the bytes of the word with this text, in hex.
 fn read_word(alloc: Global, text: &str) -> Result<String, NoMemory> {
     match Word::read(text.as_bytes()) {
         Some(word) => told_hex(alloc, &word.bytes()),

@@ -1,4 +1,4 @@
-// What the fields of a case stand for.
+// Reads the fields of a case.
 
 use crate::numbered::word;
 use hex::FromHex;
@@ -6,12 +6,12 @@ use oidc_words::Scopes;
 use sso_base::{Moment, NoMemory, Text, Texts, Word};
 use std::alloc::{AllocError, Global};
 
-/// What a field gives: `-` is nothing.
+/// The value of a field; `-` is none.
 pub fn given(field: &str) -> Option<&str> {
     if field == "-" { None } else { Some(field) }
 }
 
-// So many times the text.
+// The text repeated `count` times.
 fn repeated(alloc: Global, count: u32, text: &str) -> Result<Vec<u8>, AllocError> {
     let mut bytes = Vec::new(alloc);
     for _ in 0..count {
@@ -26,7 +26,7 @@ pub fn times(field: &str) -> Option<(u32, &str)> {
     Some((count.parse::<u32>().ok()?, text))
 }
 
-// Adds the bytes that the digits write; none where they write no bytes.
+// Adds the bytes of the hexadecimal digits, or nothing if they are not such digits.
 fn push_decoded(alloc: Global, bytes: &mut Vec<u8>, digits: &str) -> Result<(), AllocError> {
     match hex::decode(alloc, digits.as_bytes()) {
         Ok(decoded) => bytes.extend_from_slice(decoded.as_slice()),
@@ -45,8 +45,8 @@ fn push_part(alloc: Global, bytes: &mut Vec<u8>, part: &str) -> Result<(), Alloc
     }
 }
 
-/// The bytes of a field, whose parts stand with ` ++ ` between: `hex:DIGITS` is the bytes that are written so, `COUNT*TEXT`
-/// the text so many times, and any other part itself.
+/// The bytes of a field, whose parts are separated by ` ++ `. `hex:DIGITS` is the bytes with these digits, `COUNT*TEXT` is the
+/// text repeated, and any other part is itself.
 pub fn bytes(alloc: Global, field: &str) -> Result<Vec<u8>, AllocError> {
     let mut bytes = Vec::new(alloc);
     for part in field.split(" ++ ") {
@@ -55,7 +55,7 @@ pub fn bytes(alloc: Global, field: &str) -> Result<Vec<u8>, AllocError> {
     Ok(bytes)
 }
 
-/// The text that these bytes are; `no text` where they are no UTF-8.
+/// The text of these bytes, or `no text` if they are not UTF-8.
 pub fn as_text(bytes: &[u8]) -> &str {
     std::str::from_utf8(bytes).unwrap_or("no text")
 }
@@ -66,7 +66,7 @@ pub fn written(alloc: Global, field: &str) -> Result<String, NoMemory> {
     Ok(String::from_str(alloc, as_text(bytes.as_slice()))?)
 }
 
-/// The text of a field that is there.
+/// The text of a field, if it has one.
 pub fn given_text(alloc: Global, field: &str) -> Result<Option<Text>, NoMemory> {
     match given(field) {
         Some(text) => Ok(Some(Text::new(alloc, text)?)),
@@ -74,7 +74,7 @@ pub fn given_text(alloc: Global, field: &str) -> Result<Option<Text>, NoMemory> 
     }
 }
 
-/// The texts of a field, with this character between; none where the field is not there.
+/// The texts of a field, separated by this character; none if the field has no value.
 pub fn given_texts(alloc: Global, field: &str, between: char) -> Result<Texts, NoMemory> {
     let mut texts = Texts::new(alloc);
     if field == "-" {
@@ -91,7 +91,7 @@ pub fn moment(field: &str) -> Option<Moment> {
     Moment::new(field.parse::<u64>().ok()?)
 }
 
-/// The bytes, where they are 32.
+/// The bytes, if there are 32.
 pub fn in_32(bytes: &[u8]) -> Option<[u8; 32]> {
     if bytes.len() != 32 {
         return None;
@@ -101,13 +101,13 @@ pub fn in_32(bytes: &[u8]) -> Option<[u8; 32]> {
     Some(exact)
 }
 
-/// The word that 64 hexadecimal digits write.
+/// The word with these 64 hexadecimal digits.
 pub fn hex_word(digits: &str) -> Option<Word> {
     let bytes = <[u8; 32] as FromHex>::from_hex(digits).ok()?;
     Some(Word::new(bytes))
 }
 
-/// The scope values of a field, with spaces between. Other words are ignored, and `all` alone is each of them.
+/// The scope values of a field, separated by spaces. Other words are ignored, and the field `all` is all of them.
 pub fn scopes(alloc: Global, field: &str) -> Result<Scopes, NoMemory> {
     if field == "all" {
         return Ok(Scopes::all());
@@ -116,7 +116,7 @@ pub fn scopes(alloc: Global, field: &str) -> Result<Scopes, NoMemory> {
     Ok(Scopes::among(words.as_slice()))
 }
 
-/// The field at this place, from 0; `-` where it is left out.
+/// The field at this position, from 0; `-` if it is missing.
 pub fn field<'a>(fields: &[&'a str], place: usize) -> &'a str {
     match fields.get(place) {
         Some(field) => *field,
@@ -124,17 +124,17 @@ pub fn field<'a>(fields: &[&'a str], place: usize) -> &'a str {
     }
 }
 
-/// The number in a field; 0 where there is none.
+/// The number in a field, or 0 if there is none.
 pub fn number(field: &str) -> u32 {
     field.parse::<u32>().unwrap_or(0)
 }
 
-/// The word whose text the field is.
+/// The word with the field as its text.
 pub fn word_in(field: &str) -> Option<Word> {
     Word::read(field.as_bytes())
 }
 
-/// The same; the word of number 0 where the field is no text of a word.
+/// The same, or word number 0 if the field is not the text of a word.
 pub fn word_of(field: &str) -> Word {
     word_in(field).unwrap_or(word(0))
 }

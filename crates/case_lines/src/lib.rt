@@ -1,22 +1,22 @@
-//! Tables of cases: lines of text that a program reads, each a call and what it is given, and that it prints again with the
-//! answer. So what it prints is a table that a person reads, and what it reads is the same table without answers.
+//! Tables of cases. A program reads lines of text. Each is a call with its arguments, and is printed with the answer. So the
+//! output is a table that a person can read, and the input is the same table without answers.
 //!
-//! An empty line, and one that begins with `#`, is printed as it is. In every other line `|` stands between the fields. `$n$`
-//! stands for the text of the word of number n, which ends with n in four bytes and else has zeros. `$NAME$` stands for a text that the program
-//! gives a name to, and `no text of this name` for one that has none. No call here ensures anything: what the programs print is
-//! compared, and nothing else stands on it.
+//! An empty line, and one that begins with `#`, is printed as it is. In every other line the fields are separated by `|`. `$n$`
+//! is the text of word number n, which ends with n in four bytes and has zeros before it. `$NAME$` is a text that the program
+//! names, or `no text of this name`. No call here has a postcondition: the output of the programs is compared, and nothing else
+//! depends on it.
 //!
-//! Where memory runs out at a line, it is printed with `no memory`, and is asked once more: a step that finds no memory changes
-//! nothing, and so where one allocation fails, the table has at most that one line more.
+//! If memory runs out at a line, it is printed with `no memory`, and its call is made once more. A step that runs out of memory
+//! changes nothing. So if one allocation fails, the table has at most that one more line.
 //!
 //! | Module | What it has |
 //! |---|---|
-//! | `fields` | what most fields are, read |
-//! | `numbered` | words by their numbers |
-//! | `requests` | requests, and answers of a provider, read |
-//! | `answers` | how most answers are told |
+//! | `fields` | reads the values of most fields |
+//! | `numbered` | words by number |
+//! | `requests` | reads requests, and answers of a provider |
+//! | `answers` | prints most answers |
 //! | `http` | a reply in HTTP as a text |
-//! | `run` | asks one after another: their words, and what the last reply sends on |
+//! | `run` | requests one after another: their random words, and the follow-up of the last reply |
 #![tactic(auto)]
 
 mod answers;
@@ -43,21 +43,21 @@ use sso_base::{NoMemory, Text};
 use std::alloc::Global;
 use std::io;
 
-/// What answers the cases of a table.
+/// The calls of a table.
 pub trait Cases {
-    /// The answer to the call with these fields, of which the first is its name.
+    /// The answer to the call with these fields. The first is the name of the call.
     fn answer(&mut self, alloc: Global, fields: &[&str]) -> Result<String, NoMemory>;
 
-    /// The text of this name, where there is one.
+    /// The text with this name, if there is one.
     fn text(&self, name: &str) -> Option<&str>;
 
-    /// The text that is made for this name, where there is one.
+    /// The text that is computed for this name, if there is one.
     fn made(&self, _alloc: Global, _name: &str) -> Result<Option<Text>, NoMemory> {
         Ok(None)
     }
 }
 
-// Adds the text that is made for this name.
+// Adds the text that is computed for this name.
 fn push_made<C: Cases>(
     alloc: Global,
     line: &mut String,
@@ -70,7 +70,7 @@ fn push_made<C: Cases>(
     }
 }
 
-// Adds the text of this name.
+// Adds the text with this name.
 fn push_text<C: Cases>(
     alloc: Global,
     line: &mut String,
@@ -87,7 +87,7 @@ fn push_text<C: Cases>(
     }
 }
 
-/// The line with the texts that its names stand for.
+/// The line with the texts in place of their names.
 pub fn written_out<C: Cases>(alloc: Global, cases: &C, line: &str) -> Result<String, NoMemory> {
     let mut whole = String::new(alloc);
     let mut is_name = false;
@@ -108,7 +108,7 @@ fn answer_line<C: Cases>(alloc: Global, cases: &mut C, line: &str) -> Result<Str
     cases.answer(alloc, fields.as_slice())
 }
 
-// Prints the line with its answer. Whether there was memory for it.
+// Prints the line with its answer, and returns whether there was memory for it.
 fn print_told<R: Print>(rt: &R, line: &str, answer: Result<String, NoMemory>) -> io::Result<bool> {
     match answer {
         Ok(text) => {
@@ -138,7 +138,7 @@ fn print_line<R: Print, F: FnMut(&str) -> Result<String, NoMemory>>(
     Ok(())
 }
 
-/// Reads the table line by line and prints each with what it is answered.
+/// Reads the table line by line, and prints each line with its answer.
 pub fn print_lines<R: Input + Print + AllocGlobal, F: FnMut(&str) -> Result<String, NoMemory>>(
     rt: &R,
     mut answer: F,
@@ -151,7 +151,7 @@ pub fn print_lines<R: Input + Print + AllocGlobal, F: FnMut(&str) -> Result<Stri
     Ok(())
 }
 
-/// Reads the cases of the table line by line and prints each with its answer.
+/// Reads the cases of the table line by line, and prints each with its answer.
 pub fn print_cases<R: Input + Print + AllocGlobal, C: Cases>(
     rt: &R,
     cases: &mut C,

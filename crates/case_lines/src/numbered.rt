@@ -1,15 +1,15 @@
-// Words by their numbers.
+// Words by number.
 
 use sso_base::Word;
 
-/// The word of this number, which is written in its last four bytes; the others are zero.
+/// The word with this number in its last four bytes; the others are zero.
 pub fn word(number: u32) -> Word {
     let mut bytes = [0; 32];
     bytes[28..].copy_from_slice(&number.to_be_bytes());
     Word::new(bytes)
 }
 
-/// The words that the request at this place draws, from place 1: those of the numbers from 4p - 3 to 4p.
+/// The random words of the request at this place, from 1: those with the numbers from 4p - 3 to 4p.
 pub fn words_of_place(place: u32) -> [Word; 4] {
     let last = place.wrapping_mul(4);
     [

@@ -1,4 +1,4 @@
-// Requests, and answers of a provider, of the fields of a case.
+// Reads requests, and answers of a provider, from the fields of a case.
 
 use crate::fields::{field, given, given_text, number, word_in};
 use sso_base::{Answered, Ask, Blob, Method, NoMemory, Text};
@@ -19,8 +19,8 @@ fn body(alloc: Global, field: &str) -> Result<Option<Blob>, NoMemory> {
     }
 }
 
-/// The request `METHOD|TARGET|BODY|BROWSER|SESSION|AUTHORIZATION`, where the cookies of the browser and of the session are texts of
-/// words. Fields that are left out are as `-`.
+/// The request `METHOD|TARGET|BODY|BROWSER|SESSION|AUTHORIZATION`. The cookies of the browser and of the session are texts of
+/// words. A missing field is the same as `-`.
 pub fn request(alloc: Global, fields: &[&str]) -> Result<Ask, NoMemory> {
     let target = field(fields, 1);
     let (path, query) = target.split_once('?').unwrap_or((target, ""));

@@ -1,4 +1,4 @@
-// A run: asks that are answered one after another, the words that they draw, and what the last reply sends on.
+// A run: requests that are answered one after another, their random words, and the follow-up of the last reply.
 
 use crate::answers::told;
 use crate::fields::as_text;
@@ -7,7 +7,7 @@ use crate::numbered::words_of_place;
 use sso_base::{Blob, HttpReply, Message, NoMemory, Text, Word};
 use std::alloc::{AllocError, Global};
 
-/// How many asks were answered, and the last reply in HTTP, with the messages in it and the reply before it.
+/// The number of answered requests, the last reply in HTTP with its messages, and the reply before it.
 #[derive(Drop)]
 pub struct Run {
     answered: u32,
@@ -17,7 +17,7 @@ pub struct Run {
 }
 
 impl Run {
-    /// Nothing was asked.
+    /// A run without requests.
     pub fn new(alloc: Global) -> Run {
         Run {
             answered: 0,
@@ -27,24 +27,24 @@ impl Run {
         }
     }
 
-    /// The words that the next ask draws: at place p, from 1, those of the numbers from 4p - 3 to 4p.
+    /// The random words of the next request: at place p, from 1, those with the numbers from 4p - 3 to 4p.
     pub fn words(&self) -> [Word; 4] {
         words_of_place(self.answered.wrapping_add(1))
     }
 
-    /// One more ask was answered, and its reply is not kept yet.
+    /// Counts one more answered request, whose reply is not kept yet.
     pub fn count(&mut self) {
         self.answered = self.answered.wrapping_add(1);
         self.before = self.http.take();
     }
 
-    /// This is the last reply.
+    /// Keeps the last reply.
     pub fn keep(&mut self, http: HttpReply, messages: Vec<Message>) {
         self.http = Some(http);
         self.messages = messages;
     }
 
-    /// What a call tells of the last reply: `ask` its line alone, and `send` also what is sent of it.
+    /// What a call prints for the last reply: its line only for `ask`, and also the reply as it is sent for `send`.
     pub fn told(&self, alloc: Global, call: &str, line: &str) -> Result<String, NoMemory> {
         let mut out = told(alloc, line)?;
         if call != "send" {
@@ -57,15 +57,15 @@ impl Run {
         Ok(out)
     }
 
-    /// The text of the last reply that has this name, where there is one:
+    /// The text with this name in the last reply, if there is one:
     ///
     /// | Name | Text |
     /// |---|---|
-    /// | `target` | the path and the query of its location: what a browser asks for there |
-    /// | `fragment` | the fragment of its location, or where it has none, of that of the reply before, which a browser keeps |
+    /// | `target` | the path and the query of its location, which a browser requests there |
+    /// | `fragment` | the fragment of its location or, if it has none, that of the reply before, which a browser keeps |
     /// | `body` | its body |
     /// | `ID Token` | the ID Token in its location or in its body |
-    /// | `message target` | the path and the query of the URL to which its first message is sent |
+    /// | `message target` | the path and the query of the URL of its first message |
     /// | `message authorization`, `message body` | the value of that message's `Authorization` header, and its form |
     /// | `message token` | the logout token in that form |
     /// | `second message target` and so on | those of its second message |
@@ -151,7 +151,7 @@ fn after_authority(rest: &str) -> &str {
     rest.strip_prefix(authority).unwrap_or("/")
 }
 
-// What stands between two marks.
+// The text between two marks.
 fn between<'a>(text: &'a str, before: &str, after: char) -> Option<&'a str> {
     let (_, rest) = text.split_once(before)?;
     match rest.split_once(after) {

@@ -1,5 +1,5 @@
--- A command is read of the words that it is written in, and of no others. And where words are no command, and which command they
--- are by their places.
+-- A command is parsed from the words that write it, and from no others. Also: when words are not a command, and which command
+-- they are by position.
 use Rattle.std.proofs.Common.{◌≡◌, ◌≤◌, ◌<◌, ℕ, Bool, true, false, refl, ap, ◌∙◌, subst, codes, arith, List, [], ◌∷◌, length, Option, Some, None, if◌then◌else◌}
 use Rattle.std.specs.Fmt.{decimal}
 use Rattle.std.specs.List.{list_all, slice_get}

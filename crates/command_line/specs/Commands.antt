@@ -1,4 +1,4 @@
--- What the program is asked for by the words after its name.
+-- The command of the words after the program's name.
 use Rattle.std.specs.Prelude.{◌≤◌, ℕ, Bool, false, true, not, ◌==◌, List, [], ◌∷◌, Option, Some, None, is_some, codes, if◌then◌else◌}
 use Rattle.std.specs.Fmt.{decimal}
 use Rattle.std.specs.List.{list_all}
@@ -8,7 +8,7 @@ use Rattle.command_line.specs.declared.command.Command.{Command}
 use Rattle.command_line.specs.declared.command.Command.TheVariants.{Replay, Op, Rp, Storm, Token}
 use Rattle.command_line.specs.Numbers.{number_in}
 
--- the word has a byte, and does not begin with `-`
+-- the word is not empty, and does not begin with `-`
 abbrev pub is_plain : Text → Bool
 is_plain [] = false
 is_plain (first ∷ rest) = not (first == 45)
@@ -17,7 +17,7 @@ is_plain (first ∷ rest) = not (first == 45)
 abbrev pub of_two : Text → Text → Option Command
 of_two name config = if bytes_eq name (codes "op") then Some (Op config) else None
 
--- a storm of these numbers, where both are there
+-- a storm of these numbers, if there are both
 abbrev pub storm_of : Option ℕ → Option ℕ → Option Command
 storm_of (Some number) (Some count) = Some (Storm number count)
 storm_of number count = None
@@ -36,7 +36,7 @@ abbrev pub of_four : Text → Text → Text → Text → Option Command
 of_four name config party discovery =
     if bytes_eq name (codes "rp") then Some (Rp config party (Some discovery)) else None
 
--- the command of these words, by their number and the first of them
+-- the command of these words, by their count and the first of them
 abbrev pub command_in : List Text → Option Command
 command_in (name ∷ first ∷ []) = of_two name first
 command_in (name ∷ first ∷ second ∷ []) = of_three name first second
@@ -51,32 +51,32 @@ command_of words = if list_all is_plain words then command_in words else None
 abbrev pub is_command : List Text → Bool
 is_command words = is_some (command_of words)
 
--- a trace is to be replayed
+-- the command replays a trace
 abbrev pub asks_replay : Option Command → Bool
 asks_replay (Some (Replay config trace)) = true
 asks_replay command = false
 
--- the provider is to be served
+-- the command serves the provider
 abbrev pub asks_op : Option Command → Bool
 asks_op (Some (Op config)) = true
 asks_op command = false
 
--- a relying party is to be served
+-- the command serves a relying party
 abbrev pub asks_rp : Option Command → Bool
 asks_rp (Some (Rp config name discovery)) = true
 asks_rp command = false
 
--- a storm is to be played
+-- the command plays a storm
 abbrev pub asks_storm : Option Command → Bool
 asks_storm (Some (Storm number count)) = true
 asks_storm command = false
 
--- a token is to be opened
+-- the command verifies a token
 abbrev pub asks_token : Option Command → Bool
 asks_token (Some (Token secret token)) = true
 asks_token command = false
 
--- the words that a command is written in
+-- the words that write a command
 abbrev pub words_of : Command → List Text
 words_of (Replay config trace) = codes "replay" ∷ config ∷ trace ∷ []
 words_of (Op config) = codes "op" ∷ config ∷ []

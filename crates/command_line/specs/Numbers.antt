@@ -5,10 +5,10 @@ use Rattle.std.specs.Str.{bytes_eq}
 use Rattle.std.specs.Str.Parse.{digits_value}
 use Rattle.sso_base.specs.Words.{Text}
 
--- the word is the decimal digits of the number, which is from `low` to `high`
+-- the word is the decimal text of the number, which is from `low` to `high`
 abbrev pub is_number : ℕ → ℕ → Text → ℕ → Bool
 is_number low high word n = bytes_eq (decimal n) word && nat_le low n && nat_le n high
 
--- the number that a word is the decimal digits of, from `low` to `high`
+-- the number with this decimal text, from `low` to `high`
 abbrev pub number_in : ℕ → ℕ → Text → Option ℕ
 number_in low high word = if is_number low high word (digits_value 10 word) then Some (digits_value 10 word) else None

@@ -1,4 +1,4 @@
--- The words by their places, and how clap is told of these.
+-- The words by position, and the grammar that clap receives.
 use Rattle.std.specs.Prelude.{◌≡◌, true, List, Option, Some, None, codes, slice_get}
 use Rattle.std.specs.Option.{option_copied}
 use Rattle.sso_base.specs.Words.{Text}
@@ -8,25 +8,25 @@ use Rattle.command_line.specs.declared.command.Command.{Command}
 use Rattle.command_line.specs.declared.positionals.Positionals.{Positionals}
 use Rattle.command_line.specs.Commands.{of_two, of_three, of_four}
 
--- under each name stands the word of its place
+-- each name has the word at its position
 pub record HasPlaces (p : Positionals) (words : List Text) : Type 0 where
   pub name : option_copied p.name ≡ slice_get words 0
   pub first : option_copied p.first ≡ slice_get words 1
   pub second : option_copied p.second ≡ slice_get words 2
   pub third : option_copied p.third ≡ slice_get words 3
 
--- the command whose words stand at these places
+-- the command with these words at these positions
 abbrev pub command_at : Option Text → Option Text → Option Text → Option Text → Option Command
 command_at (Some name) (Some first) None None = of_two name first
 command_at (Some name) (Some first) (Some second) None = of_three name first second
 command_at (Some name) (Some first) (Some second) (Some third) = of_four name first second third
 command_at name first second third = None
 
--- a positional that is always there
+-- a required positional
 abbrev pub required_rule : Text → Rule
 required_rule id = record (new_rule id) { required = true }
 
--- no name of the program before the words, and no `--help`
+-- no program name before the words, and no `--help`
 abbrev pub bare : App
 bare = on_top (λ s. record s { no_binary_name = true; disable_help_flag = true }) (new_app (codes "sso"))
 

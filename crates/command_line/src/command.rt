@@ -1,4 +1,4 @@
-// Commands, and which of them the words are.
+// Commands, and parsing them.
 
 ghost use Rattle.std.specs.Prelude.{◌≡◌, ◌≤◌, true, length, map, IfOk};
 ghost use Rattle.std.specs.List.{list_all};
@@ -16,38 +16,38 @@ use std::alloc::Global;
 /// The most logins of a storm.
 const MOST_LOGINS: u32 = 10_000;
 
-/// What the words ask for.
+/// A command of the program.
 #[derive(Drop)]
 pub enum Command {
-    /// `replay CONFIG TRACE`: a trace is replayed.
+    /// `replay CONFIG TRACE`: replays a trace.
     Replay {
         /// The name of the configuration's file.
         config: Text,
         /// The name of the trace's file.
         trace: Text,
     },
-    /// `op CONFIG`: the provider is served.
+    /// `op CONFIG`: serves the provider.
     Op {
         /// The name of the configuration's file.
         config: Text,
     },
-    /// `rp CONFIG NAME` or `rp CONFIG NAME DISCOVERY`: a relying party is served.
+    /// `rp CONFIG NAME` or `rp CONFIG NAME DISCOVERY`: serves a relying party.
     Rp {
         /// The name of the configuration's file.
         config: Text,
         /// The relying party's name in the configuration.
         name: Text,
-        /// The name of the file with the provider's discovery document, where one is given.
+        /// The name of the file with the provider's discovery document, if one is given.
         discovery: Option<Text>,
     },
-    /// `storm NUMBER COUNT`: many logins, made up from two numbers, are played.
+    /// `storm NUMBER COUNT`: plays many logins, which are generated from two numbers.
     Storm {
-        /// The number that the users are chosen by, at most 4,294,967,295.
+        /// The seed that chooses the users, at most 4,294,967,295.
         number: u32,
-        /// How many logins, from 1 to 10,000.
+        /// The number of logins, from 1 to 10,000.
         count: u32,
     },
-    /// `token SECRETFILE TOKENFILE`: a token is opened.
+    /// `token SECRETFILE TOKENFILE`: verifies a token and prints its payload.
     Token {
         /// The name of the secret's file.
         secret: Text,
@@ -56,7 +56,7 @@ pub enum Command {
     },
 }
 
-// Whether the word has a byte, and does not begin with `-`.
+// Whether the word is not empty, and does not begin with `-`.
 fn is_plain(word: &Text) -> bool
     ensures { result ≡ spec.is_plain word.now }
 {
@@ -99,7 +99,7 @@ fn of_two(alloc: Global, name: &str, config: &str) -> Result<Option<Command>, No
     }))
 }
 
-// The command of the words `storm` and these.
+// The command `storm` with these two arguments.
 fn storm_of(alloc: Global, number: &str, count: &str) -> Result<Option<Command>, NoMemory>
     ensures { IfOk result (λ c. c ≡ spec.storm_of (number_in 0 4294967295 number.now) (number_in 1 10000 count.now)) }
 {
@@ -164,7 +164,7 @@ fn of_four(
     }))
 }
 
-// The command that has its words at these places.
+// The command with these words at these positions.
 fn choose(alloc: Global, words: &Positionals<'_>) -> Result<Option<Command>, NoMemory>
     ensures { IfOk result (λ c. c ≡ command_at (option_copied words.now.name) (option_copied words.now.first) (option_copied words.now.second) (option_copied words.now.third)) }
 {
@@ -179,7 +179,7 @@ fn choose(alloc: Global, words: &Positionals<'_>) -> Result<Option<Command>, NoM
     }
 }
 
-// The command of two to four plain words, as `clap` reads them.
+// The command of two to four plain words, as `clap` parses them.
 #[tactic(auto, using(crate::proofs::Laws::of_places))]
 fn read_plain(alloc: Global, words: &[Text]) -> Result<Option<Command>, NoMemory>
     requires least { 2 ≤ length words.now }
@@ -190,13 +190,13 @@ fn read_plain(alloc: Global, words: &[Text]) -> Result<Option<Command>, NoMemory
     let texts = borrowed(alloc, words)?;
     match read_positionals(alloc, texts.as_slice()) {
         Ok(words) => choose(alloc, &words),
-        // `clap` takes such words, so this is want of memory.
+        // `clap` accepts such words, so memory ran out.
         Err(_) => Err(NoMemory),
     }
 }
 
-/// The command of these words, those after the program's name; None exactly where they are none. A word that is empty or
-/// begins with `-` is a word of no command, and so is a number of `storm` that is out of range or has leading zeros.
+/// The command of the words after the program's name, or `None` if they are not one. No command has a word that is empty or
+/// begins with `-`, or a number of `storm` that is out of range or has leading zeros.
 #[tactic(auto, using(crate::proofs::Laws::too_few, crate::proofs::Laws::too_many, crate::proofs::Laws::not_plain))]
 pub fn read_command(alloc: Global, words: &[Text]) -> Result<Option<Command>, NoMemory>
     ensures { IfOk result (λ c. c ≡ command_of words.now) }

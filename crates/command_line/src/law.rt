@@ -1,4 +1,4 @@
-// What holds of commands, for the crates above.
+// Lemmas about commands, for the crates above.
 
 ghost use Rattle.std.specs.Prelude.{◌≡◌, true, List, Some};
 ghost use Rattle.std.specs.List.{list_all};
@@ -6,7 +6,7 @@ ghost use Rattle.sso_base.specs.Words.{Text};
 ghost use Rattle.command_line.specs.declared.command.Command.{Command};
 ghost use Rattle.command_line.specs.Commands.{command_of, is_plain, words_of, IsInRange};
 
-/// Words are a command exactly where they are the words that it is written in, each is plain, and the numbers of a storm are in their
+/// Words are a command if and only if they are the words that write it, each is plain, and the numbers of a storm are in their
 /// ranges.
 pub fn commands_are_read_as_they_are_written()
     ensures words { (words : List Text) (c : Command) → command_of words ≡ Some c → words ≡ words_of c }

@@ -1,10 +1,10 @@
-//! What the program is asked for by the words that it was started with, those after its name. They are read by `clap`.
+//! Parses the program's command from the words after its name, by means of `clap`.
 //!
 //! | Module | What it has | Its definitions, in `specs/` |
 //! |---|---|---|
 //! | `command` | [`Command`] and [`read_command`], which reads one | `Commands` |
 //! | `number` | decimal numbers | `Numbers` |
-//! | `positionals` | the words by their places, as `clap` reads them | `Positionals` |
+//! | `positionals` | the words by position, as `clap` parses them | `Positionals` |
 //! | `law` | [`commands_are_read_as_they_are_written`] | `Commands` |
 #![tactic(auto)]
 

@@ -7,7 +7,7 @@ ghost use Rattle.command_line.specs.Numbers.{number_in};
 use sso_base::NoMemory;
 use std::alloc::Global;
 
-// Whether the number is from `low` to `high`, and the word is what it prints.
+// Whether the number is from `low` to `high`, and the word is its decimal text.
 fn is_number(alloc: Global, word: &str, low: u32, high: u32, number: u32) -> Result<bool, NoMemory>
     ensures { IfOk result (λ is. is ≡ spec.is_number low high word.now number) }
 {
@@ -15,8 +15,8 @@ fn is_number(alloc: Global, word: &str, low: u32, high: u32, number: u32) -> Res
     Ok(printed.as_str() == word && low <= number && number <= high)
 }
 
-/// The number of a word, from `low` to `high`; None exactly where the word is not what such a number prints, which has no leading
-/// zeros.
+/// The number with this decimal text, from `low` to `high`. `None` if and only if the word is not the text of such a number,
+/// without leading zeros.
 pub(crate) fn read_number(
     alloc: Global,
     word: &str,

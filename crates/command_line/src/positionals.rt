@@ -1,4 +1,4 @@
-// The words by their places, as `clap` reads them.
+// The words by position, as `clap` parses them.
 
 ghost use Rattle.std.specs.Prelude.{◌≡◌, ◌≤◌, true, length, map, IfOk, IfErr};
 ghost use Rattle.std.specs.List.{list_all};
@@ -10,7 +10,7 @@ use clap::error::ErrorKind;
 use clap::{Arg, Command, Error};
 use std::alloc::{AllocError, Global};
 
-// The words by their places: the command's name, and up to three behind it.
+// The words by position: the command's name, and up to three after it.
 #[derive(Clone, Copy)]
 pub(crate) struct Positionals<'a> {
     pub(crate) name: Option<&'a str>,
@@ -19,7 +19,8 @@ pub(crate) struct Positionals<'a> {
     pub(crate) third: Option<&'a str>,
 }
 
-// What `clap` is to read: two positionals and up to two more, with no name of the program before them and no `--help`.
+// The grammar for `clap`: two required positionals and two optional ones. The words have no program name before them, and no
+// `--help`.
 fn flat_command<'a>(alloc: Global) -> Result<Command<'a>, AllocError>
     ensures { IfOk result (λ command. app_of command ≡ flat) }
 {
@@ -36,7 +37,7 @@ fn flat_command<'a>(alloc: Global) -> Result<Command<'a>, AllocError>
         .arg(third)
 }
 
-// The words by their places. `clap` takes any two to four plain words, so that it fails only for want of memory.
+// The words by position. `clap` accepts any two to four plain words, so this fails only if memory runs out.
 pub(crate) fn read_positionals<'a>(
     alloc: Global,
     words: &'a [&'a str],

@@ -9,7 +9,7 @@ use Rattle.sso_places.specs.Cookies.{no_jar, jar_set}
 use Rattle.cookie_jars.specs.declared.jar_note.JarNote.{JarNote}
 use Rattle.cookie_jars.specs.declared.jar_note.JarNote.TheVariants.{Set, Stolen}
 
--- the cookie that is set, or else the one that was there
+-- the new cookie, or else the old one
 abbrev pub set_or : Option Word → Option Word → Option Word
 set_or (Some w) was = Some w
 set_or None was = was
@@ -23,9 +23,9 @@ is_role to.Provider to.Provider = true
 is_role (to.Party n) (to.Party m) = n == m
 is_role a b = false
 
--- ---- the jar of a browser at a role, by what changed the jars, newest first
+-- ---- the jar of a browser at a role, by the changes of the jars, the newest first
 
--- a thief's jars are copies of the owner's, in place of its own
+-- a thief's jars are replaced by copies of the owner's
 abbrev pub jar_by : JarNote → (ℕ → To → Jar) → ℕ → To → Jar
 jar_by (Set b role set) was browser at = if (browser == b) && is_role at role then jar_with set (was browser at) else was browser at
 jar_by (Stolen thief owner) was browser at = if browser == thief then was owner at else was browser at
@@ -34,17 +34,17 @@ abbrev pub jar_of : List JarNote → ℕ → To → Jar
 jar_of [] browser at = no_jar
 jar_of (note ∷ notes) browser at = jar_by note (jar_of notes) browser at
 
--- ---- what changes the jars; the number 0, of a server, has none
+-- ---- changes of the jars; the number 0, of a server, has none
 
 abbrev pub jars_set : ℕ → To → Jar → List JarNote → List JarNote
 jars_set from role set notes = if from == 0 then notes else Set from role set ∷ notes
 
--- a place sets cookies
+-- the changes with those of a place's reply
 abbrev pub jars_after : Place → List JarNote → List JarNote
 jars_after (Provider from request p) notes = jars_set from to.Provider (jar_set (Provider from request p)) notes
 jars_after (Party n from request p) notes = jars_set from (to.Party n) (jar_set (Party n from request p)) notes
 jars_after Nothing notes = notes
 
--- a browser steals the cookies of another
+-- the changes with a theft
 abbrev pub jars_stolen : ℕ → ℕ → List JarNote → List JarNote
 jars_stolen thief owner notes = if thief == 0 then notes else Stolen thief owner ∷ notes

@@ -10,7 +10,8 @@ use std::alloc::Global;
 use std::collections::BTreeMap;
 use std::marker::Model;
 
-/// The jars of browsers at one role, seen as a list of browsers with their jars. A browser that is not in it has an empty jar.
+/// The jars of browsers at one role. Its model is a list of browsers with their jars. A browser that is not in it has an empty
+/// jar.
 #[derive(Drop)]
 pub(crate) struct JarMap {
     jars: BTreeMap<u32, Jar>,
@@ -25,7 +26,7 @@ impl Model for JarMap {
     ghost view = { λ m. m.jars.entries };
 }
 
-// No cookie is set.
+// A jar without cookies.
 pub(crate) fn empty_jar() -> Jar
     ensures { result ≡ no_jar }
 {
@@ -64,7 +65,7 @@ impl JarMap {
         self.add(browser, jar.first, jar.second)
     }
 
-    // The browser has a jar with these cookies. It takes memory where it had none.
+    // Adds the browser's jar with these cookies. It takes memory if the browser had none.
     fn add(
         &mut self,
         browser: u32,
@@ -78,7 +79,7 @@ impl JarMap {
         Ok(())
     }
 
-    /// The browser has this jar. Room was made for it.
+    /// Replaces the browser's jar. Room must have been made for it.
     pub(crate) fn put(&mut self, browser: u32, jar: Jar)
         requires { has_jar self.old browser ≡ true }
         ensures { (other : ℕ) → jar_in self.new other ≡ (if other == browser then jar else jar_in self.old other) }

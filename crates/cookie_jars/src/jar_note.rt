@@ -1,13 +1,13 @@
-// What changes the jars of browsers.
+// A change of the browsers' jars.
 
 use sso_places::{Jar, To};
 
-/// What changed the jars of browsers.
+/// A change of the browsers' jars.
 #[derive(Drop)]
 pub enum JarNote {
     /// A reply of this role set these cookies for the browser.
     Set { browser: u32, to: To, set: Jar },
-    /// The thief has copies of the owner's jars, in place of its own.
+    /// The thief's jars were replaced by copies of the owner's.
     Stolen { thief: u32, owner: u32 },
 }
 

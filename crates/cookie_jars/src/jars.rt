@@ -13,8 +13,8 @@ use sso_places::{Jar, To};
 use std::alloc::Global;
 use std::marker::Model;
 
-/// The jars of all browsers, seen as what changed them, the newest first. Room for a change of one jar is made before, so that the
-/// change takes no memory.
+/// The jars of all browsers. Its model is the list of their changes, the newest first. Room for a change of one jar is made
+/// before it, so that the change takes no memory.
 #[derive(Drop)]
 pub struct Jars {
     notes: Vec<JarNote>,
@@ -35,7 +35,7 @@ impl Model for Jars {
     ghost invariant = { λ j. AreJars j.provider j.parties.items (reverse j.notes.items) (vec_capacity j.notes) j.ready };
 }
 
-// The cookie that is set, or else the one that was there.
+// The new cookie, or else the old one.
 fn set_or(set: &Option<Word>, was: &Option<Word>) -> Option<Word>
     ensures { result ≡ spec.set_or set.now was.now }
 {
@@ -55,7 +55,7 @@ fn jar_with(set: &Jar, jar: &Jar) -> Jar
     }
 }
 
-// The cookies are set in the browser's jar.
+// Sets the cookies in the browser's jar.
 fn set_in(map: &mut JarMap, browser: u32, set: &Jar)
     requires { has_jar map.old browser ≡ true }
     ensures { (other : ℕ) → jar_in map.new other ≡ (if other == browser then spec.jar_with set.now (jar_in map.old browser) else jar_in map.old other) }
@@ -64,7 +64,7 @@ fn set_in(map: &mut JarMap, browser: u32, set: &Jar)
     map.put(browser, jar);
 }
 
-// The thief's jar is a copy of the owner's.
+// Replaces the thief's jar by a copy of the owner's.
 fn steal_in(map: &mut JarMap, thief: u32, owner: u32)
     requires { has_jar map.old thief ≡ true }
     ensures { (other : ℕ) → jar_in map.new other ≡ (if other == thief then jar_in map.old owner else jar_in map.old other) }
@@ -85,7 +85,7 @@ fn prepare_all(maps: &mut Vec<JarMap>, browser: u32) -> Result<(), NoMemory>
     Ok(())
 }
 
-// The thief's jar is a copy of the owner's in each map.
+// Replaces the thief's jar by a copy of the owner's in each map.
 fn steal_in_all(maps: &mut Vec<JarMap>, thief: u32, owner: u32)
     requires { HaveSlots maps.old.items thief }
     ensures count { length maps.new.items ≡ length maps.old.items }
@@ -96,7 +96,7 @@ fn steal_in_all(maps: &mut Vec<JarMap>, thief: u32, owner: u32)
     }
 }
 
-// One more change is noted. Room was made for it. Each form stands here by name, so that the borrow checker finds its fields' types.
+// Adds one more change, for which there is room. The match names each form, so that the borrow checker finds its fields' types.
 fn push_note(notes: &mut Vec<JarNote>, note: JarNote)
     requires { length notes.old.items < vec_capacity notes.old }
     ensures { notes.new.items ≡ notes.old.items ++ note ∷ [] }
@@ -112,7 +112,7 @@ fn push_note(notes: &mut Vec<JarNote>, note: JarNote)
 }
 
 impl Jars {
-    /// All jars are empty, at the provider and at so many parties.
+    /// Empty jars, at the provider and at `parties` parties.
     pub fn new(alloc: Global, parties: u32) -> Result<Jars, NoMemory>
         ensures { IfOk result (λ j. j ≡ record { notes = []; parties = parties; ready = None }) }
     {
@@ -141,7 +141,7 @@ impl Jars {
         }
     }
 
-    /// Makes room for one change, of a browser's jar at a role.
+    /// Makes room for one change of a browser's jar at a role.
     pub fn prepare(&mut self, browser: u32, to: To) -> Result<(), NoMemory>
         requires { IsBelow self.old.parties to }
         ensures same { self.new ≡ record self.old { ready = self.new.ready } }
@@ -157,7 +157,7 @@ impl Jars {
         Ok(())
     }
 
-    /// A reply of a role sets these cookies for the browser. Room was made for it. The number 0 has no jar.
+    /// Sets the cookies of a role's reply for the browser. Room must have been made for it. The number 0 has no jar.
     pub fn set(&mut self, browser: u32, to: To, set: Jar)
         requires { self.old.ready ≡ Some (record { browser = browser; to = to }) }
         ensures { self.new ≡ record self.old { notes = spec.jars_set browser to set self.old.notes; ready = None } }
@@ -173,7 +173,7 @@ impl Jars {
         push_note(&mut self.notes, JarNote::Set { browser, to, set });
     }
 
-    /// The thief has copies of the owner's jars, in place of its own. The number 0 has no jar.
+    /// Replaces the thief's jars by copies of the owner's. The number 0 has no jar. On an error no jar changes.
     pub fn steal(&mut self, thief: u32, owner: u32) -> Result<(), NoMemory>
         ensures ok { OnOk result (self.new ≡ record self.old { notes = spec.jars_stolen thief owner self.old.notes; ready = None }) }
         ensures err { OnErr result (self.new ≡ record self.old { ready = None }) }

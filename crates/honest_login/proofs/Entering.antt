@@ -109,7 +109,7 @@ module _ (c : Configuration) (v : Visitor) (r : IsRegistry c) (m : MayLogIn c v)
         quiet = ap (λ y. gives_password y || false) g.place;
       })
 
-  -- ---- what is known says that the login goes well
+  -- ---- the known facts imply that the login goes well
 
   module _ (world : World) (last : Place) (earlier : List Place) where
     abbrev L : List Place

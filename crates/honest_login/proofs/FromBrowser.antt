@@ -1,4 +1,4 @@
--- The next place, where the browser follows a location or posts a form.
+-- The next place, if the browser follows a location or posts a form.
 use Rattle.std.proofs.Common.{◌≡◌, ◌≤◌, ◌<◌, ◌+◌, ℕ, Bool, true, false, List, ◌∷◌, length, Option, Some, None, Ok, refl, sym, ap, ◌∙◌, subst, ◌⊎◌, inl, inr, arith}
 use Rattle.std.proofs.lemmas.Bool.{ltb-true}
 use Rattle.sso_base.specs.Words.{Word, Text, fresh_word, word_text}

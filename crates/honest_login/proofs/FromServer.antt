@@ -1,4 +1,4 @@
--- The next place, where a party's message is carried to the provider, or its answer given back.
+-- The next place, if a party's message is carried to the provider, or its answer is returned.
 use Rattle.std.proofs.Common.{◌≡◌, ◌<◌, ◌+◌, ℕ, true, List, ◌∷◌, Option, Some, None, Ok, refl, sym, ap, ◌∙◌, subst, inl, inr, arith}
 use Rattle.std.proofs.lemmas.Bool.{ltb-true}
 use Rattle.sso_base.specs.Words.{Word, Text, fresh_word, word_text}

@@ -19,7 +19,7 @@ use Rattle.honest_provider.proofs.Outcomes.{Paged, Consenting, AnswerKnown}
 use Rattle.honest_party.proofs.Waiting.{login_waits_on, pending_waits_on}
 
 module _ (c : Configuration) (v : Visitor) where
-  -- ---- what stands at the party: after a place of others, and after one of the login at the provider
+  -- ---- the party's rows: after a place of others, and after one of the login at the provider
 
   login_waited : (login : List Place) (world : World) (x : Place) (state nonce lb : Word) (from : ℕ) → Now c x world → Spares login x → LoginKnown v login world state nonce lb from
       → LoginKnown v login (x ∷ world) state nonce lb from

@@ -36,7 +36,7 @@ use Rattle.honest_provider.proofs.Outcomes.{Paged, Consenting, AnswerKnown, Answ
 
 -- ---- the party's half
 
--- the login stands at the party, and the browser has its cookie
+-- the party has a row of the login, and the browser has its cookie
 pub record LoginKnown (v : Visitor) (login : List Place) (world : World) (state nonce lb : Word) (from : ℕ) : Type 0 where
   pub row : LoginRow
   pub stands : row_of login_name state (logins (rp_past v.party world)) ≡ Some row
@@ -77,7 +77,7 @@ module _ (c : Configuration) (v : Visitor) (world : World) (last : Place) (earli
   abbrev S : PartySetup
   S = setup_at (own_site c) v.party
 
-  -- 1: the party asked
+  -- 1: the party sent its authorization request
   pub record IsAsking : Type 0 where
     pub state : Word
     pub nonce : Word
@@ -154,7 +154,7 @@ module _ (c : Configuration) (v : Visitor) (world : World) (last : Place) (earli
     pub waits : Waiting c v L world w stage.Tokens nonce from since (subject_at c (party_row c v.party).client user)
     pub short : length L ≤ 6
 
-  -- 7: the party asks for UserInfo
+  -- 7: the party requests UserInfo
   pub record IsFetching : Type 0 where
     pub nonce : Word
     pub from : ℕ

@@ -1,4 +1,4 @@
-//! That honest logins succeed among whatever else is asked. It has no running code.
+//! The theorem that honest logins succeed, whatever else is requested. It has no running code.
 //!
 //! | Module | What it has |
 //! |---|---|

@@ -1,4 +1,4 @@
--- What the provider issues for a party's wish is judged good by the party: in an authorization response, and in a token response.
+-- The party verifies what the provider issues for its request: in an authorization response, and in a token response.
 use Rattle.std.proofs.Common.{◌≡◌, ℕ, Option, Some, None, option_map, Ok, refl, sym, ap, ◌∙◌, subst}
 use Rattle.sso_base.specs.Words.{Word, Text, word_text}
 use Rattle.client_registry.specs.declared.records.Provider.{Provider}

@@ -24,7 +24,7 @@ pub record IsOwnParty (s : PartySetup) : Type 0 where
 abbrev pub HasRoom : PartySetup → RpPast → Entry RpAsk → Type 0
 HasRoom s past e = (table : RpTable) → ¬ (rp_answer s past e ≡ Refused (no.Full table))
 
--- an ID Token of this wish, of a user who logged in so, of this moment, is judged at a later one for a login with the nonce
+-- an ID Token for this request, of a user with this login, at this moment; it is verified later for a login with the nonce
 pub record InTime (s : PartySetup) (wish : Wish) (who : Authentication) (at : ℕ) (word : Word) (begun later : ℕ) : Type 0 where
   pub client : wish.client ≡ (party_of s).client
   pub nonce : wish.nonce ≡ Some (word_text word)

@@ -68,7 +68,7 @@ subject_of_flag false x t is = refl
 
 -- ---- how a login goes on
 
--- UserInfo is asked for with this access token, else the subject enters
+-- UserInfo is requested with this access token, or else the subject is logged in
 pub record Fetches (s : PartySetup) (w access : Word) (r : RpReply) : Type 0 where
   pub endpoint : Text
   pub endpoint_is : info_endpoint s ≡ Some endpoint

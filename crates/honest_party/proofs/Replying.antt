@@ -24,7 +24,7 @@ use Rattle.rp_answer.specs.Room.{table_lacking, unless_lacking}
 use Rattle.rp_answer.specs.Answering.{rp_reply, rp_answer}
 use Rattle.honest_party.proofs.OwnParty.{HasRoom}
 
--- ---- where there is room, the reply is the one that there would be
+-- ---- if there is room, the reply is the one that there would be
 
 unless_told : (prepared : Bool) (lacking : Option RpTable) (reply : RpReply) → prepared ≡ true → ((table : RpTable) → ¬ (cond prepared (unless_lacking reply lacking) NotHere ≡ Refused (no.Full table)))
     → cond prepared (unless_lacking reply lacking) NotHere ≡ reply

@@ -1,5 +1,5 @@
--- The places of an honest login at its party, in a world: what was sent there was called for by the last reply of the login, and the
--- party replies as it is to. What waits at the party stands after the place.
+-- The places of an honest login at its party, in a world: the last reply of the login called for what was sent there, and the
+-- party replies as it must. The party's pending rows exist after the place.
 use Rattle.std.proofs.Common.{◌≡◌, ◌<◌, ◌+◌, not, ℕ, Bool, true, false, cond, List, ◌∷◌, length, Option, Some, None, Result, Ok, refl, sym, ap, ◌∙◌, subst, arith}
 use Rattle.sso_base.specs.Words.{Word, Text, IsWord, is_word, fresh_word, word_text}
 use Rattle.sso_base.specs.Rows.{row_of}

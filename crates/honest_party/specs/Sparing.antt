@@ -1,5 +1,5 @@
--- A pair of a party that has nothing to do with a word: it does not draw it, and what is asked is about no login and no exchange of the
--- word.
+-- A pair of a party that has nothing to do with a word: it does not draw the word, and its request names no login and no
+-- exchange of the word.
 use Rattle.std.specs.Prelude.{◌≡◌, ◌<◌, ℕ, false}
 use Rattle.sso_base.specs.Words.{Word, is_word, fresh_word}
 use Rattle.rp_answer.specs.Past.{RpPair}

@@ -1,9 +1,9 @@
-//! What a relying party does for an honest login: its rows stay while other requests are about none of their words, and each place of
-//! the login gets the reply that leads on. It has no running code.
+//! The relying party's part of an honest login: its rows stay while other requests name none of their words, and each place of
+//! the login gets a reply that leads on. It has no running code.
 //!
 //! | Module | What it has | Its definitions, in `specs/` |
 //! |---|---|---|
-//! | `law` | that rows persist | `Sparing` |
+//! | `law` | a lemma: rows persist | `Sparing` |
 #![tactic(auto)]
 
 mod law;

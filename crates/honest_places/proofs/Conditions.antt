@@ -1,4 +1,4 @@
--- Where no condition is left out, each demands what it says.
+-- If no condition is left out, each has its full meaning.
 use Rattle.std.proofs.Common.{◌≡◌, Some, None}
 use Rattle.honest_places.specs.Conditions.{Condition, Unless}
 

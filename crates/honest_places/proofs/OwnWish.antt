@@ -1,4 +1,4 @@
--- What a party of a registry asks for is granted, unless it asks for no page.
+-- The provider accepts the request of a party of its registry, unless the party requests that no page is shown.
 use Rattle.std.proofs.Common.{◌≡◌, ◌≤◌, ◌<◌, ◌+◌, ◌*◌, ◌-◌, ◌^◌, ◌&&◌, ◌||◌, not, nat_le, ℕ, zero, suc, Bool, true, false, cond, List, [], ◌∷◌, ◌++◌, length, filter, decimal, Option, Some, None, is_some, is_none, option_map, unwrap_or, slice_get, refl, sym, ap, ◌∙◌, arith}
 use Prim.Native.Nat.{◌/◌, ◌%◌}
 use Rattle.std.specs.Char.{is_ascii_digit}

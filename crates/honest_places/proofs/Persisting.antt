@@ -8,7 +8,7 @@ use Rattle.sso_base.specs.Rows.{row_of, rows_by, lives, if_lives}
 use Rattle.sso_base.specs.Stands.{is_named, KeepsNames}
 use Rattle.sso_base.proofs.RowLaws.{row_of-more, row_has_name, bool_cases, bytes_same, bytes_true}
 
--- no row of the name was made, where none that was made has it
+-- no row with the name was made, if no new row has it
 pub unnamed : {R : Type 0} (name : R → Word) (w : Word) (m : Option R) → ((row : R) → m ≡ Some row → name row ≡ w → ⊥) → is_named name w m ≡ false
 unnamed name w None never = refl
 unnamed name w (Some row) never =
@@ -23,14 +23,14 @@ module _ {P R : Type 0} (name : R → Word) (made : List R → List P → P → 
 
   -- ---- one more pair
 
-  -- a row that is made stands
+  -- a new row is in the table
   pub made_stands : (past : List P) (p : P) (m : R) → made (rows past) past p ≡ Some m → row_of name (name m) (rows (p ∷ past)) ≡ Some m
   made_stands past p m is =
       let C : Option R → Option R = λ o. cond (is_named name (name m) o) o (option_and_then (kept past p) (row_of name (name m) (rows past))) in
       let B : Bool → Option R = λ b. cond b (Some m) (option_and_then (kept past p) (row_of name (name m) (rows past))) in
       row_of-more name made kept names (name m) p past ∙ (ap C is ∙ ap B (bytes_true (name m) (name m) refl))
 
-  -- a row stays as it is left, where none of its name is made
+  -- a row stays as it is left, if none with its name is made
   pub kept_stands : (past : List P) (p : P) (w : Word) (row after : R) → is_named name w (made (rows past) past p) ≡ false → row_of name w (rows past) ≡ Some row → kept past p row ≡ Some after
       → row_of name w (rows (p ∷ past)) ≡ Some after
   kept_stands past p w row after none there left =
@@ -54,7 +54,7 @@ module _ {P R : Type 0} (name : R → Word) (made : List R → List P → P → 
 
   -- the same of a part of a row: `Legal` is what is known of the whole past, `Sparing` of each pair, and `look` what is looked at of a row
   module _ {X : Type 0} (Legal : List P → Type 0) (earlier : (p : P) (past : List P) → Legal (p ∷ past) → Legal past) (Sparing : P → Type 0) (look : R → X) (w : Word) (x : X) where
-    -- a row of the name stands, and is this as to what is looked at
+    -- a row with the name is in the table, and has this value for what is looked at
     pub record Found (past : List P) : Type 0 where
       pub row : R
       pub there : row_of name w (rows past) ≡ Some row
@@ -86,7 +86,7 @@ module _ {P R : Type 0} (name : R → Word) (made : List R → List P → P → 
       persists (p ∷ later) past legal spared found =
           one_more (later ++ past) p legal spared.0 (persists later past (earlier p (later ++ past) legal) spared.1 found)
 
--- ---- a row that stands lives, where its time is not over
+-- ---- a row in the table is live, if its time is not over
 
 pub lives_on : {R : Type 0} (life : ℕ) (begun : R → ℕ) (at : ℕ) (row : R) (found : Option R) → found ≡ Some row → lives life (begun row) at ≡ true → option_and_then (if_lives life begun at) found ≡ Some row
 lives_on {R} life begun at row found is live =

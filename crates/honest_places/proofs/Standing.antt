@@ -1,4 +1,4 @@
--- What is sent to a place stands there.
+-- What is sent to a place is its request.
 use Rattle.std.proofs.Common.{◌≡◌, ℕ, Option, Some, ap, ◌∙◌}
 use Rattle.std.proofs.lemmas.Option.{same_Some}
 use Rattle.sso_base.specs.Words.{Word}
@@ -69,7 +69,7 @@ module _ (c : Configuration) where
       }
   at_party Nothing from n request asked h read stands = absurd (cc)
 
-  -- what a law says is sent, and was sent to the place
+  -- what a lemma says is sent, and was sent to the place
   module _ (x : Place) (o : Option Sent) (is : sent_at x ≡ o) (stands : IsAsked c x) where
     pub provider_stands : (from : ℕ) (asked : OpAsk) → AsksProvider c from o asked → AtProvider from asked x
     provider_stands from asked a = at_provider x from a.request asked (is ∙ a.is) a.read stands

@@ -20,6 +20,6 @@ later_at (Provider from request p) world order = order.1 p.entry.at refl
 later_at (Party n from request p) world order = order.1 p.entry.at refl
 later_at Nothing world order = omega arith
 
--- the user of the login is the visitor, where a password was given
+-- the user of the login is the visitor, if a password was given
 abbrev pub IsVisitor : Visitor → List Place → ℕ → Type 0
 IsVisitor v login user = list_any gives_password login ≡ true → user ≡ v.user

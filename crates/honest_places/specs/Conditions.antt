@@ -1,27 +1,28 @@
--- The conditions of an honest login. None of them can be left out: without it a login may fail, though all others are kept. For each but
--- the last there is such a login (`no_condition_can_be_left_out` of `honest_worlds`); the last one speaks of 65,536 rows.
+-- The conditions of an honest login. None of them can be left out: without it a login may fail, even if all others are met. For
+-- each but the last there is such a login (`no_condition_can_be_left_out` of `honest_worlds`). The last one is about tables of
+-- 65,536 rows.
 use Rattle.std.specs.Prelude.{◌≡◌, Option, Some}
 
 pub data Condition : Type 0 where
-  -- the party lets its users be asked: its `prompt` has no `none`
+  -- the party lets its users be prompted: its `prompt` has no `none`
   party_may_ask : Condition
   -- the password is the user's
   right_password : Condition
-  -- the browser presents the cookies that the login was last given at the role, and else those that it presented there before
+  -- the browser presents the cookies that the role last set in the login, or else those that it presented there before
   last_cookies : Condition
   -- nobody else presents a word that the login drew or presented
   own_words : Condition
-  -- a turn, a provider's session, an access token, a login and an exchange are used within their lives
+  -- a turn, a provider's session, an access token, a login and an exchange are used within their lifetimes
   within_lives : Condition
-  -- a code comes to the token endpoint within 120 seconds
+  -- a code reaches the token endpoint within 120 seconds
   code_in_time : Condition
-  -- an ID Token comes in an authorization response within 360 seconds
+  -- the ID Token of an authorization response arrives within 360 seconds
   token_in_time : Condition
   -- at a consent the user's last sign-in is not older than the party allows
   recent_sign_in : Condition
   -- no table is full
   free_rows : Condition
 
--- what a condition demands, where another one, or none, is left out
+-- the demand of a condition, if that condition is not the one that is left out
 abbrev pub Unless : Option Condition → Condition → Type 0 → Type 0
 Unless left_out condition Demand = (left_out ≡ Some condition → ⊥) → Demand

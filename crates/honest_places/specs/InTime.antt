@@ -1,4 +1,4 @@
--- In time: at a place of a login, what the request is about is within its life, where it stands.
+-- In time: what a login's request names is within its lifetime, if it exists.
 use Rattle.std.specs.Prelude.{◌≡◌, ◌+◌, ℕ, true, false, Option, Some, Ok}
 use Rattle.sso_base.specs.Words.{word_of_text}
 use Rattle.sso_base.specs.Rows.{lives}
@@ -33,7 +33,7 @@ use Rattle.sso_places.specs.World.{Place, Provider, Party, Nothing, World, op_pa
 use Rattle.honest_places.specs.Conditions.{Condition, within_lives, code_in_time, token_in_time, recent_sign_in, Unless}
 
 module _ (left_out : Option Condition) where
-  -- a consent form: its turn, and the session that the turn is to be answered for
+  -- a consent form: its turn, and the session for which the turn is to be answered
   pub record IsConsentInTime (past : OpPast) (at : ℕ) (row : TurnRow) : Type 0 where
     pub turn : Unless left_out within_lives (lives turn_life row.begun at ≡ true)
     pub session : (session : SessionRow) → session_of past row.session ≡ Some session → Unless left_out within_lives (lives session_life session.auth_time at ≡ true)
@@ -46,7 +46,7 @@ module _ (left_out : Option Condition) where
   IsOpInTime past at (op_ask.Info (Given w)) = (row : TokenRow) → access_token_of past w ≡ Some row → Unless left_out within_lives (lives access_life row.issued at ≡ true)
   IsOpInTime past at asked = Unit {0}
 
-  -- an authorization response: the login, and the ID Token that comes with it, where the response type has one
+  -- an authorization response: the login, and the ID Token in it, if the response type has one
   pub record IsResponseInTime (types : Types) (past : RpPast) (at : ℕ) (asked : RpAsk) : Type 0 where
     pub login : (row : LoginRow) → login_of past (state_named asked) ≡ Some row → Unless left_out within_lives (lives login_life row.begun at ≡ true)
     pub token : (claims : IdClaims) → claims_judged types asked ≡ Some claims → Unless left_out token_in_time (lives (id_token_life + leeway) claims.iat at ≡ true)

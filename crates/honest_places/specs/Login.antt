@@ -1,6 +1,6 @@
--- An honest login among whatever else is asked: a browser begins a login at a relying party, and then each time does what the last
--- reply asks for, with the cookies that it was last given, in time, and with the password of one user. Nobody else presents a word of
--- the login.
+-- An honest login among any other requests. A browser begins a login at a relying party, and then each time does what the last
+-- reply calls for. It sends the cookies that it was last given, in time, and the password of one user. Nobody else presents a
+-- word of the login.
 use Rattle.std.specs.Prelude.{◌≡◌, ◌<◌, ℕ, Bool, true, false, List, [], ◌∷◌, length, Option, Some, None, option_and_then, if◌then◌else◌}
 use Rattle.std.specs.Str.{IsUtf8}
 use Rattle.sso_base.specs.Words.{Word, Text}
@@ -34,10 +34,10 @@ use Rattle.honest_places.specs.Conditions.{Condition, party_may_ask, right_passw
 use Rattle.honest_places.specs.InTime.{IsInTime}
 use Rattle.honest_places.specs.Shown.{shown_at, words_of}
 
--- ---- who logs in
+-- ---- the visitor
 
--- a browser, the number of the party at which it logs in, and the number of the user who sits at it, with the id and the password
--- that are typed
+-- a browser, the number of the party at which it logs in, and the number of its user, with the id and the password that the
+-- user types
 pub record Visitor : Type 0 where
   pub browser : ℕ
   pub party : ℕ
@@ -49,7 +49,7 @@ pub record Visitor : Type 0 where
 abbrev pub wants_none : Configuration → ℕ → Bool
 wants_none c n = has_text none_word (parameter_words (party_row c n).prompt)
 
--- the party is one of the registry and lets its users be asked; the password is the user's
+-- the party is in the registry and lets its users be prompted; the password is the user's
 pub record MayLogInBut (left_out : Option Condition) (c : Configuration) (v : Visitor) : Type 0 where
   pub party : v.party < length c.parties
   pub may_ask : Unless left_out party_may_ask (wants_none c v.party ≡ false)
@@ -57,21 +57,22 @@ pub record MayLogInBut (left_out : Option Condition) (c : Configuration) (v : Vi
   pub password_text : IsUtf8 v.password
   pub right : Unless left_out right_password (signed_user c v.id v.password ≡ Some v.user)
 
--- ---- what a reply asks for
+-- ---- what a reply calls for
 
--- what was sent to a place
+-- the request that was sent at a place
 abbrev pub sent_at : Place → Option Sent
 sent_at (Provider from request p) = Some (sent from to.Provider request)
 sent_at (Party n from request p) = Some (record { from = from; to = to.Party n; ask = request })
 sent_at Nothing = None
 
--- the provider's answer to the token request or the UserInfo request of a place, given back to the party that asked there
+-- the provider's answer to the token request or the UserInfo request of a place, returned to that party
 abbrev pub given_back : Configuration → Place → WorldReply → Option Sent
 given_back c asking answer =
     option_and_then (λ role. handed_back c (from_of asking) role (reply_at asking) to.Provider answer) (role_at asking)
 
--- What the last reply of a login asks for, after its earlier places: to follow a location, to fill in the login form, to say yes, to
--- carry the message of a party to the provider, and to give its answer back. The browser has this jar at the role that is asked.
+-- What the last reply of a login calls for, given its earlier places: following a location, filling in the login form, giving
+-- consent, carrying a party's message to the provider, or returning its answer. The browser has this jar at the role that
+-- receives it.
 abbrev pub called_for : Configuration → Visitor → Jar → List Place → WorldReply → Option Sent
 called_for c v jar earlier (reply.Party (rp.Ask location b)) = reply_followed c v.browser (reply.Party (rp.Ask location b)) jar
 called_for c v jar earlier (reply.Provider (op.LoginPage w b again)) =
@@ -87,7 +88,7 @@ called_for c v jar earlier other = None
 
 -- ---- the cookies that the browser has
 
--- those that were presented at a place
+-- the cookies that were presented at a place
 abbrev pub jar_shown : Place → Jar
 jar_shown (Provider from request p) = record { first = request.first; second = request.second }
 jar_shown (Party n from (Http request) p) = record { first = request.first; second = request.second }
@@ -98,7 +99,8 @@ abbrev pub is_at : To → Option To → Bool
 is_at role None = false
 is_at role (Some other) = is_role role other
 
--- The jar at a role after places of a login: what the last of them there set, and else what it presented. None there: any jar.
+-- The jar at a role after places of a login: the cookies that the last of them there set, or else presented. If there is none:
+-- any jar.
 abbrev pub jar_after : To → List Place → Option Jar
 jar_after role [] = None
 jar_after role (x ∷ login) = if is_at role (role_at x) then Some (jar_with (jar_set x) (jar_shown x)) else jar_after role login
@@ -120,7 +122,7 @@ pub record Begins (left_out : Option Condition) (v : Visitor) (x : Place) : Type
   pub asked : sent_at x ≡ Some (login_begun v.browser v.party jar)
   pub room : Unless left_out free_rows (is_full (reply_at x) ≡ false)
 
--- it does what the last reply asks for
+-- it does what the last reply calls for
 pub record Continues (left_out : Option Condition) (c : Configuration) (v : Visitor) (world : World) (x last : Place) (earlier : List Place) : Type 0 where
   pub jar : Jar
   pub done : Sent
@@ -130,11 +132,11 @@ pub record Continues (left_out : Option Condition) (c : Configuration) (v : Visi
   pub in_time : IsInTime left_out c world x
   pub room : Unless left_out free_rows (is_full (reply_at x) ≡ false)
 
--- no word of the login is presented at a place
+-- the place presents no word of the login
 abbrev pub Spares : List Place → Place → Type 0
 Spares login x = (w : Word) → Has (shown_at x) w → Lacks (words_of login) w
 
--- The places of a login so far, newest first, in a world: the login begins, or a place is none of it, or it goes on.
+-- The places of a login so far, the newest first, in a world: the login begins, or a place is not part of it, or it continues.
 pub data IsHonestBut (left_out : Option Condition) (c : Configuration) (v : Visitor) : World → List Place → Type 0 where
   begun : (world : World) (x : Place) → Begins left_out v x → IsHonestBut left_out c v (x ∷ world) (x ∷ [])
   waited : (world : World) (login : List Place) (x : Place) → IsHonestBut left_out c v world login → Unless left_out own_words (Spares login x)

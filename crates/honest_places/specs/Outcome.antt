@@ -1,4 +1,4 @@
--- What becomes of an honest login.
+-- The outcome of an honest login.
 use Rattle.std.specs.Prelude.{◌≡◌, ◌≤◌, Bool, true, false, not, List, ◌∷◌, ◌++◌, length, is_some, ◌⊎◌}
 use Rattle.std.specs.List.{AllByRecursion, list_any}
 use Rattle.sso_base.specs.Words.{Word, Text}
@@ -16,7 +16,7 @@ use Rattle.sso_places.specs.declared.types.WorldReply.TheVariants as reply
 use Rattle.sso_places.specs.World.{Place, Provider, Party, Nothing, World, reply_at}
 use Rattle.honest_places.specs.Login.{Visitor, called_for, MayLogIn, IsHonest}
 
--- the reply leads on, or a session begins: it is no refusal, no error page, and no login page again
+-- the reply leads on, or begins a session: it is not a refusal, an error page, or a repeated login page
 abbrev pub leads_on : WorldReply → Bool
 leads_on (reply.Party (rp.Ask location browser)) = true
 leads_on (reply.Party (rp.Exchange w message)) = true
@@ -37,7 +37,7 @@ pub record LetsIn (v : Visitor) (x : Place) (sub : Text) : Type 0 where
   pub place : x ≡ Party v.party v.browser request pair
   pub replied : pair.reply ≡ rp.Entered word sub
 
--- a place at which the login form was posted
+-- a request that posts the login form
 abbrev pub is_login_form : OpAsk → Bool
 is_login_form (Login turn signed browser session) = true
 is_login_form asked = false
@@ -47,18 +47,18 @@ gives_password (Provider from request p) = is_login_form p.entry.ask
 gives_password (Party n from request p) = false
 gives_password Nothing = false
 
--- the last reply asks for something, whatever cookies the browser has
+-- the last reply calls for a next request, whatever cookies the browser has
 abbrev pub CallsOn : Configuration → Visitor → Place → List Place → Type 0
 CallsOn c v last earlier = (jar : Jar) → is_some (called_for c v jar earlier (reply_at last)) ≡ true
 
--- Each reply leads on. The last one begins the session, or asks for one more place; there are nine places at most. Where a password
--- was given, the session is its user's, as the party's client knows him (OpenID Connect Core 1.0, 8).
+-- Each reply leads on. The last one begins the session, or calls for one more place. There are at most nine places. If a
+-- password was given, the session is that user's, under the subject for the party's client (OpenID Connect Core 1.0, 8).
 pub record GoesWell (c : Configuration) (v : Visitor) (last : Place) (earlier : List Place) : Type 0 where
   pub good : AllByRecursion (λ (x : Place). leads_on (reply_at x) ≡ true) (last ∷ earlier)
   pub arrives : ((sub : Text) × LetsIn v last sub) ⊎ (CallsOn c v last earlier × (length (last ∷ earlier) ≤ 8))
   pub short : length (last ∷ earlier) ≤ 9
   pub as_user : list_any gives_password (last ∷ earlier) ≡ true → (sub : Text) → LetsIn v last sub → sub ≡ subject_at c (party_row c v.party).client v.user
 
--- in a world: whatever its later places, each login that is honest up to a place goes well up to there
+-- in a world: whatever its later places, each login that is honest up to a place goes well up to that place
 abbrev pub HonestLoginsSucceed : Configuration → World → Type 0
 HonestLoginsSucceed c world = (later before : World) (v : Visitor) (last : Place) (earlier : List Place) → world ≡ later ++ before → MayLogIn c v → IsHonest c v before (last ∷ earlier) → GoesWell c v last earlier

@@ -1,5 +1,5 @@
--- The words that a request presents: its cookies, and the word of what it is about, which is a turn, a code, an access token, the
--- state of a login, or the exchange that an answer is to.
+-- The words that a request presents: its cookies, and the word that it names. This is a turn, a code, an access token, the
+-- state of a login, or the pending exchange of an answer.
 use Rattle.std.specs.Prelude.{List, [], ◌∷◌, ◌++◌, Option, Some, None}
 use Rattle.sso_base.specs.Words.{Word}
 use Rattle.userinfo.specs.declared.header.Bearer.TheVariants.{Given}
@@ -18,7 +18,7 @@ abbrev pub access_named : OpAsk → Option Word
 access_named (op.Info (Given w)) = Some w
 access_named asked = None
 
--- the word of the exchange that an answer of the provider is to
+-- the word of the pending exchange that an answer of the provider is for
 abbrev pub exchange_named : RpAsk → Option Word
 exchange_named (rp.Tokens w came id) = Some w
 exchange_named (rp.Info w came) = Some w
@@ -33,7 +33,7 @@ named_at Nothing = []
 abbrev pub shown_at : Place → List Word
 shown_at x = presented x ++ named_at x
 
--- those that were drawn for places or are presented at them
+-- the words that were drawn for places or presented at them
 abbrev pub words_of : List Place → List Word
 words_of [] = []
 words_of (x ∷ places) = (fresh_of x ++ shown_at x) ++ words_of places

@@ -1,4 +1,4 @@
-//! A law of relying parties' requests, as the contract of a function that does nothing.
+//! A lemma about relying parties' authorization requests, as the contract of a function with an empty body.
 
 ghost use Rattle.std.specs.Prelude.{◌≡◌, ℕ, false};
 ghost use Rattle.sso_base.specs.Words.{Word};
@@ -11,8 +11,9 @@ ghost use Rattle.web_requests.specs.Asked.{whole_params};
 ghost use Rattle.honest_places.specs.Login.{wants_none};
 ghost use Rattle.honest_places.specs.OwnWish.{own_wish};
 
-/// What a relying party of a registry asks for when it begins a login is granted, if it lets its users be asked: whether it signs
-/// its requests or not, for each response type, and with each `max_age` (OpenID Connect Core 1.0, 3.1.2.2).
+/// The provider accepts the authorization request with which a relying party of its registry begins a login, if the party lets
+/// its users be prompted. This is true with and without signed requests, for each response type, and for each `max_age` (OpenID
+/// Connect Core 1.0, 3.1.2.2).
 pub fn own_requests_are_granted()
     ensures { (c : Configuration) (n : ℕ) (state nonce : Word) → MayAsk c n c.provider.issuer state nonce → wants_none c n ≡ false → judgement c (whole_params (party_client c n) (party_row c n) c.provider state nonce) false ≡ Grant (own_wish c n state nonce) }
 {}

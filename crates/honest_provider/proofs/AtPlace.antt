@@ -58,7 +58,7 @@ use Rattle.honest_provider.proofs.Living.{session_was_drawn, wished}
 use Rattle.op_exchange.specs.declared.reply.OpReply.TheVariants as op
 use Rattle.sso_places.specs.declared.types.WorldReply.TheVariants as reply
 
--- a place of the login at the provider, after this world: the party is one of the registry and lets its users be asked
+-- a place of the login at the provider, after this world: the party is in the registry and lets its users be prompted
 pub record Here (c : Configuration) (v : Visitor) (login : List Place) (world : World) (from : ℕ) (request : Ask) (p : OpPair) : Type 0 where
   pub registry : IsRegistry c
   pub low : v.party < length c.parties
@@ -117,7 +117,7 @@ module _ {c : Configuration} {v : Visitor} {login : List Place} {world : World} 
       distinct_apart p.entry.fresh (drawn world) (fresh_word p.entry.fresh 0) here.now.distinct (fresh_has p.entry.fresh 0 (omega arith) four)
       (session_was_drawn c world (fresh_word p.entry.fresh 0) row here.now.legal.provider.0 there)
 
-  -- a session that stands after the place is of a user who is known
+  -- a session that exists after the place is of a known user
   known : (state nonce : Word) → IsWord state → IsWord nonce → (w : Word) (row : SessionRow) → row_of session_name w (sessions (p ∷ past)) ≡ Some row → MayIssue c (own_wish c v.party state nonce) (session_authentication row) at
   known state nonce state_word nonce_word w row there =
       let own = sessions_are_own c (p ∷ past) here.now.legal.provider w row there in
@@ -125,9 +125,9 @@ module _ {c : Configuration} {v : Visitor} {login : List Place} {world : World} 
       let m : at ≤ latest_moment = here.now.legal.provider.1.moment in
       own_wish_issued c v.party here.registry here.low state nonce state_word nonce_word (session_authentication row) at (ltb-true row.user (length c.users) own.user) own.sid (omega (arith, l, m)) m
 
-  -- ---- an answer, for a session that stands after it
+  -- ---- an answer, for a session that exists after it
 
-  -- what the session is, but for its clients
+  -- a session, except for its clients
   pub same_who : (a b : SessionRow) → without_clients a ≡ without_clients b → session_authentication a ≡ session_authentication b
   same_who a b same = ap session_authentication same
 

@@ -1,4 +1,4 @@
--- What stands at the provider for an honest login: its turn, its session, its code and its access token.
+-- The provider's rows for an honest login: its turn, its session, its code and its access token.
 use Rattle.std.proofs.Common.{◌≡◌, ◌≤◌, ℕ, true, false, List, ◌∷◌, Option, Some, None, IfSome, sym, ◌∙◌, ap, subst, ◌⊎◌}
 use Rattle.std.specs.List.{list_any}
 use Rattle.sso_base.specs.Words.{Word, IsWord, fresh_word}

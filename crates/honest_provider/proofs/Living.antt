@@ -31,7 +31,7 @@ use Rattle.honest_places.specs.Login.{FitsJar}
 use Rattle.sso_places.proofs.Places.{fresh_has}
 use Rattle.honest_places.proofs.Persisting.{lives_on}
 
--- ---- words that stand were drawn
+-- ---- the words of rows were drawn
 
 op_drawn : (world : World) (later : OpPast) (p : OpPair) (earlier : OpPast) (w : Word) → op_past world ≡ later ++ p ∷ earlier → Has p.entry.fresh w → Has (drawn world) w
 op_drawn [] [] p earlier w is has = absurd (cc)

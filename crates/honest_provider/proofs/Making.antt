@@ -1,5 +1,5 @@
--- What stands after a place of a login at the provider: the turn of a page, the session of a right password, and the code and the
--- access token of an answer.
+-- The rows after a place of a login at the provider: the turn of a page, the session of a correct password, and the code and
+-- the access token of an answer.
 use Rattle.std.proofs.Common.{◌≡◌, ℕ, ◌==◌, Bool, true, false, not, cond, ◌∷◌, length, Option, Some, None, option_and_then, Ok, refl, sym, ◌∙◌, ap, subst, inl, inr}
 use Rattle.std.proofs.lemmas.Bool.{eqb-true}
 use Rattle.std.specs.Str.{bytes_eq}
@@ -97,7 +97,7 @@ module _ (past : OpPast) (p : OpPair) where
         | inr other ↦ (let never : None ≡ Some s = sym (ap F other) ∙ h in cc)
       ]
 
-  -- the session that stands is the one that was left, but for its clients
+  -- the session in the table is the one that was left, except for its clients
   record IsLeft (w : Word) (user : ℕ) (row left : SessionRow) : Type 0 where
     word : row.word ≡ w
     user_is : row.user ≡ user
@@ -142,7 +142,7 @@ module _ (past : OpPast) (p : OpPair) where
         as_left = facts.as_left;
       }
 
-  -- an authorization request and a consent form leave each session, but for its clients
+  -- an authorization request and a consent form keep each session, except for its clients
   abbrev pub leaves_sessions : OpAsk → Bool
   leaves_sessions (ask.Authorize judged b session) = true
   leaves_sessions (ask.Consent turn agree b session) = true

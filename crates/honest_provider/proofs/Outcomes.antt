@@ -1,4 +1,5 @@
--- What a place of a login at the provider leads to: a page, an answer, tokens, or a user's claims; each with what stands after it.
+-- The outcomes of a place of a login at the provider: a page, an answer, tokens, or a user's claims; each with the rows after
+-- it.
 use Rattle.std.proofs.Common.{◌≡◌, ◌≤◌, ℕ, false, List, Option, Some, None}
 use Rattle.sso_base.specs.Words.{Word, Text}
 use Rattle.oidc_words.specs.declared.scopes.Scopes.{Scopes}

@@ -1,4 +1,4 @@
--- The places of a login at the provider, by what was asked there.
+-- The places of a login at the provider, by the request.
 use Rattle.std.proofs.Common.{◌≡◌, ◌≤◌, ◌<◌, ℕ, true, false, List, ◌∷◌, length, Some, None, Ok, refl, sym, ◌∙◌, ap, subst, ◌⊎◌, arith}
 use Rattle.std.specs.List.{list_any}
 use Rattle.sso_base.specs.Words.{Word, IsWord, fresh_word, word_text}

@@ -71,7 +71,7 @@ module _ (c : Configuration) (login : List Place) (world : World) where
         at (Party n from request p) now spares = there
         at Nothing now spares = there
 
-    -- a session, but for its clients
+    -- a session, except for its clients
     abbrev SessionWaits : World → Word → SessionRow → Type 0
     SessionWaits after w row = (found : SessionRow) × (row_of session_name w (sessions (op_past after)) ≡ Some found) × (without_clients found ≡ without_clients row)
 
@@ -83,7 +83,7 @@ module _ (c : Configuration) (login : List Place) (world : World) where
         at (Party n from request p) now spares = (row, there, refl)
         at Nothing now spares = (row, there, refl)
 
-    -- an access token, whose code, where it came for one, is a word of the login too
+    -- an access token, whose code, if it has one, is a word of the login too
     pub access_waits : (w : Word) (row : TokenRow) → IsOwn login world w → IfSome row.code (IsOwn login world) → row_of access_name w (accesses (op_past world)) ≡ Some row
         → row_of access_name w (accesses (op_past (x ∷ world))) ≡ Some row
     access_waits w row own own_code there = at x now spares

@@ -1,4 +1,4 @@
-//! Laws of the provider's rows, as contracts of functions that do nothing.
+//! Lemmas about the provider's rows, as contracts of functions with empty bodies.
 
 ghost use Rattle.std.specs.Prelude.{◌≡◌, ◌++◌, Some, IfSome};
 ghost use Rattle.std.specs.List.{AllByRecursion};
@@ -26,8 +26,8 @@ ghost use Rattle.op_answer.specs.Answering.{op_answer};
 ghost use Rattle.op_answer.specs.Legal.{IsLegalOp};
 ghost use Rattle.honest_provider.specs.Sparing.{Spares, without_clients};
 
-/// A row stays as it is over pairs that neither draw its word nor present it: a turn, a code that is not spent, an access token whose
-/// code is spared too, and a session in all but the clients that it has answered.
+/// A row is unchanged by pairs that neither draw its word nor present it. This is true for a turn, a code that is not spent,
+/// and an access token whose code is spared too. It is true for a session, except for the clients that it has answered.
 pub fn rows_persist()
     ensures turns { (c : Configuration) (w : Word) (later past : OpPast) (row : TurnRow) → IsLegalOp c (later ++ past) → AllByRecursion (Spares w) later → row_of turn_name w (turns past) ≡ Some row → row_of turn_name w (turns (later ++ past)) ≡ Some row }
     ensures codes { (c : Configuration) (w : Word) (later past : OpPast) (row : CodeRow) → IsLegalOp c (later ++ past) → AllByRecursion (Spares w) later → row_of code_name w (codes_issued past) ≡ Some row → row_of code_name w (codes_issued (later ++ past)) ≡ Some row }
@@ -35,7 +35,8 @@ pub fn rows_persist()
     ensures sessions { (c : Configuration) (w : Word) (later past : OpPast) (row : SessionRow) → IsLegalOp c (later ++ past) → AllByRecursion (Spares w) later → row_of session_name w (sessions past) ≡ Some row → (after : SessionRow) × (row_of session_name w (sessions (later ++ past)) ≡ Some after) × (without_clients after ≡ without_clients row) }
 {}
 
-/// A UserInfo request with a live access token is answered with the claims that the token gives (OpenID Connect Core 1.0, 5.3.2).
+/// A UserInfo request with a live access token is answered with the claims that the token grants (OpenID Connect Core 1.0,
+/// 5.3.2).
 pub fn live_tokens_are_answered()
     ensures { (c : Configuration) (past : OpPast) (e : Entry OpAsk) (w : Word) (token : TokenRow) → e.ask ≡ ask.Info (Given w) → (op_answer c past e ≡ reply.Full → ⊥) → live_access_token past e.at w ≡ Some token → op_answer c past e ≡ reply.Info (claims_text (info_members c token.client token.user token.scopes token.asked)) }
 {}

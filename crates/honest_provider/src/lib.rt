@@ -1,9 +1,9 @@
-//! What the provider does for an honest login: its rows stay while other requests present none of their words, and each place of the
-//! login gets the reply that leads on. It has no running code.
+//! The provider's part of an honest login: its rows stay while other requests present none of their words, and each place of
+//! the login gets a reply that leads on. It has no running code.
 //!
 //! | Module | What it has | Its definitions, in `specs/` |
 //! |---|---|---|
-//! | `law` | that rows persist, and that a live access token is answered | `Sparing` |
+//! | `law` | lemmas: rows persist, and a live access token is answered | `Sparing` |
 #![tactic(auto)]
 
 mod law;

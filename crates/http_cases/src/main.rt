@@ -1,16 +1,16 @@
-//! Cases of HTTP as the servers speak it, each a line that a person can read: requests as they are read, replies and messages as
-//! they are written, and the answers of other servers.
+//! Cases of the servers' HTTP, each a line that a person can read: how requests are read, how replies and messages are written,
+//! and the answers of other servers.
 //!
-//! The file `stdin` has the cases, and `stdout` the same with their answers. `case_lines` says how a line is read, and the
-//! comments there where the expected answers come from. In the bytes of a request or of an answer `\r` and `\n` are the two bytes
-//! of a line end, and what is printed in quotes has them so too.
+//! The file `stdin` has the cases, and `stdout` has them with their answers. The crate `case_lines` documents how a line is
+//! read. The comments in the table name the source of the expected answers. In the bytes of a request or of an answer, `\r` and
+//! `\n` are the two bytes of a line end, and the same is true in printed quotes.
 //!
 //! | Module | Its calls |
 //! |---|---|
-//! | `sources` | sources that give few bytes at a call, and fail at some |
-//! | `requests` | `ask`, `cut`, `fronts` and `fault`: a request is read |
-//! | `replies` | `reply`, `refusal` and `message`: a reply or a message is written |
-//! | `peers` | `peer`: the answer of another server is read |
+//! | `sources` | sources that give few bytes at a call, and fail at some calls |
+//! | `requests` | `ask`, `cut`, `fronts` and `fault` read a request |
+//! | `replies` | `reply`, `refusal` and `message` write a reply or a message |
+//! | `peers` | `peer` reads the answer of another server |
 #![tactic(auto)]
 
 mod peers;

@@ -1,4 +1,4 @@
-// The answers of other servers are read.
+// Reads the answers of other servers.
 
 use crate::requests::line_bytes;
 use case_lines::{as_text, told, told_quoted};
@@ -12,7 +12,7 @@ fn told_answered(alloc: Global, answered: &Answered) -> Result<String, NoMemory>
     Ok(format!(in alloc; "{status} {}", text.as_str())?)
 }
 
-/// `peer|BYTES`: the status and the body of this answer; `-` where the bytes are none.
+/// `peer|BYTES`: the status and the body of this answer, or `-` if the bytes are not one.
 pub fn peer(alloc: Global, field: &str) -> Result<String, NoMemory> {
     let bytes = line_bytes(alloc, field)?;
     match read_peer(alloc, &bytes)? {

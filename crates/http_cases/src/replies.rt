@@ -1,4 +1,4 @@
-// Replies and messages are written.
+// Writes replies and messages.
 
 use crate::requests::refusal_name;
 use case_lines::{
@@ -30,8 +30,8 @@ fn reply_in(alloc: Global, fields: &[&str]) -> Result<HttpReply, NoMemory> {
     })
 }
 
-/// `reply|STATUS|PRAGMA|LOCATION|COOKIES|CHALLENGE|KIND|BODY`: the bytes of the reply with these values; cookies have commas
-/// between, PRAGMA is `pragma` or `-`, and KIND `plain`, `html`, `json` or `-`.
+/// `reply|STATUS|PRAGMA|LOCATION|COOKIES|CHALLENGE|KIND|BODY`: the bytes of the reply with these values. Cookies are separated
+/// by commas, PRAGMA is `pragma` or `-`, and KIND is `plain`, `html`, `json` or `-`.
 pub fn reply(alloc: Global, fields: &[&str]) -> Result<String, NoMemory> {
     let reply = reply_in(alloc, fields)?;
     let bytes = print_reply(alloc, &reply)?;
@@ -65,7 +65,7 @@ fn told_bytes_if(alloc: Global, bytes: &Option<Blob>) -> Result<String, NoMemory
     }
 }
 
-/// `refusal|NAME`: the bytes of the reply to a request that is refused so; `-` where none is written.
+/// `refusal|NAME`: the bytes of the reply to a request with this refusal, or `-` if none is written.
 pub fn refusal(alloc: Global, name: &str) -> Result<String, NoMemory> {
     match refusal_named(name) {
         Some(why) if why != HttpNo::NoMemory => {
@@ -87,7 +87,7 @@ fn message_in(alloc: Global, to: &str, auth: &str, body: &str) -> Result<Message
     })
 }
 
-/// `message|TO|AUTH|BODY`: the place that this message is sent to, and its bytes.
+/// `message|TO|AUTH|BODY`: the recipient of this message, and its bytes.
 pub fn message(alloc: Global, to: &str, auth: &str, body: &str) -> Result<String, NoMemory> {
     let message = message_in(alloc, to, auth, body)?;
     let place = message_place(alloc, &message)?;

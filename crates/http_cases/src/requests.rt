@@ -1,4 +1,4 @@
-// Requests are read, from sources of several kinds.
+// Reads requests, from sources of several kinds.
 
 use crate::sources::{rest, slow};
 use case_lines::{as_text, bytes, push_field, told, told_quoted, told_text};
@@ -65,7 +65,7 @@ fn push_auth(alloc: Global, out: &mut String, auth: &Option<Text>) -> Result<(),
     Ok(())
 }
 
-// The method, the path, the query, the body, the two cookies and the credentials, as far as they are there.
+// The method, the path, the query, the body, the two cookies and the credentials, if they are there.
 fn told_ask(alloc: Global, ask: &Ask) -> Result<String, NoMemory> {
     let mut out = told(alloc, method_name(ask.method))?;
     out.push_str(" ")?;
@@ -80,7 +80,7 @@ fn told_ask(alloc: Global, ask: &Ask) -> Result<String, NoMemory> {
     Ok(out)
 }
 
-// What is read of a source, under the names `op_b` and `op_s`.
+// The result of reading a source, with the cookie names `op_b` and `op_s`.
 fn read<S: Source>(alloc: Global, source: &mut S) -> Result<String, NoMemory> {
     let first = Text::new(alloc, "op_b")?;
     let second = Text::new(alloc, "op_s")?;
@@ -91,7 +91,7 @@ fn read<S: Source>(alloc: Global, source: &mut S) -> Result<String, NoMemory> {
     }
 }
 
-// What is read of a source, and what is left of it, where anything is.
+// The result of reading a source, and the bytes that are left, if there are any.
 fn read_and_rest<S: Source>(alloc: Global, source: &mut S) -> Result<String, NoMemory> {
     let mut out = read(alloc, source)?;
     let left = rest(alloc, source)?;
@@ -102,14 +102,14 @@ fn read_and_rest<S: Source>(alloc: Global, source: &mut S) -> Result<String, NoM
     Ok(out)
 }
 
-/// `ask|BYTES`: the request that is read of a source with these bytes, or the refusal, and what it leaves of the first hundred
-/// bytes behind it.
+/// `ask|BYTES`: the request that is read from a source with these bytes, or the refusal, and the first hundred of the bytes
+/// that are left.
 pub fn ask(alloc: Global, field: &str) -> Result<String, NoMemory> {
     let mut source = MemorySource::new(line_bytes(alloc, field)?);
     read_and_rest(alloc, &mut source)
 }
 
-/// `cut|MOST|BYTES`: the same of a source that gives at most so many bytes at a call.
+/// `cut|MOST|BYTES`: the same for a source that gives at most MOST bytes at a call.
 pub fn cut(alloc: Global, most: &str, field: &str) -> Result<String, NoMemory> {
     let Ok(most) = most.parse::<usize>() else {
         return told(alloc, "no number");
@@ -119,7 +119,7 @@ pub fn cut(alloc: Global, most: &str, field: &str) -> Result<String, NoMemory> {
     read_and_rest(alloc, &mut source)
 }
 
-/// `fault|CALL|BYTES`: the same of a source that gives a byte at a call and whose call of this number fails.
+/// `fault|CALL|BYTES`: the same for a source that gives one byte at a call, and whose call with this number fails.
 pub fn fault(alloc: Global, call: &str, field: &str) -> Result<String, NoMemory> {
     let Ok(call) = call.parse::<u64>() else {
         return told(alloc, "no number");
@@ -136,7 +136,7 @@ fn ends_early(alloc: Global, bytes: &[u8]) -> Result<bool, NoMemory> {
     Ok(answer.as_str() == "EndedEarly")
 }
 
-// How many of the fronts that are shorter than the bytes end early.
+// The number of proper prefixes of the bytes that end early.
 fn count_early(alloc: Global, bytes: &[u8]) -> Result<usize, NoMemory> {
     let mut count: usize = 0;
     for length in 0..bytes.len() {
@@ -147,8 +147,8 @@ fn count_early(alloc: Global, bytes: &[u8]) -> Result<usize, NoMemory> {
     Ok(count)
 }
 
-/// `fronts|BYTES`: of how many shorter fronts of these bytes the answer is that the input ended early, how many bytes there are,
-/// and what is read of all of them.
+/// `fronts|BYTES`: the number of proper prefixes of these bytes for which the input ended early, the number of bytes, and the
+/// result of reading all of them.
 pub fn fronts(alloc: Global, field: &str) -> Result<String, NoMemory> {
     let bytes = line_bytes(alloc, field)?;
     let count = count_early(alloc, &bytes)?;

@@ -1,4 +1,4 @@
-// Sources that give few bytes at a call, and fail at some.
+// Sources that give few bytes at a call, and fail at some calls.
 
 ghost use Rattle.std.specs.Prelude.{Some};
 
@@ -6,7 +6,7 @@ use server_desk::{FaultySource, Source, SourceFault, read_whole};
 use sso_base::NoMemory;
 use std::alloc::Global;
 
-/// Gives at most so many bytes at a call, but one at least.
+/// A source that gives at most a given number of bytes at a call, but at least one.
 #[derive(Drop)]
 pub struct SlowSource {
     source: FaultySource,
@@ -28,7 +28,7 @@ impl Source for SlowSource {
     }
 }
 
-/// A source of these bytes that gives at most so many at a call, and whose call of this number fails, from 1.
+/// A source of these bytes that gives at most `most` at a call, and whose call with this number fails, from 1.
 pub fn slow(
     alloc: Global,
     bytes: &[u8],
@@ -42,7 +42,7 @@ pub fn slow(
     })
 }
 
-/// The bytes that a source has left, of which the first hundred count.
+/// The bytes that a source has left, at most the first hundred.
 pub fn rest<S: Source>(alloc: Global, source: &mut S) -> Result<Vec<u8>, NoMemory> {
     let mut room = [0; 100];
     match read_whole(source, &mut room) {

@@ -1,4 +1,4 @@
-// The table of the answers of a sign-on: authorization responses, token requests, UserInfo and their answers.
+// The table of the answers of a sign-on: authorization responses, token requests, UserInfo requests, and their answers.
 
 mod error_codes;
 mod messages;
@@ -13,14 +13,14 @@ use client_registry::{RegNo, Registry, read_registry};
 use sso_base::NoMemory;
 use std::alloc::Global;
 
-/// The calls of this table, and the registry that they ask.
+/// The calls of this table, and their registry.
 #[derive(Drop)]
 pub struct AnswerCases {
     registry: Registry,
 }
 
 impl AnswerCases {
-    /// The table that asks the sample's registry.
+    /// The table with the sample's registry.
     pub fn new(alloc: Global) -> Result<AnswerCases, RegNo> {
         let file = sample::sample(alloc)?;
         let registry = read_registry(alloc, file.as_bytes())?;
@@ -57,7 +57,7 @@ impl Cases for AnswerCases {
     }
 }
 
-// The answers to the calls of authorization responses.
+// The answers to the calls about authorization responses.
 fn response_answer(alloc: Global, fields: &[&str]) -> Result<String, NoMemory> {
     match fields {
         ["error_codes"] => error_codes::all(alloc),

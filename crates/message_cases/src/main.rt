@@ -1,32 +1,32 @@
-//! Cases of messages, each a line that a person can read: what each is read as, or why it is refused, how it is written, and what a
-//! registry that is asked answers.
+//! Cases of messages, each a line that a person can read: how each is read, or why it is refused, how it is written, and the
+//! answers of a registry.
 //!
-//! The file `stdin` has the cases, and `stdout` the same with their answers. `case_lines` says how a line is read, and the comments
-//! there where the expected answers come from: the standards that are named, and other programs. A line `table|NAME` begins one of three
-//! tables, and those below are calls of it, in which `$NAME$` is a text of that table.
+//! The file `stdin` has the cases, and `stdout` has them with their answers. The crate `case_lines` documents how a line is
+//! read. The comments in the table name the source of the expected answers: standards, and other programs. A line `table|NAME`
+//! begins one of three tables. The lines below it are calls of that table, in which `$NAME$` is a text of the table.
 //!
 //! | Module | Its calls |
 //! |---|---|
-//! | `registries` | the table of what a registry stands on, and of a registry that is asked: |
+//! | `registries` | the table of registries: what they consist of, and queries of one: |
 //! | `registries::urls` | `url`, `same_server`, `query_names` and `urls` |
 //! | `registries::configurations` | `registry`, `file`, `users` and `rows` read configurations |
-//! | `registries::registered` | `provider`, `find`, `row` and `subject` ask the sample's registry |
+//! | `registries::registered` | `provider`, `find`, `row` and `subject` query the sample's registry |
 //! | `registries::discovery` | `document`, `discovery` and `less` |
-//! | `registries::sample` | none; the configuration that the other cases ask, and texts with names |
+//! | `registries::sample` | none; the configuration of the other cases, and named texts |
 //! | `requests` | the table of authorization requests: |
 //! | `requests::parameters` | `form`, `merge`, `location`, `query` and `fragment` |
 //! | `requests::judgement` | `judge` and `judge_whole` |
 //! | `requests::needs` | `need` and `needed_scopes` |
 //! | `requests::request_objects` | `object`, `unseal_request` and `seal_request`: request objects |
-//! | `requests::sample` | none; the configuration that the cases ask, and texts with names |
+//! | `requests::sample` | none; the configuration of the cases, and named texts |
 //! | `answers` | the table of the answers of a sign-on: |
 //! | `answers::token_requests` | `read_grant` and `print_grant`: token requests |
 //! | `answers::token_answers` | `print_tokens`, `print_token_error` and `read_tokens`: their answers |
 //! | `answers::user_info` | `info_claims`, `held_claims`, `read_bearer`, `print_info` and `read_info`: UserInfo |
 //! | `answers::error_codes` | `error_codes`, `error_text` and `read_error`: the error codes of authorization responses |
 //! | `answers::responses` | `print_answer`, `print_refusal` and `read_answer`: authorization responses |
-//! | `answers::messages` | none; how messages from server to server are told |
-//! | `answers::sample` | none; the clients and users of the cases, and texts with names |
+//! | `answers::messages` | none; prints messages from server to server |
+//! | `answers::sample` | none; the clients and users of the cases, and named texts |
 //! | `clients` | none; the clients of a registry |
 #![tactic(auto)]
 
@@ -82,7 +82,7 @@ fn answer_table(alloc: Global) -> Result<Option<Table>, RegNo> {
     Ok(Some(Table::Answers(AnswerCases::new(alloc)?)))
 }
 
-// The table of this name, where there is one.
+// The table with this name, if there is one.
 fn table_of(alloc: Global, name: &str) -> Result<Option<Table>, RegNo> {
     match name {
         "registries" => registry_table(alloc),
@@ -92,7 +92,7 @@ fn table_of(alloc: Global, name: &str) -> Result<Option<Table>, RegNo> {
     }
 }
 
-// The table that is asked.
+// The current table.
 #[derive(Drop)]
 struct MessageCases {
     table: Option<Table>,
@@ -113,7 +113,7 @@ impl MessageCases {
         } else {
             "no such table"
         };
-        // (dropped by a call, and not where it stands: that proof is long)
+        // (dropped by a call, and not in place: the proof of that is long)
         drop(mem::replace(&mut self.table, table));
         told
     }

@@ -1,4 +1,4 @@
-// The table of what a registry stands on (URLs, configurations and discovery documents) and of a registry that is asked.
+// The table of registries: what they consist of (URLs, configurations and discovery documents), and queries of one.
 
 mod configurations;
 mod discovery;
@@ -11,14 +11,14 @@ use client_registry::{RegNo, Registry, read_registry};
 use sso_base::NoMemory;
 use std::alloc::Global;
 
-/// The calls of this table, and the registry that they ask.
+/// The calls of this table, and their registry.
 #[derive(Drop)]
 pub struct RegistryCases {
     registry: Registry,
 }
 
 impl RegistryCases {
-    /// The table that asks the sample's registry.
+    /// The table with the sample's registry.
     pub fn new(alloc: Global) -> Result<RegistryCases, RegNo> {
         let file = sample::sample(alloc)?;
         let registry = read_registry(alloc, file.as_bytes())?;

@@ -1,4 +1,4 @@
-// The table of authorization requests: their parameters, how they are judged, what they still need, and request objects.
+// The table of authorization requests: their parameters, their verification, their needs, and request objects.
 
 mod judgement;
 mod needs;
@@ -11,14 +11,14 @@ use client_registry::{RegNo, Registry, read_registry};
 use sso_base::NoMemory;
 use std::alloc::Global;
 
-/// The calls of this table, and the registry that they ask.
+/// The calls of this table, and their registry.
 #[derive(Drop)]
 pub struct RequestCases {
     registry: Registry,
 }
 
 impl RequestCases {
-    /// The table that asks the sample's registry.
+    /// The table with the sample's registry.
     pub fn new(alloc: Global) -> Result<RequestCases, RegNo> {
         let file = sample::sample(alloc)?;
         let registry = read_registry(alloc, file.as_bytes())?;

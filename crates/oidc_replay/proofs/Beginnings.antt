@@ -25,7 +25,7 @@ use Rattle.oidc_replay.proofs.HashedLogins.{wholly_bound}
 use Rattle.oidc_replay.proofs.Joined.{play_joined}
 use Rattle.oidc_replay.proofs.Played.{IsPlayed}
 
--- ---- beginnings: the newest place of a world stands first, so they are its ends
+-- ---- beginnings: the newest place of a world is first, so they are its suffixes
 
 -- of two ends of one list the longer has the shorter
 between : {A : Type 0} (late before later top : List A) → late ++ before ≡ later ++ top → length before ≤ length top

@@ -5,7 +5,7 @@ use Rattle.sso_places.specs.World.{Place, World, place_at, reply_at}
 use Rattle.oidc_replay.specs.declared.tally.Kind.{Kind}
 use Rattle.oidc_replay.specs.Storm.{is_of, is_there, is_at, count_of}
 
--- how many of the first so many places are of the kind
+-- how many of the first places, up to a number, are of the kind
 abbrev pub first_of : Kind → World → ℕ → ℕ
 first_of kind world zero = 0
 first_of kind world (suc n) = cond (is_at kind world (suc n)) (suc (first_of kind world n)) (first_of kind world n)

@@ -16,7 +16,7 @@ word_same seed i j low high same =
     let bytes : to_be_bytes w64 i ≡ to_be_bytes w64 j = append_cancel_left seed (to_be_bytes w64 i) (to_be_bytes w64 j) same in
     sym (from_be_bytes-to_be_bytes_8 i low) ∙ ap (from_be_bytes w64) bytes ∙ from_be_bytes-to_be_bytes_8 j high
 
--- a word of one of the first so many places
+-- a word of one of the first `count` places
 pub record IsEarlyWord (seed : List ℕ) (count : ℕ) (word : Word) : Type 0 where
   pub number : ℕ
   pub early : number ≤ 4 * count

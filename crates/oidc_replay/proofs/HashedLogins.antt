@@ -1,5 +1,6 @@
--- A party of a play asks for UserInfo with access tokens whose ID Token has an `at_hash`: that of an authorization response must have it,
--- and what came as a token response is a printed reply of the provider, which gives it to each ID Token beside an access token.
+-- A party of a play requests UserInfo only with access tokens whose ID Token has an `at_hash`. That of an authorization
+-- response must have it. A token response is a printed reply of the provider, which gives it to each ID Token with an access
+-- token.
 use Rattle.std.proofs.Common.{◌≡◌, ℕ, true, List, [], ◌∷◌, Option, Some, None, is_some, Result, Ok, Err, refl, sym, ap, ◌∙◌, subst, inl, inr}
 use Rattle.std.proofs.lemmas.Option.{same_Some}
 use Rattle.sso_base.specs.Words.{Word, Text}
@@ -135,7 +136,7 @@ module _ (c : Configuration) (seed : List ℕ) (registry : IsRegistry c) (n from
       let R : Text → Type 0 = λ t. id_read (party_secret c n) t ≡ Ok claims in
       tokens_have_hash c by.after.past by.pair registry by.after.legal by.gave.access by.gave.id (party_secret c n) claims by.gave.reply_is (subst R (sym by.gave.id_is) own)
 
--- ---- the last ID Token of a login that asks for UserInfo
+-- ---- the last ID Token of a login that requests UserInfo
 
 -- its claims have an `at_hash`
 record IsHashed (c : Configuration) (n : ℕ) (p : RpPair) : Type 0 where

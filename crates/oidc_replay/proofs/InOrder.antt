@@ -20,7 +20,7 @@ order_older : (c : Configuration) (newer older : List Line) → AreInOrder c (ne
 order_older c [] older order = order
 order_older c (line ∷ newer) older order = order_older c newer older order.0
 
--- so are the lines up to one of them; here all lines stand with the oldest first
+-- the same for the lines up to one of them; here all lines are given the oldest first
 order_front : (c : Configuration) (lines : List Line) (i : ℕ) (line : Line) → AreInOrder c (reverse lines) → i < length lines → line ≡ get_or lines i line → AreInOrder c (line ∷ reverse (take i lines))
 order_front c lines i line order here is =
     let front : List Line = take (suc i) lines in

@@ -1,5 +1,5 @@
--- A play is joined: each answer of a server comes under the number of the place that asked, since the word of a question is drawn
--- for one place alone.
+-- A play is joined: each answer of a server comes under the number of the place with its request, since the word of a request
+-- is drawn for one place only.
 use Rattle.std.proofs.Common.{◌≡◌, ◌⊎◌, ℕ, Bool, true, cond, List, [], ◌∷◌, length, Option, Some, Ok, inl, inr, refl, sym, ap, ◌∙◌, subst, arith}
 use Rattle.std.proofs.lemmas.Option.{same_Some}
 use Rattle.std.proofs.lemmas.Slice.Eq.{bytes_eq-Decides}
@@ -28,7 +28,7 @@ use Rattle.sign_on.proofs.AskKinds.{IsTokens, as_tokens}
 use Rattle.sso_places.proofs.Places.{distinct_before, drawn_more, drawn_other, fresh_drawn}
 use Rattle.oidc_replay.proofs.Played.{Questioned, IsHanded, IsPartyPlace, IsPlaced, IsPlayed}
 
--- ---- what a reply asks under a word
+-- ---- the request of a reply under a word
 
 abbrev Asks : Word → RpReply → Type 0
 Asks w told = (message : Message) × ((told ≡ rp.Exchange w message) ⊎ (told ≡ rp.Fetch w message))

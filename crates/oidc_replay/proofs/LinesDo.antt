@@ -76,7 +76,7 @@ of_provider (Provider from request p) r is = refl
 of_provider (Party n from request p) r is = cc
 of_provider Nothing r is = cc
 
--- an answer is given back to the place at which it was asked for
+-- an answer is returned to the place of its request
 module _ (c : Configuration) (v : Visitor) (world : World) (jars : List JarNote) (k j : ℕ) (last asking : Place) (rest : List Place) (there : place_at world k ≡ Some last) (asked : place_at world j ≡ Some asking) where
   back_by : (r : OpReply) → reply_at last ≡ reply.Provider r → line_sent c world jars (Back j k) ≡ given_back c asking (reply.Provider r)
   back_by r is =

@@ -1,4 +1,4 @@
--- The lines of a play take its places, one after another; where it ended early, the place that was next is wanting.
+-- The lines of a play take its places, one after another. If it ended early, the next place is missing.
 use Rattle.std.proofs.Common.{◌≡◌, ℕ, suc, Bool, true, false, cond, List, [], ◌∷◌, length, Option, Some, None, is_some, inl, inr, refl, sym, ap, ◌∙◌, subst}
 use Rattle.std.proofs.lemmas.Option.{same_Some}
 use Rattle.sso_base.proofs.RowLaws.{bool_cases}
@@ -14,7 +14,7 @@ use Rattle.oidc_replay.specs.Words.{words_after}
 use Rattle.oidc_replay.specs.Sending.{line_sent}
 use Rattle.oidc_replay.specs.Play.{Played, with_place, has_room, asked, asked_if, line_played, play_on, play_lines}
 
--- so many lines took places: all of them have theirs, or the play ended before the place that was next
+-- `count` lines took places: all of them have theirs, or the play ended before the next place
 pub record HasTaken (count : ℕ) (play : Played) : Type 0 where
   pub all : play.ended ≡ None → length play.world ≡ count
   pub next : (place : ℕ) → play.ended ≡ Some place → place ≡ suc (length play.world)

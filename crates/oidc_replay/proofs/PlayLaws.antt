@@ -40,7 +40,7 @@ distinct c seed lines room =
 pub joined : (c : Configuration) (seed : List ℕ) (lines : List Line) → length lines < 2 ^ 60 → IsJoined (play_lines c seed lines).world
 joined c seed lines room = play_joined c seed (play_lines c seed lines).world (lines_played c seed lines).places (distinct c seed lines room)
 
--- ---- line by line; here the lines of the trace stand with the oldest first
+-- ---- line by line; here the lines of the trace are given the oldest first
 
 next_line : (lines : List Line) (i : ℕ) (line : Line) → i < length lines → line ≡ get_or lines i line → reverse (take (suc i) lines) ≡ line ∷ reverse (take i lines)
 next_line lines i line here is =
@@ -108,13 +108,13 @@ module _ (c : Configuration) (told : Told) (registry : Configuration) (p : Playe
 
 -- ---- the theorem of the running world is that of its play
 
--- where the play ends with no premise that fails, none does
+-- if the play ends with no failed premise, none fails
 none_fails : (ended : Option ℕ) (broken : Option Broken) → ended_by ended broken ≡ end.Met → broken ≡ None
 none_fails None None is = refl
 none_fails None (Some broken) is = absurd (cc)
 none_fails (Some place) broken is = absurd (cc)
 
--- where it ends with one that fails, that one does
+-- if it ends with a failed premise, that one fails first
 one_fails : (ended : Option ℕ) (first : Option Broken) (broken : Broken) → ended_by ended first ≡ end.Broken broken → first ≡ Some broken
 one_fails None None broken is = absurd (cc)
 one_fails None (Some b) broken is = (let ends : end.Broken b ≡ end.Broken broken = is in let same : b ≡ broken = cc in ap (λ (x : Broken). Some x) same)

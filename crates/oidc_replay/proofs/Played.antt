@@ -1,4 +1,4 @@
--- What stands at the places of a play: the answers to what lines send, each with the words of its number.
+-- The contents of the places of a play: the answers to what lines send, each with the words of its number.
 use Rattle.std.proofs.Common.{◌≡◌, ℕ, suc, ◌≤◌, ◌<◌, ◌==◌, Bool, true, cond, List, [], ◌∷◌, length, Option, Some, None, is_some, option_map, option_and_then, IfSome, inl, inr, refl, sym, ap, ◌∙◌, subst, arith}
 use Rattle.std.proofs.lemmas.Option.{same_Some}
 use Rattle.std.specs.List.{AllByRecursion}
@@ -76,7 +76,8 @@ IsPrinted c world (Http request) = Unit {0}
 IsPrinted c world (Tokens w answer) = WasPrinted c world answer
 IsPrinted c world (Info w answer) = WasPrinted c world answer
 
--- What is sent is such, and what its receiver may be asked; and where what is known of the line is so, the receiver is a role.
+-- The request is one that a line can send, and its recipient may receive such requests. If `known` is true, the recipient is in
+-- the registry.
 pub record IsSent (known : Type 0) (c : Configuration) (world : World) (s : Sent) : Type 0 where
   pub handed : IsHanded world s.from s.ask
   pub printed : IsPrinted c world s.ask
@@ -94,7 +95,7 @@ found (y ∷ world) number x h =
       | inr other ↦ inr (found world number x (sym (ap C other) ∙ h))
     ]
 
--- every role may be asked by a request
+-- every role may receive an HTTP request
 asks_any : (role : To) (request : Ask) → IsForRole role (Http request)
 asks_any to.Provider request = tt
 asks_any (to.Party n) request = tt
@@ -245,12 +246,12 @@ IsPlaced c seed world (Provider from request p) = p.entry.fresh ≡ words_after 
 IsPlaced c seed world (Party n from request p) = IsPartyPlace c seed world n from request p
 IsPlaced c seed world Nothing = Unit {0}
 
--- each place stands so after those before it
+-- each place has this property, given those before it
 abbrev pub IsPlayed : Configuration → List ℕ → World → Type 0
 IsPlayed c seed [] = Unit {0}
 IsPlayed c seed (x ∷ world) = IsPlayed c seed world × IsPlaced c seed world x
 
--- what was played, of at most so many lines
+-- what was played, of at most `count` lines
 pub record HasPlayed (c : Configuration) (seed : List ℕ) (count : ℕ) (world : World) : Type 0 where
   pub places : IsPlayed c seed world
   pub few : length world ≤ count

@@ -65,7 +65,7 @@ word_258 = refl
 second_words : words_after zeros 1 ≡ word_of_number zeros 5 ∷ word_of_number zeros 6 ∷ word_of_number zeros 7 ∷ word_of_number zeros 8 ∷ []
 second_words = refl
 
--- ---- traces; the newest line stands first
+-- ---- traces; the newest line is first
 
 abbrev told : List Line → Told
 told lines = record { seed = zeros; lines = lines }
@@ -80,7 +80,7 @@ visit_text : text_of sample (told (Show 2 ∷ Follow 1 1 ∷ Visit 1 0 ∷ At 10
 unfolding text_of end_of play_of location_of printed prepared rp_answer rp_line digits
 visit_text = refl
 
--- a reply that has no message, and one that asks nothing of another server
+-- a reply without a message, and one without a request to another server
 no_message : text_of sample (told (Back 1 1 ∷ Carry 1 0 ∷ Visit 1 0 ∷ [])) ≡ codes "1 shop nobody\n2 - none\n3 - none\npremises met\n"
 unfolding text_of end_of play_of carried handed_back printed prepared rp_answer rp_line digits
 no_message = refl
@@ -139,7 +139,7 @@ gives_no_other h = let never : codes "id" ≡ [] = h.1 in absurd (cc)
 keys_give_none : GivesTokens (reply.Provider op.Keys) (came (codes "id")) → ⊥
 keys_give_none h = h
 
--- ---- an access token with which UserInfo is asked for
+-- ---- an access token of a UserInfo request
 
 abbrev got : Ask
 got = record { method = Get; path = codes "/"; query = []; first = None; second = None; auth = None; body = None }
@@ -156,7 +156,7 @@ asks = record { came = (refl, refl); word = word 17; message = message; replied 
 enters : AsksWithToken (own_site sample) 0 (answered (rp.Entered (word 26) (codes "alice"))) (codes "id") (word_text (word 21)) → ⊥
 enters h = let never : rp.Entered (word 26) (codes "alice") ≡ rp.Fetch h.word h.message = h.replied in absurd (cc)
 
--- UserInfo is answered for it, and it stood in no reply
+-- UserInfo is answered for it, but it was in no reply
 abbrev informing : Place
 informing = Provider 0 got (record { entry = record { at = 1000; fresh = words 29; ask = op_ask.Info (Given (word 21)) }; reply = op.Info (codes "{}") })
 
@@ -200,7 +200,7 @@ unfolding SignsOn
 nothing_signs_well =
     record { signs = tt; founded = tt; once = record { entered = tt; redeemed = tt; ended = tt }; same_browser = λ browser nonce only. tt }
 
--- browser 1 asked and signed in, and browser 2 posted its consent page and was answered
+-- browser 1 sent the request and signed in, and browser 2 posted its consent page and received the answer
 abbrev answered_elsewhere : World
 answered_elsewhere =
     Provider 2 (shows (Some (word 5)) (Some (word 9))) (login.pair_of login.consent_entry login.code_answer)
@@ -217,7 +217,7 @@ another_was_answered only =
     let same : ◌≡◌ {A = ℕ} 2 1 = (only 1 (Some (word_text (word 3))) only_one_asked).0 refl in
     absurd (omega (arith, same))
 
--- a party shows who is logged in, where nobody is
+-- a party shows a user, although nobody is logged in
 abbrev shows_somebody : World
 shows_somebody = Party 0 1 (Http got) (answered (rp.User (codes "alice"))) ∷ []
 
@@ -235,7 +235,7 @@ forged_later holds = signs_nobody_on (holds (omega arith)).0
 leaked_later : HoldsUntil (own_site sample) (Leaked 2) shows_somebody → ⊥
 leaked_later holds = signs_nobody_on (holds (omega arith)).0
 
--- where half digests clash, all but the binding is said of it, too
+-- if half hashes clash, all but the binding is still claimed
 clashes_there : HoldsUntil (own_site sample) (HashClash 1 1) shows_somebody → ⊥
 clashes_there holds = signs_nobody_on (holds.0 (omega arith))
 

@@ -1,5 +1,5 @@
--- In a play codes are bound, and each access token is, whatever claims the ID Token has beside which it came: in a play that ID Token
--- always has an `at_hash` (OpenID Connect Core 1.0, 3.1.3.6, 3.1.3.8 and 3.2.2.9).
+-- In a play codes are bound. So is each access token, whatever claims its ID Token has: in a play, an ID Token that comes with
+-- an access token always has an `at_hash` (OpenID Connect Core 1.0, 3.1.3.6, 3.1.3.8 and 3.2.2.9).
 use Rattle.std.specs.Prelude.{◌≡◌, ℕ, ◌∷◌, ◌++◌}
 use Rattle.sso_base.specs.Words.{Word, Text, word_text}
 use Rattle.sso_base.specs.declared.message.Message.{Message}
@@ -19,14 +19,14 @@ abbrev pub GivesTokens : WorldReply → Tokens → Type 0
 GivesTokens (ProviderReply (op.Tokens access id)) came = (word_text access ≡ came.access) × (id ≡ came.id)
 GivesTokens told came = ⊥
 
--- a party asks for UserInfo with the access token, which came together with the ID Token
+-- a party sends a UserInfo request with the access token, which came together with the ID Token
 pub record AsksWithToken (s : Site) (n : ℕ) (p : RpPair) (id access : Text) : Type 0 where
   pub came : CameTogether (setup_at s n) p.entry.ask id access
   pub word : Word
   pub message : Message
   pub replied : p.reply ≡ rp.Fetch word message
 
--- where the provider answers UserInfo for such an access token, it stood in an earlier reply beside that ID Token
+-- if the provider answers UserInfo for such an access token, an earlier reply had it together with that ID Token
 abbrev pub EachAccessTokenIsBound : Site → World → Type 0
 EachAccessTokenIsBound s world =
     (n from : ℕ) (request : WorldAsk) (p : RpPair) (later earlier : World) (id access : Text)

@@ -14,7 +14,7 @@ abbrev pub end_by : Option Broken → ReplayEnd
 end_by None = end.Met
 end_by (Some broken) = end.Broken broken
 
--- the place at which the play ended early comes first
+-- the place at which the play ended early is reported first
 abbrev pub ended_by : Option ℕ → Option Broken → ReplayEnd
 ended_by (Some place) broken = end.Journal place
 ended_by None broken = end_by broken

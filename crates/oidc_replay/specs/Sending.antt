@@ -1,4 +1,4 @@
--- What a line sends, by the replies of the places so far and the cookies that browsers have.
+-- The request that a line sends, by the replies of the places so far and the browsers' cookies.
 use Rattle.std.specs.Prelude.{◌<◌, ℕ, Bool, true, false, List, length, Option, Some, None, option_map, option_and_then}
 use Rattle.sso_base.specs.Words.{Word, Text}
 use Rattle.client_registry.specs.Configuration.{Configuration}
@@ -26,17 +26,17 @@ use Rattle.web_requests.specs.Raw.{raw_sent}
 
 -- ---- places
 
--- the reply of the place of a number
+-- the reply of the place with this number
 abbrev pub reply_of : World → ℕ → Option WorldReply
 reply_of world place = option_map reply_at (place_at world place)
 
 -- ---- locations
 
--- the location of the reply of a place
+-- the location of the reply at a place
 abbrev pub location_in : Configuration → World → ℕ → Option Location
 location_in c world place = option_and_then (location_of c) (reply_of world place)
 
--- the same, with the value of a parameter of the location of another place
+-- the same, with the value of a parameter of another place's location
 abbrev pub mixed_in : Configuration → World → ℕ → Text → ℕ → Option Location
 mixed_in c world place name other =
     option_and_then (λ location. option_and_then (mixed name location) (location_in c world other)) (location_in c world place)
@@ -45,14 +45,14 @@ mixed_in c world place name other =
 abbrev pub forged_in : Configuration → World → ℕ → Text → Option Location
 forged_in c world place user = option_and_then (λ reply. forged c reply user) (reply_of world place)
 
--- a browser follows a location, with its cookies at the role that serves it
+-- a browser's request to a location, with its cookies for the role that serves it
 abbrev pub followed_on : Configuration → List JarNote → ℕ → Location → Option Sent
 followed_on c jars from location =
     option_and_then (λ role. followed c from location (jar_of jars from role)) (receiver c location)
 
 -- ---- servers
 
--- the reply of one place is given to the role of another, as the answer to what that asked
+-- the reply of one place, passed to the role of another as the answer to that role's request
 abbrev pub handed_between : Configuration → Place → Place → Option Sent
 handed_between c asking answering =
     option_and_then
@@ -63,9 +63,9 @@ abbrev pub handed_in : Configuration → World → ℕ → ℕ → Option Sent
 handed_in c world place answer =
     option_and_then (λ asking. option_and_then (handed_between c asking) (place_at world answer)) (place_at world place)
 
--- ---- requests as they are written
+-- ---- requests that are written out in full
 
--- the word that is shown: none, that of the jar, or this one
+-- the cookie that the request presents: none, that of the jar, or this one
 abbrev pub shown_word : Shown → Option Word → Option Word
 shown_word shown.Absent kept = None
 shown_word shown.Jar kept = kept
@@ -73,7 +73,7 @@ shown_word (shown.Given w) kept = Some w
 
 -- ---- lines
 
--- what a line sends; none where a reply lacks what it needs, or no role serves where it would go
+-- the request of a line; none if a reply lacks what the line needs, or if no role serves the destination
 abbrev pub line_sent : Configuration → World → List JarNote → Line → Option Sent
 line_sent c world jars (Begin from party) = Some (login_begun from party (jar_of jars from (to.Party party)))
 line_sent c world jars (Visit from party) = Some (party_visited from party (jar_of jars from (to.Party party)))
@@ -94,7 +94,7 @@ line_sent c world jars line = None
 
 -- ---- what is known of a line that was read
 
--- a role that the line names is one of the registry
+-- each role that the line names is in the registry
 abbrev pub NamesRole : Configuration → Line → Type 0
 NamesRole c (Begin from party) = party < length c.parties
 NamesRole c (Visit from party) = party < length c.parties
@@ -102,7 +102,7 @@ NamesRole c (Leave from party) = party < length c.parties
 NamesRole c (Raw from role method target first second auth body) = IsRole c role
 NamesRole c line = Unit {0}
 
--- a browser follows a location
+-- a browser follows a location in this line
 abbrev pub follows_location : Line → Bool
 follows_location (Follow from place) = true
 follows_location (Mix from place name other) = true

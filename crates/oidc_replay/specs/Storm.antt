@@ -1,4 +1,4 @@
--- The play of a storm, told in a summary: how many places it has, how many of them have a reply of some kinds, and how it ends.
+-- The play of a storm, as a summary: the number of places, how many of them have a reply of some kinds, and how the play ends.
 use Rattle.std.specs.Prelude.{ℕ, suc, Bool, true, false, [], ◌∷◌, ◌++◌, length, codes, Option, Some, None, option_map, if◌then◌else◌}
 use Rattle.std.specs.Fmt.{decimal}
 use Rattle.sso_base.specs.Words.{Text}
@@ -19,7 +19,8 @@ use Rattle.oidc_replay.specs.Text.{end_line}
 
 -- ---- replies
 
--- a reply is of the kind: a party's session, its two refusals, and the provider's page that a form is of no live turn
+-- the reply is of this kind: an accepted login of a party, two of its refusals, and the provider's page for a form without a
+-- live turn
 abbrev pub is_of : Kind → WorldReply → Bool
 is_of Entered (reply.Party (rp.Entered session sub)) = true
 is_of Stale (reply.Party (rp.Refused no.StaleLogin)) = true
@@ -31,11 +32,11 @@ abbrev pub is_there : Kind → Option WorldReply → Bool
 is_there kind None = false
 is_there kind (Some told) = is_of kind told
 
--- there is a place of this number, and its reply is of the kind
+-- there is a place with this number, and its reply is of this kind
 abbrev pub is_at : Kind → World → ℕ → Bool
 is_at kind world place = is_there kind (option_map reply_at (place_at world place))
 
--- how many places have a reply of the kind
+-- the number of places with a reply of this kind
 abbrev pub count_of : Kind → World → ℕ
 count_of kind [] = 0
 count_of kind (x ∷ world) = if is_of kind (reply_at x) then suc (count_of kind world) else count_of kind world

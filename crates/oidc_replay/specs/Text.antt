@@ -27,7 +27,7 @@ use Rattle.oidc_replay.specs.End.{end_of}
 
 -- ---- places
 
--- who was asked, and what the reply tells
+-- the name of the role that received the request, and the summary of its reply
 abbrev pub phrase : Configuration → Option To → WorldReply → Text
 phrase c (Some to.Provider) (reply.Provider told) = codes "op " ++ op_line told
 phrase c (Some (to.Party n)) (reply.Party told) = (party_row c n).name ++ 32 ∷ rp_line told
@@ -39,12 +39,12 @@ place_line c number x = decimal number ++ 32 ∷ phrase c (role_at x) (reply_at 
 
 -- ---- places that are shown
 
--- the bytes of a reply in HTTP in lower-case hexadecimal digits, empty where there is none
+-- the bytes of an HTTP reply in lower-case hexadecimal digits, empty if there is none
 abbrev pub hex_of : Option HttpReply → Text
 hex_of None = []
 hex_of (Some told) = encode_lower (reply_bytes told)
 
--- the reply of a place in HTTP
+-- the HTTP reply of a place
 abbrev pub http_at : Configuration → Place → Option HttpReply
 http_at c x = option_and_then (λ role. printed c role (reply_at x)) (role_at x)
 
@@ -60,21 +60,21 @@ abbrev pub newest_line : Configuration → World → Text
 newest_line c [] = []
 newest_line c (x ∷ world) = place_line c (suc (length world)) x
 
--- what a line prints, by the world after it
+-- the text of a line, by the world after it
 abbrev pub line_text : Configuration → World → Line → Text
 line_text c world (At seconds) = []
 line_text c world (Steal thief owner) = []
 line_text c world (Show place) = show_line c world place
 line_text c world line = newest_line c world
 
--- nothing is printed of a line that ends the play, and of those after it
+-- nothing is printed for a line that ends the play, and for those after it
 abbrev pub unless_ended : Option ℕ → Text → Text
 unless_ended ended text = if is_some ended then [] else text
 
 abbrev pub line_told : Configuration → Played → Line → Text
 line_told c play line = unless_ended play.ended (line_text c play.world line)
 
--- what these lines print, which stand with the newest first
+-- the text of these lines, given the newest first
 abbrev pub lines_told : Configuration → List ℕ → List Line → Text
 lines_told c seed [] = []
 lines_told c seed (line ∷ lines) = lines_told c seed lines ++ line_told c (play_lines c seed (line ∷ lines)) line
@@ -86,7 +86,7 @@ premise_phrase (Forged place) = codes "forged " ++ decimal place
 premise_phrase (Leaked place) = codes "leaked " ++ decimal place
 premise_phrase (HashClash first place) = codes "clash " ++ decimal first ++ 32 ∷ decimal place
 
--- the last line: the first premise that fails, if one does, or the place for which a history had no room
+-- the last line: the first failed premise, if there is one, or the place for which a history had no room
 abbrev pub end_line : ReplayEnd → Text
 end_line end.Met = codes "premises met" ++ 10 ∷ []
 end_line (end.Broken broken) = codes "premises " ++ premise_phrase broken ++ 10 ∷ []

@@ -1,20 +1,20 @@
-//! The replay of traces: a trace of what browsers and servers do is played over the provider and the relying parties of a registry,
-//! and told line by line.
+//! The replay of traces. A trace lists what browsers and servers send. It is played over the provider and the relying parties
+//! of a registry, and reported line by line.
 //!
-//! [`read_trace`] reads a trace for a registry; its grammar is that of the crate `trace_lines`. [`replay`] plays it. Each request
-//! takes the next place, from 1, and the role that it is sent to replies there. The words that the roles draw come from the seed of
-//! the trace: place p draws the words 4p - 3 to 4p, and word i is the seed followed by i in 8 bytes, greatest first. [`storm`] plays a
-//! trace too, and tells it in a summary.
+//! [`read_trace`] reads a trace for a registry; the crate `trace_lines` has its grammar. [`replay`] plays it. Each request
+//! takes the next place, from 1, and the role that receives it replies there. The random words come from the trace's seed:
+//! place p draws the words 4p - 3 to 4p, and word i is the seed followed by i in 8 bytes, big-endian. [`storm`] also plays a
+//! trace, and reports a summary.
 //!
 //! | Module | What it has | Its definitions, in `specs/` |
 //! |---|---|---|
-//! | `words` | the words that the roles draw | `Words` |
-//! | `sending` | what a line sends | `Sending` |
+//! | `words` | the random words of the roles | `Words` |
+//! | `sending` | the request that a line sends | `Sending` |
 //! | `play` | the play of lines | `Play` |
-//! | `text` | what lines print | `Text` |
+//! | `text` | the text that lines print | `Text` |
 //! | `replaying` | [`replay`], and how a play ends | `End`, `Theorem`, `Bound` |
-//! | `tally`, `summary` | [`storm`], and what is counted in it | `Storm` |
-//! | `law` | what holds of every play, for the crates above | |
+//! | `tally`, `summary` | [`storm`], and the counts of its summary | `Storm` |
+//! | `law` | what is true for every play, for the crates above | |
 #![tactic(auto)]
 
 mod law;

@@ -23,7 +23,7 @@ use std::marker::Model;
 use trace_lines::Line;
 use web_requests::Sent;
 
-/// What was played of a trace so far: the world, the moment, and the place at which the play ended early, where it did.
+/// The part of a trace that was played: the world, the moment, and the place at which the play ended early, if it did.
 #[derive(Drop)]
 pub(crate) struct Play {
     seed: [u8; 24],
@@ -48,7 +48,7 @@ impl Play {
         ensures played { IfOk result (λ p. spec.played_of p ≡ spec.nothing_played) }
         ensures read { IsRegistry registry }
     {
-        // What every registry keeps is known where a part of it is read.
+        // The registry's invariant becomes known by reading a field.
         let _parties = registry.parties();
         Ok(Play {
             seed,
@@ -58,7 +58,7 @@ impl Play {
         })
     }
 
-    // A role is asked; where its history has no room, the play ends.
+    // Sends a request to a role. If the role's history has no room for it, the play ends.
     fn ask(&mut self, alloc: Global, sent: Sent) -> Result<(), NoMemory>
         requires few { length (world_of self.old.running) < 2 ^ 59 }
         requires role { IsRole self.old.running.registry sent.to }
@@ -77,7 +77,7 @@ impl Play {
         Ok(())
     }
 
-    // A place at which nothing is asked.
+    // Adds a place without a request.
     fn skip(&mut self, alloc: Global) -> Result<(), NoMemory>
         ensures registry { self.new.running.registry ≡ self.old.running.registry }
         ensures seed { self.new.seed ≡ self.old.seed }
@@ -86,7 +86,7 @@ impl Play {
         self.world.skip(alloc)
     }
 
-    // The place of a line.
+    // Adds the place of a line.
     fn place(&mut self, alloc: Global, line: &Line) -> Result<(), NoMemory>
         requires few { length (world_of self.old.running) < 2 ^ 59 }
         requires role { sending.NamesRole self.old.running.registry line.now }
@@ -94,7 +94,7 @@ impl Play {
         ensures seed { self.new.seed ≡ self.old.seed }
         ensures ok { OnOk result (spec.played_of self.new ≡ spec.asked_if self.old.running.registry self.old.seed (spec.played_of self.old) (sending.line_sent self.old.running.registry (world_of self.old.running) self.old.running.jars line.now)) }
     {
-        // The world is legal, so that a role which was asked is one of the registry.
+        // The world is legal, so that a role which received a request is one of the registry.
         self.world.theorem();
         match line_sent(alloc, &self.world, line)? {
             Some(sent) => self.ask(alloc, sent),
@@ -122,7 +122,7 @@ impl Play {
         Ok(())
     }
 
-    /// The place at which the play ended early, where it did.
+    /// The place at which the play ended early, if it did.
     pub(crate) fn ended(&self) -> Option<u64>
         ensures { result ≡ self.now.ended }
     {
@@ -136,14 +136,14 @@ impl Play {
         self.world.registry()
     }
 
-    /// How many places there are.
+    /// The number of places.
     pub(crate) fn places(&self) -> u64
         ensures { result ≡ length (world_of self.now.running) }
     {
         self.world.places()
     }
 
-    /// The role that was asked at a place, where there is such a place and something was asked.
+    /// The role that received the request at a place, if there is such a place and it has a request.
     pub(crate) fn role(&self, place: u64) -> Option<To>
         ensures role { result ≡ option_and_then role_at (place_at (world_of self.now.running) place) }
         ensures known { IfSome result (IsRole self.now.running.registry) }
@@ -151,14 +151,14 @@ impl Play {
         self.world.role(place)
     }
 
-    /// The reply at a place, where there is such a place.
+    /// The reply at a place, if there is such a place.
     pub(crate) fn reply(&self, place: u64) -> Option<&WorldReply>
         ensures { option_copied result ≡ option_map reply_at (place_at (world_of self.now.running) place) }
     {
         self.world.reply(place)
     }
 
-    /// The premise that fails first, where one fails.
+    /// `Ok` if the tested premises hold, or the first that fails.
     pub(crate) fn premises(&self) -> Result<(), Broken>
         ensures ok { OnOk result (first_broken (own_site self.now.running.registry) (world_of self.now.running) ≡ None) }
         ensures err { IfErr result (λ b. first_broken (own_site self.now.running.registry) (world_of self.now.running) ≡ Some b) }
@@ -166,7 +166,7 @@ impl Play {
         self.world.premises()
     }
 
-    /// The theorems on the world, as a law. The call does nothing.
+    /// The theorems about the world, as a lemma. The call does nothing.
     pub(crate) fn theorem(&self)
         ensures { TheoremHolds self.now.running.registry (world_of self.now.running) }
     {

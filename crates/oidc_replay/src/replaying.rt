@@ -18,18 +18,18 @@ use sso_places::Broken;
 use std::alloc::Global;
 use trace_lines::{Line, Trace};
 
-/// How a play ends. A place is counted from 1.
+/// How a play ends. Places are counted from 1.
 #[derive(Clone, Copy, Debug, PartialEq, Eq)]
 pub enum ReplayEnd {
     /// After the last line, and no premise of the sign-on theorem failed.
     Met,
     /// After the last line, and this premise failed first.
     Broken(Broken),
-    /// Before this place: the history of the role that was to be asked had no room for the request.
+    /// Before this place: the history of the recipient had no room for the request.
     Journal(u64),
 }
 
-/// What a replay gives.
+/// The result of a replay.
 #[derive(Drop)]
 pub struct Replayed {
     /// A line for each place and each `show`, and a last line for the end.
@@ -51,7 +51,7 @@ fn end_of(play: &Play) -> ReplayEnd
     }
 }
 
-// One more line is played, and what it prints is added.
+// Plays one more line, and adds what it prints.
 fn replay_line(
     alloc: Global,
     play: &mut Play,
@@ -69,7 +69,7 @@ fn replay_line(
     push_line(alloc, out, play, line)
 }
 
-// What is told when all lines were played: the text so far with its last line, and how the play ended.
+// The result after all lines: the text so far with its last line, and how the play ended.
 pub(crate) fn finish(alloc: Global, play: &Play, mut out: String) -> Result<Replayed, NoMemory>
     ensures text { IfOk result (λ r. r.text ≡ string_bytes out ++ text.end_line (ends.play_end play.now.running.registry (plays.played_of play.now))) }
     ensures end { IfOk result (λ r. r.end ≡ ends.play_end play.now.running.registry (plays.played_of play.now)) }
@@ -82,7 +82,7 @@ pub(crate) fn finish(alloc: Global, play: &Play, mut out: String) -> Result<Repl
     })
 }
 
-// All lines are played of a play that has just begun, and it is told.
+// Plays all lines of a play that has just begun, with a line of text for each.
 #[tactic(auto, unfolding(crate::specs::Play::play_of, crate::specs::End::end_of, crate::specs::Text::text_of))]
 fn replay_all(alloc: Global, play: &mut Play, trace: &Trace) -> Result<Replayed, NoMemory>
     requires lines { IsReadFor play.old.running.registry trace.now }
@@ -100,15 +100,18 @@ fn replay_all(alloc: Global, play: &mut Play, trace: &Trace) -> Result<Replayed,
     finish(alloc, play, out)
 }
 
-/// Plays a trace over the provider and the relying parties of a registry, each party trusting that provider, and tells it line by
-/// line. The trace was read for this registry.
+/// Plays a trace over the provider and the relying parties of a registry, each of which trusts that provider. The trace must
+/// have been read for this registry.
 ///
-/// The text has a line for each place, one for each place that is shown, and a last one for the end. The world that is played is
-/// legal. If no token text is forged in it and no cookie leaks, its reading is a run of the sign-on machine at every prefix, its live
-/// rows are the sessions of the parties, each of them is founded, and nothing was entered, redeemed or ended twice. This is true also
-/// if half digests clash or a history had no more room. If none clash, codes and all access tokens are bound. All this is true if the
-/// play ends as [`ReplayEnd::Met`], and for its places before the one at which a premise fails if it ends as [`ReplayEnd::Broken`].
-/// Honest logins succeed, however the play ends.
+/// The text has a line for each place, one for each place that is shown, and a last one for the end. The world that is played
+/// is legal. If no token is forged in it and no cookie leaks, the sign-on theorem is true for it:
+///
+/// - Its reading is a run of the sign-on machine at every prefix, and the machine's live rows are the sessions of the parties.
+/// - Each live row is founded, and nothing was entered, redeemed or ended twice.
+///
+/// This is also true if half hashes clash or a history had no more room. If no half hashes clash, codes and all access tokens
+/// are bound. All this is true if the play ends as [`ReplayEnd::Met`]. If it ends as [`ReplayEnd::Broken`], it is true for the
+/// places before the one at which a premise fails. Honest logins succeed, however the play ends.
 pub fn replay(alloc: Global, registry: Registry, trace: &Trace) -> Result<Replayed, NoMemory>
     requires { IsReadFor registry trace.now }
     ensures text { IfOk result (λ r. r.text ≡ text.text_of registry trace.now) }

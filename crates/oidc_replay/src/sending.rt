@@ -1,4 +1,4 @@
-// What a line sends.
+// The request that a line sends.
 
 ghost use Rattle.std.specs.Prelude.{◌≡◌, true, option_and_then, Some, IfOk};
 ghost use Rattle.cookie_jars.specs.Jars.{jar_of};
@@ -16,7 +16,7 @@ use web_requests::{
     login_begun, login_posted, mixed, party_left, party_visited, raw_sent, receiver, signed_out,
 };
 
-// The location of the reply of a place.
+// The location of the reply at a place.
 fn location_in(alloc: Global, world: &World, place: u64) -> Result<Option<Location>, NoMemory>
     ensures { IfOk result (λ o. o ≡ spec.location_in world.now.registry (world_of world.now) place) }
 {
@@ -26,7 +26,7 @@ fn location_in(alloc: Global, world: &World, place: u64) -> Result<Option<Locati
     }
 }
 
-// The same, with the value of a parameter of the location of another place.
+// The same, with the value of a parameter of another place's location.
 fn mixed_in(
     alloc: Global,
     world: &World,
@@ -60,7 +60,7 @@ fn forged_in(
     }
 }
 
-// A browser follows a location, with its cookies at the role that serves it.
+// A browser's request to a location, with its cookies for the role that serves it.
 fn followed_on(
     alloc: Global,
     world: &World,
@@ -84,7 +84,7 @@ fn followed_on(
     )
 }
 
-// What is sent by a line that has a browser follow a location.
+// The request of a line in which a browser follows a location.
 fn following(alloc: Global, world: &World, line: &Line) -> Result<Option<Sent>, NoMemory>
     requires { spec.follows_location line.now ≡ true }
     ensures { IfOk result (λ o. o ≡ spec.line_sent world.now.registry (world_of world.now) world.now.jars line.now) }
@@ -187,7 +187,7 @@ fn carried_in(
     }
 }
 
-// The reply of one place is given to the role of another, as the answer to what that asked.
+// Passes the reply of one place to the role of another, as the answer to that role's request.
 fn handed_in(
     alloc: Global,
     world: &World,
@@ -208,7 +208,7 @@ fn handed_in(
     handed_back(alloc, world.registry(), from, &role, reply, &other, told)
 }
 
-// The word that is shown.
+// The cookie that a request presents.
 fn shown_word(shown: &Shown, kept: &Option<Word>) -> Option<Word>
     ensures { result ≡ spec.shown_word shown.now kept.now }
 {
@@ -219,7 +219,7 @@ fn shown_word(shown: &Shown, kept: &Option<Word>) -> Option<Word>
     }
 }
 
-// A request as it is written.
+// A request that is written out in full.
 fn written(alloc: Global, world: &World, line: &Line) -> Result<Option<Sent>, NoMemory>
     requires { spec.is_raw line.now ≡ true }
     ensures { IfOk result (λ o. o ≡ spec.line_sent world.now.registry (world_of world.now) world.now.jars line.now) }
@@ -243,7 +243,7 @@ fn written(alloc: Global, world: &World, line: &Line) -> Result<Option<Sent>, No
     Ok(Some(raw_sent(alloc, *from, to, *method, target, first, second, auth, body)?))
 }
 
-/// What a line sends, by the world so far.
+/// The request that a line sends, given the world so far.
 pub(crate) fn line_sent(alloc: Global, world: &World, line: &Line) -> Result<Option<Sent>, NoMemory>
     ensures { IfOk result (λ o. o ≡ spec.line_sent world.now.registry (world_of world.now) world.now.jars line.now) }
 {

@@ -17,7 +17,7 @@ use sso_base::NoMemory;
 use std::alloc::Global;
 use trace_lines::Trace;
 
-// All lines are played of a play that has just begun. Nothing is printed of its places.
+// Plays all lines of a play that has just begun. Nothing is printed for its places.
 fn play_all(alloc: Global, play: &mut Play, trace: &Trace) -> Result<(), NoMemory>
     requires lines { IsReadFor play.old.running.registry trace.now }
     requires begun { HasBegun play.old trace.now }
@@ -66,7 +66,7 @@ fn counts(alloc: Global, play: &Play, number: u32, count: u32) -> Result<String,
     Ok(out)
 }
 
-// The same, told in a summary.
+// The same, with the summary as its text.
 fn storm_all(
     alloc: Global,
     play: &mut Play,
@@ -87,9 +87,9 @@ fn storm_all(
     finish(alloc, play, text)
 }
 
-/// Plays the trace of a storm as [`replay`](crate::replay) does, and tells it in a summary: the two numbers of the storm, how many places
-/// the play has, how many of them have a reply of each of four kinds, and how it ended. The trace was read for this registry. What
-/// holds of a replay holds of this play.
+/// Plays the trace of a storm as [`replay`](crate::replay) does, and returns a summary: the two numbers of the storm, the
+/// number of places, how many of them have a reply of each of four kinds, and how the play ended. The trace must have been read
+/// for this registry. All that is proved for a replay is also proved for this play.
 pub fn storm(
     alloc: Global,
     registry: Registry,

@@ -1,4 +1,4 @@
-// How many places of a play have a reply of a kind.
+// The number of places of a play with a reply of a kind.
 
 ghost use Rattle.std.specs.Prelude.{◌≡◌};
 ghost use Rattle.running_world.specs.Running.{world_of};
@@ -13,17 +13,17 @@ use sso_places::WorldReply;
 /// The kinds of replies that are counted.
 #[derive(Clone, Copy)]
 pub(crate) enum Kind {
-    /// A party lets a login in.
+    /// A party accepts a login.
     Entered,
-    /// It refuses one of no login that still lives.
+    /// A party refuses a response, since its login is not live (`StaleLogin`).
     Stale,
-    /// It refuses one that another browser began.
+    /// A party refuses a response, since another browser began its login.
     WrongBrowser,
-    /// The provider's error page for a form of no live turn.
+    /// The provider's error page for a form without a live turn.
     Turn,
 }
 
-// Whether a reply is of the kind.
+// Whether a reply is of this kind.
 fn is_of(kind: Kind, reply: &WorldReply) -> bool
     ensures { result ≡ spec.is_of kind reply.now }
 {
@@ -48,7 +48,7 @@ fn is_of(kind: Kind, reply: &WorldReply) -> bool
     }
 }
 
-// Whether there is such a place, and its reply is of the kind.
+// Whether there is such a place, and its reply is of this kind.
 fn is_at(play: &Play, kind: Kind, place: u64) -> bool
     ensures { result ≡ spec.is_at kind (world_of play.now.running) place }
 {
@@ -58,7 +58,7 @@ fn is_at(play: &Play, kind: Kind, place: u64) -> bool
     }
 }
 
-/// How many places have a reply of the kind.
+/// The number of places with a reply of this kind.
 pub(crate) fn count_of(play: &Play, kind: Kind) -> u64
     ensures { result ≡ spec.count_of kind (world_of play.now.running) }
 {

@@ -1,4 +1,4 @@
-// What lines print.
+// The text that lines print.
 
 ghost use Rattle.std.specs.Prelude.{◌≡◌, ◌++◌, ◌∷◌, string_bytes, IfSome, OnOk};
 ghost use Rattle.std.specs.Fmt.{decimal};
@@ -19,7 +19,7 @@ use std::alloc::Global;
 use trace_lines::Line;
 use web_requests::printed;
 
-// A number.
+// Adds a number.
 fn push_number(alloc: Global, out: &mut String, number: u64) -> Result<(), NoMemory>
     ensures { OnOk result (string_bytes out.new ≡ string_bytes out.old ++ decimal number) }
 {
@@ -28,7 +28,7 @@ fn push_number(alloc: Global, out: &mut String, number: u64) -> Result<(), NoMem
     Ok(())
 }
 
-// Who was asked, and what the reply tells.
+// Adds the name of the role and the summary of its reply.
 fn push_told(out: &mut String, name: &str, told: &Text) -> Result<(), NoMemory>
     ensures { OnOk result (string_bytes out.new ≡ string_bytes out.old ++ (name.now ++ 32 ∷ told.now)) }
 {
@@ -61,7 +61,7 @@ fn push_phrase(
     Ok(())
 }
 
-// The line of the newest place.
+// Adds the line of the newest place.
 fn push_newest(alloc: Global, out: &mut String, play: &Play) -> Result<(), NoMemory>
     ensures { OnOk result (string_bytes out.new ≡ string_bytes out.old ++ spec.newest_line play.now.running.registry (world_of play.now.running)) }
 {
@@ -76,7 +76,7 @@ fn push_newest(alloc: Global, out: &mut String, play: &Play) -> Result<(), NoMem
     Ok(())
 }
 
-// The reply of a place in HTTP, in hexadecimal digits.
+// Adds the HTTP reply of a place, in hexadecimal digits.
 fn push_hex(alloc: Global, out: &mut String, play: &Play, place: u64) -> Result<(), NoMemory>
     ensures { OnOk result (string_bytes out.new ≡ string_bytes out.old ++ spec.hex_at play.now.running.registry (world_of play.now.running) place) }
 {
@@ -103,7 +103,7 @@ fn push_shown(alloc: Global, out: &mut String, play: &Play, place: u64) -> Resul
     Ok(())
 }
 
-/// What a line prints that was played. Nothing is printed after the end.
+/// Adds what a played line prints. Nothing is printed after the end.
 pub(crate) fn push_line(
     alloc: Global,
     out: &mut String,
@@ -143,7 +143,7 @@ fn push_broken(alloc: Global, out: &mut String, broken: &Broken) -> Result<(), N
     }
 }
 
-/// The last line.
+/// Adds the last line.
 pub(crate) fn push_end(alloc: Global, out: &mut String, end: &ReplayEnd) -> Result<(), NoMemory>
     ensures { OnOk result (string_bytes out.new ≡ string_bytes out.old ++ spec.end_line end.now) }
 {

@@ -1,4 +1,4 @@
-// The words that the roles draw in a replay.
+// The random words of the roles in a replay.
 
 ghost use Rattle.std.specs.Prelude.{◌≡◌, ◌≤◌, ◌^◌};
 ghost use Rattle.oidc_replay.specs.Words as spec;
@@ -6,7 +6,7 @@ ghost use Rattle.oidc_replay.specs.Words as spec;
 use server_desk::word_of_number;
 use sso_base::Word;
 
-/// The four words of the place that follows so many places.
+/// The four words of the place after `count` places.
 pub(crate) fn words_after(seed: &[u8; 24], count: u64) -> [Word; 4]
     requires { count ≤ 2 ^ 59 }
     ensures { result ≡ spec.words_after seed.now count }

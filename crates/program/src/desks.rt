@@ -11,10 +11,10 @@ use std::net::{Net, TcpListener, TcpStream};
 use std::random::RandomSource;
 use std::time::Clock;
 
-/// How many connections are served beside each other.
+/// The number of connections that are served concurrently.
 const COUNT: usize = 4;
 
-/// Four desks over this machine. It fails where memory runs out, and where the machine gives no random bytes.
+/// Four desks over this machine. It fails if memory runs out, or if the machine gives no random bytes.
 pub fn desks<'a, R>(
     rt: &'a R,
     alloc: Global,

@@ -1,5 +1,5 @@
-//! The program: the top call `sso` with this machine's files for the shelf, standard output for the sink, and four desks (`desks`) over
-//! its network, its clock and its random bytes.
+//! The program: runs the top call `sso` with this machine's files as the shelf and standard output as the sink. It has four
+//! desks (`desks`) over the machine's network, clock and random bytes.
 #![tactic(auto)]
 
 use crate::desks::desks;
@@ -9,7 +9,8 @@ use std::process::ExitCode;
 
 mod desks;
 
-/// Ends with the status of the top call, or with 1 where no memory is found for the words and the desks, or no random bytes.
+/// Exits with the status of the top call, or with 1 if there is no memory for the words and the desks, or there are no random
+/// bytes.
 fn main(rt: HostRuntime) -> ExitCode {
     let alloc = rt.alloc();
     let (Ok(words), Ok(mut desks)) = (read_words(alloc, &rt), desks(&rt, alloc)) else {

@@ -1,4 +1,4 @@
-// The configurations of the table `provider`, by the names that its call `provider` takes.
+// The configurations of the table `provider`, by the names in its call `provider`.
 
 use sample_rows::{ALICE, ALICES_CLAIMS, BOB, MAIL_CLIENT, NEWS_CLIENT, PROVIDER, SHOP_CLIENT};
 use sso_base::NoMemory;
@@ -21,7 +21,7 @@ logout_uri = \"http://127.0.0.1:8083/logout\"
 logout_session = true
 ";
 
-// A client whose redirection URI has a query.
+// A client whose redirect URI has a query.
 const WIKI_CLIENT: &str = "[[client]]
 id = \"wiki-client\"
 secret = \"wiki-secret-wiki-secret-wiki-secret\"
@@ -30,9 +30,9 @@ response_types = [\"code\", \"id_token token\"]
 consent = \"given\"
 ";
 
-// Two users with the password `password`, of whom the first has claims. The first client asks for consent and has a logout URI; the second
-// has all response types, a logout URI, and is told the session; the third has the response type `id_token token` too. The second and
-// the third have pairwise subjects.
+// Two users with the password `password`, of whom the first has claims. The first client requires consent and has a logout URI.
+// The second has all response types and a logout URI, and receives the `sid`. The third also has the response type `id_token
+// token`. The second and the third have pairwise subjects.
 fn shop(alloc: Global) -> Result<String, NoMemory> {
     let users = [
         PROVIDER,
@@ -54,12 +54,12 @@ fn shop(alloc: Global) -> Result<String, NoMemory> {
     Ok([users.as_str(), clients.as_str()].concat(alloc)?)
 }
 
-// The head of a provider with this issuer.
+// The head of a configuration whose provider has this issuer.
 fn provider_at(alloc: Global, issuer: &str) -> Result<String, NoMemory> {
     Ok(PROVIDER.replacen(alloc, "http://127.0.0.1:8080", issuer, 1)?)
 }
 
-// One user with the password `password`, and one client. The provider's paths stand below `/op`.
+// One user with the password `password`, and one client. The provider's paths are below `/op`.
 fn below_a_path(alloc: Global) -> Result<String, NoMemory> {
     let provider = provider_at(alloc, "http://127.0.0.1:8080/op")?;
     Ok([
@@ -71,14 +71,15 @@ fn below_a_path(alloc: Global) -> Result<String, NoMemory> {
     .concat(alloc)?)
 }
 
-// One user with the password `password`, and two clients, of which the first asks for consent. The provider's paths stand below `/sso`.
+// One user with the password `password`, and two clients, of which the first requires consent. The provider's paths are below
+// `/sso`.
 fn https(alloc: Global) -> Result<String, NoMemory> {
     let provider = provider_at(alloc, "https://op.example/sso/")?;
     let rows = [ALICE, SHOP_CLIENT, "consent = \"ask\"\n", WIKI_CLIENT].concat(alloc)?;
     Ok([provider.as_str(), rows.as_str()].concat(alloc)?)
 }
 
-/// The configuration of this name; an empty one where there is none.
+/// The configuration with this name, or an empty one if there is none.
 pub fn configuration(alloc: Global, name: &str) -> Result<String, NoMemory> {
     match name {
         "shop" => shop(alloc),

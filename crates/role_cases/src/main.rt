@@ -1,39 +1,40 @@
-//! Cases of the provider and of relying parties: runs, request by request, and logins that are carried through both roles, each a line
+//! Cases of the provider and of relying parties: runs, request by request, and logins that go through both roles, each a line
 //! that a person can read.
 //!
-//! The file `stdin` has the cases, and `stdout` the same with their answers. `case_lines` says how a line is read, and the comments
-//! there where the expected answers come from. What a line asks is read as a request, which goes the way that it goes in a server,
-//! through `prepare` and `step`, and its reply is told.
+//! The file `stdin` has the cases, and `stdout` has them with their answers. The crate `case_lines` documents how a line is
+//! read. The comments in the table name the source of the expected answers. A line is parsed as a request, which is processed
+//! as in a server, by `prepare` and `step`, and its reply is printed.
 //!
-//! There are two tables. A line `table|provider` or `table|party` begins a table, and all lines after it are asked of that one:
+//! There are two tables. A line `table|provider` or `table|party` begins a table, and all lines after it are calls of that
+//! table:
 //!
-//! | Table | Call | What it does |
+//! | Table | Call | Effect |
 //! |---|---|---|
-//! | `provider` | `provider|NAME` | begins a provider of the configuration of this name |
-//! | | any other | asks that provider |
+//! | `provider` | `provider|NAME` | begins a provider with the configuration of this name |
+//! | | any other | is a call of that provider |
 //! | `party` | `party|NAME`, `party|NAME|elsewhere` | begins a relying party, at the provider of the cases or at another |
 //! | | `provider` | begins the provider of the cases |
-//! | | `provider|..` | asks that provider what stands behind |
-//! | | any other | asks the relying party |
+//! | | `provider|..` | is a call of that provider, after the first field |
+//! | | any other | is a call of the relying party |
 //!
-//! `Provider` and `RelyingParty` say which calls they answer. Where one begins, the count of places begins anew, and so each run reads
-//! as a small story. The ask at place p, from 1, of whichever of them, draws the words 4p - 3 to 4p. Beside the texts of words, names
-//! stand for those of the last reply, for those of `texts`, and for tokens as `sealed` says.
+//! `Provider` and `RelyingParty` document their calls. When one begins, the count of places begins anew, so each run reads as a
+//! small story. The request at place p, from 1, to either role draws the words 4p - 3 to 4p. Besides the texts of words, the
+//! names are those of the last reply, those of `texts`, and tokens as in `sealed`.
 //!
 //! | Module | What it has |
 //! |---|---|
 //! | `provider_table` | the calls of the table `provider` |
 //! | `configurations` | the configurations of its providers |
-//! | `texts` | the texts that names in its lines stand for |
+//! | `texts` | the named texts in its lines |
 //! | `party_table` | the calls of the table `party` |
 //! | `setup` | the configuration of its relying parties and their provider |
 //! | `sealed` | its ID Tokens and logout tokens |
-//! | `roles` | the roles that are asked, and their run |
-//! | `telling` | what is told of the steps of a role |
-//! | `provider` | `Provider`: a provider that is asked |
-//! | `party` | `RelyingParty`: a relying party that is asked |
+//! | `roles` | the roles, and their run |
+//! | `telling` | prints the steps of a role |
+//! | `provider` | `Provider`: the provider of a run |
+//! | `party` | `RelyingParty`: the relying party of a run |
 //!
-//! No call here has a contract but where the calls below it want one.
+//! A call here has a contract only if the calls below it need one.
 #![tactic(auto)]
 
 mod configurations;
@@ -59,7 +60,7 @@ enum Table {
     Party,
 }
 
-// The table that began last, and the roles that are asked in it.
+// The current table, and its roles.
 #[derive(Drop)]
 struct RoleCases {
     table: Option<Table>,
@@ -84,7 +85,7 @@ impl RoleCases {
 
     fn begin(&mut self, alloc: Global, name: &str) -> Result<String, NoMemory> {
         self.table = table_named(name);
-        // (dropped by a call, and not where they stand: that proof is long)
+        // (dropped by a call, and not in place: the proof of that is long)
         drop(mem::replace(&mut self.roles, Roles::new(alloc)));
         match self.table {
             Some(_) => told(alloc, "begun"),
@@ -101,7 +102,7 @@ impl RoleCases {
     }
 }
 
-// The text of this name in either table: no name stands in both.
+// The text with this name in either table: no name is in both.
 fn named(name: &str) -> Option<&'static str> {
     match texts::named(name) {
         Some(text) => Some(text),
@@ -132,7 +133,7 @@ impl Cases for RoleCases {
 fn main(rt: HostRuntime) -> io::Result<()> {
     let mut cases = RoleCases::new(rt.alloc());
     let printed = print_cases(&rt, &mut cases);
-    // (dropped by a call, and not where it stands: that proof is long)
+    // (dropped by a call, and not in place: the proof of that is long)
     drop(cases);
     printed
 }

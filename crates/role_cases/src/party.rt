@@ -1,4 +1,4 @@
-// A relying party that is asked.
+// The relying party of a run.
 
 ghost use Rattle.std.specs.Prelude.{◌≡◌, ◌<◌, length, IfOk};
 
@@ -16,7 +16,7 @@ use rp_response::{rp_http, rp_line};
 use sso_base::{Core, CoreNo, Message, Moment, NoMemory, Text, copied_text};
 use std::alloc::Global;
 
-/// A relying party, the registry that it was set up with, and its number there.
+/// A relying party, its registry, and its number there.
 #[derive(Drop)]
 pub struct RelyingParty {
     registry: Registry,
@@ -26,7 +26,7 @@ pub struct RelyingParty {
 
 // ---- setting up
 
-// UserInfo of the registry's provider; where the authorization endpoint is another's, there is none.
+// UserInfo of the registry's provider; none if the authorization endpoint is another's.
 fn userinfo_of(
     alloc: Global,
     provider: &Provider,
@@ -38,7 +38,7 @@ fn userinfo_of(
     }
 }
 
-// The registry's provider; with this authorization endpoint and no UserInfo where one is given.
+// The registry's provider. If an authorization endpoint is given, it has that one and no UserInfo.
 fn provider_of(
     alloc: Global,
     registry: &Registry,
@@ -84,7 +84,7 @@ fn begun(
     }
 }
 
-// The relying party of this number, where there is one.
+// The relying party with this number, if there is one.
 fn party_of(
     alloc: Global,
     registry: &Registry,
@@ -141,9 +141,9 @@ impl Telling for RelyingParty {
 }
 
 impl RelyingParty {
-    /// The relying party of this name, which was asked nothing; none where the configuration is refused or has no such party. Its
-    /// logins begin at the authorization endpoint of the configuration's provider; or at this one, and then its provider has no
-    /// UserInfo.
+    /// The relying party with this name and an empty history; none if the configuration is rejected or has no such party. Its
+    /// logins begin at the authorization endpoint of the configuration's provider. If another one is given, they begin there,
+    /// and its provider has no UserInfo.
     pub fn begin(
         alloc: Global,
         file: &str,
@@ -162,8 +162,8 @@ impl RelyingParty {
     /// | `ask|MOMENT|tokens|EXCHANGE|STATUS|BODY` | the line of the reply to the token endpoint's answer in this exchange |
     /// | `ask|MOMENT|info|EXCHANGE|STATUS|BODY` | the line of the reply to UserInfo's answer in this exchange |
     /// | `send|..`, with the same fields | the line, the reply in HTTP, and the message in it |
-    /// | `fill|MOMENT|COUNT` | how often nothing is found by asks for what is not here |
-    /// | `held` | what the tables hold of the words 1 to 63 |
+    /// | `fill|MOMENT|COUNT` | how often nothing is found by requests for something that does not exist |
+    /// | `held` | the entries of the tables for the words 1 to 63 |
     pub fn answer(
         &mut self,
         alloc: Global,
@@ -180,9 +180,9 @@ impl RelyingParty {
         }
     }
 
-    // ---- asks
+    // ---- requests
 
-    // What an answer of the token endpoint asks.
+    // Parses an answer of the token endpoint.
     fn tokens(&self, alloc: Global, exchange: &str, answer: &[&str]) -> Result<RpAsk, NoMemory> {
         if self.party >= self.registry.parties() {
             return Ok(RpAsk::NotHere);
@@ -192,7 +192,7 @@ impl RelyingParty {
         prepare_tokens(alloc, &self.registry, self.party, exchange, &answer)
     }
 
-    // What a request asks.
+    // Parses a request.
     fn requested(&self, alloc: Global, fields: &[&str]) -> Result<RpAsk, NoMemory> {
         if self.party >= self.registry.parties() {
             return Ok(RpAsk::NotHere);
@@ -201,7 +201,7 @@ impl RelyingParty {
         prepare_rp(alloc, &self.registry, self.party, &request)
     }
 
-    // What a request, or an answer of the provider, asks.
+    // Parses a request, or an answer of the provider.
     fn asked(&self, alloc: Global, fields: &[&str]) -> Result<RpAsk, NoMemory> {
         match fields {
             ["tokens", exchange, answer @ ..] => self.tokens(alloc, exchange, answer),
@@ -232,13 +232,13 @@ fn nothing_found(answer: &Result<RpReply, CoreNo>) -> Option<bool> {
     }
 }
 
-// What an answer of UserInfo asks.
+// Parses an answer of UserInfo.
 fn info(alloc: Global, exchange: &str, answer: &[&str]) -> Result<RpAsk, NoMemory> {
     let answer = answered(alloc, answer)?;
     prepare_info(alloc, word_of(exchange), &answer)
 }
 
-// The message to the provider that a reply has, where it has one.
+// The message to the provider in a reply, if there is one.
 fn messages_in(alloc: Global, reply: &RpReply) -> Result<Vec<Message>, NoMemory> {
     let mut messages = Vec::new(alloc);
     match reply {
@@ -250,7 +250,7 @@ fn messages_in(alloc: Global, reply: &RpReply) -> Result<Vec<Message>, NoMemory>
     Ok(messages)
 }
 
-// ---- what is held
+// ---- table entries
 
 fn push_row(alloc: Global, out: &mut String, kind: &str, number: u32) -> Result<(), NoMemory> {
     push_part(out, ", ", kind)?;
@@ -270,7 +270,7 @@ fn push_session(
     Ok(())
 }
 
-// What an exchange waits for.
+// What a pending exchange waits for.
 fn stage_name(row: &PendingRow) -> &'static str {
     match row.stage {
         Stage::Tokens => "exchange ",
@@ -278,7 +278,7 @@ fn stage_name(row: &PendingRow) -> &'static str {
     }
 }
 
-// Adds what the tables hold of the word of that number.
+// Adds the entries of the tables for the word with this number.
 fn push_held(
     alloc: Global,
     out: &mut String,

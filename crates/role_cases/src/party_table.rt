@@ -10,20 +10,20 @@ fn begin_provider(alloc: Global, roles: &mut Roles) -> Result<String, NoMemory> 
     roles.begin_provider(alloc, file.as_str())
 }
 
-// A relying party at the provider of the cases.
+// Begins a relying party of the provider of the cases.
 fn begin_party(alloc: Global, roles: &mut Roles, name: &str) -> Result<String, NoMemory> {
     let file = configuration(alloc, LOCAL)?;
     roles.begin_party(alloc, file.as_str(), name, None)
 }
 
-// A relying party at the other provider.
+// Begins a relying party of the other provider.
 fn begin_elsewhere(alloc: Global, roles: &mut Roles, name: &str) -> Result<String, NoMemory> {
     let file = configuration(alloc, ELSEWHERE)?;
     roles.begin_party(alloc, file.as_str(), name, Some(ELSEWHERE_AUTHORIZE))
 }
 
-/// The answer to a call: `party|NAME`, `party|NAME|elsewhere` and `provider` begin a role, `provider` before a call asks the provider,
-/// and every other call the relying party.
+/// The answer to a call: `party|NAME`, `party|NAME|elsewhere` and `provider` begin a role. A call after `provider` goes to the
+/// provider, and every other call to the relying party.
 pub fn answer(alloc: Global, roles: &mut Roles, fields: &[&str]) -> Result<String, NoMemory> {
     match fields {
         ["party", name] => begin_party(alloc, roles, name),

@@ -1,4 +1,4 @@
-// A provider that is asked.
+// The provider of a run.
 
 use crate::telling::{Telling, fill, step_told};
 use case_lines::{Run, field, moment, number, request, told, told_bytes, word_of, words_of_place};
@@ -11,14 +11,14 @@ use op_response::{op_http, op_line};
 use sso_base::{Core, CoreNo, Message, Messages, Moment, NoMemory, Word};
 use std::alloc::Global;
 
-// What the client `mail-client` asks in a login by code, but for the code.
+// The request of the client `mail-client` in a login by code, without the code.
 const MAIL_TARGET: &str =
     "/authorize?client_id=mail-client&redirect_uri=http%3A%2F%2F127.0.0.1%3A8083%2Fcb&response_type=code&scope=openid&nonce=n";
 
 const MAIL_GRANT: &str =
     "grant_type=authorization_code&client_id=mail-client&client_secret=mail-secret-mail-secret-mail-secret&redirect_uri=http%3A%2F%2F127.0.0.1%3A8083%2Fcb&code=";
 
-/// A provider, and the registry that it was set up with.
+/// A provider, and its registry.
 #[derive(Drop)]
 pub struct Provider {
     registry: Registry,
@@ -76,7 +76,7 @@ impl Telling for Provider {
 }
 
 impl Provider {
-    /// A provider of this configuration that was asked nothing; none where the configuration is refused.
+    /// A provider with this configuration and an empty history; none if the configuration is rejected.
     pub fn begin(alloc: Global, file: &str) -> Result<Option<Provider>, NoMemory> {
         let registry = read_registry(alloc, file.as_bytes());
         provider_read(alloc, &registry)
@@ -88,12 +88,12 @@ impl Provider {
     /// |---|---|
     /// | `ask|MOMENT|METHOD|TARGET|BODY|BROWSER|SESSION|AUTHORIZATION` | the line of the reply |
     /// | `send|..`, with the same fields | the line, the reply in HTTP, and the messages in it |
-    /// | `login of user|MOMENT|NUMBER` | the line of the reply to an ask that no request needs to give |
-    /// | `fill|MOMENT|COUNT` | how often nothing is found by asks for what is not here |
-    /// | `logins|MOMENT|COUNT` | how many of so many logins of `alice` at `mail-client` by code end with tokens |
-    /// | `holds|WORD` | what the tables hold under the word |
-    /// | `count` | how many asks were answered |
-    /// | `payload|CLIENT|TOKEN` | the payload of a token that is sealed under the secret of the client of this id |
+    /// | `login of user|MOMENT|NUMBER` | the line of the reply to a login that no HTTP request needs to produce |
+    /// | `fill|MOMENT|COUNT` | how often nothing is found by requests for something that does not exist |
+    /// | `logins|MOMENT|COUNT` | how many of COUNT logins of `alice` at `mail-client` by code end with tokens |
+    /// | `holds|WORD` | the entries of the tables for the word |
+    /// | `count` | the number of answered requests |
+    /// | `payload|CLIENT|TOKEN` | the payload of a token that is sealed under the secret of the client with this id |
     pub fn answer(
         &mut self,
         alloc: Global,
@@ -127,9 +127,9 @@ impl Provider {
         }
     }
 
-    // ---- asks
+    // ---- requests
 
-    // What a request asks.
+    // Parses a request.
     fn asked(&self, alloc: Global, fields: &[&str]) -> Result<OpAsk, NoMemory> {
         let request = request(alloc, fields)?;
         prepare_op(alloc, &self.registry, &request)
@@ -147,7 +147,7 @@ impl Provider {
         self.step(alloc, run, at, call, asked)
     }
 
-    // A login of the user of this number, whether or not there is one.
+    // A login of the user with this number, whether or not there is one.
     fn login(
         &mut self,
         alloc: Global,
@@ -178,7 +178,7 @@ impl Provider {
 
     // ---- many logins
 
-    // Makes a request, whose reply is told to nobody. Whether it has tokens.
+    // Makes a request whose reply is not printed, and returns whether it has tokens.
     fn gives_tokens(
         &mut self,
         alloc: Global,
@@ -191,7 +191,7 @@ impl Provider {
         tokens_given(run, &answer)
     }
 
-    // A login by code: an authorization request, the login form and a token request. Whether it ends with tokens.
+    // A login by code: an authorization request, the login form and a token request. Returns whether it ends with tokens.
     fn login_by_code(
         &mut self,
         alloc: Global,
@@ -232,8 +232,8 @@ impl Provider {
         self.gives_tokens(alloc, run, at, &["POST", "/token", form.as_str()])
     }
 
-    // Makes so many logins. How many end with tokens. Where memory runs out, what was made stays, and the line that is asked again makes all
-    // of its own.
+    // Makes `count` logins, and returns how many end with tokens. If memory runs out, the logins that were made stay, and the
+    // repeated line makes all of its own.
     fn logins(
         &mut self,
         alloc: Global,
@@ -250,7 +250,7 @@ impl Provider {
         Ok(given.to_string(alloc)?)
     }
 
-    // ---- what is held
+    // ---- table entries
 
     fn code_held(&self, word: Word) -> Option<&'static str> {
         let code = self.core.tables().code(word)?;
@@ -273,7 +273,7 @@ impl Provider {
         "nothing"
     }
 
-    // ---- what tokens have in them
+    // ---- payloads of tokens
 
     fn payload(&self, alloc: Global, client: &str, token: &str) -> Result<String, NoMemory> {
         match self.registry.find_client(client.as_bytes()) {
@@ -314,7 +314,7 @@ fn copied(alloc: Global, messages: &Messages) -> Result<Vec<Message>, NoMemory> 
     Ok(copied)
 }
 
-// The messages to clients that a reply has.
+// The messages to clients in a reply.
 fn messages_in(alloc: Global, reply: &OpReply) -> Result<Vec<Message>, NoMemory> {
     match reply {
         OpReply::SignedOut { messages } => copied(alloc, messages),

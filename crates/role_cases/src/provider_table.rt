@@ -10,7 +10,7 @@ fn begin(alloc: Global, roles: &mut Roles, name: &str) -> Result<String, NoMemor
     roles.begin_provider(alloc, file.as_str())
 }
 
-/// The answer to a call: `provider|NAME` begins a provider, and every other asks it.
+/// The answer to a call: `provider|NAME` begins a provider, and every other call goes to it.
 pub fn answer(alloc: Global, roles: &mut Roles, fields: &[&str]) -> Result<String, NoMemory> {
     match fields {
         ["provider", name] => begin(alloc, roles, name),

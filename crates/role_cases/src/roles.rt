@@ -1,4 +1,4 @@
-// The roles that are asked.
+// The roles of a run.
 
 use crate::party::RelyingParty;
 use crate::provider::Provider;
@@ -7,7 +7,7 @@ use sso_base::NoMemory;
 use std::alloc::Global;
 use std::mem;
 
-/// The provider and the relying party that are asked, and their run.
+/// The provider and the relying party, and their run.
 #[derive(Drop)]
 pub struct Roles {
     provider: Option<Provider>,
@@ -16,7 +16,7 @@ pub struct Roles {
 }
 
 impl Roles {
-    /// Nobody came yet.
+    /// No role yet.
     pub fn new(alloc: Global) -> Roles {
         Roles {
             provider: None,
@@ -25,7 +25,8 @@ impl Roles {
         }
     }
 
-    // Whether this provider is one. Its run begins. (The one before is dropped by a call, and not where it stands: that proof is long.)
+    // Sets the provider, begins its run, and returns whether there is one. (The old one is dropped by a call, and not in place:
+    // the proof of that is long.)
     fn set_provider(&mut self, alloc: Global, provider: Option<Provider>) -> bool {
         let begins = provider.is_some();
         drop(mem::replace(&mut self.provider, provider));
@@ -41,14 +42,14 @@ impl Roles {
         begins
     }
 
-    /// A provider of this configuration begins, and a run.
+    /// Begins a provider with this configuration, and a run.
     pub fn begin_provider(&mut self, alloc: Global, file: &str) -> Result<String, NoMemory> {
         let provider = Provider::begin(alloc, file)?;
         let begins = self.set_provider(alloc, provider);
         told(alloc, if begins { "begun" } else { "no such provider" })
     }
 
-    /// The relying party of this name begins, as `RelyingParty::begin` says, and a run.
+    /// Begins the relying party with this name, as `RelyingParty::begin`, and a run.
     pub fn begin_party(
         &mut self,
         alloc: Global,
@@ -84,7 +85,7 @@ impl Roles {
         }
     }
 
-    /// The text of the last reply that has this name.
+    /// The text of the last reply with this name.
     pub fn text(&self, name: &str) -> Option<&str> {
         self.run.text(name)
     }

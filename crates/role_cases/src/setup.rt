@@ -16,7 +16,7 @@ pub const ELSEWHERE: &str = "https://op.example";
 /// The authorization endpoint at the other issuer, which has a query.
 pub const ELSEWHERE_AUTHORIZE: &str = "https://op.example/authorize?tenant=1";
 
-// What stands behind the rows that are shared with other tables.
+// The lines after the rows that are shared with other tables.
 const SHOP_LINES: &str = "logout_uri = \"http://127.0.0.1:8081/logout\"
 logout_session = true
 ";
@@ -131,19 +131,19 @@ fn provider(alloc: Global, issuer: &str) -> Result<String, NoMemory> {
     Ok([provider.as_str(), ALICE, ALICES_CLAIMS, BOB].concat(alloc)?)
 }
 
-/// The configuration, with a provider of this issuer. Its parties:
+/// The configuration whose provider has this issuer. Its parties:
 ///
-/// | Party | Response type | What else |
+/// | Party | Response type | Details |
 /// |---|---|---|
-/// | `shop` | `code` | has a logout URI, is told the session |
+/// | `shop` | `code` | has a logout URI, receives the `sid` |
 /// | `news` | `id_token token` | has a logout URI |
-/// | `mail` | `code id_token` | has pairwise subjects and a logout URI, is told the session, asks UserInfo, signs its requests |
-/// | `bank` | `code` | asks for a login and for consent, signs its requests, has a redirection URI with a query |
-/// | `wiki` | `code id_token token` | asks UserInfo |
-/// | `blog` | `id_token` | would ask UserInfo, but has no access token |
-/// | `chat` | `code token` | asks UserInfo |
-/// | `feed` | `id_token token` | asks UserInfo, has a redirection URI with a query |
-/// | `desk` | `code` | asks that no page is shown |
+/// | `mail` | `code id_token` | has pairwise subjects and a logout URI, receives the `sid`, requests UserInfo, signs its requests |
+/// | `bank` | `code` | requests a login and consent, signs its requests, has a redirect URI with a query |
+/// | `wiki` | `code id_token token` | requests UserInfo |
+/// | `blog` | `id_token` | would request UserInfo, but has no access token |
+/// | `chat` | `code token` | requests UserInfo |
+/// | `feed` | `id_token token` | requests UserInfo, has a redirect URI with a query |
+/// | `desk` | `code` | requests that no page is shown |
 pub fn configuration(alloc: Global, issuer: &str) -> Result<String, NoMemory> {
     let provider = provider(alloc, issuer)?;
     let clients = [

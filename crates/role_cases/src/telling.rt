@@ -1,14 +1,14 @@
-// What is told of the steps of a role.
+// Prints the steps of a role.
 
 use case_lines::Run;
 use sso_base::{CoreNo, Moment, NoMemory};
 use std::alloc::Global;
 
-/// A role whose replies are told.
+/// A role whose replies are printed.
 pub trait Telling {
     type Reply;
 
-    /// What a call tells of a reply: its line, and as `Run::told` says what is sent of it. The run keeps the reply.
+    /// What a call prints for a reply: its line and, as in `Run::told`, how it is sent. The run keeps the reply.
     fn tell(
         &self,
         alloc: Global,
@@ -17,11 +17,12 @@ pub trait Telling {
         reply: &Self::Reply,
     ) -> Result<String, NoMemory>;
 
-    /// Asks for what is not here: whether nothing is found; none where memory runs out.
+    /// Sends a request for something that does not exist, and returns whether nothing is found. `None` if memory runs out.
     fn try_nothing(&mut self, alloc: Global, at: Moment) -> Option<bool>;
 }
 
-// What a call tells of a step that took place. Where memory runs out it must not be asked for again: so it is told once more.
+// What a call prints for a step that was made. If memory runs out, the step must not be made again, so only the printing is
+// repeated.
 fn reply_told<T: Telling>(
     alloc: Global,
     run: &mut Run,
@@ -36,7 +37,7 @@ fn reply_told<T: Telling>(
     }
 }
 
-/// What a call tells of a step.
+/// What a call prints for a step.
 pub fn step_told<T: Telling>(
     alloc: Global,
     run: &mut Run,
@@ -51,7 +52,7 @@ pub fn step_told<T: Telling>(
     }
 }
 
-// The same, tried once more where memory ran out.
+// The same, with a second attempt if memory ran out.
 fn finds_nothing<T: Telling>(alloc: Global, role: &mut T, at: Moment) -> bool {
     match role.try_nothing(alloc, at) {
         Some(found) => found,
@@ -59,7 +60,7 @@ fn finds_nothing<T: Telling>(alloc: Global, role: &mut T, at: Moment) -> bool {
     }
 }
 
-/// Asks so many times for what is not here. How often nothing is found.
+/// Sends `count` requests for something that does not exist, and returns how often nothing is found.
 pub fn fill<T: Telling>(
     alloc: Global,
     role: &mut T,

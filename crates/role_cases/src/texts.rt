@@ -1,7 +1,8 @@
-// The texts that names in a line of the table `provider` stand for.
+// The named texts of the table `provider`.
 
-// Beside the words: authorization requests and token requests of the clients, and request objects. The objects are sealed by
-// Python's `hmac` and `base64`: with the nonce `inside`, the same under another secret, and with the response type `id_token`.
+// Besides the words: authorization requests and token requests of the clients, and request objects. The objects are sealed with
+// Python's `hmac` and `base64`: one with the nonce `inside`, the same under another secret, and one with the response type
+// `id_token`.
 const TEXTS: [(&str, &str); 19] = [
     (
         "shop",
@@ -81,7 +82,7 @@ const TEXTS: [(&str, &str); 19] = [
     ),
 ];
 
-/// The text of this name.
+/// The text with this name.
 pub fn named(name: &str) -> Option<&'static str> {
     for (known, text) in TEXTS {
         if known == name {

@@ -1,4 +1,4 @@
--- A world at which nothing was asked.
+-- A world without places.
 use Rattle.std.proofs.Common.{◌≡◌, List, [], reverse, ap}
 use Rattle.client_registry.specs.Configuration.{Configuration}
 use Rattle.client_registry.specs.Registered.{IsRegistry}

@@ -33,7 +33,7 @@ or_else_none : (o : Option Broken) → or_else o None ≡ o
 or_else_none None = refl
 or_else_none (Some b) = refl
 
--- ---- a place at which nothing was asked
+-- ---- a place without a request
 
 nothing_breaks : (c : Configuration) (world : World) → broken_at (own_site c) world Nothing ≡ None
 nothing_breaks c world =
@@ -43,7 +43,7 @@ pub broken_nothing : (c : Configuration) (world : World) → first_broken (own_s
 broken_nothing c world =
     ap (λ o. or_else (first_broken (own_site c) world) o) (nothing_breaks c world) ∙ or_else_none (first_broken (own_site c) world)
 
--- ---- one at which a role was asked
+-- ---- a place with a request
 
 module _ (c : Configuration) (world : World) (a : Asked) where
   abbrev Breaks : To → WorldAsk → Place → Type 0
@@ -66,7 +66,7 @@ clash_is_told halves world x (reply.Provider answer) distinct is issues = clash_
 clash_is_told halves world x (reply.Party answer) distinct is issues = clash_is_found halves world distinct is x None None issues
 clash_is_told halves world x reply.Nothing distinct is issues = clash_is_found halves world distinct is x None None issues
 
--- the first that failed before, or what is asked, or the reply
+-- the first failure is an earlier one, or that of the request, or that of the reply
 pub broken_more : (c : Configuration) (world : World) (a : Asked) (answer : WorldReply) (halves : List (Text × Issued)) → Answers a.to a.ask answer → ((half : Text) → issued_of halves half ≡ first_issued half world)
     → or_else (first_broken (own_site c) world) (or_else (judged_asked c world a.from a.to a.ask) (clash_told halves (suc (length world)) answer))
     ≡ first_broken (own_site c) (kept_place c (record { asked = Some a; reply = answer }) ∷ world)

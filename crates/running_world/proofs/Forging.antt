@@ -1,4 +1,4 @@
--- The premises at the next place: what was noted of the places before tells what is asked of the world.
+-- The premises at the next place: the index of the places before agrees with the world.
 use Rattle.std.proofs.Common.{◌≡◌, ℕ, suc, Bool, true, false, ◌&&◌, ◌||◌, not, List, [], ◌∷◌, ◌++◌, length, Option, Some, None, refl, sym, ap, ◌∙◌}
 use Rattle.std.specs.List.{list_any}
 use Rattle.sso_base.specs.Words.{Word}
@@ -45,7 +45,7 @@ module _ (c : Configuration) (index : Index) (world : World) (is : IsIndexed c i
   leaked_is : (from : ℕ) (words : List Word) → list_any (λ (w : Word). set_for_other index.setters w from) words ≡ list_any (set_elsewhere world from) words
   leaked_is from words = any_same (λ (w : Word). set_for_other index.setters w from) (set_elsewhere world from) words (λ w. is.set w from)
 
-  -- what is judged by the index is judged of the world
+  -- the result by the index is the result for the world
   pub judged_is : (from : ℕ) (token : Option TokenText) (texts : List TokenPair) (words : List Word) → tokens_in token ≡ texts
       → verdict (suc (length world)) (forges c index.written token) (list_any (λ (w : Word). set_for_other index.setters w from) words) ≡ judged (own_site c) world from texts words
   judged_is from token texts words tokens =

@@ -21,7 +21,7 @@ use Rattle.running_world.specs.Noting.{issued_here}
 
 -- ---- two words
 
--- words of which one half digest says that they are one do not clash
+-- words that are equal if their half hashes are do not clash
 apart_if : (v w : Word) → (half_digest v ≡ half_digest w → v ≡ w) → do_clash v w ≡ false
 apart_if v w one =
     let D : Bool → Bool = λ b. not (bytes_eq v w) && b in
@@ -35,7 +35,7 @@ apart_if v w one =
 clash_same : (v : Word) → do_clash v v ≡ false
 clash_same v = apart_if v v (λ same. refl)
 
--- of one half digest, they clash exactly where they differ
+-- words with the same half hash clash if they differ
 clash_if_half : (v w : Word) → half_digest v ≡ half_digest w → bytes_eq w v ≡ false → do_clash v w ≡ true
 clash_if_half v w same differ =
     let D : Bool → Bool = λ b. not (bytes_eq v w) && b in
@@ -54,7 +54,7 @@ clash_turn v w =
     ap (λ b. not b && bytes_eq (half_digest v) (half_digest w)) (eq_turn v w)
     ∙ ap (λ b. not (bytes_eq w v) && b) (eq_turn (half_digest v) (half_digest w))
 
--- a word clashes with none of these, which are this one where they have its half digest
+-- a word clashes with none of these, if those with its half hash are equal to it
 none_clash : (v : Word) (ws : List Word) → ((w : Word) → Has ws w → half_digest v ≡ half_digest w → v ≡ w) → list_any (do_clash v) ws ≡ false
 none_clash v [] one = refl
 none_clash v (w ∷ ws) one =
@@ -249,7 +249,7 @@ earlier_none : (o : Option ℕ) → earlier_of o None ≡ o
 earlier_none None = refl
 earlier_none (Some k) = refl
 
--- ---- a place that issues a code and an access token, where they are there
+-- ---- a place that issues a code and an access token, if they are there
 
 -- with one another
 both_here : (code access : Option Word) → list_any (λ v. list_any (do_clash v) (words_in code ++ words_in access)) (words_in code ++ words_in access) ≡ both_clash code access

@@ -1,4 +1,4 @@
--- The index after a place was put, noted or skipped: what is looked up is what is asked of the world.
+-- The index after a place was put, indexed or skipped: it agrees with the world.
 use Rattle.std.proofs.Common.{◌≡◌, ℕ, suc, Bool, true, false, ◌&&◌, ◌||◌, not, ◌==◌, List, ◌∷◌, length, Option, Some, None, refl, sym, ap, ◌∙◌}
 use Rattle.std.specs.List.{list_any}
 use Rattle.std.proofs.lemmas.List.Folds.{list_any-append}
@@ -46,7 +46,7 @@ index_more c index fore x world is =
           (sym (first_none (issued_of index.halves half)) ∙ is.issued half);
     }
 
--- ---- one at which nothing was asked
+-- ---- a place without a request
 
 pub index_nothing : (c : Configuration) (index : Index) (world : World) → IsIndexed c index None world → IsIndexed c index None (Nothing ∷ world)
 index_nothing c index world is =

@@ -1,4 +1,4 @@
--- What is kept is found by the number of its place, and is whole: it tells the reply of the place, the number and the cookies.
+-- What is kept is found by the number of its place, and is whole: it has the reply of the place, the number and the cookies.
 use Rattle.std.proofs.Common.{◌≡◌, ◌≢◌, ℕ, zero, suc, ◌==◌, Bool, true, false, cond, List, [], ◌∷◌, ◌++◌, length, reverse, slice_get, Option, Some, None, option_map, option_and_then, IfSome, inl, inr, refl, sym, ap, ◌∙◌, subst, arith}
 use Rattle.std.specs.List.{AllByRecursion}
 use Rattle.std.proofs.lemmas.Bool.{eqb-true, eqb-false}
@@ -86,7 +86,7 @@ place_kept c (k ∷ kept) n =
     let D : Option Place → Option Place = λ o. cond (n == suc (length kept)) x o in
     ap C (length-map kept (kept_place c)) ∙ ap D (place_kept c kept n) ∙ map_cond (kept_place c) (n == suc (length kept)) k (kept_at kept n)
 
--- ---- what is told
+-- ---- the parts of a kept place
 
 asked_reply : (c : Configuration) (a : Asked) (role : To) (ask : WorldAsk) (answer : WorldReply) → Answers role ask answer → reply_at (place_asked c a role ask answer) ≡ answer
 asked_reply c a to.Provider (Http request) (reply.Provider answer) is = refl
@@ -142,7 +142,7 @@ pub roles : (c : Configuration) (o : Option Kept) → IfSome o IsWhole → optio
 roles c None whole = refl
 roles c (Some k) whole = whole_role c k.reply k.asked whole
 
--- a role that was asked is one of the registry
+-- a role that received a request is one of the registry
 role_known : (c : Configuration) (x : Place) → IsAsked c x → IfSome (role_at x) (IsRole c)
 role_known c (Provider from request p) asked = tt
 role_known c (Party n from request p) asked = asked.0
@@ -170,7 +170,7 @@ jars_kept c a (to.Party n) ask (reply.Provider answer) notes is = absurd is
 jars_kept c a (to.Party n) ask (reply.Party answer) notes is = refl
 jars_kept c a (to.Party n) ask reply.Nothing notes is = absurd is
 
--- ---- parties that were asked nothing
+-- ---- parties with empty histories
 
 pub new_pushed : (c : Configuration) (roles : List Relying) (role : Relying) → ((n : ℕ) (r : Relying) → slice_get roles n ≡ Some r → IsNewParty c n r) → IsNewParty c (length roles) role → (n : ℕ) (r : Relying) → slice_get (roles ++ role ∷ []) n ≡ Some r → IsNewParty c n r
 new_pushed c roles role each new n r there =

@@ -1,4 +1,4 @@
--- What was kept at a place tells what the place sets, writes and issues.
+-- What was kept at a place determines what the place sets, writes and issues.
 use Rattle.std.proofs.Common.{◌≡◌, ℕ, List, Option, Some, None, Ok, refl, sym, ap, ◌∙◌}
 use Rattle.sso_base.specs.Words.{Word}
 use Rattle.sso_base.specs.declared.history.Entry.{Entry}
@@ -56,7 +56,7 @@ ended_write : (c : Configuration) (e : Entry OpAsk) (ended : Option SessionRow) 
 ended_write c e None = refl
 ended_write c e (Some session) = refl
 
--- a token response is for the client that asked
+-- a token response is for the client of the request
 tokens_write : (c : Configuration) (past : OpPast) (e : Entry OpAsk) (asked : OpAsk) (access : Word) (id : List ℕ) (ended : Option SessionRow) → op_written c past e asked (op.Tokens access id) ≡ written_by c e.at e.fresh (op.Tokens access id) (client_asked asked) ended
 tokens_write c past e (op_ask.Token (Ok grant)) access id ended = refl
 tokens_write c past e asked access id ended = refl

@@ -1,4 +1,4 @@
--- What the provider is asked is as its core takes it.
+-- The parsed request to the provider is one that its core accepts.
 use Rattle.std.proofs.Common.{◌≡◌, true, ap, ◌∙◌}
 use Rattle.sso_base.specs.declared.http.Ask.{Ask}
 use Rattle.client_registry.specs.Configuration.{Configuration}

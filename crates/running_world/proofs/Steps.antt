@@ -1,4 +1,4 @@
--- A world after one of its roles was asked, as the contracts of its parts say it.
+-- A world after one of its roles received a request, by the contracts of its parts.
 use Rattle.std.proofs.Common.{◌≡◌, ℕ, ◌<◌, List, ◌∷◌, length, reverse, None, Some, Result, Ok, Err, OnOk, OnErr, slice_get, refl, sym, ap, ◌∙◌, subst}
 use Rattle.std.proofs.lemmas.List.{reverse-reverse}
 use Rattle.sso_base.specs.Words.{Word}
@@ -29,7 +29,7 @@ use Rattle.running_world.proofs.Places.{op_world, op_stepped, rp_world, rp_stepp
 abbrev pub Stands : Providing → List Relying → Running → Type 0
 Stands provider parties r = IsWorld r.registry provider parties (world_of r)
 
--- ---- the provider was asked
+-- ---- the provider received a request
 
 module _ (before after : Providing) (parties : List Relying) (old new : Transcribed) (from at : ℕ) (fresh : List Word) (request : Ask) (is : Stands before parties (shown old)) (asked : OpAsked before after old new from at fresh request) where
   op_places : world_of (shown new) ≡ op_place old.registry from asked.moment fresh request asked.answer ∷ world_of (shown old)

@@ -1,4 +1,4 @@
--- What holds of the places of a world still holds after one more, and after the newest was noted.
+-- The invariant of the places of a world is kept by one more place, and by indexing the newest.
 use Rattle.std.proofs.Common.{◌≡◌, ◌≢◌, ℕ, zero, suc, ◌-◌, ◌<◌, Bool, true, false, List, [], ◌∷◌, ◌++◌, length, reverse, Option, Some, None, IfSome, slice_get, refl, sym, ap, ◌∙◌, subst, arith}
 use Rattle.std.specs.List.{list_any}
 use Rattle.std.proofs.lemmas.List.{length-map, reverse-append, reverse-reverse}
@@ -98,7 +98,7 @@ module _ (c : Configuration) (kept : List Kept) (capacity : ℕ) (jars : Jarred)
     issued : (half : Text) → issued_of index.halves half ≡ first_issued half (places_of c kept)
     issued half = sym (first_none (issued_of index.halves half)) ∙ indexed.issued half
 
-    -- what is asked of the next place is judged
+    -- the premises at the next place, by its request
     pub judged_next : (number from : ℕ) (token : Option TokenText) (texts : List TokenPair) (words : List Word) (forged leaked : Bool) → number ≡ suc (length kept) → tokens_in token ≡ texts → forged ≡ forges c index.written token
         → leaked ≡ list_any (λ (w : Word). set_for_other index.setters w from) words → verdict number forged leaked ≡ judged (own_site c) (places_of c kept) from texts words
     judged_next number from token texts words forged leaked numbers tokens forged_is leaked_is =
@@ -133,7 +133,7 @@ module _ (c : Configuration) (kept : List Kept) (capacity : ℕ) (jars : Jarred)
           room = tt;
         }
 
-    -- a place at which nothing was asked is kept
+    -- a place without a request is kept
     pub skipped : (room : ℕ) → IsTranscript c (record { asked = None; reply = reply.Nothing } ∷ kept) room jars index None broken false
     skipped room =
         record {

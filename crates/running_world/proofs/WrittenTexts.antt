@@ -132,7 +132,7 @@ module _ (c : Configuration) (out : SignOut) (answered : List Bool) where
         ap tokens_for (ap T (take_more c.clients i no_client low) ∙ told_append answered 0 front (client ∷ []) ∙ ap (λ k. T front ++ told_from answered k (client ∷ [])) front_length ∙ ap (λ ns. T front ++ ns) one_told)
         ∙ map_append (λ client. (client, issued_logout c client out)) (T front) (told_by (slice_get c.clients i) answered i)
 
-    -- all are those before, those of this client, and those behind
+    -- all are those before, those of this client, and those after
     pub tokens_within : tokens_for (told_from answered 0 c.clients) ≡ tokens_up_to i ++ (logout_written c out answered i ++ tokens_behind i)
     tokens_within =
         let front : List Client = take i c.clients in

@@ -1,5 +1,5 @@
--- The premise that fails at the next place: what is asked tells whether a text is forged or a cookie leaks, and the reply whether a
--- half digest clashes.
+-- The premise that fails at the next place. The request decides whether a token is forged or a cookie leaks, the reply whether
+-- a half hash clashes.
 use Rattle.std.specs.Prelude.{ℕ, List, Option, None}
 use Rattle.sso_base.specs.Words.{Text}
 use Rattle.client_registry.specs.Configuration.{Configuration}
@@ -21,7 +21,7 @@ use Rattle.running_world.specs.Clashing.{clash_found}
 use Rattle.running_world.specs.Judging.{judged}
 use Rattle.op_exchange.specs.Replied.{code_in, access_in}
 
--- what is asked of a role after a world, by this number
+-- the premise that a request to a role after a world fails, from this sender
 abbrev pub judged_asked : Configuration → World → ℕ → To → WorldAsk → Option Broken
 judged_asked c world from to.Provider (Http request) =
     judged (own_site c) world from (op_checked c request (op_prepared c request)) (http_words request)
@@ -29,7 +29,7 @@ judged_asked c world from (to.Party n) ask =
     judged (own_site c) world from (rp_checked (client_of_party (own_site c) n) ask (party_prepared c n ask)) (party_words ask)
 judged_asked c world from role ask = None
 
--- the reply, which is at the place of this number
+-- the premise that the reply fails, at the place with this number
 abbrev pub clash_told : List (Text × Issued) → ℕ → WorldReply → Option Broken
 clash_told halves number (reply.Provider answer) = clash_found halves number (code_in answer) (access_in answer)
 clash_told halves number answer = None

@@ -1,4 +1,4 @@
--- Half digests that clash with one of a code or an access token that is issued, as the first words of half digests tell them.
+-- Half hashes that clash with that of an issued code or access token, by the first word of each half hash.
 use Rattle.std.specs.Prelude.{ℕ, Bool, true, false, nat_lt, List, Option, Some, None, if◌then◌else◌}
 use Rattle.sso_base.specs.Words.{Word, Text}
 use Rattle.sso_places.specs.declared.types.Broken.{Broken}
@@ -14,7 +14,7 @@ earlier_of None second = second
 earlier_of (Some first) None = Some first
 earlier_of (Some first) (Some second) = Some (if nat_lt second first then second else first)
 
--- where another word of the half digest was issued first
+-- the place that first issued another word with this half hash
 abbrev pub clash_of : List (Text × Issued) → Option Word → Option ℕ
 clash_of halves None = None
 clash_of halves (Some w) = other_place w (issued_of halves (half_digest w))
@@ -24,7 +24,7 @@ abbrev pub both_clash : Option Word → Option Word → Bool
 both_clash (Some v) (Some w) = do_clash v w
 both_clash v w = false
 
--- with a word of another place, or else with one another
+-- a clash with a word of another place, or else between the two
 abbrev pub clash_by : ℕ → Option ℕ → Bool → Option Broken
 clash_by number (Some place) clash = Some (HashClash place number)
 clash_by number None true = Some (HashClash number number)

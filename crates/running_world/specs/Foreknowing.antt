@@ -1,4 +1,4 @@
--- What is known, before the provider answers, of the texts that its answer writes: for which client, and of which session.
+-- What is known, before the provider answers, about the tokens that its answer writes: for which client, and of which session.
 use Rattle.std.specs.Prelude.{◌≡◌, ◌<◌, ℕ, length, Option, Some, None, IfSome, Ok}
 use Rattle.client_registry.specs.Configuration.{Configuration}
 use Rattle.code_grant.specs.declared.rows.SessionRow.{SessionRow}
@@ -20,18 +20,18 @@ abbrev pub client_asked : OpAsk → Option ℕ
 client_asked (op_ask.Token (Ok grant)) = Some grant.client
 client_asked asked = None
 
--- what is foreknown is about a client and a user of the registry
+-- the client and the user are in the registry
 pub record IsKnown (c : Configuration) (fore : Foreknown) : Type 0 where
   pub client : IfSome fore.client (λ n. n < length c.clients)
   pub user : IfSome fore.ended (λ (session : SessionRow). session.user < length c.users)
 
--- of what the provider is asked after a past: the client of a token request, and the session that a sign-out ends
+-- for a request to the provider after a history: the client of a token request, and the session that a sign-out ends
 pub record IsForeknown (c : Configuration) (past : OpPast) (at : ℕ) (asked : OpAsk) (fore : Foreknown) : Type 0 where
   pub client_is : fore.client ≡ client_asked asked
   pub ended_is : fore.ended ≡ session_ended past at asked
   pub known : IsKnown c fore
 
--- of what a role is asked after a world; what a party writes depends on nothing else
+-- for a request to a role after a world; what a party writes depends on nothing else
 abbrev pub IsForeknownAt : Configuration → World → ℕ → To → WorldAsk → Foreknown → Type 0
 IsForeknownAt c world at to.Provider (Http request) fore = IsForeknown c (op_past world) at (op_prepared c request) fore
 IsForeknownAt c world at role ask fore = Unit {0}

@@ -1,4 +1,4 @@
--- What is looked up of places is what is asked of the world, where the newest place may not be noted yet, or not whole.
+-- The index agrees with the world, except that the newest place may be indexed not at all or in part.
 use Rattle.std.specs.Prelude.{◌≡◌, ℕ, suc, Bool, false, ◌||◌, List, [], ◌∷◌, length, Option, Some, None}
 use Rattle.std.specs.List.{list_any}
 use Rattle.sso_base.specs.Words.{Word, Text}
@@ -19,12 +19,12 @@ use Rattle.running_world.specs.Foreknowing.{IsForeknownIf}
 use Rattle.running_world.specs.Noting.{issued_here}
 use Rattle.running_world.specs.Running.{places_of}
 
--- the first word of a world that has the half digest
+-- the first word of a world with this half hash
 abbrev pub first_issued : Text → World → Option Issued
 first_issued half [] = None
 first_issued half (x ∷ world) = first_of (first_issued half world) (issued_here half (suc (length world)) (issued_at x))
 
--- ---- the newest place, where it may not be noted
+-- ---- the newest place, if it may not be indexed
 
 abbrev pub newest_sets : Option Foreknown → World → ℕ → Word → Bool
 newest_sets (Some fore) (x ∷ world) from w = sets_elsewhere from w x
@@ -38,13 +38,13 @@ abbrev pub newest_issues : Text → Option Foreknown → World → Option Issued
 newest_issues half (Some fore) (x ∷ world) = issued_here half (suc (length world)) (issued_at x)
 newest_issues half behind world = None
 
--- with the newest place, the index has the cookies set, the texts written and the words issued in the world
+-- with the newest place, the index has the cookies set, the tokens written and the words issued in the world
 pub record IsIndexed (c : Configuration) (index : Index) (behind : Option Foreknown) (world : World) : Type 0 where
   pub set : (w : Word) (from : ℕ) → (newest_sets behind world from w || set_for_other index.setters w from) ≡ set_elsewhere world from w
   pub wrote : (t : Text) (client : ℕ) → (list_any (is_token (client, t)) (newest_writes c behind world) || is_written_for index.written t client) ≡ is_written (own_site c) world (client, t)
   pub issued : (half : Text) → first_of (issued_of index.halves half) (newest_issues half behind world) ≡ first_issued half world
 
--- what is known of the newest place, where it is not noted
+-- what is known of the newest place, if it is not indexed
 abbrev pub IsBehind : Configuration → Option Foreknown → List Kept → Type 0
 IsBehind c None kept = Unit {0}
 IsBehind c (Some fore) [] = Unit {0}

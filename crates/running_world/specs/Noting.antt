@@ -1,4 +1,4 @@
--- What is noted of a place: words that it sets, texts that it writes, and words that it issues.
+-- What is noted of a place: cookies that it sets, tokens that it writes, and words that it issues.
 use Rattle.std.specs.Prelude.{◌≡◌, ℕ, Bool, false, ◌==◌, ◌&&◌, ◌||◌, not, List, [], ◌∷◌, ◌++◌, map, Option, Some, None}
 use Rattle.std.specs.List.{list_any}
 use Rattle.std.specs.Str.{bytes_eq}
@@ -37,29 +37,29 @@ use Rattle.running_world.specs.Whole.{from_if}
 
 -- ---- cookies
 
--- a number other than this one sets the word, where a word is set
+-- there is a word, and a number other than this one sets it
 abbrev pub word_sets_for : ℕ → ℕ → Word → Option Word → Bool
 word_sets_for from other w None = false
 word_sets_for from other w (Some v) = bytes_eq v w && not (from == other)
 
--- and where the words of a jar are
+-- the same for the words of a jar
 abbrev pub sets_for : ℕ → ℕ → Word → Jar → Bool
 sets_for from other w set = not (from == other) && list_any (λ v. bytes_eq v w) (jar_words set)
 
--- ---- texts
+-- ---- tokens
 
 -- the logout tokens of a sign-out, by the session that it ends
 abbrev pub ended_writes : Configuration → ℕ → List Word → Option SessionRow → List TokenText
 ended_writes c at fresh ended = logouts_written c (record { at = at; fresh = fresh; ask = op_ask.NotHere }) ended
 
--- the texts that the provider writes, by its reply and what is known before
+-- the tokens that the provider writes, by its reply and what was known before it
 abbrev pub written_by : Configuration → ℕ → List Word → OpReply → Option ℕ → Option SessionRow → List TokenText
 written_by c at fresh (op.Answered answer given) client ended = token_if (client_of_uri c answer.redirect) answer.id
 written_by c at fresh (op.Tokens access id) client ended = token_if client (Some id)
 written_by c at fresh (op.SignedOut messages) client ended = ended_writes c at fresh ended
 written_by c at fresh reply client ended = []
 
--- the client of a number, where it is told a sign-out
+-- the number of a client, if a sign-out notifies it
 abbrev pub told_by : Option Client → List Bool → ℕ → List ℕ
 told_by None answered n = []
 told_by (Some client) answered n = told_if n (has_client n answered) client.logout
@@ -67,15 +67,15 @@ told_by (Some client) answered n = told_if n (has_client n answered) client.logo
 abbrev pub told_at : Configuration → List Bool → ℕ → List ℕ
 told_at c answered n = told_by (client_at c n) answered n
 
--- the logout token for the client of a number, where it is told the sign-out
+-- the logout token for the client with this number, if the sign-out notifies it
 abbrev pub logout_written : Configuration → SignOut → List Bool → ℕ → List TokenText
 logout_written c out answered n = map (λ client. (client, issued_logout c client out)) (told_at c answered n)
 
--- the texts are noted
+-- all these tokens are noted, and nothing else
 abbrev pub AreNoted : List (List Text) → List (List Text) → List TokenText → Type 0
 AreNoted before after texts = (t : Text) (client : ℕ) → is_written_for after t client ≡ (list_any (is_token (client, t)) texts || is_written_for before t client)
 
--- some of them may be, and nothing else is
+-- some of these tokens are noted, and nothing else
 abbrev pub ArePartlyNoted : List (List Text) → List (List Text) → List TokenText → Type 0
 ArePartlyNoted before after texts =
     (t : Text) (client : ℕ) → (list_any (is_token (client, t)) texts || is_written_for after t client) ≡ (list_any (is_token (client, t)) texts || is_written_for before t client)
@@ -85,17 +85,17 @@ ArePartlyNoted before after texts =
 abbrev pub words_issued : OpReply → List Word
 words_issued reply = words_in (code_in reply) ++ words_in (access_in reply)
 
--- a word that has the half digest, where one is issued
+-- the word, if there is one with this half hash
 abbrev pub issued_if : Text → ℕ → Option Word → Option Issued
 issued_if half place None = None
 issued_if half place (Some w) = issued_as half w place
 
--- the first of these words that has it
+-- the first of these words with this half hash
 abbrev pub issued_here : Text → ℕ → List Word → Option Issued
 issued_here half place [] = None
 issued_here half place (w ∷ words) = first_of (issued_as half w place) (issued_here half place words)
 
--- ---- what was kept at a place
+-- ---- the contents of a place
 
 abbrev pub writes_by : Configuration → Asked → Foreknown → To → WorldReply → List TokenText
 writes_by c a fore to.Provider (reply.Provider answer) = written_by c a.at a.fresh answer fore.client fore.ended
@@ -106,7 +106,7 @@ abbrev pub writes_if : Configuration → Foreknown → Option Asked → WorldRep
 writes_if c fore None answer = []
 writes_if c fore (Some a) answer = writes_by c a fore a.to answer
 
--- the texts that it writes
+-- the tokens that it writes
 abbrev pub kept_writes : Configuration → Foreknown → Kept → List TokenText
 kept_writes c fore k = writes_if c fore k.asked k.reply
 
@@ -115,13 +115,13 @@ abbrev pub issued_by : WorldReply → List Word
 issued_by (reply.Provider answer) = words_issued answer
 issued_by answer = []
 
--- the place is noted
+-- the place is indexed
 pub record IsNoted (c : Configuration) (before after : Index) (k : Kept) (place : ℕ) (fore : Foreknown) : Type 0 where
   pub set : (w : Word) (from : ℕ) → set_for_other after.setters w from ≡ (sets_for (from_if k.asked) from w (set_by k.reply) || set_for_other before.setters w from)
   pub wrote : AreNoted before.written after.written (kept_writes c fore k)
   pub issued : (half : Text) → issued_of after.halves half ≡ first_of (issued_of before.halves half) (issued_here half place (issued_by k.reply))
 
--- parts of it may be, and nothing else is
+-- parts of the place may be indexed, and nothing else is
 pub record IsPartlyNoted (c : Configuration) (before after : Index) (k : Kept) (place : ℕ) (fore : Foreknown) : Type 0 where
   pub set : (w : Word) (from : ℕ) → (sets_for (from_if k.asked) from w (set_by k.reply) || set_for_other after.setters w from) ≡ (sets_for (from_if k.asked) from w (set_by k.reply) || set_for_other before.setters w from)
   pub wrote : ArePartlyNoted before.written after.written (kept_writes c fore k)

@@ -1,4 +1,4 @@
--- The relying parties of a registry that were asked nothing.
+-- The relying parties of a registry, with empty histories.
 use Rattle.std.specs.Prelude.{◌≡◌, ℕ, List, [], length, Some, slice_get}
 use Rattle.client_registry.specs.Configuration.{Configuration}
 use Rattle.rp_accept.specs.Serving.{setup_of}

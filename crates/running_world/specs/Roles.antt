@@ -1,4 +1,4 @@
--- One step of a role, and what the roles of a world are.
+-- One step of a role, and the invariants of the roles of a world.
 use Rattle.std.specs.Prelude.{◌≡◌, ℕ, List, ◌∷◌, Some, slice_get, slice_set}
 use Rattle.sso_base.specs.Words.{Word}
 use Rattle.sso_base.specs.Legal.{last_moment}
@@ -14,12 +14,12 @@ use Rattle.rp_answer.specs.Legal.{IsLegalRp}
 use Rattle.rp_core.specs.Relying.{Relying, past_of as rp_past_of}
 use Rattle.running_world.specs.Stepping.{later}
 
--- a provider whose past is legal, and the moment of its last entry
+-- the provider's history is legal, and this is the moment of its last entry
 pub record IsLegalAt (p : Providing) (last : ℕ) : Type 0 where
   pub last_is : last ≡ last_moment (op_past_of p)
   pub legal : IsLegalOp p.registry (op_past_of p)
 
--- the past has one more pair, with the answer of the provider
+-- the history gets one more pair, with the provider's answer
 pub record OpSteps (before after : Providing) (at : ℕ) (fresh : List Word) (asked : OpAsk) (moment : ℕ) (answer : OpReply) : Type 0 where
   pub registry : after.registry ≡ before.registry
   pub moment_is : moment ≡ later (last_moment (op_past_of before)) at
@@ -27,7 +27,7 @@ pub record OpSteps (before after : Providing) (at : ℕ) (fresh : List Word) (as
   pub answer_is : answer ≡ op_answer before.registry (op_past_of before) (record { at = moment; fresh = fresh; ask = asked })
   pub legal : IsLegalOp after.registry (op_past_of after)
 
--- and of a party
+-- the same for a party
 pub record RpSteps (before after : Relying) (at : ℕ) (fresh : List Word) (asked : RpAsk) (moment : ℕ) (answer : RpReply) : Type 0 where
   pub setup : after.setup ≡ before.setup
   pub moment_is : moment ≡ later (last_moment (rp_past_of before)) at
@@ -35,7 +35,7 @@ pub record RpSteps (before after : Relying) (at : ℕ) (fresh : List Word) (aske
   pub answer_is : answer ≡ rp_answer before.setup (rp_past_of before) (record { at = moment; fresh = fresh; ask = asked })
   pub legal : IsLegalRp after.setup (rp_past_of after)
 
--- the party of a number took the step, and the others stay
+-- the party with this number took the step, and the others are unchanged
 pub record RpStepsAt (before after : List Relying) (n at : ℕ) (fresh : List Word) (asked : RpAsk) (moment : ℕ) (answer : RpReply) : Type 0 where
   pub old : Relying
   pub new : Relying

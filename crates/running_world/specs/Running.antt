@@ -1,4 +1,4 @@
--- A running world as a value: the registry, what stands at each place, and what changed the jars of browsers, each list with the
+-- A running world as a value: the registry, the contents of each place, and the changes of the browsers' jars, each list the
 -- newest first.
 use Rattle.std.specs.Prelude.{ℕ, suc, ◌==◌, List, [], ◌∷◌, length, map, Option, Some, None, if◌then◌else◌}
 use Rattle.sso_base.specs.declared.http.Ask.{Ask}
@@ -26,7 +26,7 @@ pub record Running : Type 0 where
 
 -- ---- the places
 
--- the provider and the party of a number, asked by a request
+-- a place of the provider, and of the party with a number, with an HTTP request
 abbrev pub op_place : Configuration → ℕ → ℕ → List Word → Ask → OpReply → Place
 op_place c from at fresh request answer =
     Provider from request (record { entry = record { at = at; fresh = fresh; ask = op_prepared c request }; reply = answer })
@@ -53,7 +53,7 @@ places_of c kept = map (kept_place c) kept
 abbrev pub world_of : Running → World
 world_of r = places_of r.registry r.kept
 
--- what was kept at the place of a number
+-- what was kept at the place with this number
 abbrev pub kept_at : List Kept → ℕ → Option Kept
 kept_at [] number = None
 kept_at (k ∷ kept) number = if number == suc (length kept) then Some k else kept_at kept number

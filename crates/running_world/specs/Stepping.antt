@@ -1,4 +1,4 @@
--- One more place of a world: the answer of the role that is asked, after its own past.
+-- One more place of a world: the role's answer to the request, by its own history.
 use Rattle.std.specs.Prelude.{ℕ, nat_lt, List, reverse, if◌then◌else◌}
 use Rattle.sso_base.specs.Words.{Word}
 use Rattle.sso_base.specs.Legal.{last_moment}
@@ -18,9 +18,9 @@ use Rattle.sso_places.specs.Site.{Site, setup_at}
 use Rattle.sso_places.specs.World.{Place, Nothing, World, op_past, rp_past}
 use Rattle.running_world.specs.Running.{op_place, rp_place}
 
--- ---- what may be asked
+-- ---- which requests a role receives
 
--- the provider is asked by requests alone
+-- the provider receives only HTTP requests
 abbrev pub IsForRole : To → WorldAsk → Type 0
 IsForRole to.Provider (Http request) = Unit {0}
 IsForRole to.Provider (Tokens w answer) = ⊥
@@ -48,12 +48,12 @@ stepped s from role at fresh ask world = Nothing
 
 -- ---- weights
 
--- of the history of a role
+-- the weight of a role's history
 abbrev pub role_weight : To → World → ℕ
 role_weight to.Provider world = history_weight op_weight (reverse (op_past world))
 role_weight (to.Party n) world = history_weight rp_weight (reverse (rp_past n world))
 
--- of what a role is asked
+-- the weight of a request to a role
 abbrev pub asked_weight : Configuration → To → WorldAsk → ℕ
 asked_weight c to.Provider (Http request) = op_weight (op_prepared c request)
 asked_weight c (to.Party n) ask = rp_weight (party_prepared c n ask)

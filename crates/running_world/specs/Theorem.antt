@@ -1,6 +1,6 @@
--- What the theorems say of a world that runs over a registry: it is legal, and under the premises its reading is a run of the sign-on
--- machine. Where also no two half digests are the same, codes and access tokens are bound. Where words are distinct and time goes on,
--- honest logins succeed.
+-- The theorems about a running world over a registry: it is legal, and under the premises its reading is a run of the sign-on
+-- machine. If moreover no two half hashes are the same, codes and access tokens are bound. If words are distinct and time goes
+-- on, honest logins succeed.
 use Rattle.client_registry.specs.Configuration.{Configuration}
 use Rattle.sso_places.specs.Agreement.{SignsOn}
 use Rattle.sso_places.specs.Binding.{IsBound}

@@ -1,5 +1,5 @@
--- The places of a world as a value: the registry, what was kept at each place and what changed the jars, each list with the newest
--- first, and for which place there is room.
+-- The places of a world as a value: the registry, what was kept at each place, and the changes of the jars, each list the
+-- newest first. It also records for which place there is room.
 use Rattle.std.specs.Prelude.{◌≡◌, ◌<◌, ℕ, Bool, true, false, List, length, Option, None, IfSome}
 use Rattle.std.specs.List.{AllByRecursion}
 use Rattle.client_registry.specs.Configuration.{Configuration}
@@ -28,12 +28,12 @@ abbrev pub ready_if : Bool → Option Slot → Option Slot
 ready_if true slot = slot
 ready_if false slot = None
 
--- there is room for one more place, and the newest is noted
+-- there is room for one more place, and the newest is indexed
 abbrev pub IsSettled : Bool → ℕ → ℕ → Option Foreknown → Type 0
 IsSettled true count capacity behind = (count < capacity) × (behind ≡ None)
 IsSettled false count capacity behind = Unit {0}
 
--- what was kept is whole; what is looked up of it, and the first premise that fails, are what is asked of the world
+-- the kept places are whole; the index and the first failed premise agree with the world
 pub record IsTranscript (c : Configuration) (kept : List Kept) (capacity : ℕ) (jars : Jarred) (index : Index) (behind : Option Foreknown) (broken : Option Broken) (settled : Bool) : Type 0 where
   pub registry : IsRegistry c
   pub whole : AllByRecursion IsWhole kept

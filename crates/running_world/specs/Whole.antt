@@ -1,4 +1,5 @@
--- What is kept of a place is whole: the reply is one of the role that was asked, and of what it may be asked.
+-- The contents of a place are whole: the reply is one of the role that received the request, and the request is one for that
+-- role.
 use Rattle.std.specs.Prelude.{◌≡◌, ℕ, Option, Some, None}
 use Rattle.client_registry.specs.Configuration.{Configuration}
 use Rattle.sso_places.specs.declared.types.To.{To}
@@ -28,7 +29,7 @@ IsWholeBy answer (Some a) = Answers a.to a.ask answer
 abbrev pub IsWhole : Kept → Type 0
 IsWhole k = IsWholeBy k.reply k.asked
 
--- and the role is one of the registry
+-- the role is in the registry
 abbrev pub IsOfRoleBy : Configuration → Option Asked → Type 0
 IsOfRoleBy c None = Unit {0}
 IsOfRoleBy c (Some a) = IsRole c a.to
@@ -36,12 +37,12 @@ IsOfRoleBy c (Some a) = IsRole c a.to
 abbrev pub IsOfRole : Configuration → Kept → Type 0
 IsOfRole c k = IsOfRoleBy c k.asked
 
--- the number from which it was asked, 0 where nothing was
+-- the number of the sender, 0 if there was no request
 abbrev pub from_if : Option Asked → ℕ
 from_if None = 0
 from_if (Some a) = a.from
 
--- the role that was asked, where one was
+-- the role that received the request, if there was one
 abbrev pub role_if : Option Asked → Option To
 role_if None = None
 role_if (Some a) = Some a.to

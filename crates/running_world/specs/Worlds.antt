@@ -1,5 +1,5 @@
--- What a running world keeps: the registry is one that was read, the history of each role is what the places say, and the world is
--- legal.
+-- The invariant of a running world: the registry is one that was read, the history of each role is the one in the places, and
+-- the world is legal.
 use Rattle.std.specs.Prelude.{◌≡◌, ℕ, List, ◌∷◌, length, Some, slice_get}
 use Rattle.sso_base.specs.Words.{Word}
 use Rattle.sso_base.specs.declared.http.Ask.{Ask}
@@ -26,11 +26,11 @@ use Rattle.running_world.specs.Running.{Running}
 use Rattle.running_world.specs.Transcribed.{Transcribed}
 use Rattle.sso_places.specs.Cookies.{set_by}
 
--- what a world shows of its places
+-- the view of a world's places
 abbrev pub shown : Transcribed → Running
 shown t = record { registry = t.registry; kept = t.kept; jars = t.jars }
 
--- the party of this number trusts the registry's provider, and its history is what the places say
+-- the party with this number trusts the registry's provider, and its history is the one in the places
 pub record IsParty (c : Configuration) (world : World) (n : ℕ) (role : Relying) : Type 0 where
   pub setup : role.setup ≡ setup_at (own_site c) n
   pub past : rp_past_of role ≡ rp_past n world
@@ -48,7 +48,7 @@ pub record IsWorld (c : Configuration) (provider : Providing) (parties : List Re
 abbrev pub kept_of : ℕ → ℕ → List Word → To → WorldAsk → WorldReply → Kept
 kept_of from at fresh role ask answer = record { asked = Some (record { from = from; at = at; fresh = fresh; to = role; ask = ask }); reply = answer }
 
--- what was kept of it
+-- what was kept of the place
 pub record IsKept (before after : Transcribed) (from at : ℕ) (fresh : List Word) (role : To) (ask : WorldAsk) (answer : WorldReply) : Type 0 where
   pub registry : after.registry ≡ before.registry
   pub kept : after.kept ≡ kept_of from at fresh role ask answer ∷ before.kept
@@ -61,7 +61,7 @@ pub record OpAsked (before after : Providing) (old new : Transcribed) (from at :
   pub steps : OpSteps before after at fresh (op_prepared old.registry request) moment answer
   pub is : IsKept old new from moment fresh to.Provider (Http request) (reply.Provider answer)
 
--- and so for the party of a number
+-- the same for the party with this number
 pub record RpAsked (before after : List Relying) (old new : Transcribed) (from n at : ℕ) (fresh : List Word) (ask : WorldAsk) : Type 0 where
   pub moment : ℕ
   pub answer : RpReply

@@ -1,4 +1,4 @@
-// One role of a world is asked, and what it replied is kept.
+// Sends a request to one role of a world, and keeps its reply.
 
 ghost use Rattle.std.specs.Prelude.{◌≡◌, ℕ, ◌<◌, ◌≤◌, ◌+◌, length, Err, Some, slice_get, IfOk, OnOk, OnErr};
 ghost use Rattle.sso_base.specs.Journal.{history_weight, most_weight};
@@ -24,7 +24,7 @@ use sso_base::{Ask, CoreNo, Moment, NoMemory, Word};
 use sso_places::{To, WorldAsk, WorldReply};
 use std::alloc::Global;
 
-/// Asks the provider.
+/// Sends a request to the provider.
 pub(crate) fn ask_provider(
     provider: &mut OpRole,
     transcript: &mut Transcript,
@@ -58,7 +58,7 @@ pub(crate) fn ask_provider(
     Ok(())
 }
 
-// What a party is asked.
+// Parses a request to a party.
 fn prepare_party(
     alloc: Global,
     registry: &Registry,
@@ -77,7 +77,7 @@ fn prepare_party(
     }
 }
 
-/// Asks the party of a number.
+/// Sends a request to the party with this number.
 pub(crate) fn ask_party(
     parties: &mut Vec<RpRole>,
     transcript: &mut Transcript,

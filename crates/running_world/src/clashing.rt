@@ -1,4 +1,4 @@
-// Half digests that clash (OpenID Connect Core 1.0, 3.1.3.6 and 3.3.2.11).
+// Half hashes that clash (OpenID Connect Core 1.0, 3.1.3.6 and 3.3.2.11).
 
 ghost use Rattle.std.specs.Prelude.{◌≡◌};
 ghost use Rattle.running_world.specs.Breaking.{clash_told};
@@ -20,7 +20,7 @@ fn earlier_of(first: Option<u64>, second: Option<u64>) -> Option<u64>
     }
 }
 
-// The place of another word of the half digest of this one, where it was issued.
+// The place that issued a different word with the same half hash.
 fn clash_of(halves: &Halves, word: &Option<Word>) -> Option<u64>
     ensures { result ≡ spec.clash_of halves.now word.now }
 {
@@ -30,7 +30,7 @@ fn clash_of(halves: &Halves, word: &Option<Word>) -> Option<u64>
     }
 }
 
-// Whether two words that are there differ and have one half digest.
+// Whether there are two words, they differ, and they have the same half hash.
 fn both_clash(first: &Option<Word>, second: &Option<Word>) -> bool
     ensures { result ≡ spec.both_clash first.now second.now }
 {
@@ -42,7 +42,7 @@ fn both_clash(first: &Option<Word>, second: &Option<Word>) -> bool
     }
 }
 
-/// The half digest that clashes at the place of this number, where the reply issues words: with that of an earlier place, or else
+/// The clash of half hashes at the place with this number, if the reply issues words: with a word of an earlier place, or else
 /// with one another.
 pub(crate) fn clash_in(halves: &Halves, number: u64, reply: &WorldReply) -> Option<Broken>
     ensures { result ≡ clash_told halves.now number reply.now }

@@ -1,4 +1,4 @@
-// What is known before a step of the texts that its reply writes.
+// What is known, before a step, about the tokens that its reply writes.
 
 ghost use Rattle.std.specs.Prelude.{◌≡◌, None};
 ghost use Rattle.running_world.specs.Foreknowing.{client_asked};
@@ -6,7 +6,7 @@ ghost use Rattle.running_world.specs.Foreknowing.{client_asked};
 use code_grant::SessionRow;
 use op_exchange::OpAsk;
 
-/// What the texts that the provider writes depend on, beside its reply: the client of a token request, and the session that a
+/// What decides, besides its reply, which tokens the provider writes: the client of a token request, and the session that a
 /// sign-out ends.
 #[derive(Clone, Copy)]
 pub(crate) struct Foreknown {
@@ -14,7 +14,7 @@ pub(crate) struct Foreknown {
     pub(crate) ended: Option<SessionRow>,
 }
 
-/// Nothing is foreknown.
+/// Nothing is known.
 pub(crate) fn nothing_foreknown() -> Foreknown
     ensures { result ≡ record { client = None; ended = None } }
 {

@@ -1,4 +1,4 @@
-// The premises at a place, from its request: whether a text that it checks is forged, and whether it presents a cookie that was
+// The premises at a place, by its request: whether a token that it checks is forged, and whether it presents a cookie that was
 // set for another number.
 
 ghost use Rattle.std.specs.Prelude.{◌≡◌, ◌<◌, length, Some, Ok, IfSome, IfOk};
@@ -20,7 +20,7 @@ use sso_base::{Ask, NoMemory, Text};
 use sso_places::WorldAsk;
 use std::alloc::Global;
 
-/// A token text, and the number of the client under whose secret it is checked.
+/// A token, and the number of the client under whose secret it is checked.
 #[derive(Drop)]
 pub(crate) struct TokenText {
     pub(crate) client: u32,
@@ -39,7 +39,7 @@ fn client_number(registry: &Registry, params: &Params) -> Option<u32>
     }
 }
 
-// A copy of the text, where it is there.
+// A copy of the token, if there is one.
 fn copied(alloc: Global, client: u32, text: &Option<Text>) -> Result<Option<TokenText>, NoMemory>
     ensures client { IfOk result (λ o. IfSome o (λ (t : TokenOf). t.client ≡ client)) }
     ensures token { IfOk result (λ o. tokens_in o ≡ token_if (Some client) text.now) }
@@ -53,7 +53,7 @@ fn copied(alloc: Global, client: u32, text: &Option<Text>) -> Result<Option<Toke
     }
 }
 
-// The request object among these parameters, where their client is known.
+// The request object among these parameters, if their client is known.
 fn object_among(
     alloc: Global,
     registry: &Registry,
@@ -81,7 +81,7 @@ fn object_in(alloc: Global, registry: &Registry, form: &[u8]) -> Result<Option<T
     }
 }
 
-/// The text that a request to the provider has it check.
+/// The token that the provider checks for a request.
 pub(crate) fn checked_by_provider(
     alloc: Global,
     registry: &Registry,
@@ -111,7 +111,7 @@ fn logout_checked(alloc: Global, client: u32, ask: &WorldAsk) -> Result<Option<T
     }
 }
 
-/// The text that a request to a party, which is this client, has it check.
+/// The token that a party, which is this client, checks for a request.
 pub(crate) fn checked_by_party(
     alloc: Global,
     client: u32,
@@ -138,7 +138,7 @@ pub(crate) fn checked_by_party(
     }
 }
 
-/// Whether the text is sealed under the client's secret.
+/// Whether the token is sealed under the client's secret.
 pub(crate) fn is_sealed(
     alloc: Global,
     registry: &Registry,

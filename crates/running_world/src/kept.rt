@@ -1,28 +1,28 @@
-// What stands at a place.
+// The contents of a place.
 
 use sso_base::{Moment, Word};
 use sso_places::{To, WorldAsk, WorldReply};
 
-/// What was asked at a place: by which number, when, with which four words, whom, and what.
+/// The request at a place, with its sender, its recipient, its moment and its four random words.
 #[derive(Drop)]
 pub struct Asked {
     /// The number of a browser, or 0 for a server.
     pub from: u32,
     /// The moment of the entry.
     pub at: Moment,
-    /// The words that were drawn for it.
+    /// The random words that were drawn for it.
     pub fresh: [Word; 4],
-    /// Whom.
+    /// The recipient.
     pub to: To,
-    /// What.
+    /// The request, or the answer of a server.
     pub ask: WorldAsk,
 }
 
-/// What stands at a place: what was asked, where something was, and the reply.
+/// The contents of a place: the request, if there was one, and the reply.
 #[derive(Drop)]
 pub struct Kept {
-    /// What was asked.
+    /// The request.
     pub asked: Option<Asked>,
-    /// The reply of the role that was asked.
+    /// The reply of the role that received it.
     pub reply: WorldReply,
 }

@@ -1,4 +1,4 @@
-// What is looked up of a place later: the cookies that it sets, the texts that it writes, and the words that it issues.
+// What later places look up of a place: the cookies that it sets, the tokens that it writes, and the words that it issues.
 
 ghost use Rattle.std.specs.Prelude.{◌≡◌, ℕ, ◌||◌, false, length, reverse, Some, None, IfSome, IfOk, OnOk, OnErr};
 ghost use Rattle.std.specs.List.{AllByRecursion};
@@ -23,7 +23,7 @@ use sso_places::{Jar, To, WorldReply};
 use std::alloc::Global;
 use world_index::{Halves, Setters, Written};
 
-/// What is looked up of the places before.
+/// The index of the places so far.
 #[derive(Drop)]
 pub(crate) struct Index {
     pub(crate) setters: Setters,
@@ -32,7 +32,7 @@ pub(crate) struct Index {
 }
 
 impl Index {
-    /// Of no place, for so many clients.
+    /// The index of no places, for `clients` clients.
     pub(crate) fn new(alloc: Global, clients: u32) -> Result<Index, NoMemory>
         ensures count { IfOk result (λ index. length index.written ≡ clients) }
         ensures set { IfOk result (λ index. (w : WordOf) (from : ℕ) → set_for_other index.setters w from ≡ false) }
@@ -47,7 +47,7 @@ impl Index {
     }
 }
 
-// The word is set under a number, where it is there.
+// Notes that the word, if there is one, is set under a number.
 fn note_word(setters: &mut Setters, word: &Option<Word>, from: u32) -> Result<(), NoMemory>
     ensures ok { OnOk result ((w : WordOf) (other : ℕ) → set_for_other setters.new w other ≡ (spec.word_sets_for from other w word.now || set_for_other setters.old w other)) }
     ensures err { OnErr result (setters.new ≡ setters.old) }
@@ -58,7 +58,7 @@ fn note_word(setters: &mut Setters, word: &Option<Word>, from: u32) -> Result<()
     }
 }
 
-// The cookies of a jar are set under a number.
+// Notes that the cookies of a jar are set under a number.
 fn note_set(setters: &mut Setters, set: &Jar, from: u32) -> Result<(), NoMemory>
     ensures ok { OnOk result ((w : WordOf) (other : ℕ) → set_for_other setters.new w other ≡ (spec.sets_for from other w set.now || set_for_other setters.old w other)) }
     ensures either { (w : WordOf) (other : ℕ) → (spec.sets_for from other w set.now || set_for_other setters.new w other) ≡ (spec.sets_for from other w set.now || set_for_other setters.old w other) }
@@ -67,7 +67,7 @@ fn note_set(setters: &mut Setters, set: &Jar, from: u32) -> Result<(), NoMemory>
     note_word(setters, &set.second, from)
 }
 
-// The word is issued at a place, where it is there.
+// Notes that the word, if there is one, is issued at a place.
 fn note_half(halves: &mut Halves, word: &Option<Word>, place: u64) -> Result<(), NoMemory>
     ensures ok { OnOk result ((half : TextOf) → issued_of halves.new half ≡ first_of (issued_of halves.old half) (spec.issued_if half place word.now)) }
     ensures err { OnErr result (halves.new ≡ halves.old) }
@@ -78,7 +78,7 @@ fn note_half(halves: &mut Halves, word: &Option<Word>, place: u64) -> Result<(),
     }
 }
 
-// The code and the access token that a reply issues are issued at a place.
+// Notes the code and the access token that a reply issues at a place.
 fn note_issued(halves: &mut Halves, reply: &WorldReply, place: u64) -> Result<(), NoMemory>
     ensures ok { OnOk result ((half : TextOf) → issued_of halves.new half ≡ first_of (issued_of halves.old half) (spec.issued_here half place (spec.issued_by reply.now))) }
     ensures either { (half : TextOf) → first_of (issued_of halves.new half) (spec.issued_here half place (spec.issued_by reply.now)) ≡ first_of (issued_of halves.old half) (spec.issued_here half place (spec.issued_by reply.now)) }
@@ -90,7 +90,7 @@ fn note_issued(halves: &mut Halves, reply: &WorldReply, place: u64) -> Result<()
     note_half(halves, &reply.access(), place)
 }
 
-// The texts that a place writes are written.
+// Notes the tokens that a place writes.
 fn note_written(
     written: &mut Written,
     alloc: Global,
@@ -117,7 +117,7 @@ fn note_written(
     }
 }
 
-// What is looked up of the place later is noted. Where there is no memory, parts of it may be.
+// Indexes the place. If memory runs out, parts of it may be indexed.
 fn note_place(
     index: &mut Index,
     alloc: Global,
@@ -149,7 +149,7 @@ fn note_place(
     )
 }
 
-// The newest place is noted. Where there is no memory, parts of it may be.
+// Indexes the newest place. If memory runs out, parts of it may be indexed.
 fn note_newest(
     index: &mut Index,
     alloc: Global,
@@ -173,7 +173,7 @@ fn note_newest(
     }
 }
 
-/// The newest place is noted, where it was not.
+/// Indexes the newest place, if that was not done.
 pub(crate) fn settle(
     index: &mut Index,
     behind: &mut Option<Foreknown>,

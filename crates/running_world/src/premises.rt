@@ -1,4 +1,4 @@
-// The premises at the next place, as far as what is asked tells them: whether a text is forged, and whether a cookie leaks.
+// The premises at the next place, by its request: whether a token is forged, and whether a cookie leaks.
 
 ghost use Rattle.std.specs.Prelude.{◌≡◌, ◌<◌, length, IfSome, IfOk};
 ghost use Rattle.std.specs.List.{list_any};
@@ -16,7 +16,7 @@ use sso_places::{Broken, WorldAsk};
 use std::alloc::Global;
 use world_index::{Setters, Written};
 
-// Whether the word is there and was set for another number.
+// Whether there is a word and it was set for another number.
 fn is_set_for_other(setters: &Setters, word: &Option<Word>, from: u32) -> bool
     ensures { result ≡ spec.set_if setters.now from word.now }
 {
@@ -35,7 +35,7 @@ pub(crate) fn leaks(setters: &Setters, request: &Ask, from: u32) -> bool
         || is_set_for_other(setters, &request.second, from)
 }
 
-/// Whether a party is asked so. The answer of a server presents no cookie.
+/// The same for a request to a party. The answer of a server presents no cookie.
 pub(crate) fn ask_leaks(setters: &Setters, ask: &WorldAsk, from: u32) -> bool
     ensures { result ≡ list_any (λ (w : WordOf). set_for_other setters.now w from) (party_words ask.now) }
 {
@@ -45,7 +45,8 @@ pub(crate) fn ask_leaks(setters: &Setters, ask: &WorldAsk, from: u32) -> bool
     }
 }
 
-// Whether the text is sealed under the client's secret, and was not written for the client. A text that was written needs no MAC.
+// Whether the token is sealed under the client's secret, but was not written for the client. A written token needs no MAC
+// check.
 fn is_forged(
     alloc: Global,
     registry: &Registry,
@@ -61,7 +62,7 @@ fn is_forged(
     is_sealed(alloc, registry, token)
 }
 
-/// Whether the text, where there is one, is forged.
+/// Whether there is a token and it is forged.
 pub(crate) fn forges(
     alloc: Global,
     registry: &Registry,
@@ -77,7 +78,7 @@ pub(crate) fn forges(
     }
 }
 
-/// The premise that fails at the place of this number: a forged text comes before a cookie that leaks.
+/// The premise that fails at the place with this number: a forged token comes before a leaked cookie.
 pub(crate) fn verdict(number: u64, forged: bool, leaked: bool) -> Option<Broken>
     ensures { result ≡ verdict_of number forged leaked }
 {
@@ -90,7 +91,7 @@ pub(crate) fn verdict(number: u64, forged: bool, leaked: bool) -> Option<Broken>
     }
 }
 
-/// What failed first.
+/// The first failure.
 pub(crate) fn first_of(before: Option<Broken>, later: Option<Broken>) -> Option<Broken>
     ensures { result ≡ or_else before later }
 {

@@ -29,7 +29,7 @@ use sso_base::{Core, CoreNo, Moment, NoMemory, Word, is_live};
 use std::alloc::Global;
 use std::marker::Model;
 
-/// A provider that tells the moments of its entries, seen as its core.
+/// A provider with the moment of its last entry. Its model is its core's.
 #[derive(Drop)]
 pub(crate) struct OpRole {
     core: OpCore,
@@ -47,7 +47,7 @@ impl Model for OpRole {
     ghost invariant = { λ r. IsLegalAt r.core r.last };
 }
 
-/// A relying party that does, seen as its core.
+/// A relying party with the moment of its last entry. Its model is its core's.
 #[derive(Drop)]
 pub(crate) struct RpRole {
     core: RpCore,
@@ -70,14 +70,14 @@ impl Model for RpRole {
     ghost invariant = { λ r. r.last ≡ last_moment (past_of r.core) };
 }
 
-/// A reply of the provider, and the moment that its entry holds.
+/// A reply of the provider, and the moment of its entry.
 #[derive(Drop)]
 pub(crate) struct OpTold {
     pub(crate) at: Moment,
     pub(crate) reply: OpReply,
 }
 
-/// A reply of a party, and the moment that its entry holds.
+/// A reply of a party, and the moment of its entry.
 #[derive(Drop)]
 pub(crate) struct RpTold {
     pub(crate) at: Moment,
@@ -103,7 +103,7 @@ fn first_moment() -> Moment
 }
 
 impl OpRole {
-    /// The provider of the registry, which was asked nothing.
+    /// The provider of the registry, with an empty history.
     pub(crate) fn new(alloc: Global, registry: &Registry) -> Result<OpRole, NoMemory>
         ensures registry { IfOk result (λ r. r.registry ≡ registry.now) }
         ensures history { IfOk result (λ r. r.history ≡ []) }
@@ -114,14 +114,14 @@ impl OpRole {
         })
     }
 
-    /// The moment that an entry holds: time never goes back.
+    /// The moment of an entry: time never goes back.
     pub(crate) fn moment(&self, at: Moment) -> Moment
         ensures { result ≡ later (last_moment (op_past_of self.now)) at }
     {
         later_of(self.last, at)
     }
 
-    /// What the texts that the reply writes depend on.
+    /// What decides which tokens the reply writes.
     pub(crate) fn foreknown(&self, at: Moment, asked: &OpAsk) -> Foreknown
         requires { is_prepared self.now.registry asked.now ≡ true }
         ensures { IsForeknown self.now.registry (op_past_of self.now) (later (last_moment (op_past_of self.now)) at) asked.now result }
@@ -161,7 +161,7 @@ impl OpRole {
         }
     }
 
-    /// Asks the provider.
+    /// Sends a request to the provider.
     pub(crate) fn step(
         &mut self,
         alloc: Global,
@@ -182,7 +182,7 @@ impl OpRole {
 }
 
 impl RpRole {
-    /// The party of a number that was asked nothing. It trusts the registry's provider.
+    /// The party with this number, with an empty history. It trusts the registry's provider.
     pub(crate) fn new(alloc: Global, registry: &Registry, number: u32) -> Result<RpRole, NoMemory>
         requires { number < length registry.now.parties }
         ensures setup { IfOk result (λ r. r.setup ≡ setup_of registry.now number registry.now.provider) }
@@ -195,7 +195,7 @@ impl RpRole {
         })
     }
 
-    /// Asks the party.
+    /// Sends a request to the party.
     pub(crate) fn step(
         &mut self,
         alloc: Global,
@@ -215,7 +215,7 @@ impl RpRole {
     }
 }
 
-/// All parties of the registry, none of which was asked anything.
+/// All parties of the registry, with empty histories.
 pub(crate) fn new_parties(alloc: Global, registry: &Registry) -> Result<Vec<RpRole>, NoMemory>
     ensures { IfOk result (λ v. AreNewParties registry.now v.items) }
 {
@@ -226,7 +226,7 @@ pub(crate) fn new_parties(alloc: Global, registry: &Registry) -> Result<Vec<RpRo
     Ok(parties)
 }
 
-/// Asks the party of a number.
+/// Sends a request to the party with this number.
 pub(crate) fn step_at(
     roles: &mut Vec<RpRole>,
     alloc: Global,

@@ -30,7 +30,7 @@ pub(crate) fn jar_set(reply: &WorldReply) -> Jar
     }
 }
 
-// The browser word that a page of the provider sets.
+// The browser cookie that a page of the provider sets.
 fn op_browser(reply: &OpReply) -> Option<Word>
     ensures { result ≡ op_browser_of reply.now }
 {
@@ -41,7 +41,7 @@ fn op_browser(reply: &OpReply) -> Option<Word>
     }
 }
 
-// The browser word that a party sets as a login begins.
+// The browser cookie that a party sets when a login begins.
 fn rp_browser(reply: &RpReply) -> Option<Word>
     ensures { result ≡ rp_browser_of reply.now }
 {
@@ -51,7 +51,7 @@ fn rp_browser(reply: &RpReply) -> Option<Word>
     }
 }
 
-// The session word that a party sets as a login enters.
+// The session cookie that a party sets when it accepts a login.
 fn rp_session(reply: &RpReply) -> Option<Word>
     ensures { result ≡ rp_session_of reply.now }
 {

@@ -1,4 +1,4 @@
-// The places of a world, with the jars of browsers and the first premise that fails, apart from the cores.
+// The places of a world, with the browsers' jars and the first failed premise, without the cores.
 
 ghost use Rattle.std.specs.Prelude.{◌≡◌, ◌<◌, [], ◌∷◌, length, Some, None, option_copied, option_map, option_and_then, IfSome, IfOk, IfErr, OnOk, OnErr};
 ghost use Rattle.std.specs.Vec.{vec_capacity};
@@ -31,18 +31,18 @@ use sso_places::{Broken, Jar, To, WorldAsk, WorldReply};
 use std::alloc::Global;
 use std::marker::Model;
 
-/// The places of a world, with what is looked up of them, seen as the registry, what was kept at each place and what changed the
-/// jars. The newest place is taken up by the index only with memory, before the next.
+/// The places of a world, with an index of them. Its model is the registry, what was kept at each place, and the changes of the
+/// jars. Indexing takes memory, so the newest place is indexed just before the next one.
 #[derive(Drop)]
 pub(crate) struct Transcript {
     registry: Registry,
     kept: Vec<Kept>,
     jars: Jars,
     index: Index,
-    // of the newest place, where the index has not taken it up
+    // what is known of the newest place, if it is not indexed
     behind: Option<Foreknown>,
     broken: Option<Broken>,
-    // whether the index has, and there is room for one more place
+    // whether the newest place is indexed, and there is room for one more
     settled: bool,
 }
 
@@ -58,7 +58,7 @@ impl Model for Transcript {
     ghost invariant = { λ t. IsTranscript t.registry (reverse t.kept.items) (vec_capacity t.kept) t.jars t.index t.behind t.broken t.settled };
 }
 
-// Room for one more place. What stands at a place is large, so that the room grows by an eighth.
+// Makes room for one more place. Places are large, so the capacity grows by an eighth.
 fn make_room(kept: &mut Vec<Kept>) -> Result<(), NoMemory>
     ensures items { kept.new.items ≡ kept.old.items }
     ensures room { OnOk result (length kept.new.items < vec_capacity kept.new) }
@@ -117,7 +117,7 @@ impl Transcript {
         Ok(())
     }
 
-    /// The premise that fails at the next place, as far as what the provider is asked tells it. Room was made for the place.
+    /// The premise that fails at the next place by its request to the provider. Room was made for the place.
     pub(crate) fn judged_at_provider(
         &self,
         alloc: Global,
@@ -135,7 +135,7 @@ impl Transcript {
         Ok(verdict(self.kept.len() as u64 + 1, forged, leaked))
     }
 
-    /// The premise that fails at the next place, as far as what a party is asked tells it. Room was made for the place.
+    /// The premise that fails at the next place by its request to a party. Room was made for the place.
     pub(crate) fn judged_at_party(
         &self,
         alloc: Global,
@@ -185,7 +185,7 @@ impl Transcript {
         self.settled = false;
     }
 
-    /// Keeps a place at which nothing was asked.
+    /// Keeps a place without a request.
     pub(crate) fn skip(&mut self, alloc: Global) -> Result<(), NoMemory>
         ensures registry { self.new.registry ≡ self.old.registry }
         ensures jars { self.new.jars ≡ self.old.jars }
@@ -208,7 +208,7 @@ impl Transcript {
         Ok(())
     }
 
-    /// The thief has copies of the owner's jars, in place of its own.
+    /// Replaces the thief's jars by copies of the owner's.
     pub(crate) fn steal(&mut self, thief: u32, owner: u32) -> Result<(), NoMemory>
         ensures registry { self.new.registry ≡ self.old.registry }
         ensures kept { self.new.kept ≡ self.old.kept }
@@ -225,7 +225,7 @@ impl Transcript {
         self.jars.jar(browser, to)
     }
 
-    /// How many places there are.
+    /// The number of places.
     pub(crate) fn places(&self) -> u64
         ensures { result ≡ length self.now.kept }
     {
@@ -243,7 +243,7 @@ impl Transcript {
         self.kept.get(place as usize - 1)
     }
 
-    /// The role that was asked at a place.
+    /// The role that received the request at a place.
     pub(crate) fn role(&self, place: u64) -> Option<To>
         ensures role { result ≡ option_and_then (λ (k : KeptOf). role_if k.asked) (kept_at self.now.kept place) }
         ensures whole { IfSome (kept_at self.now.kept place) IsWhole }
@@ -265,7 +265,7 @@ impl Transcript {
         }
     }
 
-    /// The number from which a place was asked.
+    /// The number of the sender at a place.
     pub(crate) fn from(&self, place: u64) -> Option<u32>
         ensures from { result ≡ option_map (λ (k : KeptOf). from_if k.asked) (kept_at self.now.kept place) }
         ensures whole { IfSome (kept_at self.now.kept place) IsWhole }
@@ -276,7 +276,7 @@ impl Transcript {
         }
     }
 
-    /// Whether the premises hold that are tested, or the first that fails.
+    /// `Ok` if the tested premises hold, or the first that fails.
     pub(crate) fn premises(&self) -> Result<(), Broken>
         ensures ok { OnOk result (first_broken (own_site self.now.registry) (places_of self.now.registry self.now.kept) ≡ None) }
         ensures err { IfErr result (λ b. first_broken (own_site self.now.registry) (places_of self.now.registry self.now.kept) ≡ Some b) }
@@ -288,7 +288,7 @@ impl Transcript {
     }
 }
 
-// The number from which a place was asked.
+// The number of the sender at a place.
 fn from_of(kept: &Kept) -> u32
     ensures { result ≡ from_if kept.now.asked }
 {
@@ -298,7 +298,7 @@ fn from_of(kept: &Kept) -> u32
     }
 }
 
-// The role that was asked at a place.
+// The role that received the request at a place.
 fn role_of(kept: &Kept) -> Option<To>
     ensures { result ≡ role_if kept.now.asked }
 {

@@ -1,4 +1,4 @@
-// A world that runs.
+// A running world.
 
 ghost use Rattle.std.specs.Prelude.{◌≡◌, ℕ, ◌<◌, ◌≤◌, ◌+◌, [], ◌∷◌, length, Err, None, Some, option_copied, option_map, option_and_then, IfSome, IfOk, IfErr, OnOk, OnErr};
 ghost use Rattle.sso_base.specs.Journal.{most_weight};
@@ -20,8 +20,8 @@ use sso_places::{Broken, Jar, To, WorldAsk, WorldReply};
 use std::alloc::Global;
 use std::marker::Model;
 
-/// A provider and the relying parties of one registry, which are asked at places, one after another: seen as the registry, what was
-/// kept at each place, and what changed the jars of browsers. Each party trusts the registry's provider.
+/// The provider and the relying parties of one registry, which receive requests at places, one after another. Its model is the
+/// registry, what was kept at each place, and the changes of the browsers' jars. Each party trusts the registry's provider.
 #[derive(Drop)]
 pub struct World {
     transcript: Transcript,
@@ -41,7 +41,7 @@ impl Model for World {
 }
 
 impl World {
-    /// A world of this registry at which nothing was asked.
+    /// A world of this registry without places.
     pub fn new(alloc: Global, registry: Registry) -> Result<World, NoMemory>
         ensures { IfOk result (λ w. w ≡ record { registry = registry; kept = []; jars = [] }) }
     {
@@ -66,15 +66,15 @@ impl World {
         })
     }
 
-    /// Asks the provider, or a relying party, and keeps what was asked and replied at the next place. The moment is the later of
-    /// this one and the last one of the role. The cookies that the reply sets come into the jar of `from`, which is the number of a
-    /// browser, or 0 for a server, which has no jar.
+    /// Sends a request to the provider or to a relying party, and keeps the request and the reply at the next place. The moment
+    /// is the later of `at` and the role's last one. The cookies that the reply sets go into the jar of `from`. This is the
+    /// number of a browser, or 0 for a server, which has no jar.
     ///
-    /// The world with the new place is legal, and the theorems hold of it: where the premises hold its reading is a run of the sign-on
-    /// machine, and honest logins succeed.
+    /// The world with the new place is legal, and the theorems are true for it: under the premises its reading is a run of the
+    /// sign-on machine, and honest logins succeed.
     ///
-    /// A party is one of the registry's, and only a party is asked with the answer of another server. Where it is refused, for want
-    /// of memory or since the history of the role has no room for what is asked, nothing changes.
+    /// The party must be in the registry, and only a party receives the answer of another server. On an error nothing changes:
+    /// memory ran out, or the history of the role has no room for the request.
     pub fn step(
         &mut self,
         alloc: Global,
@@ -120,7 +120,7 @@ impl World {
         }
     }
 
-    /// Keeps a place at which nothing was asked.
+    /// Keeps a place without a request.
     pub fn skip(&mut self, alloc: Global) -> Result<(), NoMemory>
         ensures registry { self.new.registry ≡ self.old.registry }
         ensures ok { OnOk result (world_of self.new ≡ Nothing ∷ world_of self.old) }
@@ -130,7 +130,7 @@ impl World {
         self.transcript.skip(alloc)
     }
 
-    /// The thief has copies of the owner's jars at all roles, in place of its own. The number 0, of a server, has no jars.
+    /// Replaces the thief's jars at all roles by copies of the owner's. The number 0, of a server, has no jars.
     pub fn steal(&mut self, thief: u32, owner: u32) -> Result<(), NoMemory>
         ensures registry { self.new.registry ≡ self.old.registry }
         ensures places { world_of self.new ≡ world_of self.old }
@@ -147,14 +147,14 @@ impl World {
         self.transcript.registry()
     }
 
-    /// How many places there are.
+    /// The number of places.
     pub fn places(&self) -> u64
         ensures { result ≡ length (world_of self.now) }
     {
         self.transcript.places()
     }
 
-    /// The role that was asked at a place, from 1. None exactly where there is no such place, or nothing was asked.
+    /// The role that received the request at a place, from 1. `None` if and only if there is no such place, or no request.
     pub fn role(&self, place: u64) -> Option<To>
         ensures role { result ≡ option_and_then role_at (place_at (world_of self.now) place) }
         ensures known { IfSome result (IsRole self.now.registry) }
@@ -162,14 +162,14 @@ impl World {
         self.transcript.role(place)
     }
 
-    /// The reply at a place, from 1. None exactly where there is no such place.
+    /// The reply at a place, from 1. `None` if and only if there is no such place.
     pub fn reply(&self, place: u64) -> Option<&WorldReply>
         ensures { option_copied result ≡ option_map reply_at (place_at (world_of self.now) place) }
     {
         self.transcript.reply(place)
     }
 
-    /// The number from which a place was asked, 0 where nothing was. None exactly where there is no such place.
+    /// The number of the sender at a place, 0 if there was no request. `None` if and only if there is no such place.
     pub fn from(&self, place: u64) -> Option<u32>
         ensures { result ≡ option_map from_of (place_at (world_of self.now) place) }
     {
@@ -183,8 +183,8 @@ impl World {
         self.transcript.jar(browser, to)
     }
 
-    /// Whether the premises of the sign-on theorem that are tested hold: no token text is forged, no cookie is used under another
-    /// number, and no half digests of codes and access tokens clash. Else the first place at which one fails, and which.
+    /// `Ok` if the tested premises of the sign-on theorem hold: no token is forged, no cookie is used under another number, and
+    /// no half hashes of codes and access tokens clash. Otherwise the first place at which one fails, and which premise it is.
     pub fn premises(&self) -> Result<(), Broken>
         ensures ok { OnOk result (first_broken (own_site self.now.registry) (world_of self.now) ≡ None) }
         ensures err { IfErr result (λ b. first_broken (own_site self.now.registry) (world_of self.now) ≡ Some b) }
@@ -192,12 +192,12 @@ impl World {
         self.transcript.premises()
     }
 
-    /// The theorems on each world, as a law for the crates above: it is legal, where the premises hold its reading is a run of the
-    /// sign-on machine, and honest logins succeed. The call does nothing.
+    /// The theorems about each world, as a lemma for the crates above: the world is legal, under the premises its reading is a
+    /// run of the sign-on machine, and honest logins succeed. The call does nothing.
     pub fn theorem(&self)
         ensures { TheoremHolds self.now.registry (world_of self.now) }
     {
-        // What every world keeps is known where a part of it is read.
+        // The type's invariant becomes known by reading a field.
         let _places = self.transcript.places();
     }
 }

@@ -1,4 +1,4 @@
-// The token texts that a place writes are noted.
+// Notes the tokens that a place writes.
 
 ghost use Rattle.std.specs.Prelude.{◌≡◌, ◌<◌, length, Some, IfSome, OnOk};
 ghost use Rattle.op_answer.specs.Replies.{sign_out_of as sign_out};
@@ -21,7 +21,7 @@ use sso_base::{NoMemory, Text};
 use std::alloc::Global;
 use world_index::Written;
 
-// The text is written for the client, where both are there.
+// Notes that the token is written for the client, if there are both.
 fn note_text(
     written: &mut Written,
     alloc: Global,
@@ -54,7 +54,7 @@ fn sign_out_of(asked: &Asked, session: &SessionRow) -> SignOut
     }
 }
 
-// The logout token for a client is written, where the client is told.
+// Notes the logout token for a client, if the client is notified.
 fn note_logout(
     written: &mut Written,
     alloc: Global,
@@ -77,7 +77,7 @@ fn note_logout(
     Ok(())
 }
 
-// The logout tokens of the sign-out of a session are written.
+// Notes the logout tokens of the sign-out of a session.
 fn note_logouts(
     written: &mut Written,
     alloc: Global,
@@ -98,7 +98,7 @@ fn note_logouts(
     Ok(())
 }
 
-/// The texts that a reply of the provider writes are written.
+/// Notes the tokens that a reply of the provider writes.
 pub(crate) fn note_op_written(
     written: &mut Written,
     alloc: Global,
@@ -132,7 +132,7 @@ pub(crate) fn note_op_written(
     }
 }
 
-/// The request object of a login that begins is written, where the party's requests are signed.
+/// Notes the request object of a login that begins, if the party signs its requests.
 pub(crate) fn note_rp_written(
     written: &mut Written,
     alloc: Global,

@@ -41,7 +41,7 @@ fn users(alloc: Global) -> Result<String, NoMemory> {
     .concat(alloc)?)
 }
 
-/// Two users, and three clients, each of which is a party: that of `examples/sample.toml`.
+/// Two users, and three clients, each of which is a party: the configuration of `examples/sample.toml`.
 pub fn sample(alloc: Global) -> Result<String, NoMemory> {
     let users = users(alloc)?;
     let clients = [

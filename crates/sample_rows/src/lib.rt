@@ -1,5 +1,5 @@
-//! Rows of configurations, of which the programs of cases join those that they need: `[PROVIDER, ALICE, SHOP_CLIENT].concat(alloc)?`
-//! is a whole file, and a row takes the lines that are joined behind it.
+//! Parts of configurations, which the programs of cases join as needed: `[PROVIDER, ALICE, SHOP_CLIENT].concat(alloc)?` is a
+//! whole file, and the lines after a part belong to it.
 #![tactic(auto)]
 
 /// The head of a configuration: a provider on this machine.
@@ -10,7 +10,7 @@ listen = \"127.0.0.1:8080\"
 salt = \"00112233445566778899aabbccddeeff\"
 ";
 
-/// The user `alice` with the password `password`, whose proof has one round, by Python's hashlib.
+/// The user `alice` with the password `password`. Her proof has one round, and is computed with Python's hashlib.
 pub const ALICE: &str = "[[user]]
 id = \"alice\"
 salt = \"73616c74\"
@@ -24,7 +24,7 @@ name = \"Alice Adams\"
 email = \"alice@example.org\"
 ";
 
-/// The user `bob` with the password `password`, whose proof has two rounds, by Python's hashlib.
+/// The user `bob` with the password `password`. His proof has two rounds, and is computed with Python's hashlib.
 pub const BOB: &str = "[[user]]
 id = \"bob\"
 salt = \"73616c74\"
@@ -32,35 +32,35 @@ rounds = 2
 proof = \"ae4d0c95af6b46d32d0adff928f06dd02a303f8ef3c251dfd6e2d85a95474c43\"
 ";
 
-/// The client `shop-client`, which the party `shop` is.
+/// The client `shop-client` of the party `shop`.
 pub const SHOP_CLIENT: &str = "[[client]]
 id = \"shop-client\"
 secret = \"shop-secret-shop-secret-shop-secret\"
 redirect_uris = [\"http://127.0.0.1:8081/cb\"]
 ";
 
-/// The client `news-client`, which the party `news` is.
+/// The client `news-client` of the party `news`.
 pub const NEWS_CLIENT: &str = "[[client]]
 id = \"news-client\"
 secret = \"news-secret-news-secret-news-secret\"
 redirect_uris = [\"http://127.0.0.1:8082/cb\"]
 ";
 
-/// The client `mail-client`, which the party `mail` is.
+/// The client `mail-client` of the party `mail`.
 pub const MAIL_CLIENT: &str = "[[client]]
 id = \"mail-client\"
 secret = \"mail-secret-mail-secret-mail-secret\"
 redirect_uris = [\"http://127.0.0.1:8083/cb\"]
 ";
 
-/// The client `a~b`, whose id and secret forms write with escapes.
+/// The client `a~b`. Forms write its id and its secret with escapes.
 pub const ESCAPED_CLIENT: &str = "[[client]]
 id = \"a~b\"
 secret = \"x:y%z+&=/?#[]@!$()*,;<>~secretsecret\"
 redirect_uris = [\"http://127.0.0.1:8084/cb\"]
 ";
 
-/// The client `any-client`, which has two redirection URIs and every response type.
+/// The client `any-client`, which has two redirect URIs and every response type.
 pub const ANY_CLIENT: &str = "[[client]]
 id = \"any-client\"
 secret = \"any-secret-any-secret-any-secret-any\"

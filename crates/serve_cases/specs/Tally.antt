@@ -1,4 +1,4 @@
--- A core that counts: what its asks weigh, and which of its histories are legal.
+-- A core that counts: the weight of its requests, and its legal histories.
 use Rattle.std.specs.Prelude.{ℕ, ◌+◌, ◌≤◌, List, [], None, codes}
 use Rattle.http_reply.specs.Replies.{plain}
 use Rattle.serving.specs.Manner.{Manner}
@@ -10,15 +10,16 @@ use Rattle.serve_cases.specs.declared.tick.Tick.{Tick}
 abbrev pub tick_weight : Tick → ℕ
 tick_weight tick = tick.more + empty_weight
 
--- it is set up with nothing
+-- it has no setup
 abbrev pub no_setup : List (Pair Tick ℕ) → Unit {0}
 no_setup history = tt
 
--- every history is legal that weighs no more than one may
+-- a history is legal if it weighs no more than the limit
 abbrev pub IsLight : Unit {0} → List (Pair Tick ℕ) → Type 0
 IsLight s history = history_weight tick_weight history ≤ most_weight
 
--- The role over it: whatever is requested, it is asked more than half of what a history may weigh, and it replies with one line.
+-- The role over it: whatever the HTTP request is, the core's request weighs more than half of the limit, and the reply is one
+-- line.
 abbrev pub heavy_tick : Tick
 heavy_tick = record { more = 200000000 }
 

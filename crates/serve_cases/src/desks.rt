@@ -1,13 +1,14 @@
-// Desks in memory. A desk is written `TURNS DOOR LINK > PART > PART > ..`: how many connections it serves at most, and the numbers of
-// the calls of its door and of its link that fail; what is left out is 0, and a call of number 0 is none. A part is
+// Desks in memory. A desk is written `TURNS DOOR LINK > PART > PART > ..`: the most connections that it serves, and the numbers
+// of the failing calls of its door and of its link. A missing number is 0, and the call number 0 is none. A part is one of
+// these:
 //
-// - `answer BYTES`: what comes back over its link next;
-// - `cut MOST BYTES`: a connection that gives at most so many of its bytes at a call;
+// - `answer BYTES`: the next answer over its link;
+// - `cut MOST BYTES`: a connection that gives at most MOST of its bytes at a call;
 // - `deaf BYTES`: a connection whose first write fails;
 // - `BYTES`: a connection with these bytes.
 //
-// In them `\r` and `\n` are the two bytes of a line end. The clock of each desk stands at 1000. The first desk draws the words of the
-// numbers from 1 on, and no other desk draws one of these.
+// In these, `\r` and `\n` are the two bytes of a line end. The clock of each desk shows 1000. The first desk draws the words
+// with the numbers from 1 on, and no other desk draws one of these.
 
 ghost use Rattle.std.specs.Prelude.{◌≡◌, ◌^◌, ◌≤◌, ◌<◌, IfOk};
 ghost use Rattle.std.specs.List.{All};
@@ -36,12 +37,12 @@ fn line_bytes(alloc: Global, text: &str) -> Result<Vec<u8>, NoMemory> {
     Ok(bytes(alloc, text.as_str())?)
 }
 
-/// The call of this number, where it is not 0.
+/// The number of the failing call, or none for 0.
 pub fn failing(alloc: Global, call: u32) -> Result<Vec<u64>, NoMemory> {
     Ok(vec![in alloc; u64::from(call)]?)
 }
 
-// A connection with these bytes, of which at most so many are given at a call, and whose write of this number fails.
+// A connection with these bytes, of which at most `most` are given at a call, and whose write with this number fails.
 fn connection(
     alloc: Global,
     text: &str,
@@ -61,7 +62,7 @@ fn cut_connection(alloc: Global, text: &str) -> Result<CaseConnection, NoMemory>
     connection(alloc, text, number(most) as usize, 0)
 }
 
-// What comes to a desk.
+// The connections and the answers that come to a desk.
 #[derive(Drop)]
 struct Coming {
     connections: Vec<CaseConnection>,
@@ -101,7 +102,7 @@ pub fn clock(alloc: Global) -> MemoryClock {
     MemoryClock::new(Moment::new(1000).unwrap(), Vec::new(alloc))
 }
 
-/// The draw of the desk of this number, from 0.
+/// The draw of the desk with this number, from 0.
 pub fn draw(desk: u8) -> MemoryDraw {
     let mut seed = [0; 24];
     seed[23] = desk;
@@ -151,7 +152,7 @@ pub fn desks_in(alloc: Global, texts: &[&str]) -> Result<Vec<CaseDesk>, NoMemory
     Ok(desks)
 }
 
-// ---- telling
+// ---- printing
 
 /// Adds a name and bytes, in quotes.
 pub fn push_bytes(
@@ -173,7 +174,7 @@ fn push_exchange(alloc: Global, out: &mut String, exchanged: &Exchanged) -> Resu
     push_bytes(alloc, out, name.as_str(), exchanged.asked.as_bytes())
 }
 
-/// Adds what was sent over the link of a desk, message by message.
+/// Adds the messages that were sent over the link of a desk.
 pub fn push_sent(alloc: Global, out: &mut String, desk: &CaseDesk) -> Result<(), NoMemory> {
     for exchanged in desk.link.link().exchanges() {
         push_exchange(alloc, out, exchanged)?;
@@ -188,13 +189,14 @@ fn push_written(alloc: Global, out: &mut String, desk: &CaseDesk) -> Result<(), 
     Ok(())
 }
 
-// Where its door listens.
+// The address at which its door listens.
 fn place_of(desk: &CaseDesk) -> &str {
     let place = desk.door.door().place().as_str();
     if place.is_empty() { "no place" } else { place }
 }
 
-/// Adds of each desk where its door listens, what was written to each connection that it served, and what was sent over its link.
+/// Adds for each desk the address at which its door listens, the bytes that were written to each served connection, and the
+/// messages that were sent over its link.
 pub fn push_desks(alloc: Global, out: &mut String, desks: &[CaseDesk]) -> Result<(), NoMemory> {
     for desk in desks {
         push_field(out, "at ", place_of(desk))?;

@@ -18,7 +18,7 @@ fn put(
     Ok(format!(in alloc; "{length} bytes")?)
 }
 
-/// `file|NAME|BYTES`: these bytes stand under the name from now on.
+/// `file|NAME|BYTES`: from now on, the file with this name has these bytes.
 pub fn put_bytes(
     alloc: Global,
     files: &mut Vec<File>,

@@ -1,4 +1,4 @@
-// A door to which a login comes, and then the callback that its reply leads to.
+// A door with a login, and then the callback to which its reply leads.
 
 ghost use Rattle.std.specs.Prelude.{◌≡◌, ◌<◌, ◌≤◌, IfOk};
 ghost use Rattle.server_desk.specs.Doors.{with_served};
@@ -9,13 +9,13 @@ use server_desk::{Connection, Door, DoorFault, MemorySource};
 use sso_base::{MemorySink, NoMemory, Text};
 use std::alloc::Global;
 
-/// A door that gives a login, then the callback of it with the code `x`, and then is closed. It does not tell what comes and what was
-/// served.
+/// A door that gives a login, then its callback with the code `x`, and then is closed. The connections to come and those served
+/// are not known.
 #[derive(Drop)]
 pub struct LoginDoor {
     alloc: Global,
     coming: Option<Connection<MemorySource, MemorySink>>,
-    // What was written to the last connection that was given back.
+    // The bytes that were written to the last connection that was given back.
     reply: Option<MemorySink>,
     given: u64,
     out: u64,
@@ -33,15 +33,15 @@ fn connection(
     })
 }
 
-// What stands between two marks.
+// The text between two marks.
 fn between<'a>(text: &'a str, before: &str, after: &str) -> Option<&'a str> {
     let (_, rest) = text.split_once(before)?;
     let (found, _) = rest.split_once(after)?;
     Some(found)
 }
 
-// The callback of a login that this was replied to, with the state of its location and its cookie. None where it has none, or memory
-// runs out.
+// The callback of a login with this reply, with the state of its location and its cookie. `None` if it lacks one of these, or
+// memory runs out.
 fn callback(alloc: Global, reply: &str) -> Option<Connection<MemorySource, MemorySink>> {
     let state = between(reply, "&state=", "&")?;
     let cookie = between(reply, "Set-Cookie: ", ";")?;
@@ -55,7 +55,7 @@ fn callback(alloc: Global, reply: &str) -> Option<Connection<MemorySource, Memor
 }
 
 impl LoginDoor {
-    /// A door that gave nothing yet.
+    /// A door that has given nothing yet.
     pub fn new(alloc: Global) -> Result<LoginDoor, NoMemory>
         ensures { IfOk result (λ door. ⟦<LoginDoor as Door>⟧.state door ≡ counted 0 0) }
     {
@@ -69,7 +69,7 @@ impl LoginDoor {
         })
     }
 
-    /// What was written to the last connection that was given back.
+    /// The bytes that were written to the last connection that was given back.
     pub fn reply(&self) -> &[u8] {
         match &self.reply {
             Some(sink) => sink.bytes(),

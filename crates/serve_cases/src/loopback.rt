@@ -1,4 +1,4 @@
-// The desk over this machine, which is asked over loopback.
+// The desk over this machine, with clients over loopback.
 
 ghost use Rattle.std.specs.Prelude.{◌≡◌, length};
 
@@ -15,13 +15,13 @@ use std::sync::Wait;
 use std::thread::{Threads, join, sleep};
 use std::time::{Clock, Duration};
 
-/// How many seconds a client waits for a byte.
+/// The number of seconds that a client waits for a byte.
 const WAITING: u64 = 5;
 
-/// How many milliseconds a client waits between two pieces.
+/// The number of milliseconds that a client waits between two pieces.
 const BETWEEN: u64 = 200;
 
-// Lets the door listen at the first free one of 64 ports, and answers where.
+// Lets the door listen at the first free one of 64 ports, and returns its address.
 fn listen<D: Door>(alloc: Global, door: &mut D) -> Result<Option<Text>, NoMemory> {
     for port in 47_100..47_164u16 {
         let place = Text::from_string(format!(in alloc; "127.0.0.1:{port}")?);
@@ -32,7 +32,7 @@ fn listen<D: Door>(alloc: Global, door: &mut D) -> Result<Option<Text>, NoMemory
     Ok(None)
 }
 
-// Reads so many bytes, at most `cut` at once.
+// Reads `count` bytes, at most `cut` at a call.
 fn read_bytes<S: Source>(
     alloc: Global,
     source: &mut S,
@@ -48,8 +48,8 @@ fn read_bytes<S: Source>(
     Some(bytes)
 }
 
-// Takes the next connection, reads so many bytes, at most `cut` at once, replies, and gives the connection back. It answers
-// what was read.
+// Takes the next connection, reads a number of bytes, at most `cut` at a call, replies, and gives the connection back. Returns
+// the bytes.
 fn serve<D: Door>(
     alloc: Global,
     door: &mut D,
@@ -65,7 +65,7 @@ fn serve<D: Door>(
     bytes
 }
 
-// Sends two pieces, one a moment after the other, and answers what comes back.
+// Sends two pieces, with a short wait between them, and returns the bytes that come back.
 fn ask<R: Net<Stream = TcpStream> + Clock>(
     rt: &R,
     alloc: Global,
@@ -85,7 +85,7 @@ fn ask<R: Net<Stream = TcpStream> + Clock>(
     Some(back)
 }
 
-// The bytes, where any came.
+// The bytes, if any came.
 fn told_came(alloc: Global, bytes: &Option<Vec<u8>>) -> Result<String, NoMemory> {
     match bytes {
         Some(bytes) => told_quoted(alloc, as_text(bytes.as_slice())),
@@ -93,7 +93,7 @@ fn told_came(alloc: Global, bytes: &Option<Vec<u8>>) -> Result<String, NoMemory>
     }
 }
 
-// What was read, and what came back.
+// The bytes that were read, and those that came back.
 fn told_both(
     alloc: Global,
     read: &Option<Vec<u8>>,
@@ -123,7 +123,7 @@ where
     told_both(alloc, &read, &back)
 }
 
-// The same at this door, and at another one that shares its place.
+// The same at this door, and at another one that shares its address.
 fn serve_two<R>(
     rt: &R,
     alloc: Global,
@@ -143,7 +143,8 @@ where
     Ok(out)
 }
 
-/// `machine|door`: what two doors that share a place give of their clients, and whether a third one listens there once they are gone.
+/// `machine|door`: the results of two doors that share an address, for their clients, and whether a third one can listen there
+/// after them.
 pub fn door<R>(rt: &R, alloc: Global) -> Result<String, NoMemory>
 where
     R: Threads + Net<Listener = TcpListener, Stream = TcpStream> + Clock + Sync + AllocGlobal,
@@ -158,7 +159,8 @@ where
     Ok(format!(in alloc; "{told} / again {again}")?)
 }
 
-/// `machine|unread`: what comes of a client whose request is not read whole, by when all of it was sent and none of the reply is read.
+/// `machine|unread`: the result for a client whose request is not read whole. It sends all of it before it reads any of the
+/// reply.
 pub fn unread<R>(rt: &R, alloc: Global) -> Result<String, NoMemory>
 where
     R: Threads + Net<Listener = TcpListener, Stream = TcpStream> + Clock + Sync + AllocGlobal,
@@ -188,7 +190,7 @@ fn told_answer(alloc: Global, answer: &Result<Blob, LinkNo>) -> Result<String, N
     }
 }
 
-// What the link answers where nobody listens, and how often it has failed.
+// The answer of the link if nobody listens, and how often the link has failed.
 fn told_closed<R>(
     alloc: Global,
     link: &mut TcpLink<'_, R>,
@@ -203,7 +205,7 @@ where
     Ok(format!(in alloc; "{told}, {before} and {} faults", link.faults())?)
 }
 
-/// `machine|link`: what a link sends, of whose answer six bytes are taken, and what it answers once nobody listens.
+/// `machine|link`: the bytes that a link sends, six bytes of the answer, and the link's answer once nobody listens.
 pub fn link<R>(rt: &R, alloc: Global) -> Result<String, NoMemory>
 where
     R: Threads + Net<Listener = TcpListener, Stream = TcpStream> + Clock + Sync + AllocGlobal,
@@ -224,7 +226,7 @@ where
     Ok(format!(in alloc; "{read}, {back} / {closed}")?)
 }
 
-// A configuration whose provider is at this place.
+// A configuration whose provider listens at this address.
 fn file_at(alloc: Global, place: &Text) -> Result<File, NoMemory> {
     let place = place.as_str();
     let config = format!(in alloc;
@@ -236,7 +238,7 @@ fn file_at(alloc: Global, place: &Text) -> Result<File, NoMemory> {
     })
 }
 
-// Runs the provider at this place, for one connection.
+// Runs the provider at this address, for one connection.
 fn run_provider<R>(rt: &R, alloc: Global, place: &Text) -> Result<String, NoMemory>
 where
     R: Threads + Wait + Net<Listener = TcpListener, Stream = TcpStream>,
@@ -257,7 +259,7 @@ where
     run(rt, alloc, files.as_slice(), &call, &mut desks)
 }
 
-// Asks for the keys, as soon as somebody listens: 500 times at most.
+// Requests the keys as soon as somebody listens, with at most 500 attempts.
 fn ask_keys<R: Net<Stream = TcpStream> + Clock>(
     rt: &R,
     alloc: Global,
@@ -273,7 +275,8 @@ fn ask_keys<R: Net<Stream = TcpStream> + Clock>(
     None
 }
 
-/// `machine|keys`: the status and the text of `op` with a desk of one turn, and what a client that asks for the keys is answered.
+/// `machine|keys`: the exit status and the text of `op` with a desk of one turn, and the answer to a client that requests the
+/// keys.
 pub fn keys<R>(rt: &R, alloc: Global) -> Result<String, NoMemory>
 where
     R: Threads + Wait + Net<Listener = TcpListener, Stream = TcpStream>,

@@ -1,36 +1,36 @@
-//! Cases of the servers and of the top call, each a line that a person can read: connections that are served at desks in memory, what
-//! is written to them, what is sent over the links, and how it ends.
+//! Cases of the servers and of the top call, each a line that a person can read: connections that are served at desks in
+//! memory, what is written to them, what is sent over the links, and how it ends.
 //!
-//! The file `stdin` has the cases, and `stdout` the same with their answers. `case_lines` says how a line is read, and the comments
-//! there where the expected answers come from. `desks` says how a desk is written, `$sample$` is a configuration with all roles,
-//! `$form$` the field of a request that has a form, `$header$` the first line of a trace, and `$provider$` and `$alice$` are rows of
-//! other configurations.
+//! The file `stdin` has the cases, and `stdout` has them with their answers. The crate `case_lines` documents how a line is
+//! read. The comments in the table name the source of the expected answers. `desks` documents how a desk is written. `$sample$`
+//! is a configuration with all roles, `$form$` the field of a request that has a form, and `$header$` the first line of a
+//! trace. `$provider$` and `$alice$` are parts of other configurations.
 //!
 //! | Call | Answer |
 //! |---|---|
-//! | `file|NAME|BYTES`, `lines|NAME|LINES` | these bytes, or lines with `/` between them, stand under the name from now on |
+//! | `file|NAME|BYTES`, `lines|NAME|LINES` | from now on, the file with this name has these bytes, or these lines, which are separated by `/` |
 //! | `ends|DESK` | how each connection of one desk is served, by one worker |
 //! | `work|DESK` | how one worker ends at one desk |
-//! | `serve|DESK|..` | what the server tells, and each desk |
-//! | `calls|MORE|..` | what a store of one pass answers to these asks, each `REPLY at PLACE`, `full at WEIGHT` or `no memory`, and its places at the end |
-//! | `two threads` | what came of 2,000 calls of a store by two threads at the same time |
-//! | `sso|SHELF|SINK|WORDS|DESK|..` | the status of the words, the text, and each desk |
+//! | `serve|DESK|..` | the summary of the server, and each desk |
+//! | `calls|MORE|..` | the answers of a store with one pass to these requests, each `REPLY at PLACE`, `full at WEIGHT` or `no memory`, and its places at the end |
+//! | `two threads` | the result of 2,000 calls of a store by two threads at the same time |
+//! | `sso|SHELF|SINK|WORDS|DESK|..` | the exit status for the words, the text, and each desk |
 //! | `sso|SHELF|SINK|WORDS|two logins` or `two keys` | the same for two desks that wait for each other |
-//! | `writer|CALL` | what a writer, of which this call fails, takes as a sink |
+//! | `writer|CALL` | the bytes that a writer takes as a sink, if its call CALL fails |
 //! | `words|NAME|WORD|..` | the words of a process |
-//! | `machine|CALL` | what the clock, the random words, a door, a link or the desk of this machine answer |
+//! | `machine|CALL` | the answers of the clock, the random words, a door, a link or the desk of this machine |
 //!
-//! `ends`, `work` and `serve` are over a role of their own, whose core is full after one ask, and `calls` and `two threads` over the core
-//! alone, which replies with the number of the entries before. The provider and the parties are served by the top call. SHELF and SINK are
-//! the numbers of the calls that fail, and 0 is none.
+//! `ends`, `work` and `serve` use their own role, whose core is full after one request. `calls` and `two threads` use only that
+//! core, which replies with the number of the entries before. The top call serves the provider and the parties. SHELF and SINK
+//! are the numbers of the failing calls, and 0 is none.
 //!
 //! | Module | What it has |
 //! |---|---|
 //! | `sources` | sources that give few bytes at a call |
-//! | `desks` | desks in memory, read of a field, and what is told of them |
-//! | `tick`, `tally`, `tally_role` | the core that counts its asks, and the role over it |
+//! | `desks` | desks in memory: reads them from a field, and prints them |
+//! | `tick`, `tally`, `tally_role` | the core that counts its requests, and the role over it |
 //! | `passes`, `one_pass`, `two_passes` | the calls `calls` and `two threads`: a store over that core |
-//! | `workers` | the calls `ends` and `work`: one worker over a store of its own |
+//! | `workers` | the calls `ends` and `work`: one worker over its own store |
 //! | `servers` | the call `serve` |
 //! | `files`, `top` | the calls `file`, `lines` and `sso` |
 //! | `meeting`, `login_door`, `two` | desks that wait for each other |

@@ -9,14 +9,14 @@ use std::alloc::Global;
 use std::sync::atomic::{AtomicU64, Ordering};
 use std::thread::yield_now;
 
-/// How many turns one waits for the other.
+/// How many iterations one waits for the other.
 const PATIENCE: u32 = 1_000_000_000;
 
-/// What comes back over each link: the code is refused (RFC 6749, 5.2).
+/// The answer over each link: the code is refused (RFC 6749, 5.2).
 const REFUSAL: &[u8] =
     b"HTTP/1.1 400 Bad Request\r\nContent-Type: application/json\r\nConnection: close\r\n\r\n{\"error\":\"invalid_grant\"}";
 
-// Counts one that has begun, and waits for the other. False where it does not come.
+// Counts one that has begun, and waits for the other. False if the other does not come.
 fn meet(begun: &AtomicU64) -> bool {
     begun.fetch_add(1, Ordering::SeqCst);
     for _ in 0..PATIENCE {
@@ -28,7 +28,7 @@ fn meet(begun: &AtomicU64) -> bool {
     false
 }
 
-/// A link whose exchanges wait until two have begun. It does not tell what was exchanged.
+/// A link whose exchanges wait until two have begun. Its exchanges are not known.
 #[derive(Drop)]
 pub struct MeetingLink<'a> {
     begun: &'a AtomicU64,
@@ -37,7 +37,7 @@ pub struct MeetingLink<'a> {
 }
 
 impl<'a> MeetingLink<'a> {
-    /// A link that was not called yet. It counts the exchanges that have begun there.
+    /// A link without calls yet. It counts the exchanges that have begun in `begun`.
     pub fn new(begun: &'a AtomicU64) -> MeetingLink<'a>
         ensures { ⟦<MeetingLink<'a> as Link>⟧.state result ≡ untold_link 0 0 }
     {
@@ -69,17 +69,17 @@ impl<'a> Link for MeetingLink<'a> {
     }
 }
 
-/// A source whose first read waits until two have begun. It does not tell what comes.
+/// A source whose first read waits until two have begun. Its bytes are not known.
 #[derive(Drop)]
 pub struct MeetingSource<'a> {
     source: MemorySource,
-    // None once it was read.
+    // `None` after the first read.
     begun: Option<&'a AtomicU64>,
     faults: u64,
 }
 
 impl<'a> MeetingSource<'a> {
-    /// A source of this one's bytes, which counts the first reads there.
+    /// A source of this one's bytes, which counts the first reads in `begun`.
     pub fn new(source: MemorySource, begun: &'a AtomicU64) -> MeetingSource<'a> {
         MeetingSource {
             source,

@@ -21,7 +21,7 @@ fn told_call(alloc: Global, answer: &Result<Placed<u64>, CoreNo>) -> Result<Stri
     }
 }
 
-// Calls with this ask. What it is answered.
+// Calls with this request, and returns the answer.
 fn call<R: Wait>(
     rt: &R,
     alloc: Global,
@@ -38,7 +38,7 @@ fn call<R: Wait>(
     told_call(alloc, &answer)
 }
 
-// Calls with one ask after another. What each is answered.
+// Calls with one request after another, and returns all answers.
 fn call_each<R: Wait>(
     rt: &R,
     alloc: Global,
@@ -58,7 +58,7 @@ fn call_each<R: Wait>(
     Ok(out)
 }
 
-// Adds how many entries the history has, and the places of those of the one pass.
+// Adds the number of entries in the history, and the places of those of the one pass.
 fn push_closed(alloc: Global, out: &mut String, closed: &Closed<Tally>) -> Result<(), NoMemory>
     requires { 0 < length closed.now.calls }
 {
@@ -70,7 +70,7 @@ fn push_closed(alloc: Global, out: &mut String, closed: &Closed<Tally>) -> Resul
     Ok(())
 }
 
-/// `calls|MORE|..`: what a store of one pass answers, and its places at the end.
+/// `calls|MORE|..`: the answers of a store with one pass, and its places at the end.
 pub fn answer<R: Wait>(rt: &R, alloc: Global, asks: &[&str]) -> Result<String, NoMemory> {
     let (turn, mut passes) = Turn::new(alloc, Tally::new(alloc), 1)?;
     let mut pass = take_pass(&turn, &mut passes);

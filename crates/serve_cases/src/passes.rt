@@ -1,4 +1,4 @@
-// Passes of a store, taken out of their list and put back in their order.
+// Takes passes of a store out of their list, and puts them back in order.
 
 ghost use Rattle.std.specs.Prelude.{◌≡◌, ◌<◌, [], ◌∷◌, ◌++◌, map, length, MatchBool};
 ghost use Rattle.std.specs.List.{All};
@@ -18,7 +18,7 @@ pub fn take_pass<C: Core>(turn: &Turn<C>, passes: &mut Vec<Pass<C>>) -> Pass<C>
     passes.remove(0)
 }
 
-/// Puts a pass behind the others. Whether there was memory for it.
+/// Puts a pass after the others, and returns whether there was memory for it.
 pub fn put_pass<C: Core>(turn: &Turn<C>, passes: &mut Vec<Pass<C>>, pass: Pass<C>) -> bool
     requires all { All (IsPassOf C.setup C.is_legal turn.now) passes.old.items }
     requires pass { IsPassOf C.setup C.is_legal turn.now pass }

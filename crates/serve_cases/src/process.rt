@@ -8,7 +8,7 @@ use std::env::{Env, FillError};
 use std::io;
 use std::io::{ErrorKind, Write};
 
-// Takes one byte at a call. Each other call is interrupted, and the call of one number fails.
+// A writer that takes one byte at a call. Every other call is interrupted, and the call with one number fails.
 #[derive(Drop)]
 struct SlowWriter {
     taken: Vec<u8>,
@@ -35,8 +35,8 @@ impl Write for SlowWriter {
     }
 }
 
-/// `writer|CALL`: what a writer takes of `words` as a sink, one byte at a call, each other call interrupted and that of this number
-/// failing, and whether that was all.
+/// `writer|CALL`: the bytes of `words` that a writer takes as a sink, and whether they are all. It takes one byte at a call,
+/// every other call is interrupted, and the call with this number fails.
 pub fn writer(alloc: Global, failing: &str) -> Result<String, NoMemory> {
     let mut writer = SlowWriter {
         taken: Vec::new(alloc),
@@ -96,7 +96,7 @@ fn told_words(alloc: Global, words: &[Text]) -> Result<String, NoMemory> {
     or_else(out, "-")
 }
 
-/// `words|NAME|WORD|..`: the words of a process that was started with these, behind its name.
+/// `words|NAME|WORD|..`: the words of a process that was started with these, after its name.
 pub fn words(alloc: Global, fields: &[&str]) -> Result<String, NoMemory> {
     let given = words_in(alloc, fields)?;
     let process = Process {

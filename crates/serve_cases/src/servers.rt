@@ -1,4 +1,4 @@
-// The call `serve`: a server of the role whose core is full after one ask.
+// The call `serve`: a server of the role whose core is full after one request.
 
 ghost use Rattle.std.specs.Prelude.{◌≤◌, ◌<◌, ◌^◌, length};
 ghost use Rattle.std.specs.List.{All};
@@ -14,7 +14,7 @@ use std::alloc::Global;
 use std::sync::Wait;
 use std::thread::Threads;
 
-// The connections and entries that the server counted, and whether a door failed, or there was no store.
+// The numbers of connections and entries, and whether a door failed, or there was no store.
 fn told_summary<O: Core>(alloc: Global, summary: &Summary<O>) -> Result<String, NoMemory> {
     let mut out = format!(in alloc; "served {} entries {}", summary.served, summary.entries)?;
     if summary.fault {
@@ -39,7 +39,7 @@ fn tally<R: Threads + Wait + Sync>(
     told_summary(alloc, &summary)
 }
 
-/// `serve|DESK|..`: what the server tells, and then each desk.
+/// `serve|DESK|..`: the summary of the server, and then each desk.
 pub fn answer<R: Threads + Wait + Sync>(
     rt: &R,
     alloc: Global,

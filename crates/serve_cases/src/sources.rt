@@ -4,7 +4,7 @@ ghost use Rattle.std.specs.Prelude.{Some};
 
 use server_desk::{MemorySource, Source, SourceFault};
 
-/// Gives at most so many bytes at a call, but one at least.
+/// A source that gives at most a given number of bytes at a call, but at least one.
 #[derive(Drop)]
 pub struct SlowSource {
     pub source: MemorySource,

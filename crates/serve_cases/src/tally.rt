@@ -1,4 +1,4 @@
-// The core that counts what it is asked.
+// The core that counts its requests.
 
 ghost use Rattle.std.specs.Prelude.{◌≡◌, []};
 
@@ -17,7 +17,7 @@ impl Weighed for Tick {
     }
 }
 
-/// A core that counts, seen as its history. It replies with the number of the entries before this one.
+/// A core that counts. Its model is its history. It replies with the number of the entries before this one.
 #[derive(Drop)]
 pub struct Tally {
     journal: Journal<Tick, u64>,
@@ -34,7 +34,7 @@ impl Model for Tally {
 }
 
 impl Tally {
-    /// It was asked nothing yet.
+    /// A core with an empty history.
     pub fn new(alloc: Global) -> Tally
         ensures { result ≡ [] }
     {

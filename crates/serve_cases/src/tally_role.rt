@@ -1,4 +1,4 @@
-// The role over the core that counts.
+// The role over the counting core.
 
 use crate::tally::Tally;
 use crate::tick::Tick;
@@ -7,10 +7,10 @@ use serving::Role;
 use sso_base::{Answered, Ask, HttpReply, Message, Messages, NoMemory, Text};
 use std::alloc::Global;
 
-/// How much heavier than an ask with no text each ask is: two are more than a history may weigh.
+/// The extra weight of each request: two such requests exceed the limit of a history.
 const HEAVY: u32 = 200_000_000;
 
-/// Whatever is requested, it is asked once more, and it replies with one line.
+/// Whatever the HTTP request is, the core receives one more request, and replies with one line.
 #[derive(Drop)]
 pub struct TallyRole;
 

@@ -15,13 +15,13 @@ use std::time;
 /// The first second of 2021.
 const RECENT: u64 = 1_609_459_200;
 
-// `machine|clock`: whether the clock stands in 2021 or later.
+// `machine|clock`: whether the clock shows 2021 or later.
 fn clock<R: time::Clock + Sync>(rt: &R, alloc: Global) -> Result<String, NoMemory> {
     let now = SystemClock::new(rt).now().seconds();
     told(alloc, if now >= RECENT { "recent" } else { "long ago" })
 }
 
-// `machine|draw`: whether two words that are drawn differ.
+// `machine|draw`: whether two random words differ.
 fn draw<R: RandomSource>(rt: &R, alloc: Global) -> Result<String, NoMemory> {
     let Ok(mut draw) = RandomDraw::new(rt) else {
         return told(alloc, "no random bytes");

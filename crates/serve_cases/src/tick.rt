@@ -1,6 +1,6 @@
-// What the core that counts is asked.
+// The requests of the counting core.
 
-/// An ask of the core that counts. It weighs 1,024 and this much more; for 0 more the core has no memory.
+/// A request of the counting core. Its weight is 1,024 plus `more`. For a `more` of 0 the core runs out of memory.
 #[derive(Drop)]
 pub struct Tick {
     pub more: u32,

@@ -14,7 +14,7 @@ use std::alloc::Global;
 use std::sync::Wait;
 use std::thread::Threads;
 
-/// The numbers of the calls that fail, of the shelf and of the sink, and the words.
+/// The numbers of the failing calls of the shelf and of the sink, and the words.
 #[derive(Drop)]
 pub struct Call<'a> {
     pub shelf: &'a str,
@@ -22,7 +22,7 @@ pub struct Call<'a> {
     pub words: &'a str,
 }
 
-// The words of a field, with spaces between.
+// The words of a field, separated by spaces.
 fn words_in(alloc: Global, field: &str) -> Result<Vec<Text>, NoMemory> {
     let mut words = Vec::new(alloc);
     for word in field.split_whitespace() {
@@ -31,7 +31,7 @@ fn words_in(alloc: Global, field: &str) -> Result<Vec<Text>, NoMemory> {
     Ok(words)
 }
 
-// The status of these words.
+// The exit status for these words.
 fn status_of<R: Threads + Wait + Sync, D: Door, L: Link, C: Clock, W: Draw>(
     rt: &R,
     alloc: Global,
@@ -46,7 +46,7 @@ fn status_of<R: Threads + Wait + Sync, D: Door, L: Link, C: Clock, W: Draw>(
     sso(rt, alloc, words, shelf, out, desks)
 }
 
-/// The status of the words, and the text, with contents of these files and at these desks.
+/// The exit status for the words, and the text, with the contents of these files and at these desks.
 pub fn run<R: Threads + Wait + Sync, D: Door, L: Link, C: Clock, W: Draw>(
     rt: &R,
     alloc: Global,

@@ -22,7 +22,7 @@ type KeysDoor<'a> = MemoryDoor<MeetingSource<'a>, MemorySink>;
 
 type KeysDesk<'a> = Desk<KeysDoor<'a>, MemoryLink, MemoryClock, MemoryDraw>;
 
-// A desk with a login and its callback, whose exchange waits.
+// A desk with a login and its callback, whose token exchange waits.
 fn login_desk<'a>(alloc: Global, begun: &'a AtomicU64, place: u8) -> Result<LoginDesk<'a>, NoMemory>
     ensures turns { IfOk result (λ desk. desk.turns ≤ 2 ^ 56) }
     ensures given { IfOk result (λ desk. (⟦<LoginDoor as Door>⟧.state desk.door).given < 2 ^ 63) }
@@ -77,7 +77,7 @@ fn keys_desks<'a>(alloc: Global, begun: &'a AtomicU64) -> Result<Vec<KeysDesk<'a
     Ok(desks)
 }
 
-// Adds what was written to the last connection of each desk.
+// Adds the bytes that were written to the last connection of each desk.
 fn push_replies(alloc: Global, out: &mut String, desks: &[LoginDesk]) -> Result<(), NoMemory> {
     for desk in desks {
         push_bytes(alloc, out, "", desk.door.reply())?;
@@ -85,8 +85,8 @@ fn push_replies(alloc: Global, out: &mut String, desks: &[LoginDesk]) -> Result<
     Ok(())
 }
 
-/// `two logins`: each desk has a login and its callback, and its link holds the exchange until the other's has begun. Behind the
-/// text stands what was written to each callback.
+/// `two logins`: each desk has a login and its callback, and its link holds the exchange until that of the other desk has
+/// begun. The bytes that were written to each callback follow the text.
 pub fn logins<R: Threads + Wait + Sync>(
     rt: &R,
     alloc: Global,
@@ -100,7 +100,7 @@ pub fn logins<R: Threads + Wait + Sync>(
     Ok(out)
 }
 
-/// `two keys`: each desk has a request for the keys, whose first read waits until the other's has begun.
+/// `two keys`: each desk has a request for the keys, whose first read waits until that of the other desk has begun.
 pub fn keys<R: Threads + Wait + Sync>(
     rt: &R,
     alloc: Global,

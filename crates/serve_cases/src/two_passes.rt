@@ -16,7 +16,7 @@ use std::sync::Wait;
 use std::thread::{Threads, join};
 use turn_store::{Closed, Pass, Turn};
 
-// Calls a thousand times with one ask, and gives the pass back.
+// Calls a thousand times with the same request, and returns the pass.
 fn call_often<R: Wait>(
     rt: &R,
     alloc: Global,
@@ -34,7 +34,7 @@ fn call_often<R: Wait>(
     pass
 }
 
-// Two threads call, each with a pass of its own. Whether there was memory to put the passes back.
+// Two threads call, each with its own pass. Returns whether there was memory to put the passes back.
 fn call_in_two<R: Threads + Wait + Sync>(
     rt: &R,
     alloc: Global,
@@ -66,7 +66,7 @@ fn call_in_two<R: Threads + Wait + Sync>(
     }
 }
 
-// Marks the places; false where one is marked already or is beyond the row.
+// Marks the places. False if one is marked already, or is past the end of the row.
 fn mark(seen: &mut [bool], places: &[u64]) -> bool
     ensures { length seen.new ≡ length seen.old }
 {
@@ -88,7 +88,7 @@ fn is_each_once(one: &[u64], two: &[u64]) -> bool {
     one.len() + two.len() == 2000 && mark(&mut seen, one) && mark(&mut seen, two) && !seen[0]
 }
 
-// How many entries the history has, how many each thread made, and whether each place was given once.
+// The number of entries in the history, the number that each thread made, and whether each place was given once.
 fn told_closed(alloc: Global, closed: &Closed<Tally>) -> Result<String, NoMemory>
     requires { length closed.now.calls ≡ 2 }
 {
@@ -101,7 +101,7 @@ fn told_closed(alloc: Global, closed: &Closed<Tally>) -> Result<String, NoMemory
     Ok(format!(in alloc; "{count} entries, {} and {}, {each}", one.len(), two.len())?)
 }
 
-/// `two threads`: what came of 2,000 calls by two threads at the same time, each with a pass of its own.
+/// `two threads`: the result of 2,000 calls by two threads at the same time, each with its own pass.
 pub fn answer<R: Threads + Wait + Sync>(rt: &R, alloc: Global) -> Result<String, NoMemory> {
     let (turn, mut passes) = Turn::new(alloc, Tally::new(alloc), 2)?;
     if !call_in_two(rt, alloc, &turn, &mut passes) {

@@ -1,4 +1,4 @@
-// One worker at one desk, over a store of its own.
+// One worker at one desk, over its own store.
 
 ghost use Rattle.std.specs.Prelude.{◌≡◌, ◌^◌, ◌≤◌, ◌<◌, []};
 ghost use Rattle.turn_store.specs.Passes.{IsPassOf};
@@ -15,7 +15,8 @@ use std::alloc::Global;
 use std::sync::Wait;
 use turn_store::{Pass, Turn};
 
-// Serves the next connection of the door, and adds how that ended, the number of steps, and what was written. False where none came.
+// Serves the next connection of the door, and adds how that ended, the number of steps, and the bytes that were written. False
+// if none came.
 fn push_end<R: Wait, X: Role>(
     rt: &R,
     alloc: Global,
@@ -52,7 +53,7 @@ fn push_end<R: Wait, X: Role>(
     Ok(true)
 }
 
-// How each connection was served, and what was sent over the link.
+// How each connection was served, and the messages that were sent over the link.
 fn ends<R: Wait, X: Role>(
     rt: &R,
     alloc: Global,
@@ -74,7 +75,7 @@ fn ends<R: Wait, X: Role>(
     Ok(out)
 }
 
-// Why the worker ended, and how many connections it served.
+// Why the worker ended, and the number of connections that it served.
 fn work<R: Wait, X: Role>(
     rt: &R,
     alloc: Global,
@@ -92,7 +93,7 @@ fn work<R: Wait, X: Role>(
     Ok(format!(in alloc; "{:?} {}", worked.end, worked.served)?)
 }
 
-// What the call `ends` or `work` answers for a role whose core is new.
+// The answer of the call `ends` or `work` for a role whose core is new.
 fn at_desk<R: Wait, X: Role>(
     rt: &R,
     alloc: Global,

@@ -5,12 +5,12 @@ use crate::clock::Clock;
 use sso_base::Moment;
 use std::marker::Model;
 
-/// A clock in memory. It tells its moments in their order, and the last one again and again.
+/// A clock in memory. It returns its moments in their order, and repeats the last one forever.
 #[derive(Drop)]
 pub struct MemoryClock {
     next: Moment,
     further: Vec<Moment>,
-    // How many of the further moments are no longer behind the next one.
+    // How many of the further moments have become the next one.
     place: usize,
 }
 
@@ -26,7 +26,7 @@ impl Model for MemoryClock {
 }
 
 impl MemoryClock {
-    /// A clock that tells this moment first, and then these.
+    /// A clock that returns this moment first, and then these.
     pub fn new(first: Moment, further: Vec<Moment>) -> MemoryClock
         ensures { result ≡ record { next = first; behind = further.items } }
     {

@@ -1,4 +1,4 @@
-/// A connection: where its bytes come from, and where those go that are written to it. Neither touches the other.
+/// A connection: the source of its input and the sink of its output. The two are independent.
 #[derive(Drop)]
 pub struct Connection<S: Drop, K: Drop> {
     pub source: S,

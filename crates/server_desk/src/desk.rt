@@ -5,6 +5,6 @@ pub struct Desk<D: Drop, L: Drop, C: Drop, W: Drop> {
     pub link: L,
     pub clock: C,
     pub draw: W,
-    /// How many connections it serves at most.
+    /// The most connections that it serves.
     pub turns: u64,
 }

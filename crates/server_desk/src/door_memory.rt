@@ -11,13 +11,13 @@ use std::alloc::Global;
 use std::collections::VecDeque;
 use std::marker::Model;
 
-/// A door in memory. It gives the connections that it was made of, in their order, and then says that it is closed, as often
-/// as it is asked. It fails where a start or a share finds no memory for the place, and nowhere else.
+/// A door in memory. It gives the connections that it was made with, in their order, and is closed after them. It fails only if
+/// a `start` or a `share` finds no memory for the place.
 #[derive(Drop)]
 pub struct MemoryDoor<S: Drop, K: Drop> {
     place: Text,
     coming: VecDeque<Connection<S, K>>,
-    // It has room for all that are out and to come.
+    // Its capacity suffices for all connections that are out or to come.
     served: Vec<Connection<S, K>>,
     given: u64,
     out: u64,
@@ -38,7 +38,7 @@ impl<S: Drop, K: Drop> Model for MemoryDoor<S, K> {
 }
 
 impl<S: Drop, K: Drop> MemoryDoor<S, K> {
-    /// A door to which these connections will come, in this order. It makes room at once for all that will be given back, so
+    /// A door that will give these connections, in this order. It reserves the capacity for all that will be given back, so
     /// that `next` and `done` take no memory.
     pub fn new(alloc: Global, coming: Vec<Connection<S, K>>) -> Result<MemoryDoor<S, K>, NoMemory>
         ensures { IfOk result (λ door. door ≡ new_door coming.items) }
@@ -56,14 +56,14 @@ impl<S: Drop, K: Drop> MemoryDoor<S, K> {
         })
     }
 
-    /// The place at which it listens: the empty text before a start.
+    /// The place at which it listens, or the empty text before a start.
     pub fn place(&self) -> &Text
         ensures { result.now ≡ self.now.place }
     {
         &self.place
     }
 
-    /// The connections that were given back, in the order in which they were.
+    /// The connections that were given back, in that order.
     pub fn served(&self) -> &[Connection<S, K>]
         ensures { result.now ≡ self.now.served }
     {
@@ -149,8 +149,8 @@ impl<S: Source + Send + Drop, K: Sink + Send + Drop> Door for MemoryDoor<S, K> {
     }
 }
 
-/// A door in memory whose calls of these numbers fail, from 1, counting those of `start`, `share` and `next`, and no others:
-/// but it too fails where a start or a share finds no memory for the place.
+/// A door in memory whose calls with these numbers fail, from 1, counting those of `start`, `share` and `next`. Besides, it
+/// fails if a `start` or a `share` finds no memory for the place.
 #[derive(Drop)]
 pub struct FaultyDoor<S: Drop, K: Drop> {
     door: MemoryDoor<S, K>,
@@ -167,7 +167,7 @@ impl<S: Drop, K: Drop> Model for FaultyDoor<S, K> {
 }
 
 impl<S: Drop, K: Drop> FaultyDoor<S, K> {
-    /// This door, whose calls of these numbers will fail.
+    /// This door, whose calls with these numbers will fail.
     pub fn new(door: MemoryDoor<S, K>, failing: Vec<u64>) -> FaultyDoor<S, K>
         ensures { result ≡ record { door = door; failing = failing.items; calls = 0 } }
     {
@@ -178,14 +178,14 @@ impl<S: Drop, K: Drop> FaultyDoor<S, K> {
         }
     }
 
-    /// The door in memory, which tells its place and what was given back.
+    /// The door in memory, with its place and the connections that were given back.
     pub fn door(&self) -> &MemoryDoor<S, K>
         ensures { result.now ≡ self.now.door }
     {
         &self.door
     }
 
-    // Counts a call, and tells whether it is one of those that fail.
+    // Counts a call, and returns whether it is one of those that fail.
     fn must_fail(&mut self) -> bool
         ensures counted { self.new ≡ record self.old { calls = grown self.old.calls } }
         ensures listed { result ≡ list_any (λ call. call == self.new.calls) self.old.failing }

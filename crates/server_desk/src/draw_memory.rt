@@ -6,8 +6,8 @@ use crate::draw::Draw;
 use sso_base::Word;
 use std::marker::Model;
 
-/// A draw in memory. Its words are those of the numbers from 1, by [`word_of_number`]. The last number of 64 bits comes again and
-/// again. Nobody may take these words for random ones.
+/// A draw in memory. Its words are those of the numbers from 1, by [`word_of_number`]. The last number of 64 bits is repeated
+/// forever. These words are not random.
 #[derive(Drop)]
 pub struct MemoryDraw {
     seed: [u8; 24],
@@ -22,7 +22,7 @@ impl Model for MemoryDraw {
     ghost view = { λ d. record { seed = d.seed; number = d.number } };
 }
 
-/// The word of a number: a seed of 24 bytes, then the number in 8 bytes, greatest first.
+/// The word of a number: a seed of 24 bytes, then the number in 8 bytes, big-endian.
 pub fn word_of_number(seed: &[u8; 24], number: u64) -> Word
     ensures { result ≡ spec.word_of_number seed.now number }
 {
@@ -34,7 +34,7 @@ pub fn word_of_number(seed: &[u8; 24], number: u64) -> Word
 }
 
 impl MemoryDraw {
-    /// A draw of the words of this seed.
+    /// A draw of the words with this seed.
     pub fn new(seed: [u8; 24]) -> MemoryDraw
         ensures { result ≡ record { seed = seed; number = 1 } }
     {

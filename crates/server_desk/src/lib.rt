@@ -1,10 +1,10 @@
-//! What a worker of a server uses: the outside, as traits that tell what they hold and how often they failed.
+//! What a worker of a server uses: the outside world, as traits with ghost contents and counts of their faults.
 //!
 //! | Module | What it has |
 //! |---|---|
-//! | `source` | [`Source`], where bytes are read from, and [`read_whole`], which fills room from one |
+//! | `source` | [`Source`], from which bytes are read, and [`read_whole`], which fills a buffer from one |
 //! | `connection` | [`Connection`], a source and a sink |
-//! | `door` | [`Door`], where connections come from |
+//! | `door` | [`Door`], which accepts connections |
 //! | `link` | [`Link`], which carries messages to other servers |
 //! | `clock`, `draw` | [`Clock`] and [`Draw`]: moments and random words |
 //! | `desk` | [`Desk`], all of these together |

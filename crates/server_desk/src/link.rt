@@ -24,15 +24,15 @@ impl From<NoMemory> for LinkNo {
     }
 }
 
-/// What carries messages to other servers.
+/// Sends messages to other servers.
 pub trait Link: Send + Drop {
     ghost use Rattle.server_desk.specs.Links.{LinkState};
 
-    /// What was exchanged over it, failed exchanges too, where it tells; how often it was called, and how often it failed. Nothing but
-    /// `exchange` changes it.
+    /// The exchanges over it, failed ones too, if they are known; the number of its calls, and of its faults. Only `exchange`
+    /// changes this.
     ghost state: { Self → LinkState };
 
-    /// Sends the bytes to this place, `HOST:PORT`, and answers what comes back, at most the first `most` bytes of it.
+    /// Sends the bytes to `to`, `HOST:PORT`. Returns the bytes that come back, at most the first `most` of them.
     fn exchange(
         &mut self,
         alloc: Global,

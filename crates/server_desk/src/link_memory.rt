@@ -8,14 +8,14 @@ use sso_base::{Blob, NoMemory, Text};
 use std::alloc::Global;
 use std::marker::Model;
 
-/// What was sent over a link, and what came back.
+/// The bytes that were sent over a link, and those that came back.
 #[derive(Drop)]
 pub struct Exchanged {
-    /// Where it was sent to, `HOST:PORT`.
+    /// The recipient, `HOST:PORT`.
     pub to: Text,
     /// The bytes that were sent.
     pub asked: Blob,
-    /// The bytes that came back; None where the exchange failed.
+    /// The bytes that came back, or `None` if the exchange failed.
     pub back: Option<Blob>,
 }
 
@@ -27,8 +27,8 @@ impl Model for Exchanged {
     ghost view = { λ e. record { to = e.to; asked = e.asked; back = e.back } };
 }
 
-/// A link in memory. Its answers come back in their order, and the empty bytes behind them. It keeps what was exchanged, and
-/// never fails.
+/// A link in memory. It returns its answers in their order, and then empty bytes. It keeps all exchanges, and never fails,
+/// except that memory may run out.
 #[derive(Drop)]
 pub struct MemoryLink {
     answers: Vec<Blob>,
@@ -48,7 +48,7 @@ impl Model for MemoryLink {
     ghost invariant = { λ l. l.place ≤ length l.answers.items };
 }
 
-// The first of the answers; no bytes where there is none.
+// The first of the answers, or no bytes if there is none.
 fn first_of(answers: &[Blob]) -> &[u8]
     ensures { result.now ≡ next_answer answers.now }
 {
@@ -71,7 +71,7 @@ fn front(bytes: &[u8], most: usize) -> &[u8]
 }
 
 impl MemoryLink {
-    /// A link that was not called yet, over which these answers will come back, in this order.
+    /// A link without calls yet, which will return these answers, in this order.
     pub fn new(alloc: Global, answers: Vec<Blob>) -> MemoryLink
         ensures { result ≡ record { answers = answers.items; exchanges = []; calls = 0 } }
     {
@@ -83,21 +83,21 @@ impl MemoryLink {
         }
     }
 
-    /// What was exchanged, in its order.
+    /// The exchanges, in their order.
     pub fn exchanges(&self) -> &[Exchanged]
         ensures { result.now ≡ self.now.exchanges }
     {
         self.exchanges.as_slice()
     }
 
-    // A copy of the first `most` bytes of the next answer, which stays.
+    // A copy of the first `most` bytes of the next answer, which is not removed.
     fn answer(&self, alloc: Global, most: usize) -> Result<Blob, NoMemory>
         ensures { IfOk result (λ back. back ≡ take most (next_answer self.now.answers)) }
     {
         Blob::new(alloc, front(first_of(&self.answers[self.place..]), most))
     }
 
-    // Keeps an exchange: a copy of what was sent, and what came back.
+    // Keeps an exchange: a copy of the bytes that were sent, and those that came back.
     fn keep(
         &mut self,
         alloc: Global,
@@ -117,7 +117,7 @@ impl MemoryLink {
         Ok(())
     }
 
-    // Goes on behind the next answer.
+    // Removes the next answer.
     fn advance(&mut self)
         ensures { self.new ≡ record self.old { answers = drop 1 self.old.answers } }
     {
@@ -153,8 +153,8 @@ impl Link for MemoryLink {
     }
 }
 
-/// A link in memory whose calls of these numbers fail, from 1, and no others. A call that fails keeps its exchange, with
-/// nothing that came back, and leaves the answers.
+/// A link in memory whose calls with these numbers fail, from 1, and no others. A call that fails keeps its exchange, with
+/// nothing that came back, and removes no answer.
 #[derive(Drop)]
 pub struct FaultyLink {
     link: MemoryLink,
@@ -172,7 +172,7 @@ impl Model for FaultyLink {
 }
 
 impl FaultyLink {
-    /// This link, whose calls of these numbers will fail.
+    /// This link, whose calls with these numbers will fail.
     pub fn new(link: MemoryLink, failing: Vec<u64>) -> FaultyLink
         ensures { result ≡ record { link = link; failing = failing.items; calls = 0; faults = 0 } }
     {
@@ -184,7 +184,7 @@ impl FaultyLink {
         }
     }
 
-    /// The link in memory, which tells what was exchanged.
+    /// The link in memory, which has the exchanges.
     pub fn link(&self) -> &MemoryLink
         ensures { result.now ≡ self.now.link }
     {

@@ -2,20 +2,20 @@ ghost use Rattle.std.specs.Prelude.{◌≡◌, ℕ, ◌+◌, ◌<◌, ◌≤◌,
 ghost use Rattle.sso_base.specs.Faults.{HasCause};
 ghost use Rattle.server_desk.specs.Sources.{Gives, GivesFront, IsSpent};
 
-/// A source did not give what it was asked for.
+/// A read from a source failed.
 #[derive(Clone, Copy, Debug, PartialEq, Eq)]
 pub struct SourceFault;
 
-/// Where bytes are read from.
+/// A source of bytes.
 pub trait Source {
-    /// The bytes that it has left, where it tells.
+    /// The bytes that it has left, if they are known.
     ghost left: { Self → Option (List ℕ) };
 
     /// How often it has failed.
     ghost faults: { Self → ℕ };
 
-    /// Writes the next bytes to the front of the room, and answers how many they are. Where there is room, 0 is the end of
-    /// the input.
+    /// Writes the next bytes to the start of the buffer, and returns their number. If the buffer is not empty, 0 means the end
+    /// of the input.
     fn read_some(&mut self, room: &mut [u8]) -> Result<usize, SourceFault>
         ensures bound { IfOk result (λ count. count ≤ length room.new) }
         ensures given { IfOk result (λ count. Gives (left self.old) (left self.new) (take count room.new)) }
@@ -24,7 +24,7 @@ pub trait Source {
         ensures cause { HasCause (faults self.old) (faults self.new) result };
 }
 
-// Writes the next bytes behind the first `done` of the room, and answers how many they are.
+// Writes the next bytes after the first `done` of the buffer, and returns their number.
 fn read_behind<S: Source>(
     source: &mut S,
     room: &mut [u8],
@@ -42,8 +42,8 @@ fn read_behind<S: Source>(
     source.read_some(&mut room[done..])
 }
 
-/// Fills the room with the next bytes, and answers how many they are: fewer than there is room for only where the input
-/// ended behind them. After a fault a front of the room has the bytes that were read.
+/// Fills the buffer with the next bytes, and returns their number. It is less than the buffer's length only if the input ended
+/// there. After a fault, a prefix of the buffer has the bytes that were read.
 pub fn read_whole<S: Source>(source: &mut S, room: &mut [u8]) -> Result<usize, SourceFault>
     ensures room { length room.new ≡ length room.old }
     ensures bound { IfOk result (λ count. count ≤ length room.new) }

@@ -6,8 +6,8 @@ ghost use Rattle.server_desk.specs.Sources.{Gives, IsSpent};
 use crate::source::{Source, SourceFault};
 use std::marker::Model;
 
-/// A source in memory, seen as the bytes that it has left. It gives as many of them at once as there is room for, and never
-/// fails.
+/// A source in memory. Its model is the bytes that it has left. A read returns as many of them as fit into the buffer, and
+/// never fails.
 #[derive(Debug, Drop)]
 pub struct MemorySource {
     bytes: Vec<u8>,
@@ -24,7 +24,7 @@ impl Model for MemorySource {
     ghost invariant = { λ s. s.place ≤ length s.bytes.items };
 }
 
-// Copies as many bytes as there are and as there is room for, and answers how many they are.
+// Copies as many bytes as there are and as fit, and returns their number.
 fn copy_front(from: &[u8], room: &mut [u8]) -> usize
     ensures whole { result ≡ min (length from.now) (length room.new) }
     ensures copied { take result room.new ≡ take result from.now }
@@ -35,7 +35,7 @@ fn copy_front(from: &[u8], room: &mut [u8]) -> usize
 }
 
 impl MemorySource {
-    /// A source that has these bytes.
+    /// A source of these bytes.
     pub fn new(bytes: Vec<u8>) -> MemorySource
         ensures { result ≡ bytes.items }
     {
@@ -71,7 +71,7 @@ impl Source for MemorySource {
     }
 }
 
-/// A source in memory whose calls of these numbers fail, from 1, and no others.
+/// A source in memory whose calls with these numbers fail, from 1, and no others.
 #[derive(Debug, Drop)]
 pub struct FaultySource {
     source: MemorySource,
@@ -89,7 +89,7 @@ impl Model for FaultySource {
 }
 
 impl FaultySource {
-    /// A source that has these bytes, whose calls of these numbers will fail.
+    /// A source of these bytes, whose calls with these numbers will fail.
     pub fn new(bytes: Vec<u8>, failing: Vec<u64>) -> FaultySource
         ensures { result ≡ record { bytes = bytes.items; failing = failing.items; calls = 0; faults = 0 } }
     {

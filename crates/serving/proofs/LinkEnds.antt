@@ -1,4 +1,4 @@
--- A connection ends because of the link only where a call of the link failed.
+-- A connection ends because of the link only if a call of the link failed.
 use Rattle.std.proofs.Common.{◌≡◌, ◌⊎◌, inl, inr, ℕ, ◌<◌, List, [], ◌∷◌, ◌++◌, Option, Some, None, Result, Ok, Err, sym, ◌∙◌, subst}
 use Rattle.sso_base.specs.Faults.{Rose}
 use Rattle.sso_base.specs.declared.history.Pair.{Pair}

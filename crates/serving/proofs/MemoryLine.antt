@@ -1,4 +1,4 @@
--- What is told where memory ran out is a constant.
+-- The reply if memory ran out is a constant.
 use Rattle.std.proofs.Common.{◌≡◌, codes, Some, refl, ap, sym}
 use Rattle.std.specs.Fmt.{digits}
 use Rattle.sso_http.specs.Writing.{no_store, field, last_lines}

@@ -1,5 +1,5 @@
--- The definitions computed on small cases: what each accepts, and what it refuses. Asks and replies are numbers. A request asks the
--- length of its path, and the answer to a question asks its status.
+-- The definitions computed on small cases: what each accepts, and what it refuses. Requests and replies are numbers. A request
+-- is parsed as the length of its path, and the answer to a question as its status.
 use Rattle.std.proofs.Common.{◌≡◌, ◌≢◌, inl, inr, ℕ, zero, suc, ◌+◌, ◌*◌, ◌<◌, ◌≤◌, List, [], ◌∷◌, length, codes, Option, Some, None, Result, Ok, Err, refl, ap, arith}
 use Rattle.std.specs.Fmt.{digits}
 use Rattle.http_reply.specs.Replies.{plain}
@@ -78,7 +78,7 @@ manner = record {
   weighs = λ (ask : ℕ). ask;
 }
 
--- ---- what is told
+-- ---- what is sent
 
 ends-written : end_of {R = ℕ} (Ok 1) ≡ end.Written
 ends-written = refl
@@ -122,7 +122,7 @@ sent_in_vain = record { sent = sending_of (message 2); answer = Err link_no.Fail
 abbrev exchange_of : Message → Option (List ℕ) → Exchange
 exchange_of m back = record { to = (sending_of m).to; asked = (sending_of m).bytes; back = back }
 
--- a link that told these exchanges after so many calls, and never failed
+-- a link with these known exchanges, after a number of calls, which never failed
 abbrev pub link_with : List Exchange → ℕ → LinkState
 link_with exchanges calls = record { exchanges = Some exchanges; calls = calls; faults = 0 }
 
@@ -135,7 +135,7 @@ two_steps_on = refl
 one_of_them_failed : failed_calls (asked_and_answered ∷ sent_in_vain ∷ []) ≡ 1
 one_of_them_failed = refl
 
--- a link that tells nothing took both calls
+-- a link with unknown exchanges took both calls
 took_both_calls : TookCalls (untold_link 3 0) (untold_link 5 1) (asked_and_answered ∷ sent_in_vain ∷ [])
 took_both_calls = record { told = refl; counted = refl; later = omega arith; failed = omega arith }
 
@@ -153,7 +153,7 @@ History = List (Pair ℕ ℕ)
 abbrev pub Step : Type 0
 Step = Stepped ℕ ℕ
 
--- the clock tells the number of its reading, and the draw words of one number each
+-- the clock returns the number of its reading, and the draw returns words of one number each
 abbrev pub moments : ℕ → Option ℕ
 moments reading = Some reading
 

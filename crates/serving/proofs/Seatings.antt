@@ -1,4 +1,4 @@
--- Seats, one by one: what their doors' opening leaves, and what serving there says of the desk as it was before.
+-- Seats, one by one: the effect of opening their doors, and of serving there, on the desk.
 use Rattle.std.proofs.Common.{◌≡◌, ◌⊎◌, ℕ, suc, ◌+◌, ◌*◌, ◌^◌, ◌<◌, ◌≤◌, Bool, true, false, List, [], ◌∷◌, ◌++◌, map, length, Option, ap, sym, subst, ◌∙◌, refl, inl, inr, arith}
 use Rattle.std.specs.Prelude.{option_map, slice_index_or}
 use Rattle.sso_base.specs.Faults.{Rose}
@@ -118,7 +118,7 @@ module _ {O A R D L C W S K : Type 0} (t : Telling D L C W S K) where
       (subst P (sym o.same.pass) r.0, omega arith, omega arith, ap (λ (w : Worked). w.served) o.same.worked ∙ r.3)
 
   module _ (m : Manner A R) where
-    -- where the door does not listen, nothing is done
+    -- if the door does not listen, nothing is done
     pub seat_idle : (seat : Seat O D L C W A R) → seat.listens ≡ false → seat.worked.served ≡ 0 → SeatServed t m seat seat
     seat_idle seat shut none = record {
       services = [];

@@ -1,4 +1,4 @@
--- What would have been asked next, and the run with a step that asks it.
+-- The input of the next step, which was not made, and the run with that step.
 use Rattle.std.proofs.Common.{List, [], ◌∷◌, ◌++◌, ℕ, Option, sym, subst}
 use Rattle.serving.specs.LinkCalls.{LinkCall}
 use Rattle.serving.specs.Manner.{Manner}
@@ -20,7 +20,7 @@ module _ {A R : Type 0} (m : Manner A R) where
   leads_to reply (x ∷ steps) [] s goes so = absurd goes
   leads_to reply (x ∷ steps) (call ∷ calls) s goes so = (goes.0, goes.1, leads_to x.reply steps calls s goes.2 so.2)
 
-  -- a step that asked this would go on with the run
+  -- a step with this input would continue the run
   pub run_with : (left left' : Option (List ℕ)) (steps : List (Stepped A R)) (calls : List LinkCall) (s : Stepped A R) → IsNextAsk m left left' steps calls s.asked → IsRun m left left' (steps ++ s ∷ []) calls
   run_with left left' [] calls s next = (next.1, subst (λ (cs : List LinkCall). GoesOn m s.reply [] cs) (sym next.0) tt)
   run_with left left' (x ∷ steps) calls s next = (next.0, goes_on x.reply steps calls s next.1)

@@ -1,4 +1,4 @@
--- What is told at the end, and how a connection was served.
+-- What is sent at the end, and how a connection was served.
 use Rattle.std.proofs.Common.{◌≡◌, ◌⊎◌, inl, inr, ℕ, ◌≤◌, List, [], map, length, Option, Some, Result, Ok, Err, refl, sym, ◌∙◌, subst}
 use Rattle.sso_base.specs.declared.history.Pair.{Pair}
 use Rattle.server_desk.specs.declared.connection.Connection.{Connection}

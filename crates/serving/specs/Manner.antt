@@ -1,4 +1,4 @@
--- How a server speaks for its core: what requests ask of it, and how its replies go out.
+-- How a server runs its core: how requests are parsed, and how replies are sent.
 use Rattle.std.specs.Prelude.{ℕ, List, Option}
 use Rattle.sso_base.specs.Words.{Text}
 use Rattle.sso_base.specs.declared.http.Ask.{Ask}
@@ -7,8 +7,9 @@ use Rattle.sso_base.specs.declared.message.Message.{Message}
 use Rattle.sso_base.specs.declared.message.Answered.{Answered}
 use Rattle.sso_http.specs.Replies.{reply_bytes}
 
--- The names of its two cookies, and what a request asks. A reply may put a question to another server: then the other's answer
--- asks the core again. Else it goes out by HTTP, after its notices, which are messages whose answers are of no interest.
+-- The names of its two cookies, and how a request is parsed. A reply may make a request to another server; then the core steps
+-- again with that server's answer. Otherwise the reply is sent by HTTP, after its notices. Notices are messages whose answers
+-- are ignored.
 pub record Manner (A R : Type 0) : Type 0 where
   pub first : Text
   pub second : Text

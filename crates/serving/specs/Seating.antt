@@ -1,4 +1,4 @@
--- Seats: desks with their passes, at which workers serve beside each other.
+-- Seats: desks with their passes, at which workers serve concurrently.
 use Rattle.std.specs.Prelude.{◌≡◌, ◌⊎◌, ◌≤◌, ℕ, Bool, true, false, List, [], ◌∷◌, length}
 use Rattle.sso_base.specs.Faults.{Rose}
 use Rattle.sso_base.specs.Words.{Text}
@@ -27,11 +27,11 @@ module _ {O A R D L C W : Type 0} where
   seated (desk ∷ desks) (pass ∷ passes) = new_seat desk pass ∷ seated desks passes
   seated desks passes = []
 
-  -- nobody serves there any more since the door failed, or could not listen
+  -- serving ended there since the door failed, or could not listen
   abbrev pub is_left : Seat O D L C W A R → Bool
   is_left seat = is_fault seat.worked.end
 
-  -- what else a seat has is as it was
+  -- the other parts of a seat are unchanged
   pub record SameSeat (old new : Seat O D L C W A R) : Type 0 where
     pub link : new.desk.link ≡ old.desk.link
     pub clock : new.desk.clock ≡ old.desk.clock
@@ -41,7 +41,7 @@ module _ {O A R D L C W : Type 0} where
     pub worked : new.worked ≡ old.worked
 
   module _ {S K : Type 0} (state : D → DoorState S K) (closings faults : D → ℕ) where
-    -- the door listens now as the state says, or it failed
+    -- either the door now listens and has this state, or it failed
     pub record OpenedSo (so : DoorState S K → DoorState S K) (old new : Seat O D L C W A R) : Type 0 where
       pub same : SameSeat old new
       pub later : (closings old.desk.door ≤ closings new.desk.door) × (faults old.desk.door ≤ faults new.desk.door)
@@ -54,7 +54,7 @@ module _ {O A R D L C W : Type 0} where
     AllOpened so (old ∷ olds) (new ∷ news) = OpenedSo so old new × AllOpened so olds news
     AllOpened so olds news = ⊥
 
-    -- the first door was started at the place, and the others shared it; where it failed, they are as they were
+    -- the first door was started at the place, and the others shared its address; if it failed, the others are unchanged
     abbrev pub Opened : Text → List (Seat O D L C W A R) → List (Seat O D L C W A R) → Type 0
     Opened place (old ∷ olds) (new ∷ news) =
         OpenedSo (λ door. started door place) old new
@@ -62,7 +62,7 @@ module _ {O A R D L C W : Type 0} where
         × (new.listens ≡ false → news ≡ olds)
     Opened place olds news = ⊥
 
-  -- What was done at one seat. Where its door does not listen, nothing was done.
+  -- The work at one seat. If its door does not listen, nothing was done.
   pub record SeatServed {S K : Type 0} (t : Telling D L C W S K) (m : Manner A R) (old new : Seat O D L C W A R) : Type 0 where
     pub services : List (Service S K A R)
     pub number : number_of new.pass ≡ number_of old.pass

@@ -1,6 +1,6 @@
--- How one connection is served. One request is read, and the core is asked what it asks. As long as a reply puts a question to
--- another server, the question is sent, and the core is asked what the answer asks. The last reply is written, after its notices
--- were sent, each once and in order.
+-- How one connection is served. One request is read, and the core steps with it. As long as a reply makes a request to another
+-- server (a question), that is sent, and the core steps with its answer. Then the notices of the last reply are sent, each once
+-- and in order, and the last reply is written.
 use Rattle.std.specs.Prelude.{◌≡◌, ◌≢◌, ◌⊎◌, ◌<◌, ◌≤◌, ℕ, suc, List, [], ◌∷◌, ◌++◌, map, length, Option, Some, None, Result, Ok, Err}
 use Rattle.sso_base.specs.Faults.{Rose}
 use Rattle.sso_base.specs.declared.http.Ask.{Ask}
@@ -27,7 +27,7 @@ use Rattle.serving.specs.Told.{end_of, bytes_of}
 use Rattle.serving.specs.Work.{Work, LieBehind}
 use Rattle.serving.specs.Writing.{Wrote}
 
--- the answer to a question, or why there is none, by what the link answered
+-- the answer to a question, or why there is none, by the result of the link
 abbrev pub IsPeerAnswer : Result (List ℕ) LinkNo → Result Answered NoReply → Type 0
 IsPeerAnswer (Ok bytes) (Ok answer) = IsAnswer bytes answer
 IsPeerAnswer (Ok bytes) (Err Peer) = IsNoAnswer bytes
@@ -35,24 +35,24 @@ IsPeerAnswer (Err Failed) (Err Link) = Unit {0}
 IsPeerAnswer given (Err NoMemory) = Unit {0}
 IsPeerAnswer given result = ⊥
 
--- a question was put to another server; where memory ran out, it was perhaps not sent
+-- a question was sent to another server; if memory ran out, it may not have been sent
 abbrev pub AskedPeer : LinkState → LinkState → Message → Result Answered NoReply → Type 0
 AskedPeer before after question result =
     ((call : LinkCall) × (call.sent ≡ sending_of question) × TookCalls before after (call ∷ []) × IsPeerAnswer call.answer result)
     ⊎ ((after ≡ before) × (result ≡ Err NoMemory))
 
 module _ {A R : Type 0} (m : Manner A R) where
-  -- a request was read, and this is what it asks
+  -- a request was read, and this is its parsed form
   abbrev pub IsAsked : Option (List ℕ) → Option (List ℕ) → A → Type 0
   IsAsked left left' asked = (request : Ask) × IsAskRead m.first m.second left left' request × (asked ≡ m.prepared request)
 
-  -- no request was read: it was refused, or the source failed, and then its faults rose
+  -- no request was read: it was refused, or the source failed, and then its fault count rose
   pub record IsUnasked (left left' : Option (List ℕ)) (before now : ℕ) (why : HttpNo) : Type 0 where
     pub refused : IsRefused m.first m.second left left' why
     pub other : why ≢ http_no.NoMemory
     pub failed : why ≡ http_no.ReadFault → Rose before now
 
-  -- why nothing is asked: that, or want of memory
+  -- why there is no request: that, or memory ran out
   abbrev pub IsUnread : Option (List ℕ) → Option (List ℕ) → ℕ → ℕ → NoReply → Type 0
   IsUnread left left' before now NoMemory = Unit {0}
   IsUnread left left' before now (Http why) = IsUnasked left left' before now why
@@ -62,11 +62,11 @@ module _ {A R : Type 0} (m : Manner A R) where
   abbrev pub Asks : R → LinkCall → Type 0
   Asks reply call = (question : Message) × (m.question reply ≡ Some question) × (call.sent ≡ sending_of question)
 
-  -- the answer to this call is HTTP, and this is what it asks after this reply
+  -- the answer to this call is HTTP, and this is its parsed form after this reply
   abbrev pub IsAskedBack : R → LinkCall → A → Type 0
   IsAskedBack reply call asked = (bytes : List ℕ) × (answer : Answered) × (call.answer ≡ Ok bytes) × IsAnswer bytes answer × (asked ≡ m.answered reply answer)
 
-  -- what a question's answer asks after a reply, or why nothing is asked, and what the link was called with
+  -- the parsed answer to the question of a reply, or why there is none, and the calls of the link
   abbrev pub IsAnswered : R → List LinkCall → Result A NoReply → Type 0
   IsAnswered reply calls (Ok asked) = (call : LinkCall) × (calls ≡ call ∷ []) × Asks reply call × IsAskedBack reply call asked
   IsAnswered reply calls (Err NoMemory) = (calls ≡ []) ⊎ ((call : LinkCall) × (calls ≡ call ∷ []) × Asks reply call)
@@ -74,19 +74,19 @@ module _ {A R : Type 0} (m : Manner A R) where
   IsAnswered reply calls (Err Peer) = (call : LinkCall) × (bytes : List ℕ) × (calls ≡ call ∷ []) × Asks reply call × (call.answer ≡ Ok bytes) × IsNoAnswer bytes
   IsAnswered reply calls (Err why) = ⊥
 
-  -- the steps after one with this reply, as far as they were made, and the questions that were sent
+  -- the steps that were made after one with this reply, and the questions that were sent
   abbrev pub GoesOn : R → List (Stepped A R) → List LinkCall → Type 0
   GoesOn reply [] [] = Unit {0}
   GoesOn reply [] (call ∷ []) = Asks reply call
   GoesOn reply (s ∷ steps) (call ∷ calls) = Asks reply call × IsAskedBack reply call s.asked × GoesOn s.reply steps calls
   GoesOn reply steps calls = ⊥
 
-  -- the steps of one request, as far as they were made, and the questions that were sent
+  -- the steps that were made for one request, and the questions that were sent
   abbrev pub IsRun : Option (List ℕ) → Option (List ℕ) → List (Stepped A R) → List LinkCall → Type 0
   IsRun left left' [] calls = calls ≡ []
   IsRun left left' (s ∷ steps) calls = IsAsked left left' s.asked × GoesOn s.reply steps calls
 
-  -- the last reply, which puts no question
+  -- the last reply, which has no question
   abbrev pub IsLastReply : List (Stepped A R) → R → Type 0
   IsLastReply steps reply = (before : List (Stepped A R)) × (s : Stepped A R) × (steps ≡ before ++ s ∷ []) × (s.reply ≡ reply) × (m.question reply ≡ None)
 
@@ -94,22 +94,22 @@ module _ {A R : Type 0} (m : Manner A R) where
   abbrev pub IsLastCall : List (Stepped A R) → List LinkCall → LinkCall → Type 0
   IsLastCall steps calls call = (before : List LinkCall) × (calls ≡ before ++ call ∷ []) × (length steps ≡ length calls)
 
-  -- the last question that was sent, one more than there are further steps
+  -- the last question that was sent; there is one more question than further steps
   abbrev pub IsLastUnanswered : List (Stepped A R) → List LinkCall → LinkCall → Type 0
   IsLastUnanswered steps calls call = (before : List LinkCall) × (calls ≡ before ++ call ∷ []) × (length calls ≡ suc (length steps))
 
-  -- the questions after a reply, and the steps between them, led to this ask, of which no step was made
+  -- the questions after a reply, and the steps between them, led to this parsed answer, but its step was not made
   abbrev pub LeadsTo : R → List (Stepped A R) → List LinkCall → A → Type 0
   LeadsTo reply [] (call ∷ []) asked = Asks reply call × IsAskedBack reply call asked
   LeadsTo reply (s ∷ steps) (call ∷ calls) asked = Asks reply call × IsAskedBack reply call s.asked × LeadsTo s.reply steps calls asked
   LeadsTo reply steps calls asked = ⊥
 
-  -- this would have been asked by the next step of the request
+  -- the input of the next step of the request, which was not made
   abbrev pub IsNextAsk : Option (List ℕ) → Option (List ℕ) → List (Stepped A R) → List LinkCall → A → Type 0
   IsNextAsk left left' [] calls asked = (calls ≡ []) × IsAsked left left' asked
   IsNextAsk left left' (s ∷ steps) calls asked = IsAsked left left' s.asked × LeadsTo s.reply steps calls asked
 
-  -- a further step was refused for the weight of the history that was seen then; it would have been the next of these
+  -- a further step was refused for the weight of the history at that time; it would have been the next of these
   pub record IsStopped (left left' : Option (List ℕ)) (history : List (Pair A R)) (steps : List (Stepped A R)) (calls : List LinkCall) : Type 0 where
     pub before : List (Pair A R)
     pub asked : A
@@ -117,7 +117,7 @@ module _ {A R : Type 0} (m : Manner A R) where
     pub seen : Begins before history
     pub full : IsFull m.weighs before asked
 
-  -- why this comes out: the last reply, or why there is none
+  -- why this is the result: the last reply, or why there is none
   abbrev pub Cause : Option (List ℕ) → Option (List ℕ) → ℕ → ℕ → List (Pair A R) → List (Stepped A R) → List LinkCall → Result R NoReply → Type 0
   Cause left left' before now history steps calls (Ok reply) = IsLastReply steps reply
   Cause left left' before now history steps calls (Err NoMemory) = Unit {0}
@@ -126,7 +126,7 @@ module _ {A R : Type 0} (m : Manner A R) where
   Cause left left' before now history steps calls (Err Peer) = (call : LinkCall) × (bytes : List ℕ) × IsLastCall steps calls call × (call.answer ≡ Ok bytes) × IsNoAnswer bytes
   Cause left left' before now history steps calls (Err Full) = IsStopped left left' history steps calls
 
-  -- what one round after a reply did: nothing where the reply puts no question, else a step, by which fewer rounds are left
+  -- one round after a reply: nothing if the reply has no question, otherwise a step, after which fewer rounds are left
   abbrev pub RoundMade : (R → ℕ) → R → List (Stepped A R) → List LinkCall → R → Type 0
   RoundMade rounds reply steps calls next =
       ((steps ≡ []) × (calls ≡ []) × (next ≡ reply) × (m.question reply ≡ None))
@@ -141,7 +141,7 @@ module _ {A R : Type 0} (m : Manner A R) where
       (call : LinkCall) × (asked : A) × (calls ≡ call ∷ []) × Asks reply call × IsAskedBack reply call asked × IsFull m.weighs history asked
   RoundFailed history reply calls why = ⊥
 
-  -- what one round after a reply did; where it did not fail, the clock was read once for each step
+  -- one round after a reply; if it did not fail, the clock was read once for each step
   abbrev pub Round : (R → ℕ) → List (Pair A R) → R → Work A R → Result R NoReply → Type 0
   Round rounds history reply w (Ok next) = RoundMade rounds reply w.steps w.calls next × (w.readings ≡ length w.steps)
   Round rounds history reply w (Err why) = (w.steps ≡ []) × RoundFailed history reply w.calls why
@@ -159,12 +159,12 @@ module _ {A R : Type 0} (m : Manner A R) where
   abbrev pub Rest : List (Pair A R) → R → List (Stepped A R) → List LinkCall → Result R NoReply → Type 0
   Rest history reply steps calls result = GoesOn reply steps calls × RestCause history reply steps calls result
 
-  -- what was sent for the notices of a reply; without a reply to write there are none
+  -- the messages that were sent for the notices of a reply; none if there is no reply to write
   abbrev pub notices_of : Result R NoReply → List Message
   notices_of (Ok reply) = m.notices reply
   notices_of (Err why) = []
 
-  -- the last reply was told, with its notices, or that memory ran out
+  -- the last reply was sent, with its notices, or that memory ran out
   abbrev pub Tells : {K : Type 0} → LinkState → LinkState → (K → Option (List ℕ)) → (K → ℕ) → K → K → R → ServedEnd → Type 0
   Tells link link' taken faults sink sink' reply end =
       (outcome : Result R NoReply) × (calls : List LinkCall)
@@ -173,7 +173,7 @@ module _ {A R : Type 0} (m : Manner A R) where
       × Wrote taken faults sink sink' (bytes_of (bytes_by m) outcome) (end_of outcome) end
 
   module _ {S K : Type 0} (left : S → Option (List ℕ)) (read_faults : S → ℕ) (taken : K → Option (List ℕ)) (write_faults : K → ℕ) where
-    -- The connection came as the first and went as the second, and its steps lie in this history, in their order.
+    -- The serving changed the connection from the first to the second, and its steps are in this history, in their order.
     pub record Serves (history : List (Pair A R)) (came went : Connection S K) (w : Work A R) (served : Served) : Type 0 where
       pub outcome : Result R NoReply
       pub questions : List LinkCall

@@ -1,4 +1,4 @@
--- Steps of a core: what each was called with, and what it left.
+-- Steps of a core: their inputs and their effects.
 use Rattle.std.specs.Prelude.{◌≡◌, ℕ, ◌+◌, ◌*◌, ◌<◌, List, [], ◌∷◌, ◌++◌, length, Option}
 use Rattle.sso_base.specs.Words.{Word, fresh_word}
 use Rattle.sso_base.specs.Journal.{most_weight, history_weight}
@@ -11,7 +11,7 @@ use Rattle.turn_store.specs.Passes.{front_of, calls_of, pair_of}
 use Rattle.serving.specs.declared.no_reply.NoReply.{NoReply}
 use Rattle.serving.specs.declared.no_reply.NoReply.TheVariants.{NoMemory, Full}
 
--- one step: the history before it, the moment and the words that it was called with, what was asked, and what was replied
+-- one step: the history before it, its moment and its words, the request, and the reply
 pub record Stepped (A R : Type 0) : Type 0 where
   pub before : List (Pair A R)
   pub at : ℕ
@@ -20,11 +20,11 @@ pub record Stepped (A R : Type 0) : Type 0 where
   pub reply : R
 
 module _ {A R : Type 0} where
-  -- what the step stored
+  -- the pair that the step stored
   abbrev pub pair_from : Stepped A R → Pair A R
   pair_from s = pair_of s.before s.at s.fresh s.asked s.reply
 
-  -- the history with it
+  -- the history after it
   abbrev pub history_after : Stepped A R → List (Pair A R)
   history_after s = s.before ++ pair_from s ∷ []
 
@@ -37,11 +37,11 @@ module _ {A R : Type 0} where
     pub moment : IsTold (moments reading) s.at
     pub fresh : (k : ℕ) → k < 4 → IsTold (words (4 * reading + k)) (fresh_word s.fresh k)
 
-  -- the history and the ask weigh more than a history may
+  -- the history and the request weigh more than the limit of a history
   abbrev pub IsFull : (A → ℕ) → List (Pair A R) → A → Type 0
   IsFull weighs history asked = most_weight < history_weight weighs history + weighs asked
 
-  -- why a step was not made, where the pass has then seen this history
+  -- why a step was not made, given the history that the pass has then seen
   abbrev pub IsNoStep : (A → ℕ) → List (Pair A R) → A → NoReply → Type 0
   IsNoStep weighs history asked NoMemory = Unit {0}
   IsNoStep weighs history asked Full = IsFull weighs history asked

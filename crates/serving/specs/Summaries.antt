@@ -15,7 +15,7 @@ use Rattle.serving.specs.Steps.{called_of}
 use Rattle.serving.specs.Work.{LieBehind}
 use Rattle.serving.specs.Working.{Service, AtDesk, steps_in}
 
--- what the parts of a desk tell
+-- the ghost contents of a desk's parts
 pub record Telling (D L C W S K : Type 0) : Type 0 where
   pub state : D → DoorState S K
   pub closings : D → ℕ
@@ -33,26 +33,26 @@ module _ {D L C W S K : Type 0} (t : Telling D L C W S K) where
   abbrev pub Failed : Desk D L C W → Desk D L C W → Type 0
   Failed old new = Rose (t.door_faults old.door) (t.door_faults new.door)
 
-  -- its door could not be opened: it failed and holds what it held, and all else is as it was
+  -- its door could not be opened: it failed and kept its state, and all else is unchanged
   pub record Unopened (old new : Desk D L C W) : Type 0 where
     pub failed : Failed old new
     pub held : t.state new.door ≡ t.state old.door
     pub same : new ≡ record old { door = new.door }
 
-  -- it served as many connections as it has turns, or its door said that it is closed
+  -- it served as many connections as it has turns, or its door reported that it is closed
   abbrev pub EndedWell : Desk D L C W → Desk D L C W → Type 0
   EndedWell old new =
       ((t.state new.door).given ≡ (t.state old.door).given + old.turns)
       ⊎ Rose (t.closings old.door) (t.closings new.door)
 
   module _ {A R : Type 0} (m : Manner A R) where
-    -- these are the connections that it served, and its part of the history
+    -- the connections that it served, and its part of the history
     abbrev pub ServedAt : List (Pair A R) → Desk D L C W → Desk D L C W → List (Service S K A R) → Type 0
     ServedAt history old new services =
         AtDesk m t.left t.read_faults t.taken t.write_faults history (t.state old.door) (t.state new.door) (t.link_state old.link) (t.link_state new.link) (t.moments old.clock) (t.moments new.clock) (t.words old.draw) (t.words new.draw) services
 
-    -- One desk: it ended well or its door failed, unless the first door could not listen, and then it served nobody. A door that did
-    -- not fail listens where it should. Its steps lie in the history, in their order.
+    -- One desk: it ended well or its door failed. If the first door could not listen, it served nobody. A door that did not
+    -- fail listens at the right place. Its steps are in the history, in their order.
     pub record DeskServed (history : List (Pair A R)) (listening : Bool) (at : Option Text → Option Text) (old new : Desk D L C W) (services : List (Service S K A R)) : Type 0 where
       pub served : ServedAt history old new services
       pub order : LieBehind [] history (steps_in services)
@@ -67,8 +67,8 @@ module _ {D L C W S K : Type 0} (t : Telling D L C W S K) where
     DesksServed history listening place (old ∷ olds) (new ∷ news) (services ∷ works) = DeskServed history listening place old new services × DesksServed history listening place olds news works
     DesksServed history listening place olds news works = ⊥
 
-    -- The first desk listens at this place, and the others where it does. Where its door could not be opened, the others are as they
-    -- were.
+    -- The first desk listens at this place, and the others at its address. If its door could not be opened, the others are
+    -- unchanged.
     abbrev pub AllServed : List (Pair A R) → Bool → Text → List (Desk D L C W) → List (Desk D L C W) → List (List (Service S K A R)) → Type 0
     AllServed history listening place (old ∷ olds) (new ∷ news) (services ∷ works) =
         (listening ≡ false → Unopened old new × (news ≡ olds))
@@ -91,8 +91,8 @@ module _ {D L C W S K : Type 0} (t : Telling D L C W S K) where
 abbrev pub places_in : {S K A R : Type 0} → List (Service S K A R) → List ℕ
 places_in {S} {K} {A} {R} services = places_of (map called_of (steps_in services))
 
--- The closed store: its history is legal for the setup, each place of it is a step of one connection of one desk, and it stands there
--- once. It says whether the first door was opened.
+-- The closed store: its history is legal for the setup, and each of its places is exactly one step of one connection of one
+-- desk. It also states whether the first door was opened.
 pub record ClosedSo {D L C W S K A R Core Setup : Type 0} (t : Telling D L C W S K) (m : Manner A R) (setup : Core → Setup) (history_of : Core → List (Pair A R)) (is_legal : Setup → List (Pair A R) → Type 0) (configured : Setup) (place : Text) (olds news : List (Desk D L C W)) (closed : Closed Core) (served entries : ℕ) : Type 0 where
   pub set_up : setup closed.core ≡ configured
   pub legal : is_legal configured (history_of closed.core)
@@ -104,7 +104,7 @@ pub record ClosedSo {D L C W S K A R Core Setup : Type 0} (t : Telling D L C W S
   pub number : served ≡ sum_by length works
   pub length_is : entries ≡ length (history_of closed.core)
 
--- What a server with these desks did: with none, nothing.
+-- What a server with these desks did. Without a desk it did nothing.
 pub record Summarises {D L C W S K A R Core Setup : Type 0} (t : Telling D L C W S K) (m : Manner A R) (setup : Core → Setup) (history_of : Core → List (Pair A R)) (is_legal : Setup → List (Pair A R) → Type 0) (configured : Setup) (place : Text) (olds news : List (Desk D L C W)) (s : Summary Core A R) : Type 0 where
   pub none : olds ≡ [] → (s.served ≡ 0) × (s.entries ≡ 0) × (s.fault ≡ false) × (s.closed ≡ None) × (news ≡ [])
   pub some : 0 < length olds → (closed : Closed Core) × (s.closed ≡ Some closed) × ClosedSo t m setup history_of is_legal configured place olds news closed s.served s.entries

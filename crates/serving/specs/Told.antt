@@ -1,4 +1,4 @@
--- What a connection is told in place of a reply of a core, and how its serving ends then.
+-- What is sent to a connection in place of a reply of a core, and how its serving ends then.
 use Rattle.std.specs.Prelude.{ℕ, List, codes, Option, Some, Result, Ok, Err}
 use Rattle.http_reply.specs.Replies.{plain}
 use Rattle.sso_http.specs.Replies.{reply_bytes}
@@ -15,11 +15,11 @@ end_without Link = end.Link
 end_without Peer = end.Peer
 end_without Full = end.Full
 
--- what says that memory ran out
+-- the reply if memory ran out
 unfoldable pub memory_bytes : List ℕ
 memory_bytes = reply_bytes (plain 503 (codes "memory"))
 
--- one line of text with a status; where the request's source failed or ended, nobody is there to read one
+-- one line of text with a status; none if the request's source failed or ended, since nobody would receive it
 unfoldable pub bytes_without : NoReply → Option (List ℕ)
 bytes_without NoMemory = Some memory_bytes
 bytes_without (Http why) = refusal_bytes why
@@ -27,12 +27,12 @@ bytes_without Link = Some (reply_bytes (plain 502 (codes "link")))
 bytes_without Peer = Some (reply_bytes (plain 502 (codes "peer")))
 bytes_without Full = Some (reply_bytes (plain 503 (codes "journal")))
 
--- the serving ends with the reply or without one
+-- how the serving ends, with a reply or without one
 abbrev pub end_of : {R : Type 0} → Result R NoReply → ServedEnd
 end_of (Ok reply) = end.Written
 end_of (Err why) = end_without why
 
--- what is written at the end: the bytes of the reply, or what stands in its place
+-- the bytes that are written at the end: the reply, or what is sent in its place
 abbrev pub bytes_of : {R : Type 0} → (R → List ℕ) → Result R NoReply → Option (List ℕ)
 bytes_of bytes (Ok reply) = Some (bytes reply)
 bytes_of bytes (Err why) = bytes_without why

@@ -1,4 +1,4 @@
--- What a worker does: it serves the connections of a door, one after another.
+-- The work of a worker: it serves the connections of a door, one after another.
 use Rattle.std.specs.Prelude.{◌≡◌, ◌⊎◌, ◌≤◌, ℕ, ◌+◌, ◌*◌, List, [], ◌∷◌, ◌++◌, map, length, Option, option_map}
 use Rattle.std.specs.List.{AllByRecursion, flat_map}
 use Rattle.sso_base.specs.Faults.{Rose}
@@ -19,7 +19,7 @@ use Rattle.serving.specs.Work.{Work, DrawnFrom}
 use Rattle.serving.specs.declared.work.Next.{Next}
 use Rattle.serving.specs.declared.work.Next.TheVariants.{Served, Closed, Fault}
 
--- the serving of one connection: as it came and as it went, what was done for it, and how it ended
+-- the serving of one connection: the connection before and after, the work that was done for it, and how it ended
 pub record Service (S K A R : Type 0) : Type 0 where
   pub came : Connection S K
   pub went : Connection S K
@@ -40,12 +40,12 @@ module _ {S K A R : Type 0} where
   readings_in [] = 0
   readings_in (s ∷ services) = s.work.readings + readings_in services
 
-  -- each step was called with the moment and the words of a reading of its own
+  -- each step was called with the moment and the words of its own reading of the clock
   abbrev pub DrawnIn : (ℕ → Option ℕ) → (ℕ → Option Word) → ℕ → List (Service S K A R) → Type 0
   DrawnIn moments words reading [] = Unit {0}
   DrawnIn moments words reading (s ∷ services) = DrawnFrom moments words reading s.work.steps × (length s.work.steps ≤ s.work.readings) × DrawnIn moments words (reading + s.work.readings) services
 
-  -- one of these connections ended so
+  -- one of these connections ended this way
   abbrev pub SomeEnded : ServedEnd → List (Service S K A R) → Type 0
   SomeEnded end [] = ⊥
   SomeEnded end (s ∷ services) = (s.served.end ≡ end) ⊎ SomeEnded end services
@@ -57,11 +57,11 @@ module _ {S K A R : Type 0} where
     pub given : door'.given ≡ door.given + length services
 
   module _ (m : Manner A R) (left : S → Option (List ℕ)) (read_faults : S → ℕ) (taken : K → Option (List ℕ)) (write_faults : K → ℕ) where
-    -- each connection was served, and its steps lie in this history, in their order
+    -- each connection was served, and its steps are in this history, in their order
     abbrev pub ServesAll : List (Pair A R) → List (Service S K A R) → Type 0
     ServesAll history services = AllByRecursion (λ (s : Service S K A R). Serves m left read_faults taken write_faults history s.came s.went s.work s.served) services
 
-    -- that is all that was done with the door, the link, the clock and the draw of a desk; where a connection ended because of the
+    -- that is all that was done with the door, the link, the clock and the draw of a desk; if a connection ended because of the
     -- link, the link failed
     pub record AtDesk (history : List (Pair A R)) (door door' : DoorState S K) (link link' : LinkState) (moments moments' : ℕ → Option ℕ) (words words' : ℕ → Option Word) (services : List (Service S K A R)) : Type 0 where
       pub passed : Passed door door' services
@@ -72,7 +72,7 @@ module _ {S K A R : Type 0} where
       pub served : ServesAll history services
       pub failed : SomeEnded Link services → Rose link.faults link'.faults
 
--- how many connections were served
+-- the number of connections that were served
 abbrev pub IsNumber : Next → ℕ → Type 0
 IsNumber Served count = count ≡ 1
 IsNumber Closed count = count ≡ 0

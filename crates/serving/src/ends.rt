@@ -7,16 +7,16 @@ use sso_http::HttpNo;
 pub enum ServedEnd {
     /// The reply of the last step was written.
     Written,
-    /// The request was refused; never for want of memory. What says so was written, but for the first two refusals, after
-    /// which nobody is there to read it.
+    /// The request was refused, but not for lack of memory. The refusal was sent, except for the first two reasons: after these
+    /// nobody would receive it.
     Http(HttpNo),
     /// The link to another server failed. A reply with the status 502 was written.
     Link,
-    /// What another server answered is no HTTP. A reply with the status 502 was written.
+    /// The answer of another server is not HTTP. A reply with the status 502 was written.
     Peer,
-    /// The connection failed as something was written to it.
+    /// A write to the connection failed.
     WriteFault,
-    /// The core refused a step for the weight of its history. A reply with the status 503 was written.
+    /// The core refused a step, since its history would be too heavy. A reply with the status 503 was written.
     Full,
     /// Memory ran out. A reply with the status 503 was written.
     NoMemory,
@@ -25,7 +25,7 @@ pub enum ServedEnd {
 /// What was done for one connection.
 #[derive(Clone, Copy, Debug, PartialEq, Eq)]
 pub struct Served {
-    /// How many steps the core made for it.
+    /// The number of steps that the core made for it.
     pub places: u64,
     /// How it ended.
     pub end: ServedEnd,

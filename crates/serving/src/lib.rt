@@ -1,18 +1,18 @@
-//! A server for any role: connections are read, stepped and answered, by one worker a desk, over one store.
+//! A server for any role. One worker for each desk reads requests, steps the core and writes the replies, over one store.
 //!
 //! | Module | What it has |
 //! |---|---|
-//! | `role` | [`Role`]: what a server speaks for |
-//! | `step` | one step of a core, with a moment of the clock and four drawn words |
-//! | `sending` | messages are sent over a link |
-//! | `no_reply` | why a connection gets no reply of a core, and what it is told then |
-//! | `writing` | what a connection is told is written |
+//! | `role` | [`Role`]: the role that a server has |
+//! | `step` | one step of a core, with a moment of the clock and four random words |
+//! | `sending` | sends messages over a link |
+//! | `no_reply` | why a connection gets no reply of a core, and what is sent instead |
+//! | `writing` | writes to a connection |
 //! | `ends` | [`Served`] and [`ServedEnd`]: how the serving of a connection ended |
 //! | `serve_one` | [`serve_connection`] serves one connection |
-//! | `work` | [`serve_desk`] serves the connections of a door, and [`Worked`] and [`WorkEnd`] say how that ended |
-//! | `seats` | desks with their passes, served beside each other |
+//! | `work` | [`serve_desk`] serves the connections of a door; [`Worked`] and [`WorkEnd`] are how that ended |
+//! | `seats` | desks with their passes, served concurrently |
 //! | `server` | [`serve`], a server |
-//! | `summary`, `tells` | [`Summary`], what a server did, and [`Tells`], what its desks tell of it |
+//! | `summary`, `tells` | [`Summary`], what a server did, and [`Tells`], the ghost contents of its desks |
 #![tactic(auto)]
 
 mod ends;

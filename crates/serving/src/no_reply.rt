@@ -1,4 +1,4 @@
-// Why a connection gets no reply of a core, and what it is told then.
+// Why a connection gets no reply of a core, and what is sent instead.
 
 ghost use Rattle.std.specs.Prelude.{◌≡◌, ◌≢◌, ℕ, List, IfOk, IsErr};
 ghost use Rattle.http_reply.specs.Replies.{plain};
@@ -20,9 +20,9 @@ pub enum NoReply {
     Http(HttpNo),
     /// The link to another server failed.
     Link,
-    /// What another server answered is no HTTP.
+    /// The answer of another server is not HTTP.
     Peer,
-    /// The core refused a step for the weight of its history.
+    /// The core refused a step, since its history would be too heavy.
     Full,
 }
 
@@ -38,7 +38,7 @@ impl From<NoMemory> for NoReply {
 }
 
 impl NoReply {
-    /// How the serving of the connection ends, once this was told.
+    /// How the serving of the connection ends after this was sent.
     pub fn end(&self) -> ServedEnd
         ensures { result ≡ spec.end_without self.now }
     {
@@ -60,7 +60,8 @@ fn line(alloc: Global, status: u16, word: &str) -> Result<Blob, NoMemory>
     print_reply(alloc, &reply)
 }
 
-/// What the connection is told. None where nobody is there to read it. Where memory ran out this takes none, and finds none.
+/// The bytes to send instead of a reply. `None` if nobody would receive them. If memory ran out, this takes none and returns
+/// `NoMemory`.
 #[tactic(auto, unfolding(crate::specs::Told::bytes_without))]
 pub fn told(alloc: Global, no: &NoReply) -> Result<Option<Blob>, NoMemory>
     requires { no.now ≢ NoReply.Http HttpNo.NoMemory }

@@ -3,22 +3,22 @@ ghost use Rattle.std.specs.Prelude.{◌≡◌, ◌≢◌, ◌≤◌, ◌<◌, �
 use sso_base::{Answered, Ask, Core, HttpReply, Message, Messages, NoMemory, Text};
 use std::alloc::Global;
 
-/// What a server speaks for: its core, what requests ask of it, and how its replies go out.
+/// The role of a server: its core, how requests are parsed for it, and how its replies are sent.
 pub trait Role: Sync {
     ghost use Rattle.serving.specs.Manner.{Manner};
     ghost use Rattle.sso_base.specs.declared.message.Answered as answered_by;
     ghost use Rattle.sso_base.specs.declared.history.Pair as pair_of;
 
-    /// What takes the asks.
+    /// The core.
     type Core: Core;
 
     /// Whether it may serve.
     ghost ready: { Self → Type 0 };
 
-    /// What requests ask, and how replies go out.
+    /// How requests are parsed, and how replies are sent.
     ghost manner: { Self → Manner Self.Core.Ask Self.Core.Reply };
 
-    /// How many questions may follow a reply.
+    /// A bound on the number of requests to other servers that follow a reply.
     ghost rounds: { Self.Core.Reply → ℕ };
 
     /// The names of its two cookies.
@@ -26,16 +26,16 @@ pub trait Role: Sync {
         requires { ready self.now }
         ensures { IfOk result (λ names. names ≡ ((manner self.now).first, (manner self.now).second)) };
 
-    /// What a request asks.
+    /// Parses a request for the core.
     fn prepare(&self, alloc: Global, request: &Ask) -> Result<<Self::Core as Core>::Ask, NoMemory>
         requires { ready self.now }
         ensures { IfOk result (λ asked. asked ≡ (manner self.now).prepared request.now) };
 
-    /// The question that a reply puts to another server.
+    /// The request to another server that a reply makes, if it makes one.
     fn question<'r>(&self, reply: &'r <Self::Core as Core>::Reply) -> Option<&'r Message>
         ensures { option_map (λ m. m.now) result ≡ (manner self.now).question reply.now };
 
-    /// What the answer to such a question asks.
+    /// Parses the answer to such a request for the core.
     fn prepare_answer(
         &self,
         alloc: Global,
@@ -45,11 +45,11 @@ pub trait Role: Sync {
         requires { ready self.now }
         ensures { IfOk result (λ asked. asked ≡ (manner self.now).answered reply.now answer.now) };
 
-    /// The notices that go out with a reply, where there are any.
+    /// The notices that are sent with a reply, if there are any.
     fn notices<'r>(&self, reply: &'r <Self::Core as Core>::Reply) -> Option<&'r Messages>
         ensures { unwrap_or (option_map (λ m. m.now) result) [] ≡ (manner self.now).notices reply.now };
 
-    /// A reply, as it goes out.
+    /// A reply as HTTP.
     fn http(
         &self,
         alloc: Global,
@@ -58,12 +58,12 @@ pub trait Role: Sync {
         requires { ready self.now }
         ensures { IfOk result (λ h. h ≡ (manner self.now).http reply.now) };
 
-    /// Asks weigh what they weigh for its core.
+    /// The weight of a request is the one that its core uses.
     ghost same_weights: { (x : Self) → (manner x).weighs ≡ Self.Core.weighs };
 
-    /// At most two questions follow a reply, and a reply that puts one is not the last.
+    /// At most two requests to other servers follow a reply. A reply that makes one is not the last.
     ghost few_rounds: { (x : Self) (reply : Self.Core.Reply) → (rounds reply ≤ 2) × ((manner x).question reply ≢ None → 0 < rounds reply) };
 
-    /// After a question fewer may follow.
+    /// After such a request fewer may follow.
     ghost fewer_rounds: { (x : Self) (s : Self.Core.Setup) (before : List (pair_of.Pair Self.Core.Ask Self.Core.Reply)) (pair : pair_of.Pair Self.Core.Ask Self.Core.Reply) (reply : Self.Core.Reply) (answer : answered_by.Answered) → Self.Core.is_legal s (before ++ pair ∷ []) → pair.entry.ask ≡ (manner x).answered reply answer → (manner x).question reply ≢ None → rounds pair.reply < rounds reply };
 }

@@ -1,4 +1,4 @@
-// Desks with their passes, at which workers serve beside each other.
+// Desks with their passes, at which workers serve concurrently.
 
 ghost use Rattle.std.specs.Prelude.{◌≡◌, ◌≢◌, ◌⊎◌, ◌+◌, ◌^◌, ◌≤◌, ◌<◌, ℕ, List, [], ◌∷◌, ◌++◌, map, length, slice_index_or, true, false, Ok, Err, IfOk, OnErr, vec_len, vec_capacity};
 ghost use Rattle.std.specs.List.{All, AllByRecursion, sum_by, list_any};
@@ -26,11 +26,11 @@ pub struct Seat<O: Core, D: Drop, L: Drop, C: Drop, W: Drop> {
     pub pass: Pass<O>,
     /// Whether its door listens.
     pub listens: bool,
-    /// What its worker did.
+    /// The result of its worker.
     pub worked: Worked,
 }
 
-/// Where workers serve at the seats: they were dealt to these desks and passes, and nobody served yet.
+/// Moves these desks and passes to seats, at which nobody has served yet.
 pub fn sit<O: Core, D: Door, L: Link, C: Clock, W: Draw>(
     desks: &mut Vec<Desk<D, L, C, W>>,
     passes: &mut Vec<Pass<O>>,
@@ -58,7 +58,7 @@ pub fn sit<O: Core, D: Door, L: Link, C: Clock, W: Draw>(
     }
 }
 
-// Whether its door listens now, at the place.
+// Makes the seat's door listen at the place, and notes whether it does.
 fn open_seat<O: Core, D: Door, L: Link, C: Clock, W: Draw>(
     seat: &mut Seat<O, D, L, C, W>,
     place: &Text,
@@ -68,7 +68,7 @@ fn open_seat<O: Core, D: Door, L: Link, C: Clock, W: Draw>(
     seat.listens = seat.desk.door.start(place).is_ok();
 }
 
-// Whether its door listens now, where the first does.
+// Makes the seat's door listen at the first door's address, and notes whether it does.
 fn share_seat<O: Core, D: Door, L: Link, C: Clock, W: Draw>(
     seat: &mut Seat<O, D, L, C, W>,
     first: &D,
@@ -78,7 +78,7 @@ fn share_seat<O: Core, D: Door, L: Link, C: Clock, W: Draw>(
     seat.listens = seat.desk.door.share(first).is_ok();
 }
 
-// The doors of these seats listen where the first does.
+// Makes the doors of these seats listen at the first door's address.
 fn share_seats<O: Core, D: Door, L: Link, C: Clock, W: Draw>(
     seats: &mut [Seat<O, D, L, C, W>],
     first: &D,
@@ -90,7 +90,7 @@ fn share_seats<O: Core, D: Door, L: Link, C: Clock, W: Draw>(
     }
 }
 
-/// The first door listens at the place, and the others where it does. A seat is open where its door listens.
+/// Makes the first door listen at the place, and the others at its address. A seat is open if its door listens.
 pub fn open_doors<O: Core, D: Door, L: Link, C: Clock, W: Draw>(
     seats: &mut [Seat<O, D, L, C, W>],
     place: &Text,
@@ -107,7 +107,7 @@ pub fn open_doors<O: Core, D: Door, L: Link, C: Clock, W: Draw>(
     }
 }
 
-// Serves at one seat, where it is open.
+// Serves at one seat, if it is open.
 fn serve_seat<R: Wait, X: Role, D: Door, L: Link, C: Clock, W: Draw>(
     rt: &R,
     alloc: Global,
@@ -128,7 +128,7 @@ fn serve_seat<R: Wait, X: Role, D: Door, L: Link, C: Clock, W: Draw>(
     }
 }
 
-/// Serves at all open seats beside each other, one thread a seat; where no thread can be made, its starter serves there.
+/// Serves at all open seats concurrently, one thread for each. If a thread can't be created, the calling thread serves there.
 pub fn serve_seats<R: Threads + Wait + Sync, X: Role, D: Door, L: Link, C: Clock, W: Draw>(
     rt: &R,
     alloc: Global,
@@ -157,7 +157,7 @@ where
     );
 }
 
-/// Opens the doors, the first at the place and the others where it listens, and then serves at all open seats.
+/// Opens the doors, the first at the place and the others at its address, and then serves at all open seats.
 pub fn open_and_serve<R: Threads + Wait + Sync, X: Role, D: Door, L: Link, C: Clock, W: Draw>(
     rt: &R,
     alloc: Global,
@@ -179,14 +179,14 @@ where
     serve_seats(rt, alloc, role, store, seats);
 }
 
-/// How many connections were served at all seats, and whether one was left because its door failed.
+/// The number of connections that were served at all seats, and whether a door failed.
 #[derive(Clone, Copy)]
 pub struct Count {
     pub served: u64,
     pub fault: bool,
 }
 
-/// Gives desks and passes back, in their order, and counts.
+/// Returns desks and passes from the seats, in their order, and the count.
 pub fn rise<O: Core, D: Door, L: Link, C: Clock, W: Draw>(
     seats: &mut Vec<Seat<O, D, L, C, W>>,
     desks: &mut Vec<Desk<D, L, C, W>>,

@@ -1,4 +1,4 @@
-// A server: one worker a desk, over one store.
+// A server: one worker for each desk, over one store.
 
 ghost use Rattle.std.specs.Prelude.{◌≡◌, ◌^◌, ◌≤◌, ◌<◌, [], length, map, IfOk, OnErr, vec_capacity};
 ghost use Rattle.std.specs.List.{All};
@@ -17,7 +17,7 @@ use std::sync::Wait;
 use std::thread::Threads;
 use turn_store::{Pass, Turn};
 
-// Serves at desks of which there is one at least. It takes no memory.
+// Serves at one or more desks. It takes no memory.
 fn serve_desks<R: Threads + Wait + Sync, X: Role, D: Door, L: Link, C: Clock, W: Draw>(
     rt: &R,
     alloc: Global,
@@ -54,14 +54,14 @@ where
     }
 }
 
-/// Serves at these desks beside each other, one worker each, with this core, which was asked nothing yet. The first door listens at
-/// the place, and the others where it does. With no desk nothing is done.
+/// Serves at these desks concurrently, one worker each, with this core, which must have an empty history. The first door
+/// listens at the place, and the others share its address. Without a desk nothing is done.
 ///
-/// There are at most 64 desks, each of at most 2^56 turns, whose doors gave fewer than 2^63 connections.
+/// Needs at most 64 desks, each of at most 2^56 turns, whose doors have given fewer than 2^63 connections.
 ///
 /// # Errors
 ///
-/// `NoMemory` where memory ran out, before the first door was started: the desks are as they were, and the core is gone.
+/// `NoMemory` if memory ran out, before the first door was started. The desks are unchanged, and the core is dropped.
 pub fn serve<R: Threads + Wait + Sync, X: Role, D: Door, L: Link, C: Clock, W: Draw>(
     rt: &R,
     alloc: Global,

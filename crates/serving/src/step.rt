@@ -1,4 +1,4 @@
-// One step of a core, with a moment of the clock and four drawn words.
+// One step of a core, with a moment of the clock and four random words.
 
 ghost use Rattle.std.specs.Prelude.{◌≡◌, ◌<◌, ℕ, IfOk, IfErr, OnErr};
 ghost use Rattle.server_desk.specs.Ahead.{IsTold, MovedOn};

@@ -6,12 +6,12 @@ use turn_store::Closed;
 /// What a server did.
 #[derive(Drop)]
 pub struct Summary<O: Core> {
-    /// How many connections its desks served.
+    /// The number of connections that its desks served.
     pub served: u64,
-    /// How many entries the history of its core has.
+    /// The number of entries in the history of its core.
     pub entries: u64,
     /// Whether a door failed.
     pub fault: bool,
-    /// The closed store. None exactly where there was no desk.
+    /// The closed store. `None` if and only if there was no desk.
     pub closed: Option<Closed<O>>,
 }

@@ -1,8 +1,8 @@
-// What desks tell of what was done at them.
+// The ghost contents of desks.
 
 use server_desk::{Clock, Desk, Door, Draw, Link};
 
-/// What desks of a type tell, by their parts: one name for it in contracts. It has no calls.
+/// The ghost contents of desks of a type, by their parts, under one name for contracts. It has no calls.
 pub trait Tells {
     ghost use Rattle.serving.specs.Summaries.{Telling};
 

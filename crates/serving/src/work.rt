@@ -19,7 +19,7 @@ use turn_store::{Pass, Turn};
 pub enum WorkEnd {
     /// It served as many connections as its desk has turns.
     Turns,
-    /// Its door said that it is closed.
+    /// Its door is closed.
     DoorClosed,
     /// Its door failed.
     DoorFault,
@@ -28,13 +28,13 @@ pub enum WorkEnd {
 /// What a worker did.
 #[derive(Clone, Copy, Debug, PartialEq, Eq)]
 pub struct Worked {
-    /// How many connections it served.
+    /// The number of connections that it served.
     pub served: u64,
     /// Why it ended.
     pub end: WorkEnd,
 }
 
-// What came of waiting for one connection.
+// The result of waiting for one connection.
 #[derive(Clone, Copy, PartialEq, Eq)]
 enum Next {
     Served,
@@ -95,8 +95,8 @@ fn serve_next<R: Wait, X: Role, D: Door, L: Link, C: Clock, W: Draw>(
     }
 }
 
-/// Serves connections of the desk's door, one after another, until it served as many as the desk has turns, or the door says that it
-/// is closed, or fails. Each connection is given back to the door once it was served.
+/// Serves connections of the desk's door, one after another, until it has served as many as the desk has turns, or the door is
+/// closed or fails. Each served connection is given back to the door.
 pub fn serve_desk<R: Wait, X: Role, D: Door, L: Link, C: Clock, W: Draw>(
     rt: &R,
     alloc: Global,

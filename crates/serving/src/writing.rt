@@ -1,4 +1,4 @@
-// What a connection is told is written.
+// Writes to a connection.
 
 ghost use Rattle.std.specs.Prelude.{◌≡◌, ◌≢◌, ◌⊎◌, ◌≤◌, ℕ, List, Err, Some};
 ghost use Rattle.serving.specs.Told as spec;
@@ -10,11 +10,11 @@ use sso_base::{Sink, write_whole};
 use sso_http::HttpNo;
 use std::alloc::Global;
 
-/// What is told where memory ran out: it takes none.
+/// The reply if memory ran out. It takes no memory.
 const MEMORY: &[u8] =
     b"HTTP/1.1 503 Service Unavailable\r\nCache-Control: no-store\r\nContent-Type: text/plain; charset=utf-8\r\nContent-Length: 7\r\nConnection: close\r\n\r\nmemory\n";
 
-/// Writes the bytes, and answers this end, or that the sink failed.
+/// Writes the bytes, and returns this end, or that the sink failed.
 pub fn write_end<K: Sink>(sink: &mut K, bytes: &[u8], end: ServedEnd) -> ServedEnd
     ensures wrote { Wrote K.taken K.faults sink.old sink.new (Some bytes.now) end result }
     ensures later { K.faults sink.old ≤ K.faults sink.new }
@@ -25,7 +25,7 @@ pub fn write_end<K: Sink>(sink: &mut K, bytes: &[u8], end: ServedEnd) -> ServedE
     }
 }
 
-// Says that memory ran out.
+// Writes that memory ran out.
 #[tactic(auto, unfolding(crate::specs::Told::memory_bytes))]
 fn write_memory<K: Sink>(sink: &mut K) -> ServedEnd
     ensures wrote { Wrote K.taken K.faults sink.old sink.new (spec.bytes_without NoReply.NoMemory) ServedEnd.NoMemory result }
@@ -34,8 +34,8 @@ fn write_memory<K: Sink>(sink: &mut K) -> ServedEnd
     write_end(sink, MEMORY, ServedEnd::NoMemory)
 }
 
-/// Writes what the connection is told in place of a reply, and answers how its serving ended. Where there is no memory to print
-/// it, that is told.
+/// Writes what is sent in place of a reply, and returns how the serving of the connection ended. If there is no memory to print
+/// it, writes that memory ran out.
 pub fn write_without<K: Sink>(alloc: Global, sink: &mut K, no: NoReply) -> ServedEnd
     requires { no ≢ NoReply.Http HttpNo.NoMemory }
     ensures wrote { WroteWithout K.taken K.faults sink.old sink.new no result }

@@ -75,7 +75,7 @@ party_kept s n from request p world site legal distinct unleaked unforged joined
     rp_frame s n from request p world kept
     (does_by s n from p.entry.at request p.entry.fresh p.entry.ask world site kept p.reply legal distinct unleaked.0 unleaked.1 unforged.0 unforged.1 joined.0 joined.1)
 
--- ---- a place at which nothing was asked
+-- ---- a place without a request
 
 nothing_kept : (s : Site) (world : World) → IsKept s world → IsKept s (Nothing ∷ world)
 unfolding SignsOn

@@ -1,6 +1,6 @@
--- A world where one premise alone is broken: browser 1 makes a whole login by code, and the answer of the token endpoint comes to
--- the shop under the number of browser 2. All answers are real, and the shop lets browser 2 in. The ID Token is what the provider
--- writes, and by the law of written tokens it is read back.
+-- A world that breaks only one premise: browser 1 makes a whole login by code, and the answer of the token endpoint reaches the
+-- shop under the number of browser 2. All answers are real, and the shop accepts the login for browser 2. The ID Token is what
+-- the provider writes, and by the lemma about written tokens it is read back.
 use Rattle.std.proofs.Common.{◌≡◌, ℕ, zero, suc, ◌&&◌, ◌||◌, not, Bool, true, false, [], ◌∷◌, Some, None, Result, Ok, codes, inl, inr, refl, sym, ap, ◌∙◌, arith}
 use Rattle.std.specs.Str.{IsUtf8}
 use Rattle.sso_base.specs.Words.{Text, word_text}

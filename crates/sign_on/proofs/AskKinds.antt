@@ -1,4 +1,4 @@
--- Which kinds of asks requests give, and which the answers of a provider.
+-- The kinds of entries to which requests parse, and those to which the answers of a provider parse.
 use Rattle.std.proofs.Common.{◌≡◌, ℕ, Bool, true, false, cond, List, [], ◌∷◌, Option, Some, None, option_and_then, Result, Ok, Err, inl, inr, refl, sym, ap, ◌∙◌}
 use Rattle.std.specs.List.{AllByRecursion}
 use Rattle.std.specs.Str.{bytes_eq}
@@ -93,7 +93,7 @@ info_kind : (w : Word) (answer : Answered) → (came : Result Text InfoNo) × (i
 unfolding info_prepared
 info_kind w answer = (_, refl)
 
--- ---- so an ask tells what came
+-- ---- so an entry determines what came
 
 -- any other ask came with a request
 pub record IsRequest (c : Configuration) (n : ℕ) (came : WorldAsk) (asked : RpAsk) : Type 0 where

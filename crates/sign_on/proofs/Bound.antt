@@ -1,4 +1,4 @@
--- Codes and access tokens are bound to the ID Tokens beside which a party took them.
+-- Codes and access tokens are bound to the ID Tokens with which a party received them.
 use Rattle.std.proofs.Common.{◌≡◌, ℕ, ◌<◌, Bool, true, false, [], ◌∷◌, ◌++◌, length, Option, Some, None, is_some, option_map, Result, Ok, Err, refl, sym, ap, ◌∙◌, subst, inl, inr}
 use Rattle.std.proofs.lemmas.Option.{same_Some}
 use Rattle.std.specs.Prelude.{IfSome, ◌⊎◌}
@@ -179,7 +179,7 @@ access_was_issued s world access legal r =
       is = ap (λ (w : Word). word_text w) name ∙ r.access_is;
     }
 
--- ---- a reply with the ID Token that has the half digest has the word beside it
+-- ---- a reply with the ID Token that has the half hash also has the word
 
 hashed : (o : Option Word) (text : Text) → hash_of o ≡ Some (half_hash_of text) → ((w : Word) → o ≡ Some w → half_hash_of (word_text w) ≡ half_hash_of text → word_text w ≡ text) → option_map word_text o ≡ Some text
 hashed None text h same = absurd (cc)
@@ -219,7 +219,7 @@ stands s world later earlier y site legal distinct unleaked unforged joined part
     let joined_y : IsJoined whole = joined_from later whole (subst J parts joined) in
     record { legal = legal_y; clean = unforged_y.1; kept = agrees s earlier site (legal_before s y earlier legal_y) (distinct_before y earlier distinct_y) unleaked_y.0 unforged_y.0 (joined_before y earlier joined_y) }
 
--- that ID Token stood in a reply
+-- that ID Token was in a reply
 was_replied : (s : Site) (n : ℕ) (y : Place) (earlier : World) (id : Text) (claims : IdClaims) (nonce : Text) → Stands s y earlier → Has (checked s y) (client_of_party s n, id)
     → id_read (client_secret s.configuration (client_of_party s n)) id ≡ Ok claims → claims.nonce ≡ Some nonce → HasReplied earlier id claims
 was_replied s n y earlier id claims given st checks read is =
@@ -265,7 +265,7 @@ tokens_reads s n request asked pending came read claims mine tokens prepared is 
 
 -- ---- codes
 
--- the ID Token of a response was read, and judged good
+-- the ID Token of a response was read and verified
 record IsJudged (rules : IdRules) (at : ℕ) (read : Option (Result IdClaims IdNo)) : Type 0 where
   claims : IdClaims
   is : read ≡ Some (Ok claims)
@@ -325,7 +325,7 @@ some_hash : (o : Option Text) (t : Text) → is_some o ≡ true → IfSome o (λ
 some_hash None t some is = cc
 some_hash (Some h) t some is = ap (λ (z : Text). Some z) is
 
--- the ID Token beside the access token stood in a reply, and has its half digest
+-- the ID Token with the access token was in a reply, and has its half hash
 record IsBeside (earlier : World) (id access : Text) : Type 0 where
   claims : IdClaims
   replied : HasReplied earlier id claims

@@ -186,7 +186,7 @@ read_of secret (Some text) (Some (Ok x)) claims opened is =
     record { text = text; there = refl; read = subst R same (token-id_read secret text x opened) }
 read_of secret (Some text) (Some (Err why)) claims opened is = absurd (cc)
 
--- an ID Token counts where the response type has one
+-- an ID Token counts if the response type has one
 claims_of : (id : Option (Result IdClaims IdNo)) (claims : IdClaims) → claims_read id ≡ Some claims → id ≡ Some (Ok claims)
 claims_of None claims h = cc
 claims_of (Some (Ok x)) claims h = (let same : x ≡ claims = cc in ap (λ (y : IdClaims). Some (Ok y)) same)
@@ -239,7 +239,7 @@ tokens_token s n from request p pending came id claims known tokens asked is =
     let A : RpAsk → Type 0 = λ a. Has {A = TokenText} (rp_checked client request a) (client, text.text) in
     record { text = text.text; checks = subst A (sym tokens) (subst T texts (inl refl)); read = subst K (secret_is c n known) text.read }
 
--- ---- the tie: an ID Token that a place judged was written, so its nonce was answered
+-- ---- the tie: an ID Token that a place verified was written, so its nonce was answered
 
 written_from : (s : Site) (after before : World) (t : TokenText) → Has (written s before) t → Has (written s (after ++ before)) t
 written_from s [] before t has = has
@@ -384,7 +384,7 @@ module _ (s : Site) (n from at : ℕ) (request : WorldAsk) (fresh : List Word) (
         claims_sid = refl;
       }
 
-  -- a UserInfo response lets in: the ID Token was judged where UserInfo was asked for
+  -- a UserInfo response completes a login: the ID Token was verified at the place of the UserInfo request
   asked_for : (row : PendingRow) → IsLegalWorld s world → IsUnforged s world → (by : FetchedBy (setup_at s n) past row) → AnsweredAs c m.answered (client_of_party s n) by.claims (word_text row.nonce)
   asked_for row before unforged by =
       let there : IsPlaceOf world n by.maker by.earlier = pair_place n world by.later by.maker by.earlier by.parts in
@@ -430,7 +430,7 @@ module _ (s : Site) (n from at : ℕ) (request : WorldAsk) (fresh : List Word) (
             begins_as s n there.from from m.began past by.login.nonce row.nonce by.login.by row.by same (sym by.nonce_is) (sym by.place) begins)
         | inr after ↦
             (let sent : ExchangedBy (setup_at s n) by.earlier after.exchange = after.sent in
-            -- the place of the exchange stands before that of the question for UserInfo
+            -- the place of the token exchange is before that of the UserInfo request
             let earlier_parts : past ≡ (by.later ++ by.maker ∷ sent.later) ++ sent.maker ∷ sent.earlier =
             by.parts ∙ ap (λ (z : RpPast). by.later ++ by.maker ∷ z) sent.parts ∙ sym (append_assoc by.later (by.maker ∷ sent.later) (sent.maker ∷ sent.earlier)) in
             let first : IsPlaceOf world n sent.maker sent.earlier = pair_place n world (by.later ++ by.maker ∷ sent.later) sent.maker sent.earlier earlier_parts in

@@ -1,6 +1,6 @@
--- A world where one premise alone is broken: browser 1 begins a login at one relying party and browser 2 at another, and the same
--- four words are drawn for both. The parties' answers are real, and both logins have one nonce. (One party would refuse the second
--- login: its table has a row of this state.)
+-- A world that breaks only one premise: browser 1 begins a login at one relying party and browser 2 at another, and the same
+-- four words are drawn for both. The parties' answers are real, and both logins have the same nonce. (A single party would
+-- refuse the second login: its table has a row with this state.)
 use Rattle.std.proofs.Common.{ℕ, zero, suc, [], ◌∷◌, inl, inr, refl, sym, arith}
 use Rattle.rp_exchange.specs.Values.{IsRpAsk}
 use Rattle.rp_answer.specs.Legal.{IsLegalRp}

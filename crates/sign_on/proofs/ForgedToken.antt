@@ -1,6 +1,6 @@
--- A world where one premise alone is broken: browser 1 begins a login at a relying party of the type `id_token token`, and brings
--- an ID Token of alice that somebody sealed under the client's secret; the provider was asked nothing. The party's answers are
--- real, and it lets browser 1 in.
+-- A world that breaks only one premise: browser 1 begins a login at a relying party of the type `id_token token`, and presents
+-- an ID Token of alice that somebody sealed under the client's secret. The provider received no request. The party's answers
+-- are real, and it accepts the login of browser 1.
 use Rattle.std.proofs.Common.{◌≡◌, ◌++◌, ℕ, zero, suc, ◌&&◌, ◌||◌, Bool, true, false, [], ◌∷◌, codes, Some, None, Ok, refl, sym, ap, ◌∙◌, arith}
 use Rattle.std.specs.Str.{IsUtf8, bytes_eq}
 use Rattle.sso_base.specs.Words.{Text}
@@ -49,7 +49,7 @@ pub news_is_answered : rp_answer (setup_at site 1) [] begin_entry ≡ asked_fron
 unfolding rp_answer
 news_is_answered = refl
 
--- ---- the forged token, for this login and for the access token beside it
+-- ---- the forged token, for this login and for the access token with it
 
 abbrev hash_text : Text
 hash_text = codes "oFYf1knNtrqnhAVfBRuteQ"

@@ -30,7 +30,7 @@ whole_run s (x ∷ world) signs =
     let R : Machine → Type 0 = λ m. IsRun m second in
     run_append start (all_steps s world) second (whole_run s world signs.0) (subst R (sym (after_world s world)) signs.1)
 
--- what holds after every run of the machine holds of the machine of the world
+-- what is true after every run of the machine is true for the machine of the world
 pub founded : (s : Site) (world : World) → SignsOn s world → HoldsOnlyFounded (machine_of s world) × OnceEach (machine_of s world)
 founded s world signs =
     let run = whole_run s world signs in

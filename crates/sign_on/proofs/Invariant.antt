@@ -126,11 +126,11 @@ pub record AnsweredAs (c : Configuration) (answered : List Answered) (client : �
   pub subject : subject_at c client row.user ≡ x.sub
   pub sid : x.sid ≡ Some row.sid
 
--- A text that is read as an ID Token with a nonce was answered. Of a request object this says nothing, since none is read so.
+-- The nonce of a text that is read as an ID Token was answered. This does not restrict a request object, since none is read so.
 abbrev pub IsTokenAnswered : Configuration → List Answered → TokenText → Type 0
 IsTokenAnswered c answered t = (x : IdClaims) (nonce : Text) → id_read (client_secret c t.0) t.1 ≡ Ok x → x.nonce ≡ Some nonce → AnsweredAs c answered t.0 x nonce
 
--- the reply has this ID Token, and its claims have the half digests of the code and of the access token beside it
+-- the reply has this ID Token, and its claims have the half hashes of the code and of the access token in the same reply
 abbrev pub IsIdOf : Text → IdClaims → OpReply → Type 0
 IsIdOf id x (op.Answered answer given) = (answer.id ≡ Some id) × (x.c_hash ≡ hash_of answer.code) × (x.at_hash ≡ hash_of answer.access)
 IsIdOf id x (op.Tokens access text) = (text ≡ id) × (x.c_hash ≡ None) × (x.at_hash ≡ hash_of (Some access))
@@ -144,7 +144,7 @@ pub record HasReplied (world : World) (id : Text) (x : IdClaims) : Type 0 where
   pub has : Has world (Provider from request pair)
   pub replied : IsIdOf id x pair.reply
 
--- A text that is read as an ID Token with a nonce stood in such a reply. Of any other text this says nothing.
+-- A text that is read as an ID Token with a nonce was in such a reply. This does not restrict any other text.
 abbrev pub IsTokenBound : Configuration → World → TokenText → Type 0
 IsTokenBound c world t = (x : IdClaims) (nonce : Text) → id_read (client_secret c t.0) t.1 ≡ Ok x → x.nonce ≡ Some nonce → HasReplied world t.1 x
 
@@ -161,7 +161,8 @@ pub record SentAs (c : Configuration) (world : World) (sent : List Sent) (client
   pub subject : y.sub ≡ Some (subject_at c client row.user)
   pub sid : y.sid ≡ if_wished row.only row.sid
 
--- A text that is read as a logout token went out. Of an ID Token and of a request object this says nothing, since none is read so.
+-- A text that is read as a logout token went out. This does not restrict an ID Token or a request object, since none is read
+-- so.
 abbrev pub IsTokenSent : Configuration → World → List Sent → TokenText → Type 0
 IsTokenSent c world sent t = (y : LogoutClaims) → logout_read (client_secret c t.0) t.1 ≡ Ok y → SentAs c world sent t.0 y
 

@@ -64,7 +64,7 @@ caused_text c past e (ask.Token (Ok grant)) access id cause =
     subst IsUtf8 cause.token (issued_text c cause.code.wish (code_authentication cause.code) e.at (Some access) None)
 caused_text c past e asked access id cause = absurd cause
 
--- the ID Token beside an access token is a text
+-- the ID Token with an access token is a text
 pub tokens_are_text : (c : Configuration) (past : OpPast) (e : Entry OpAsk) (access : Word) (id : Text) → op_answer c past e ≡ op.Tokens access id → IsUtf8 id
 tokens_are_text c past e access id answered = caused_text c past e e.ask access id (tokens_have_a_cause c past e access id answered)
 

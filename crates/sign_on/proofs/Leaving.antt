@@ -52,7 +52,7 @@ live_found types past at visit has =
     let G : Bool → Option SessionRow = λ b. cond b (Some visit) None in
     ap F found ∙ ap G had.1
 
--- where none of a word lives, none that lives has the word
+-- if a word has no live session, no live session has that word
 none_lives : (types : Types) (past : RpPast) (at : ℕ) (w : Word) (visit : SessionRow) → is_some (live_visit types past at (Some w)) ≡ false → Has (live_visits types past at) visit → bytes_eq w visit.word ≡ false
 none_lives types past at w visit none has =
     elim (bool_cases (bytes_eq w visit.word)) [

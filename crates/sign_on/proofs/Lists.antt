@@ -1,5 +1,5 @@
--- Lists: what a test that finds nothing says of each element, filters that follow one another, and lists whose elements stand
--- in a relation.
+-- Lists: what follows for each element from a test that finds nothing, filters that follow one another, and lists whose
+-- elements are related.
 use Rattle.std.proofs.Common.{◌≡◌, ℕ, suc, Bool, true, false, not, cond, List, [], ◌∷◌, ◌++◌, length, filter, filter_map, Option, Some, None, option_and_then, inl, inr, refl, sym, ap, ◌∙◌, subst}
 use Rattle.std.specs.List.{AllByRecursion, cons_option}
 use Rattle.std.specs.Str.{bytes_eq}
@@ -13,7 +13,7 @@ use Rattle.sso_places.specs.Each.{Each}
 
 -- ---- filters
 
--- where one test lets an element through, the others agree on it
+-- if one test accepts an element, the others agree on it
 pub filter_swap : {A : Type 0} (t k j : A → Bool) (xs : List A) → ((x : A) → t x ≡ true → k x ≡ j x) → filter t (filter k xs) ≡ filter j (filter t xs)
 filter_swap t k j [] same = refl
 filter_swap {A} t k j (x ∷ xs) same =
@@ -44,9 +44,9 @@ filter_all {A} (x ∷ xs) = ap (λ (ys : List A). x ∷ ys) (filter_all xs)
 pub filter_other : {A : Type 0} (t k : A → Bool) (xs : List A) → ((x : A) → t x ≡ true → k x ≡ true) → filter t (filter k xs) ≡ filter t xs
 filter_other t k xs same = filter_swap t k (λ x. true) xs same ∙ filter_all (filter t xs)
 
--- ---- lists whose elements stand in a relation, in order
+-- ---- lists whose elements are related, in order
 
--- tests that agree on what stands in the relation keep as much of both
+-- tests that agree on related elements keep as much of both
 pub each_filter : {A B : Type 0} (R : A → B → Type 0) (t : A → Bool) (s : B → Bool) (xs : List A) (ys : List B) → ((x : A) (y : B) → R x y → t x ≡ s y) → Each R xs ys → Each R (filter t xs) (filter s ys)
 each_filter R t s [] [] same each = tt
 each_filter R t s [] (y ∷ ys) same each = absurd each
@@ -72,7 +72,7 @@ each_weaker P R S [] (y ∷ ys) weaker all each = absurd each
 each_weaker P R S (x ∷ xs) [] weaker all each = absurd each
 each_weaker P R S (x ∷ xs) (y ∷ ys) weaker all each = (weaker x y all.0 each.0, each_weaker P R S xs ys weaker all.1 each.1)
 
--- an element of the second has one of the first beside it
+-- an element of the second list has a related one in the first
 pub each_has : {A B : Type 0} (R : A → B → Type 0) (xs : List A) (ys : List B) (y : B) → Each R xs ys → Has ys y → (x : A) × Has xs x × R x y
 each_has R [] [] y each has = absurd has
 each_has R [] (b ∷ ys) y each has = absurd each
@@ -142,14 +142,14 @@ all_kept {A} t (x ∷ xs) =
       | inr left ↦ subst P (sym left) (all_kept t xs)
     ]
 
--- ---- what holds of each element
+-- ---- what is true for each element
 
--- of elements of a list, where it follows for each that stands in it
+-- for elements of a list, if it follows for each that is in it
 pub all_within : {A : Type 0} (P Q : A → Type 0) (xs : List A) → ((x : A) → Has xs x → P x → Q x) → AllByRecursion P xs → AllByRecursion Q xs
 all_within P Q [] follows all = tt
 all_within P Q (x ∷ xs) follows all = (follows x (inl refl) all.0, all_within P Q xs (λ y has. follows y (inr has)) all.1)
 
--- what holds of each that stands in a list
+-- what is true for each element of a list
 pub all_of : {A : Type 0} (P : A → Type 0) (xs : List A) → ((x : A) → Has xs x → P x) → AllByRecursion P xs
 all_of P [] holds = tt
 all_of P (x ∷ xs) holds = (holds x (inl refl), all_of P xs (λ y has. holds y (inr has)))
@@ -160,7 +160,7 @@ all_back P (x ∷ xs) ys all = all_back P xs ys all.1
 
 -- ---- rows that a filter keeps or drops
 
--- what holds of each row that a pair leaves, by what held of it before
+-- what is true for each row that a pair leaves, by what was true for it before
 pub all_left : {R : Type 0} (P Q : R → Type 0) (k : R → Option R) (rows : List R) → ((row after : R) → k row ≡ Some after → P row → Q after) → AllByRecursion P rows → AllByRecursion Q (filter_map k rows)
 all_left P Q k [] left all = tt
 all_left {R} P Q k (r ∷ rs) left all =
@@ -208,7 +208,7 @@ row_of-put_same {R} name w r rows e =
     let F : Bool → Option R = λ b. cond b (Some r) (row_of name w rows) in
     row_of-put name w (Some r) rows ∙ ap F (bytes_true (name r) w e)
 
--- where no row has the name, none is found
+-- if no row has the name, none is found
 pub row_of-lacks : {R : Type 0} (name : R → Word) (w : Word) (rows : List R) → AllByRecursion (λ (r : R). name r ≡ w → ⊥) rows → row_of name w rows ≡ None
 row_of-lacks name w [] other = refl
 row_of-lacks {R} name w (r ∷ rs) other =

@@ -175,7 +175,7 @@ user_agrees c client user held sub of_user of_held =
           ]
     ]
 
--- a row of the machine is meant exactly where its visit is
+-- a row of the machine is meant if and only if its visit is
 meant_agrees : (c : Configuration) (client : ℕ) (o : Sent) (claims : LogoutClaims) (row : Live) (visit : SessionRow) → o.client ≡ client → row.client ≡ client
     → claims.sub ≡ Some (subject_at c client o.user) → claims.sid ≡ if_wished o.only o.sid → user_of_subject c client (subject_at c client o.user) ≡ Some o.user
     → user_of_subject c client visit.sub ≡ Some row.user → visit.sid ≡ Some row.sid → is_meant_row o row ≡ is_meant claims.sub claims.sid visit
@@ -292,10 +292,10 @@ module _ (s : Site) (n from at : ℕ) (request : WorldAsk) (fresh : List Word) (
       let T : Option Sent → List Step = λ q. end_of q count ∷ [] in
       let steps : party_steps s world m.out n from past p p.entry.ask p.reply ≡ end o count ∷ [] = ap T found in
       let of_user : user_of_subject c client (subject_at c client o.user) ≡ Some o.user = subject_finds c client o.user site.registry known t.known in
-      -- a row is meant exactly where its visit is
+      -- a row is meant if and only if its visit is
       let agrees : (w : World) (row : Live) (visit : SessionRow) → IsSameSession s w n row visit → row.client ≡ client → is_meant_row o row ≡ is_meant claims.sub claims.sid visit =
       λ w row visit same of_client. meant_agrees c client o claims row visit t.client_is of_client t.subject t.sid of_user same.user same.sid in
-      -- so many sessions
+      -- the number of sessions
       let rows : List Live = settled world client at m.live in
       let agree : Each (IsSameSession s world n) (rows_of client rows) (live_visits types past at) = sessions_settled s world n at m.live past (kept.holds.live n mine) own.2 in
       let Of : Live → SessionRow → Type 0 = λ row visit. IsSameSession s world n row visit × (row.client ≡ client) in

@@ -1,4 +1,4 @@
--- What a sign-out does in the machine: a message to each client that is told, and then the session is closed.
+-- The steps of a sign-out in the machine: a message to each notified client, and then the session is closed.
 use Rattle.std.proofs.Common.{◌≡◌, ◌≢◌, ℕ, suc, ◌+◌, ◌<◌, ◌≤◌, Bool, true, false, List, [], ◌∷◌, ◌++◌, length, map, Option, Some, None, inl, inr, refl, ap, subst, arith}
 use Rattle.std.specs.List.{AllByRecursion}
 use Rattle.sso_base.specs.Words.{Text, word_text}
@@ -15,7 +15,7 @@ use Rattle.sso_places.specs.Reading.{sent_to}
 use Rattle.sso_places.proofs.Lists.{has_append}
 use Rattle.sign_on.proofs.Invariant.{AnsweredBy, AreSentApart}
 
--- ---- who is told
+-- ---- the notified clients
 
 -- numbers that rise, from one on
 abbrev pub AreRising : ℕ → List ℕ → Type 0
@@ -121,12 +121,12 @@ module _ (c : Configuration) (number : ℕ) (session : SessionRow) where
       all_weaker (λ (o : Sent). o.place < number) (λ (o : Sent). o.place ≡ number → o.client < 0) rows
       (λ o less same. let low : o.place < number = less in let is : o.place ≡ number = same in absurd (omega arith)) all
 
-  -- what holds of each token that is made for a number
+  -- what is true for each token that is made for a number
   pub all_map : {A : Type 0} (P : A → Type 0) (f : ℕ → A) (told : List ℕ) → ((n : ℕ) → Has told n → P (f n)) → AllByRecursion P (map f told)
   all_map P f [] each = tt
   all_map P f (n ∷ ns) each = (each n (inl refl), all_map P f ns (λ k has. each k (inr has)))
 
--- the clients that a sign-out tells
+-- the clients that a sign-out notifies
 pub told_is_rising : (c : Configuration) (answered : List Bool) → AreRising 0 (told_clients c answered)
 told_is_rising c answered = told_rising answered 0 c.clients
 

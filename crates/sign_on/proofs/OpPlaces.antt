@@ -363,7 +363,7 @@ answered_replies s from at request fresh asked sent given world site legal kept 
 
 -- ---- which session an answer rests on
 
--- a session that a pair neither makes nor ends stands after it
+-- a session that a pair neither makes nor ends is still there after it
 record Rests (p : OpPair) (past : OpPast) (v : Word) (session : SessionRow) (from : ℕ) (signed : List Signed) : Type 0 where
   row : SessionRow
   row_is : session_of (p ∷ past) (Some v) ≡ Some row
@@ -636,7 +636,7 @@ signed_out s from at request fresh asked messages world site legal distinct kept
     let number : ℕ = suc (length world) in
     let session : SessionRow = e.session in
     let before : IsLegalWorld s world = legal_before s x world legal in
-    -- the session stands, by its word
+    -- the session is there, by its word
     let word = session_word past at e.presented session e.live in
     let L : Option Word → Type 0 = λ o. live_session past at o ≡ Some session in
     let found : row_of session_name word.0 (sessions past) ≡ Some session = lives_some session_life session_begun at (row_of session_name word.0 (sessions past)) session (subst L word.1 e.live) in

@@ -23,7 +23,7 @@ use Rattle.sso_model.proofs.ListLaws.{all_has}
 
 -- ---- rows by name
 
--- a row that stands among others of which no two have one name is found by its name
+-- a row of a list without equal names is found by its name
 pub has_found : {R : Type 0} (name : R → Word) (rows : List R) (row : R) → IsDistinct name rows → Has rows row → row_of name (name row) rows ≡ Some row
 has_found name [] row distinct has = absurd has
 has_found {R} name (r ∷ rs) row distinct (inl same) =

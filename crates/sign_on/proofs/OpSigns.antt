@@ -47,7 +47,7 @@ use Rattle.sign_on.proofs.OpRows.{user_is_known, KeptSession, kept_session, set_
 
 -- ---- cookies that a place presents
 
--- where a word that a place presents was set, also at the place itself, its number is the place's
+-- if a cookie that a place presents was set, also at the place itself, its number is the place's
 pub own_word : (x : Place) (world : World) (from : ℕ) (word : Word) → leaks world x ≡ false → Has (presented x) word → IsSetBy (x ∷ world) from word → from_of x ≡ from
 own_word x world from word tight presents set = own_by set.has
   where

@@ -1,4 +1,5 @@
--- The pairs of a party's past as places of the world: where each stands, which place let a login in, and which holds a question.
+-- The pairs of a party's history as places of the world: the place of each, the place that accepted a login, and the place that
+-- holds a request to the provider.
 use Rattle.std.proofs.Common.{◌≡◌, ℕ, suc, ◌<◌, ◌==◌, ◌&&◌, Bool, true, false, cond, [], ◌∷◌, ◌++◌, length, Option, Some, Ok, refl, sym, ap, ◌∙◌, subst, inl, inr, eq-eqb, arith}
 use Rattle.std.proofs.lemmas.Bool.{eqb-true, and_parts}
 use Rattle.std.proofs.lemmas.Option.{same_Some}
@@ -34,7 +35,7 @@ use Rattle.sign_on.proofs.Invariant.{IsBegunAt}
 use Rattle.sso_places.proofs.Places.{legal_before, distinct_before, party_legal, drawn_other, place_drawn, one_place}
 use Rattle.sign_on.proofs.AskKinds.{IsTokens, as_tokens}
 
--- ---- where a pair stands
+-- ---- the place of a pair
 
 pub record IsPlaceOf (world : World) (n : ℕ) (p : RpPair) (earlier : RpPast) : Type 0 where
   pub from : ℕ
@@ -48,7 +49,7 @@ place_more : (x : Place) (world : World) (n : ℕ) (p : RpPair) (earlier : RpPas
 place_more x world n p earlier old =
     record { from = old.from; request = old.request; after = x ∷ old.after; before = old.before; parts = ap (λ (w : World). x ∷ w) old.parts; past_is = old.past_is }
 
--- the pair is the newest one of a party's place, or stands before it
+-- the pair is the newest one of a party's place, or is before it
 own_place : (n k from : ℕ) (request : WorldAsk) (q : RpPair) (world : World) (later : RpPast) (p : RpPair) (earlier : RpPast) → ((later : RpPast) → rp_past n world ≡ later ++ p ∷ earlier → IsPlaceOf world n p earlier)
     → k ≡ n → q ∷ rp_past n world ≡ later ++ p ∷ earlier → IsPlaceOf (Party k from request q ∷ world) n p earlier
 own_place n k from request q world [] p earlier rest same is =
@@ -115,7 +116,7 @@ one_begun n world j k given distinct first second =
     one_before world one.after one.before two.after two.before (Party n one.from one.request first.maker) (Party n two.from two.request second.maker) 2 distinct (omega arith) first.whole second.whole one.parts two.parts words in
     sym first.at ∙ ap (λ (past : RpPast). length past) (sym one.past_is ∙ ap (rp_past n) before ∙ two.past_is) ∙ second.at
 
--- ---- where a login was let in
+-- ---- the place that accepted a login
 
 entered_drawn : (s : PartySetup) (past : RpPast) (e : Entry RpAsk) (asked : RpAsk) (w : Word) (sub : Text) → EnteredCause s past e asked w sub → fresh_word e.fresh 1 ≡ w
 entered_drawn s past e (ask.Callback (Ok heard) id browser) w sub cause = cause.drawn
@@ -123,7 +124,7 @@ entered_drawn s past e (ask.Tokens pending (Ok came) id) w sub cause = cause.dra
 entered_drawn s past e (ask.Info pending (Ok came)) w sub cause = cause.drawn
 entered_drawn s past e asked w sub cause = absurd cause
 
--- the word of a session is drawn where the login enters
+-- the word of a session is drawn at the place that accepts the login
 pub entered_word : (s : PartySetup) (past : RpPast) (p : RpPair) (w : Word) (sub : Text) → IsLegalRp s (p ∷ past) → p.reply ≡ rp.Entered w sub → fresh_word p.entry.fresh 1 ≡ w
 entered_word s past p w sub legal replied = entered_drawn s past p.entry p.entry.ask w sub (entered_have_a_cause s past p.entry w sub (sym legal.3 ∙ replied))
 
@@ -168,7 +169,7 @@ entered_finds s (x ∷ world) n k from request p w sub legal distinct at replied
           ap E away ∙ entered_finds s world n k from request p w sub (legal_before s x world legal) (distinct_before x world distinct) there replied whole word)
     ]
 
--- ---- where a question was asked
+-- ---- the place of a request to the provider
 
 -- a place of the world drew the word, and has the number of this one
 pub record IsDrewBy (world : World) (w : Word) (from : ℕ) : Type 0 where
@@ -181,7 +182,7 @@ pub record IsDrewBy (world : World) (w : Word) (from : ℕ) : Type 0 where
 drew_more : (x : Place) (world : World) (w : Word) (from : ℕ) → IsDrewBy world w from → IsDrewBy (x ∷ world) w from
 drew_more x world w from old = record { place = old.place; has = inr old.has; four = old.four; word = old.word; same = old.same }
 
--- where a place holds a question, some place is the newest that does
+-- if a place holds a request to the provider, some place is the newest that does
 pub record IsHolder (world : World) (w : Word) : Type 0 where
   pub place : Place
   pub has : Has world place

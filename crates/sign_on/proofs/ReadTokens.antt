@@ -75,7 +75,7 @@ no_json status body came unread given =
     let never : None ≡ Some (object has.members) = sym unread ∙ is in
     absurd (cc)
 
--- JSON in which no access token stands
+-- JSON without an access token
 no_member : (status : ℕ) (body : Text) (came : Tokens) → ((ms : Members) → Reads body ms → get_member (codes "access_token") ms ≡ None) → tokens_read (answered status body) ≡ Ok came → ⊥
 no_member status body came none given =
     let has : HasTokens (answered status body) came = read_has (answered status body) came given in

@@ -25,7 +25,7 @@ get_some [] k low = absurd (omega arith)
 get_some (x ∷ xs) zero low = (x, refl)
 get_some (x ∷ xs) (suc k) low = get_some xs k (omega arith)
 
--- what holds of each holds of the one of a number
+-- what is true for each is true for the one with a number
 pub all_row : {X : Type 0} (P : X → Type 0) (xs : List X) (k : ℕ) (d : X) → AllByRecursion P xs → k < length xs → P (unwrap_or (slice_get xs k) d)
 all_row P [] k d all low = absurd (omega arith)
 all_row P (x ∷ xs) zero d all low = all.0

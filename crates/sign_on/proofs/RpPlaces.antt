@@ -185,7 +185,7 @@ own_settled_agree s n from request p world mine order kept =
     each_more s x world n (rows_of client rows) (live_visits (types_at s n) (rp_past n world) at) (low_rows client (length world) rows low)
     (sessions_settled s world n at m.live (rp_past n world) (kept.holds.live n mine) order)
 
--- all of them, where the visits that live stay
+-- all of them, if the live visits stay
 quiet_agrees : (s : Site) (n from : ℕ) (request : WorldAsk) (p : RpPair) (world : World) → IsSite s → n < length s.configuration.parties → last_moment (rp_past n world) ≤ p.entry.at → IsKept s world
     → live_visits (types_at s n) (p ∷ rp_past n world) p.entry.at ≡ live_visits (types_at s n) (rp_past n world) p.entry.at → Agrees s (Party n from request p ∷ world) (settled world (client_of_party s n) p.entry.at (machine_of s world).live)
 quiet_agrees s n from request p world site mine order kept stay =
@@ -196,7 +196,7 @@ quiet_agrees s n from request p world site mine order kept stay =
     let E : List SessionRow → Type 0 = λ vs. Each (IsSameSession s (x ∷ world) n) (rows_of (client_of_party s n) rows) vs in
     agrees_by s (x ∷ world) n rows (subst E (sym same) (own_settled_agree s n from request p world mine order kept)) (others_agree s n from request p world site mine kept)
 
--- and where a place drops those that it ends
+-- the same, if a place drops those that it ends
 fewer_agree : (s : Site) (n from : ℕ) (request : WorldAsk) (p : RpPair) (world : World) (k : Live → Bool) → IsSite s → n < length s.configuration.parties → last_moment (rp_past n world) ≤ p.entry.at → IsKept s world
     → visit_made (types_at s n) (visits (types_at s n) (rp_past n world)) (rp_past n world) p ≡ None
     → ((row : Live) (visit : SessionRow) → IsSameSession s (Party n from request p ∷ world) n row visit → row.client ≡ client_of_party s n → k row ≡ not (is_ended p visit))
@@ -423,7 +423,7 @@ shown s n from request p world w visit legal distinct tight kept presents live =
     let has = row_of-has visit_name w (visits types past) visit found in
     let alive : lives visit_life visit.entered at ≡ true = still_lives visit_life visit_begun at (row_of visit_name w (visits types past)) visit live in
     let among : Has (live_visits types past at) visit = has_filter (λ (row : SessionRow). lives visit_life row.entered at) (visits types past) visit alive has.0 in
-    -- the session of the machine beside it
+    -- the related session of the machine
     let settled_rows : List Live = settled world client at m.live in
     let agree : Each (IsSameSession s world n) (rows_of client settled_rows) (live_visits types past at) = sessions_settled s world n at m.live past (kept.holds.live n mine) own.2 in
     let beside = each_has (IsSameSession s world n) (rows_of client settled_rows) (live_visits types past at) visit agree among in

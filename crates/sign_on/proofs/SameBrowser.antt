@@ -1,4 +1,5 @@
--- The browser that was answered a nonce is one that asked for it: it stays the same from the authorization request to the answer.
+-- The browser that received the answer to a nonce is one that sent it: it is the same from the authorization request to the
+-- answer.
 use Rattle.std.proofs.Common.{◌≡◌, ℕ, suc, not, Bool, true, false, cond, List, [], ◌∷◌, ◌++◌, length, map, filter, Option, Some, None, option_map, option_and_then, Ok, refl, sym, ap, ◌∙◌, subst, inl, inr}
 use Rattle.std.proofs.lemmas.Option.{same_Some}
 use Rattle.std.specs.List.{AllByRecursion}
@@ -62,7 +63,7 @@ record IsAsked (world : World) (from : ℕ) (nonce : Option Text) : Type 0 where
   has : Has world (Provider from request pair)
   wishes : WishesNonce nonce pair.entry.ask
 
--- a turn belongs to the number that asked for it
+-- a turn belongs to the number that sent its request
 record IsTurnOf (world : World) (row : TurnRow) : Type 0 where
   from : ℕ
   set : IsSetBy world from row.browser
@@ -139,7 +140,7 @@ turns_origin from request p world old =
     })
     old
 
--- ---- the wish of an answer was asked for from the same number
+-- ---- the request of an answer came from the same number
 
 turn_has : (past : OpPast) (turn : Option Word) (row : TurnRow) → turn_of past turn ≡ Some row → Has (turns past) row
 turn_has past None row h = cc
@@ -331,7 +332,7 @@ origins s (Nothing ∷ world) legal unleaked =
 wishes_same : (asked : OpAsk) (one other : Option Text) → one ≡ other → WishesNonce one asked → WishesNonce other asked
 wishes_same asked one other same wishes = (let W : Option Text → Type 0 = λ o. WishesNonce o asked in subst W same wishes)
 
--- who was answered a nonce that only one number asked for is of that number
+-- if only one number sent a nonce, the answers to it went to that number
 pub answered_only_to : (s : Site) (world : World) (browser : ℕ) (nonce : Option Text) → IsLegalWorld s world → IsUnleaked world → IsAskedOnlyFrom world browser nonce → IsAnsweredOnlyTo (machine_of s world).answered browser nonce
 answered_only_to s world browser given legal unleaked only =
     all_weaker (IsAnswerOf world) (λ (row : Answered). row.nonce ≡ given → row.browser ≡ browser) (machine_of s world).answered

@@ -1,4 +1,4 @@
--- The premises of the theorem are met by a world in which a login begins, so what it says holds there.
+-- A world in which a login begins meets the premises of the theorem, so the conclusion is true for it.
 use Rattle.std.proofs.Common.{◌≡◌, ℕ, zero, suc, [], ◌∷◌, Some, refl, sym, arith}
 use Rattle.sso_base.specs.Words.{word_text}
 use Rattle.sso_model.specs.Machine.{start}

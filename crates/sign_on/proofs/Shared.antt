@@ -215,7 +215,7 @@ answered_as_more c row answered t old x nonce read is =
 pub tokens_more : (c : Configuration) (row : Answered) (answered : List Answered) (texts : List TokenText) → AllByRecursion (IsTokenAnswered c answered) texts → AllByRecursion (IsTokenAnswered c (row ∷ answered)) texts
 tokens_more c row answered texts all = all_weaker (IsTokenAnswered c answered) (IsTokenAnswered c (row ∷ answered)) texts (answered_as_more c row answered) all
 
--- a session stays owned where its owner stays the only one
+-- a session stays owned if its owner stays the only one
 pub session_more : (c : Configuration) (x : Place) (world : World) (signed after : List Signed) (row : SessionRow)
     → ((from : ℕ) → Owns signed (word_text row.sid) row.user from → Owns after (word_text row.sid) row.user from)
     → IsSessionOwned c world signed row → IsSessionOwned c (x ∷ world) after row
@@ -234,7 +234,7 @@ pub sessions_more : (c : Configuration) (x : Place) (world : World) (signed : Li
 sessions_more c x world signed rows all =
     all_weaker (IsSessionOwned c world signed) (IsSessionOwned c (x ∷ world) signed) rows (λ row old. session_more c x world signed signed row (λ from owns. owns) old) all
 
--- a code stays answered where the answers stay
+-- a code stays answered if the answers stay
 pub code_more : (c : Configuration) (x : Place) (world : World) (answered after : List Answered) (row : CodeRow) → ((a : Answered) → Has answered a → Has after a)
     → IsCodeAnswered c world answered row → IsCodeAnswered c (x ∷ world) after row
 code_more c x world answered after row stays old =
@@ -311,7 +311,7 @@ pub logouts_more : (c : Configuration) (x : Place) (world : World) (sent after :
     → AllByRecursion (IsTokenSent c world sent) texts → AllByRecursion (IsTokenSent c (x ∷ world) after) texts
 logouts_more c x world sent after texts stays all = all_weaker (IsTokenSent c world sent) (IsTokenSent c (x ∷ world) after) texts (λ t old. sent_as_more c x world sent after t stays old) all
 
--- ID Tokens beside codes and access tokens
+-- ID Tokens in one reply with codes and access tokens
 bound_one : (c : Configuration) (x : Place) (world : World) (t : TokenText) → IsTokenBound c world t → IsTokenBound c (x ∷ world) t
 bound_one c x world t old y nonce read is =
     let was : HasReplied world t.1 y = old y nonce read is in
@@ -342,7 +342,7 @@ ended_one s x world row old =
 pub ended_more : (s : Site) (x : Place) (world : World) (rows : List Sent) → AllByRecursion (IsEndedRow s world) rows → AllByRecursion (IsEndedRow s (x ∷ world)) rows
 ended_more s x world rows all = all_weaker (IsEndedRow s world) (IsEndedRow s (x ∷ world)) rows (ended_one s x world) all
 
--- the clients of a session stay answered where the answers stay
+-- the clients of a session stay answered if the answers stay
 pub answered_by_more : (answered after : List Answered) (client : ℕ) (row : SessionRow) → ((a : Answered) → Has answered a → Has after a) → AnsweredBy answered client row → AnsweredBy after client row
 answered_by_more answered after client row stays old =
     record { answer = old.answer; has = stays old.answer old.has; client_is = old.client_is; user_is = old.user_is; sid_is = old.sid_is }

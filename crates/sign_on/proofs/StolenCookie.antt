@@ -1,5 +1,5 @@
--- A world where one premise alone is broken: browser 1 signs in at the provider as alice, and browser 2 posts the consent page
--- with the two cookies that were set for browser 1. The provider's answers are real, and it gives browser 2 the code.
+-- A world that breaks only one premise: browser 1 signs in at the provider as alice, and browser 2 posts the consent page
+-- with the two cookies that were set for browser 1. The provider's answers are real, and it gives the code to browser 2.
 use Rattle.std.proofs.Common.{◌≡◌, ℕ, true, false, [], ◌∷◌, inl, inr, refl, sym, ap, arith}
 use Rattle.sso_model.specs.Rows.{Signed}
 use Rattle.client_registry.specs.ClientSets.{no_clients}

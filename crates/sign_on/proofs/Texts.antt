@@ -126,7 +126,7 @@ pub issued_unsent : (c : Configuration) (wish : Wish) (who : Authentication) (at
     → IsTokenSent c world sent (wish.client, issued_id c wish who at access code)
 issued_unsent c wish who at access code world sent may value y read = absurd (id_is_no_logout c wish who at access code (client_secret c wish.client) y may value read)
 
--- what holds of the token of an answer, where it has one, holds of what the answer writes
+-- what is true for the token of an answer, if it has one, is true for what the answer writes
 pub token_where : (P : TokenText → Type 0) (client : ℕ) (o : Option ℕ) (b : Bool) (t : Text) → o ≡ Some client → (b ≡ true → P (client, t)) → AllByRecursion P (token_if o (if_wished b t))
 token_where P client o true t is says =
     let Q : Option ℕ → Type 0 = λ k. AllByRecursion P (token_if k (Some t)) in

@@ -1,5 +1,5 @@
-//! The sign-on theorem: in a world of the real cores that keeps the premises, what happens is a run of the sign-on machine.
-//! It has no running code: the definitions stand in `sso_places`, the proof in `proofs/`.
+//! The sign-on theorem: in a world of the real cores that meets the premises, the events are a run of the sign-on machine. The
+//! crate has no running code: the definitions are in `sso_places`, the proof is in `proofs/`.
 //!
 //! | Module | What it has |
 //! |---|---|

@@ -443,7 +443,7 @@ module _ {D L C W S K : Type 0} (call : Call D L C W S K) where
   abbrev May : Option Command → Answer → Type 0
   May command answer = MayAnswer call.tells call.olds call.news call.contents call.shelf_before call.shelf_after command answer
 
-  -- where nothing is served the desks are as they were
+  -- if nothing is served, the desks are unchanged
   abbrev Idle : Option Command → Type 0
   Idle command = is_serving command ≡ false → call.news ≡ call.olds
 
@@ -492,7 +492,7 @@ module _ {D L C W S K : Type 0} (call : Call D L C W S K) where
 
   -- ---- Statuses by the contents
 
-  -- the shelf tells these contents
+  -- the shelf has these known contents
   abbrev Tells : List Content → Type 0
   Tells held = call.contents ≡ Some held
 

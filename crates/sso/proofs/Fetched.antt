@@ -77,7 +77,7 @@ unfolding answer_to
 answer_cut config trace =
     ap (λ (read : Result Configuration RegNo). replay_answer read (take 4194305 trace)) (registry_cut config) ∙ replay_cut (registry_read config) trace
 
--- The answer to what was fetched is the answer to the contents that stand there.
+-- The outcome for what was fetched is the outcome for the contents with these names.
 pub replay_fetched : (contents : Option (List Content)) (config_at trace_at : Text) (config trace : List ℕ) (answer : Answer)
     → IsFetched contents config_at 1048577 config → IsFetched contents trace_at 4194305 trace
     → answer ≡ answer_to config trace → Plays config trace → AnswersReplay contents config_at trace_at answer
@@ -186,7 +186,7 @@ described_cut c metadata =
           ∙ sym (described_long c metadata (is_above 65536 (length metadata) (omega arith)))
     ]
 
--- the bytes that were fetched, where something was
+-- the bytes that were fetched, if there are any
 abbrev front_of : Option (List ℕ) → Option (List ℕ)
 front_of metadata = option_map (take 65537) metadata
 

@@ -289,7 +289,7 @@ storming : command_of storm_words ≡ Some (Storm 0 1)
 unfolding command_of digits
 storming = refl
 
--- the answer over a configuration that is accepted, where the trace is too
+-- the outcome over a configuration that is accepted, if the trace is too
 stormed : (c : Configuration) (told : Told) → registry_read config_text ≡ Ok c → trace_told c (trace_text 0 1) ≡ Ok told → PlaysWell c told
     → Storms storm_words (end_status (end_of c told)) (Some []) (Some (storm_text c told 0 1))
 stormed c told read accepted well =

@@ -1,4 +1,4 @@
--- What is told of a server that ended is what it did.
+-- The outcome of a server that has ended is what it did.
 use Rattle.std.proofs.Common.{◌≡◌, Result, Ok, ap, ◌∙◌}
 use Rattle.std.proofs.lemmas.Result.{IfOk-weaker}
 use Rattle.std.specs.Result.{IfOk}

@@ -1,5 +1,5 @@
--- What the program answers to words that are no command, to the contents that it fetched for `replay` and `token`, and to the numbers
--- of a `storm`: a status and a text.
+-- The outcome for words that are not a command, for the contents that were fetched for `replay` and `token`, and for the
+-- numbers of a `storm`: a status and a text.
 use Rattle.std.specs.Prelude.{ℕ, ◌-◌, Bool, ◌&&◌, nat_lt, nat_le, List, [], ◌∷◌, ◌++◌, length, take, drop, codes, Result, Ok, Err, if◌then◌else◌}
 use Rattle.std.specs.Fmt.{decimal}
 use Rattle.std.specs.Str.{bytes_eq}
@@ -49,11 +49,11 @@ registry_name (reg.MixedHosts client) = codes "MixedHosts " ++ client
 registry_name (reg.UnknownClient party) = codes "UnknownClient " ++ party
 registry_name (reg.SubjectClash client user other) = codes "SubjectClash " ++ client ++ 32 ∷ user ++ 32 ∷ other
 
--- the text of a configuration that is not taken, by the reason's name
+-- the text for a rejected configuration, given the reason's name
 unfoldable pub configuration_text : Text → Text
 configuration_text name = codes "configuration " ++ name ++ 10 ∷ []
 
--- the answer to a configuration that is not taken, by the reason's name
+-- the outcome for a rejected configuration, given the reason's name
 abbrev pub configuration_refusal : Text → Answer
 configuration_refusal name = record { status = 3; text = configuration_text name }
 
@@ -69,17 +69,17 @@ trace_name (no.Backwards line) = codes "Backwards " ++ decimal line
 trace_name (no.NoSuchReply line) = codes "NoSuchReply " ++ decimal line
 trace_name (no.NoSuchParty line) = codes "NoSuchParty " ++ decimal line
 
--- the text of a trace that is refused
+-- the text for a rejected trace
 unfoldable pub refused_text : TraceNo → Text
 refused_text why = codes "trace " ++ trace_name why ++ 10 ∷ []
 
--- the status of a replay, by how its play ended
+-- the status of a replay, by the end of its play
 abbrev pub end_status : ReplayEnd → ℕ
 end_status end.Met = 0
 end_status (end.Broken broken) = 7
 end_status (end.Journal place) = 8
 
--- the answer to a trace that is played over a configuration
+-- the outcome for a trace that is played over a configuration
 abbrev pub trace_answer : Configuration → Result Told TraceNo → Answer
 trace_answer c (Ok told) = record { status = end_status (end_of c told); text = text_of c told }
 trace_answer c (Err why) = record { status = 4; text = refused_text why }
@@ -88,11 +88,11 @@ abbrev pub replay_answer : Result Configuration RegNo → List ℕ → Answer
 replay_answer (Ok c) trace = trace_answer c (trace_told c trace)
 replay_answer (Err why) trace = configuration_refusal (registry_name why)
 
--- the answer to a configuration and a trace
+-- the outcome for a configuration and a trace
 unfoldable pub answer_to : List ℕ → List ℕ → Answer
 answer_to config trace = replay_answer (registry_read config) trace
 
--- the answer to a storm of two numbers, whose trace is played over a configuration
+-- the outcome of a storm of two numbers, whose trace is played over a configuration
 abbrev pub storm_told : Configuration → ℕ → ℕ → Result Told TraceNo → Answer
 storm_told c number count (Ok told) = record { status = end_status (end_of c told); text = storm_text c told number count }
 storm_told c number count (Err why) = record { status = 4; text = refused_text why }
@@ -101,11 +101,11 @@ abbrev pub storm_over : Result Configuration RegNo → ℕ → ℕ → Answer
 storm_over (Ok c) number count = storm_told c number count (trace_told c (trace_text number count))
 storm_over (Err why) number count = configuration_refusal (registry_name why)
 
--- the answer to a storm of two numbers
+-- the outcome of a storm of two numbers
 unfoldable pub storm_answer : ℕ → ℕ → Answer
 storm_answer number count = storm_over (registry_read config_text) number count
 
--- bytes without their last, where that is a line feed
+-- bytes without their last, if that is a line feed
 abbrev pub without_feed : List ℕ → List ℕ
 without_feed bytes =
     if bytes_eq (drop (length bytes - 1) bytes) (codes "\n") then take (length bytes - 1) bytes else bytes
@@ -114,24 +114,24 @@ without_feed bytes =
 abbrev pub is_secret : List ℕ → Bool
 is_secret bytes = nat_lt 0 (length bytes) && nat_le (length bytes) 128
 
--- the text of a token that is refused, by the name of the refusal
+-- the text for a rejected token, given the refusal's name
 unfoldable pub token_text : Text → Text
 token_text name = codes "token " ++ name ++ 10 ∷ []
 
--- the answer to a token that holds this payload
+-- the outcome for a token with this payload
 abbrev pub payload_answer : List ℕ → Answer
 payload_answer payload = record { status = 0; text = payload ++ 10 ∷ [] }
 
--- the answer to a token that is refused
+-- the outcome for a rejected token
 abbrev pub token_refusal : Text → Answer
 token_refusal name = record { status = 10; text = token_text name }
 
--- the answer to a token, by what it holds under the secret
+-- the outcome for a token, by the result of its verification under the secret
 abbrev pub verdict_answer : Result Unsealed JwsNo → Answer
 verdict_answer (Ok unsealed) = payload_answer unsealed.payload
 verdict_answer (Err why) = token_refusal (jws_name why)
 
--- the answer to the contents of a secret's file and a token's file
+-- the outcome for the contents of a secret's file and a token's file
 unfoldable pub token_answer : List ℕ → List ℕ → Answer
 token_answer secret token =
     if is_secret (without_feed secret)

@@ -1,5 +1,5 @@
--- What is to be served by `op` and `rp`, or the answer where it can't be: by the configuration, and for `rp` by the party's name and
--- the provider's metadata.
+-- What `op` and `rp` are to serve, or the outcome if that is refused: by the configuration, and for `rp` by the party's name
+-- and the provider's metadata.
 use Rattle.std.specs.Prelude.{ℕ, Bool, true, false, nat_le, List, [], ◌∷◌, ◌++◌, length, codes, Option, Some, None, Result, Ok, Err, if◌then◌else◌}
 use Rattle.std.specs.Fmt.{decimal}
 use Rattle.sso_base.specs.Words.{Text}
@@ -36,7 +36,7 @@ metadata_name disc.IssuerDiffers = codes "IssuerDiffers"
 metadata_name disc.NoHs256 = codes "NoHs256"
 metadata_name (disc.BadUrl name) = codes "BadUrl"
 
--- the text of metadata that are refused, by the reason's name
+-- the text for rejected metadata, given the reason's name
 unfoldable pub metadata_text : Text → Text
 metadata_text name = codes "discovery " ++ name ++ 10 ∷ []
 
@@ -47,14 +47,14 @@ abbrev pub provider_read : Result Provider DiscNo → Result Provider Answer
 provider_read (Ok provider) = Ok provider
 provider_read (Err why) = Err (metadata_refusal (metadata_name why))
 
--- the provider of metadata, which have at most 65,536 bytes (OpenID Connect Discovery 1.0, 4.3)
+-- the provider that the metadata describe; they have at most 65,536 bytes (OpenID Connect Discovery 1.0, 4.3)
 unfoldable pub described : Configuration → List ℕ → Result Provider Answer
 described c metadata =
     if nat_le (length metadata) 65536
     then provider_read (discovery_read c.provider.issuer metadata)
     else Err (metadata_refusal (codes "Size"))
 
--- the provider that a party trusts: the one of the metadata, or else the configuration's
+-- the provider that a party trusts: that of the metadata, or else the configuration's
 abbrev pub trusted : Configuration → Option (List ℕ) → Result Provider Answer
 trusted c (Some metadata) = described c metadata
 trusted c None = Ok c.provider
@@ -75,7 +75,7 @@ party_asked (Err why) name metadata = Err (configuration_refusal (registry_name 
 unfoldable pub rp_asked : List ℕ → Text → Option (List ℕ) → Result PartySetup Answer
 rp_asked config name metadata = party_asked (registry_read config) name metadata
 
--- ---- a server that ended
+-- ---- a server that has ended
 
 unfoldable pub door_text : Text
 door_text = codes "door\n"
@@ -83,7 +83,7 @@ door_text = codes "door\n"
 unfoldable pub served_text : ℕ → ℕ → Text
 served_text served entries = codes "served " ++ decimal served ++ codes " entries " ++ decimal entries ++ 10 ∷ []
 
--- what is told of a server that ended: that a door failed, or else how many connections it served and how many entries its history has
+-- the outcome of a server that has ended: a door failed, or else the numbers of served connections and of the history's entries
 abbrev pub server_answer : Bool → ℕ → ℕ → Answer
 server_answer true served entries = record { status = 9; text = door_text }
 server_answer false served entries = record { status = 0; text = served_text served entries }

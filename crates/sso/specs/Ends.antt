@@ -1,5 +1,5 @@
--- How a call of the program ends: for each status, what is then so. What a shelf holds and what a sink took is an option,
--- since real files and a real output tell nothing.
+-- How a call of the program ends: for each status, what is true then. A shelf's contents and a sink's output are options, since
+-- those of real files and of a real output are unknown.
 use Rattle.std.specs.Prelude.{◌≡◌, ◌⊎◌, ℕ, Bool, true, false, ◌||◌, ◌==◌, nat_le, List, [], ◌∷◌, ◌++◌, length, Option, Some, None, option_map, Result, Ok, Err, codes}
 use Rattle.sso_base.specs.Words.{Text}
 use Rattle.sso_base.specs.Faults.{Rose}
@@ -39,12 +39,12 @@ use Rattle.sso.specs.Outcomes.{IsContent, IsContentIf, MayAnswer}
 
 -- ---- no command, and no content
 
--- The words are no command, and the usage was written.
+-- The words are not a command, and the usage was written.
 pub record ShowsUsage (words : List Text) (old new : Option (List ℕ)) : Type 0 where
   pub words_are_none : command_of words ≡ None
   pub wrote : Takes old new usage_text
 
--- The shelf failed in this call, and that was written.
+-- The shelf failed during this call, and the text for that was written.
 pub record ReportsShelf (before after : ℕ) (words : List Text) (old new : Option (List ℕ)) : Type 0 where
   pub words_are : is_command words ≡ true
   pub rose : Rose before after
@@ -52,7 +52,7 @@ pub record ReportsShelf (before after : ℕ) (words : List Text) (old new : Opti
 
 -- ---- a configuration
 
--- the configuration of a command: it stands under the name that the command has, or is that of every storm
+-- the configuration of a command: the content with the command's name, or that of every storm
 abbrev pub IsConfigOf : Option (List Content) → Command → List ℕ → Type 0
 IsConfigOf contents (Replay config_at trace_at) config = IsContent contents config_at config
 IsConfigOf contents (Op config_at) config = IsContent contents config_at config
@@ -60,24 +60,24 @@ IsConfigOf contents (Rp config_at party metadata_at) config = IsContent contents
 IsConfigOf contents (Storm number count) config = config ≡ config_text
 IsConfigOf contents (Token secret_at token_at) config = ⊥
 
--- the trace of a command: it stands under the name that the command has, or is made of the numbers of a storm
+-- the trace of a command: the content with the command's name, or the trace that the numbers of a storm determine
 abbrev pub IsTraceOf : Option (List Content) → Command → List ℕ → Type 0
 IsTraceOf contents (Replay config_at trace_at) trace = IsContent contents trace_at trace
 IsTraceOf contents (Storm number count) trace = trace ≡ trace_text number count
 IsTraceOf contents command trace = ⊥
 
--- the command names a party that the configuration has not, and this is the reason's name
+-- the configuration lacks the party that the command names; this is the name of that reason
 abbrev pub IsPartyNo : Command → Configuration → Text → Type 0
 IsPartyNo (Rp config_at party metadata_at) c name = (party_place party c.parties ≡ None) × (name ≡ codes "NoParty")
 IsPartyNo command c name = ⊥
 
--- why a configuration is not taken by a command, by the reason's name: it is refused, or has no party of the name
+-- the name of the reason for which a command rejects a configuration: reading rejects it, or it lacks the party
 abbrev pub IsConfigurationNo : Command → List ℕ → Text → Type 0
 IsConfigurationNo command config name =
     ((why : RegNo) × (registry_read config ≡ Err why) × (name ≡ registry_name why))
     ⊎ ((c : Configuration) × (registry_read config ≡ Ok c) × IsPartyNo command c name)
 
--- The configuration is not taken, and why was written.
+-- The configuration is rejected, and the reason was written.
 pub record RefusesConfiguration (contents : Option (List Content)) (words : List Text) (old new : Option (List ℕ)) : Type 0 where
   pub command : Command
   pub words_are : command_of words ≡ Some command
@@ -89,7 +89,7 @@ pub record RefusesConfiguration (contents : Option (List Content)) (words : List
 
 -- ---- `replay` and `storm`
 
--- The configuration is accepted, the trace is not, and why was written.
+-- The configuration is accepted, the trace is rejected, and the reason was written.
 pub record RefusesTrace (contents : Option (List Content)) (words : List Text) (old new : Option (List ℕ)) : Type 0 where
   pub command : Command
   pub words_are : command_of words ≡ Some command
@@ -105,7 +105,7 @@ pub record RefusesTrace (contents : Option (List Content)) (words : List Text) (
 
 -- ---- `token`
 
--- The secret has 1 to 128 bytes and the token is sealed under it, each without a line feed at its end, and the payload was
+-- The secret has 1 to 128 bytes, and the token is sealed under it, each without a line feed at its end. The payload was
 -- written.
 pub record OpensToken (contents : Option (List Content)) (words : List Text) (old new : Option (List ℕ)) : Type 0 where
   pub secret_at : Text
@@ -120,13 +120,13 @@ pub record OpensToken (contents : Option (List Content)) (words : List Text) (ol
   pub opened : verdict (without_feed secret) (without_feed token) ≡ Ok unsealed
   pub wrote : Takes old new (unsealed.payload ++ 10 ∷ [])
 
--- why a token is refused under a secret, by its name: the secret's length comes first
+-- the name of the reason for which a token is rejected; the secret's length comes first
 abbrev pub IsTokenNo : List ℕ → List ℕ → Text → Type 0
 IsTokenNo secret token name =
     ((is_secret secret ≡ false) × (name ≡ codes "Secret"))
     ⊎ ((is_secret secret ≡ true) × ((why : JwsNo) × (verdict secret token ≡ Err why) × (name ≡ jws_name why)))
 
--- The secret has another length or the token is not sealed under it, and why was written.
+-- The secret has another length, or the token is not sealed under it, and the reason was written.
 pub record RefusesToken (contents : Option (List Content)) (words : List Text) (old new : Option (List ℕ)) : Type 0 where
   pub secret_at : Text
   pub token_at : Text
@@ -141,13 +141,13 @@ pub record RefusesToken (contents : Option (List Content)) (words : List Text) (
 
 -- ---- `rp` with metadata
 
--- why metadata are refused, by the reason's name: their size comes first
+-- the name of the reason for which metadata are rejected; their size comes first
 abbrev pub IsMetadataNo : Configuration → List ℕ → Text → Type 0
 IsMetadataNo c metadata name =
     ((nat_le (length metadata) 65536 ≡ false) × (name ≡ codes "Size"))
     ⊎ ((nat_le (length metadata) 65536 ≡ true) × ((why : DiscNo) × (discovery_read c.provider.issuer metadata ≡ Err why) × (name ≡ metadata_name why)))
 
--- The configuration has the party, the metadata of the provider are refused, and why was written.
+-- The configuration has the party, the provider's metadata are rejected, and the reason was written.
 pub record RefusesMetadata (contents : Option (List Content)) (words : List Text) (old new : Option (List ℕ)) : Type 0 where
   pub config_at : Text
   pub party : Text
@@ -168,8 +168,8 @@ pub record RefusesMetadata (contents : Option (List Content)) (words : List Text
 module _ {D L C W S K : Type 0} (t : Telling D L C W S K) (olds news : List (Desk D L C W)) where
   -- ---- `op` and `rp`: the desks served
 
-  -- The configuration is accepted, the desks served its provider, and what is told of that was written: whether a door failed, or how
-  -- much was served.
+  -- The configuration is accepted, the desks served its provider, and the result was written: that a door failed, or how much
+  -- was served.
   pub record RunsProvider (contents : Option (List Content)) (words : List Text) (failed : Bool) (old new : Option (List ℕ)) : Type 0 where
     pub config_at : Text
     pub words_are : command_of words ≡ Some (Op config_at)
@@ -182,7 +182,7 @@ module _ {D L C W S K : Type 0} (t : Telling D L C W S K) (olds news : List (Des
     pub ended : summary.fault ≡ failed
     pub wrote : Takes old new (server_answer failed summary.served summary.entries).text
 
-  -- The same of a party of the configuration, which trusts the configuration's provider, or the one of the metadata.
+  -- The same for a party of the configuration, which trusts the configuration's provider, or the one of the metadata.
   pub record RunsParty (contents : Option (List Content)) (words : List Text) (failed : Bool) (old new : Option (List ℕ)) : Type 0 where
     pub config_at : Text
     pub party : Text
@@ -203,24 +203,24 @@ module _ {D L C W S K : Type 0} (t : Telling D L C W S K) (olds news : List (Des
     pub ended : summary.fault ≡ failed
     pub wrote : Takes old new (server_answer failed summary.served summary.entries).text
 
-  -- ---- any answer, cut
+  -- ---- any outcome, cut short
 
-  -- The sink failed in this call, and a front of what may be answered was written.
+  -- The sink failed during this call, and a prefix of a possible outcome was written.
   pub record StopsWriting (contents : Option (List Content)) (shelf_before shelf_after : ℕ) (words : List Text) (before after : ℕ) (old new : Option (List ℕ)) : Type 0 where
     pub rose : Rose before after
     pub answer : Answer
     pub may : MayAnswer t olds news contents shelf_before shelf_after (command_of words) answer
     pub wrote : TakesFront old new answer.text
 
--- ---- which status comes
+-- ---- which status is returned
 
--- the status of the answer to two contents, where both are there
+-- the status of the outcome for two contents, if both exist
 abbrev pub status_of_both : (List ℕ → List ℕ → Answer) → Option (List ℕ) → Option (List ℕ) → ℕ
 status_of_both answer None second = 5
 status_of_both answer (Some first) None = 5
 status_of_both answer (Some first) (Some second) = (answer first second).status
 
--- the status where what is to be served is refused, and none where it is served, since the doors decide then
+-- the status if serving is refused; none if it is not, since the doors then decide
 abbrev pub status_of_asked : {X : Type 0} → Result X Answer → Option ℕ
 status_of_asked (Err refusal) = Some refusal.status
 status_of_asked (Ok asked) = None
@@ -229,7 +229,7 @@ abbrev pub op_status : Option (List ℕ) → Option ℕ
 op_status None = Some 5
 op_status (Some config) = status_of_asked (op_asked config)
 
--- the content of a name, where there is one; the inner option is whether it is there
+-- the content of a name, if one is given; the inner option is whether the content exists
 abbrev pub content_if : List Content → Option Text → Option (Option (List ℕ))
 content_if contents None = Some None
 content_if contents (Some name) = option_map Some (content_of contents name)
@@ -239,7 +239,7 @@ rp_status party None metadata = Some 5
 rp_status party (Some config) None = Some 5
 rp_status party (Some config) (Some metadata) = status_of_asked (rp_asked config party metadata)
 
--- the status by the command of the words and by the contents of a shelf that tells them; none where something is served
+-- the status, by the command of the words and the known contents of a shelf; none if something is served
 abbrev pub status_for : List Content → Option Command → Option ℕ
 status_for contents None = Some 2
 status_for contents (Some (Replay config trace)) = Some (status_of_both answer_to (content_of contents config) (content_of contents trace))
@@ -248,16 +248,16 @@ status_for contents (Some (Token secret token)) = Some (status_of_both token_ans
 status_for contents (Some (Op config)) = op_status (content_of contents config)
 status_for contents (Some (Rp config party metadata)) = rp_status party (content_of contents config) (content_if contents metadata)
 
--- The status is this one, unless memory was wanting or the sink failed.
+-- The status is this one, unless memory ran out or the sink failed.
 abbrev pub IsStatus : ℕ → ℕ → Type 0
 IsStatus wanted status = (status ≡ wanted) ⊎ (status ≡ 1) ⊎ (status ≡ 6)
 
--- The status is this one, or one of a server that ended, unless memory was wanting, or the shelf or the sink failed.
+-- The status is this one, or one of a server that has ended, unless memory ran out, or the shelf or the sink failed.
 abbrev pub IsStatusOf : Option ℕ → ℕ → Type 0
 IsStatusOf (Some wanted) status = (status ≡ wanted) ⊎ (status ≡ 1) ⊎ (status ≡ 5) ⊎ (status ≡ 6)
 IsStatusOf None status = (status ≡ 0) ⊎ (status ≡ 9) ⊎ (status ≡ 1) ⊎ (status ≡ 5) ⊎ (status ≡ 6)
 
--- the status is one of those where nothing is served: for the words, for the shelf, by a refusal, or of a play
+-- the status is one at which nothing was served: wrong words, a shelf failure, a refusal, or the end of a play
 abbrev pub is_refusal : ℕ → Bool
 is_refusal status = status == 2 || status == 3 || status == 4 || status == 5 || status == 7 || status == 8 || status == 10
 

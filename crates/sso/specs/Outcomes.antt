@@ -1,5 +1,5 @@
--- What may be answered to a command, and how an answer is written. What a shelf holds and what a sink took is an option, since real
--- files and a real output tell nothing.
+-- The possible outcomes of a command, and how an outcome is written. A shelf's contents and a sink's output are options, since
+-- those of real files and of a real output are unknown.
 use Rattle.std.specs.Prelude.{◌≡◌, ◌⊎◌, ℕ, ◌≤◌, List, length, Option, Some, None, Result, Ok, Err}
 use Rattle.sso_base.specs.Words.{Text}
 use Rattle.sso_base.specs.Faults.{Rose}
@@ -26,22 +26,22 @@ use Rattle.oidc_replay.specs.Theorem.{PlaysWell}
 use Rattle.sso.specs.Answer.{Answer, usage_text, shelf_text, answer_to, storm_answer, token_answer}
 use Rattle.sso.specs.Asked.{op_asked, rp_asked, server_answer}
 
--- this content stands under this name, where the shelf tells
+-- this is the content with this name, if the shelf's contents are known
 abbrev pub IsContent : Option (List Content) → Text → List ℕ → Type 0
 IsContent None name content = Unit {0}
 IsContent (Some contents) name content = content_of contents name ≡ Some content
 
--- the same of a name that may be absent, and there is a content exactly where there is a name
+-- the same for a name that may be absent; there is a content if and only if there is a name
 abbrev pub IsContentIf : Option (List Content) → Option Text → Option (List ℕ) → Type 0
 IsContentIf contents (Some name) (Some content) = IsContent contents name content
 IsContentIf contents None None = Unit {0}
 IsContentIf contents name content = ⊥
 
--- these bytes are what is fetched under this name: at most so many
+-- these bytes are fetched under this name: at most `most` bytes
 abbrev pub IsFetched : Option (List Content) → Text → ℕ → List ℕ → Type 0
 IsFetched contents name most bytes = Fetches contents name most bytes × (length bytes ≤ most)
 
--- the same of a name that may be absent
+-- the same for a name that may be absent
 abbrev pub IsFetchedIf : Option (List Content) → Option Text → ℕ → Option (List ℕ) → Type 0
 IsFetchedIf contents (Some name) most (Some bytes) = IsFetched contents name most bytes
 IsFetchedIf contents None most None = Unit {0}
@@ -55,19 +55,19 @@ shelf_answer = record { status = 5; text = shelf_text }
 
 -- ---- `replay`, `storm` and `token`
 
--- the sign-on theorem for the play of these bytes over a registry, where they are an accepted trace
+-- the sign-on theorem for the play of these bytes over a registry, if they are an accepted trace
 abbrev pub PlaysOver : Configuration → List ℕ → Type 0
 PlaysOver c trace = (told : Told) → trace_told c trace ≡ Ok told → PlaysWell c told
 
--- the same over the bytes of a configuration, where they are an accepted one
+-- the same for the bytes of a configuration, if they are accepted
 unfoldable pub Plays : List ℕ → List ℕ → Type 0
 Plays config trace = (c : Configuration) → registry_read config ≡ Ok c → PlaysOver c trace
 
--- the shelf failed in this call
+-- the shelf failed during this call
 abbrev pub FailsAtShelf : ℕ → ℕ → Answer → Type 0
 FailsAtShelf before after answer = (answer ≡ shelf_answer) × Rose before after
 
--- The answer is that to a configuration and a trace which stand under these names.
+-- The outcome is the one for a configuration and a trace with these names.
 pub record AnswersReplay (contents : Option (List Content)) (config_at trace_at : Text) (answer : Answer) : Type 0 where
   pub config : List ℕ
   pub trace : List ℕ
@@ -76,17 +76,17 @@ pub record AnswersReplay (contents : Option (List Content)) (config_at trace_at 
   pub answers : answer ≡ answer_to config trace
   pub well : Plays config trace
 
--- what may be answered to `replay`: that the shelf failed, only where it did
+-- the possible outcomes of `replay`: a shelf failure is reported only if there was one
 abbrev pub MayReplay : Option (List Content) → ℕ → ℕ → Text → Text → Answer → Type 0
 MayReplay contents before after config_at trace_at answer =
     FailsAtShelf before after answer ⊎ AnswersReplay contents config_at trace_at answer
 
--- The answer is that to a storm of these numbers. This is what may be answered to `storm`, which needs no shelf.
+-- The outcome is the one for a storm of these numbers. It is the only one of `storm`, which needs no shelf.
 pub record AnswersStorm (number count : ℕ) (answer : Answer) : Type 0 where
   pub answers : answer ≡ storm_answer number count
   pub well : Plays config_text (trace_text number count)
 
--- The answer is that to a secret and a token which stand under these names.
+-- The outcome is the one for a secret and a token with these names.
 pub record AnswersToken (contents : Option (List Content)) (secret_at token_at : Text) (answer : Answer) : Type 0 where
   pub secret : List ℕ
   pub token : List ℕ
@@ -94,7 +94,7 @@ pub record AnswersToken (contents : Option (List Content)) (secret_at token_at :
   pub token_there : IsContent contents token_at token
   pub answers : answer ≡ token_answer secret token
 
--- what may be answered to `token`
+-- the possible outcomes of `token`
 abbrev pub MayOpen : Option (List Content) → ℕ → ℕ → Text → Text → Answer → Type 0
 MayOpen contents before after secret_at token_at answer =
     FailsAtShelf before after answer ⊎ AnswersToken contents secret_at token_at answer
@@ -102,7 +102,7 @@ MayOpen contents before after secret_at token_at answer =
 -- ---- `op` and `rp`
 
 module _ {D L C W S K : Type 0} (t : Telling D L C W S K) (olds news : List (Desk D L C W)) where
-  -- what may be answered by what is to be served: where that is refused the desks are as they were, and else they served it
+  -- the possible outcomes of serving: if it is refused, the desks are unchanged; otherwise they served
   abbrev pub ServedOp : Result Configuration Answer → Answer → Type 0
   ServedOp (Err refusal) answer = (answer ≡ refusal) × (news ≡ olds)
   ServedOp (Ok c) answer = (s : Summary Providing OpAsk OpReply) × ServesOp t olds news c s × (answer ≡ server_answer s.fault s.served s.entries)
@@ -111,18 +111,18 @@ module _ {D L C W S K : Type 0} (t : Telling D L C W S K) (olds news : List (Des
   ServedRp (Err refusal) answer = (answer ≡ refusal) × (news ≡ olds)
   ServedRp (Ok p) answer = (s : Summary Relying RpAsk RpReply) × ServesRp t olds news p s × (answer ≡ server_answer s.fault s.served s.entries)
 
-  -- The answer is that to a configuration which stands under this name.
+  -- The outcome is the one for a configuration with this name.
   pub record AnswersOp (contents : Option (List Content)) (config_at : Text) (answer : Answer) : Type 0 where
     pub config : List ℕ
     pub config_there : IsContent contents config_at config
     pub served : ServedOp (op_asked config) answer
 
-  -- what may be answered to `op`
+  -- the possible outcomes of `op`
   abbrev pub MayServeOp : Option (List Content) → ℕ → ℕ → Text → Answer → Type 0
   MayServeOp contents before after config_at answer =
       (FailsAtShelf before after answer × (news ≡ olds)) ⊎ AnswersOp contents config_at answer
 
-  -- The answer is that to a configuration, and to metadata where they are named, which stand under these names.
+  -- The outcome is the one for a configuration with this name, and for the metadata with this name, if one is given.
   pub record AnswersRp (contents : Option (List Content)) (config_at name : Text) (metadata_at : Option Text) (answer : Answer) : Type 0 where
     pub config : List ℕ
     pub metadata : Option (List ℕ)
@@ -130,14 +130,14 @@ module _ {D L C W S K : Type 0} (t : Telling D L C W S K) (olds news : List (Des
     pub metadata_there : IsContentIf contents metadata_at metadata
     pub served : ServedRp (rp_asked config name metadata) answer
 
-  -- what may be answered to `rp`
+  -- the possible outcomes of `rp`
   abbrev pub MayServeRp : Option (List Content) → ℕ → ℕ → Text → Text → Option Text → Answer → Type 0
   MayServeRp contents before after config_at name metadata_at answer =
       (FailsAtShelf before after answer × (news ≡ olds)) ⊎ AnswersRp contents config_at name metadata_at answer
 
   -- ---- any words
 
-  -- what may be answered to the words of a command, or of none
+  -- the possible outcomes for the words of a command, or of none
   abbrev pub MayAnswer : Option (List Content) → ℕ → ℕ → Option Command → Answer → Type 0
   MayAnswer contents before after None answer = answer ≡ usage_answer
   MayAnswer contents before after (Some (Replay config trace)) answer = MayReplay contents before after config trace answer
@@ -146,7 +146,7 @@ module _ {D L C W S K : Type 0} (t : Telling D L C W S K) (olds news : List (Des
   MayAnswer contents before after (Some (Op config)) answer = MayServeOp contents before after config answer
   MayAnswer contents before after (Some (Rp config name metadata)) answer = MayServeRp contents before after config name metadata answer
 
--- how an answer is written: all of it, and the status is its own; or a front of it, where the sink failed
+-- how an outcome is written: either all of it, and the status is its own, or a prefix of it, and the sink failed
 abbrev pub IsWritten : Option (List ℕ) → Option (List ℕ) → ℕ → ℕ → Answer → ℕ → Type 0
 IsWritten old new before after answer status =
     ((status ≡ answer.status) × Takes old new answer.text)

@@ -1,5 +1,5 @@
--- The theorems of the program: of `replay CONFIG TRACE` where the trace was played, and of `storm NUMBER COUNT`. What a shelf
--- holds and what a sink took is an option, since real files and a real output tell nothing.
+-- The theorems of the program: for `replay CONFIG TRACE` if the trace was played, and for `storm NUMBER COUNT`. A shelf's
+-- contents and a sink's output are options, since those of real files and of a real output are unknown.
 use Rattle.std.specs.Prelude.{◌≡◌, ℕ, List, Option, Some, Ok}
 use Rattle.sso_base.specs.Words.{Text}
 use Rattle.sso_base.specs.Outside.{Content, Takes}
@@ -17,9 +17,9 @@ use Rattle.oidc_replay.specs.Theorem.{PlaysWell}
 use Rattle.sso.specs.Answer.{end_status}
 use Rattle.sso.specs.Outcomes.{IsContent}
 
--- The configuration and the trace are accepted, and the text of the play was written. The status tells how the play ended: after the
--- last line with no premise that fails, or with one that does, or where a history was full. The sign-on theorem holds of that
--- play, and honest logins in it succeed.
+-- The configuration and the trace are accepted, and the text of the play was written. The status reports how the play ended: at
+-- the last line with no failed premise, at the last line with one, or at a full history. The sign-on theorem is true for this
+-- play, and its honest logins succeed.
 pub record Replays (contents : Option (List Content)) (words : List Text) (status : ℕ) (old new : Option (List ℕ)) : Type 0 where
   pub config_at : Text
   pub trace_at : Text
@@ -36,7 +36,7 @@ pub record Replays (contents : Option (List Content)) (words : List Text) (statu
   pub wrote : Takes old new (text_of configuration told)
   pub well : PlaysWell configuration told
 
--- The same of a storm of two numbers. Its configuration and its trace are made of these, and a summary of the play was written.
+-- The same for a storm of two numbers, which determine its configuration and its trace. A summary of the play was written.
 pub record Storms (words : List Text) (status : ℕ) (old new : Option (List ℕ)) : Type 0 where
   pub number : ℕ
   pub count : ℕ

@@ -1,4 +1,5 @@
--- How a call of the program ends, as one statement: what is so at each status. The clauses of the top call say it status by status.
+-- How a call of the program ends, as one statement: what is true at each status. The contract of the top call has one clause a
+-- status.
 use Rattle.std.specs.Prelude.{◌≡◌, ◌⊎◌, ℕ, ◌≤◌, MatchBool, true, false, ◌==◌, List, Option}
 use Rattle.sso_base.specs.Words.{Text}
 use Rattle.sso_base.specs.Outside.{Content}
@@ -7,7 +8,7 @@ use Rattle.serving.specs.Summaries.{Telling}
 use Rattle.sso.specs.Ends.{ShowsUsage, ReportsShelf, RefusesConfiguration, RefusesTrace, RefusesToken, RefusesMetadata, OpensToken, RunsProvider, RunsParty, StopsWriting, is_refusal}
 use Rattle.sso.specs.SignOn.{Replays, Storms}
 
--- a call: what it was given, and what it left
+-- a call: its inputs and its results
 pub record Call (D L C W S K : Type 0) : Type 0 where
   pub tells : Telling D L C W S K
   pub olds : List (Desk D L C W)
@@ -46,7 +47,7 @@ module _ {D L C W S K : Type 0} (call : Call D L C W S K) where
   abbrev pub Stops : Type 0
   Stops = StopsWriting call.tells call.olds call.news call.contents call.shelf_before call.shelf_after call.words call.before call.after call.old call.new
 
-  -- what is so at a status
+  -- what is true at a status
   abbrev pub At : ℕ → Type 0
   At status =
       MatchBool (status == 0) Runs

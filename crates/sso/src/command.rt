@@ -1,4 +1,4 @@
-//! What the words ask for, with contents fetched from the shelf.
+//! Runs the command of the words, with contents fetched from the shelf.
 
 ghost use Rattle.std.specs.Prelude.{◌≡◌, ◌^◌, ◌≤◌, ◌<◌, false, length, Err, IfOk};
 ghost use Rattle.std.specs.List.{All};
@@ -20,22 +20,22 @@ use std::alloc::Global;
 use std::sync::Wait;
 use std::thread::Threads;
 
-/// The most bytes that are fetched of a configuration: one more than its limit, so that a longer one is seen.
+/// The most bytes fetched of a configuration: one more than its limit, so that a longer one is noticed.
 const MOST_CONFIG: usize = 1_048_577;
 
-/// The same of a trace.
+/// The same for a trace.
 const MOST_TRACE: usize = 4_194_305;
 
-/// The same of a provider's metadata.
+/// The same for a provider's metadata.
 const MOST_METADATA: usize = 65_537;
 
-/// The same of a secret with a line feed at its end.
+/// The same for a secret with a line feed at its end.
 const MOST_SECRET_FILE: usize = 130;
 
-/// The same of a token with a line feed at its end.
+/// The same for a token with a line feed at its end.
 const MOST_TOKEN_FILE: usize = 8_194;
 
-/// Fetches two contents by their names, each up to its most bytes. The first that fails ends it.
+/// Fetches two contents by their names, each up to its most bytes. The first failure is returned.
 fn fetch_both<H: Shelf>(
     alloc: Global,
     shelf: &mut H,
@@ -55,7 +55,7 @@ fn fetch_both<H: Shelf>(
     Ok((first, second))
 }
 
-/// Fetches a configuration, and a provider's metadata if they are named. The first that fails ends it.
+/// Fetches a configuration, and a provider's metadata if they are named. The first failure is returned.
 fn fetch_party<H: Shelf>(
     alloc: Global,
     shelf: &mut H,
@@ -75,7 +75,7 @@ fn fetch_party<H: Shelf>(
     }
 }
 
-/// The answer to the contents of a configuration and a trace.
+/// The outcome for the contents of a configuration and a trace.
 fn replay_words<H: Shelf>(
     alloc: Global,
     shelf: &mut H,
@@ -93,7 +93,7 @@ fn replay_words<H: Shelf>(
     }
 }
 
-/// The answer to the contents of a secret's file and a token's file.
+/// The outcome for the contents of a secret's file and a token's file.
 fn token_words<H: Shelf>(
     alloc: Global,
     shelf: &mut H,
@@ -118,7 +118,7 @@ fn token_words<H: Shelf>(
     }
 }
 
-/// The answer to the numbers of a storm.
+/// The outcome of a storm, given its numbers.
 fn storm_words(alloc: Global, number: u32, count: u32) -> Result<Outcome, NoMemory>
     requires { count ≤ 10000 }
     ensures { IfOk result (AnswersStorm number count) }
@@ -126,7 +126,7 @@ fn storm_words(alloc: Global, number: u32, count: u32) -> Result<Outcome, NoMemo
     answer_storm(alloc, number, count)
 }
 
-/// Serves the provider of the configuration of this name.
+/// Serves the provider of the configuration with this name.
 fn op_words<R: Threads + Wait + Sync, H: Shelf, D: Door, L: Link, C: Clock, W: Draw>(
     rt: &R,
     alloc: Global,
@@ -147,7 +147,7 @@ fn op_words<R: Threads + Wait + Sync, H: Shelf, D: Door, L: Link, C: Clock, W: D
     }
 }
 
-/// Serves the party of this name in the configuration of that name, which trusts the provider of the metadata, if these are named.
+/// Serves the party `name` of the configuration `config`. It trusts the provider of the metadata, if they are named.
 fn rp_words<R: Threads + Wait + Sync, H: Shelf, D: Door, L: Link, C: Clock, W: Draw>(
     rt: &R,
     alloc: Global,
@@ -172,7 +172,7 @@ fn rp_words<R: Threads + Wait + Sync, H: Shelf, D: Door, L: Link, C: Clock, W: D
     }
 }
 
-/// The answer to the words after the program's name.
+/// The outcome for the words after the program's name.
 pub fn answer_words<R: Threads + Wait + Sync, H: Shelf, D: Door, L: Link, C: Clock, W: Draw>(
     rt: &R,
     alloc: Global,

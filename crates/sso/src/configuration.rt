@@ -1,4 +1,4 @@
-//! What is answered to a configuration that is not taken.
+//! The outcomes for a rejected configuration.
 
 ghost use Rattle.std.specs.Prelude.{◌≡◌, ◌∷◌, ◌++◌, IfOk, codes, string_bytes};
 ghost use Rattle.sso.specs.Answer.{registry_name, configuration_refusal};
@@ -17,7 +17,7 @@ fn with_value(alloc: Global, name: &str, value: &Text) -> Result<String, NoMemor
     Ok(text)
 }
 
-/// The refusal of two users with one subject at a client.
+/// The refusal of two users that have the same subject at a client.
 fn subject_clash(
     alloc: Global,
     client: &Text,
@@ -34,7 +34,7 @@ fn subject_clash(
     Ok(text)
 }
 
-// The name of a refusal and its values, as they are printed.
+// The printed name of a refusal, with its values.
 #[tactic(auto, unfolding(crate::specs::Answer::registry_name))]
 fn name_of(alloc: Global, why: &RegNo) -> Result<String, NoMemory>
     ensures { IfOk result (λ text. string_bytes text ≡ registry_name why.now) }
@@ -56,7 +56,7 @@ fn name_of(alloc: Global, why: &RegNo) -> Result<String, NoMemory>
     }
 }
 
-/// The answer to a configuration that is not taken, by the reason's name and its values.
+/// The outcome for a rejected configuration, given the refusal's name and its values.
 #[tactic(auto, unfolding(crate::specs::Answer::configuration_text))]
 pub fn refuse_configuration(alloc: Global, name: &str) -> Result<Outcome, NoMemory>
     ensures { IfOk result (λ outcome. outcome ≡ configuration_refusal name.now) }
@@ -68,7 +68,7 @@ pub fn refuse_configuration(alloc: Global, name: &str) -> Result<Outcome, NoMemo
     })
 }
 
-/// The answer to a configuration that is refused.
+/// The outcome for a configuration that reading rejects.
 pub fn refuse_registry(alloc: Global, why: &RegNo) -> Result<Outcome, NoMemory>
     ensures { IfOk result (λ outcome. outcome ≡ configuration_refusal (registry_name why.now)) }
 {

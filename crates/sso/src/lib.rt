@@ -1,16 +1,16 @@
-//! The top call: what the words of the program ask for, over any shelf of files, any sink for the text, and any desks at which
-//! connections are served. The sign-on theorem, and that honest logins succeed, are clauses of it.
+//! The top call: runs the command that the program's words give. It works over any shelf of files, any sink for the text, and
+//! any desks at which connections are served. The sign-on theorem, and that honest logins succeed, are clauses of its contract.
 //!
 //! | Module | What it has | Its definitions, in `specs/` |
 //! |---|---|---|
 //! | `top` | [`sso`], over any shelf, sink and desks | `Ends`, `SignOn`, `Statuses` |
-//! | `command` | what the words ask for, with contents fetched for it | `Outcomes` |
-//! | `outcome` | the answers of no command | `Outcomes` |
-//! | `replaying` | the answers of `replay` | `Answer` |
-//! | `storms` | the answers of `storm` | `Answer` |
-//! | `servers` | the answers of `op` and `rp` | `Asked`, `Outcomes` |
-//! | `configuration` | the answers to a configuration that is not taken | `Answer` |
-//! | `token` | the answers of `token` | `Answer` |
+//! | `command` | runs a command, with contents fetched from the shelf | `Outcomes` |
+//! | `outcome` | the outcomes for no command, and for a shelf that failed | `Outcomes` |
+//! | `replaying` | the outcomes of `replay` | `Answer` |
+//! | `storms` | the outcomes of `storm` | `Answer` |
+//! | `servers` | the outcomes of `op` and `rp` | `Asked`, `Outcomes` |
+//! | `configuration` | the outcomes for a rejected configuration | `Answer` |
+//! | `token` | the outcomes of `token` | `Answer` |
 #![tactic(auto)]
 
 mod command;

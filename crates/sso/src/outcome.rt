@@ -1,4 +1,4 @@
-//! What is answered to words that are no command, and where the shelf failed.
+//! The outcomes for words that are not a command, and for a shelf that failed.
 
 ghost use Rattle.std.specs.Prelude.{◌≡◌, IfOk};
 ghost use Rattle.sso.specs.Answer.{shelf_text, usage_text};
@@ -8,12 +8,12 @@ use sso_base::{Blob, NoMemory};
 use std::alloc::Global;
 use std::marker::Model;
 
-/// A status, and the text that is written before the program ends with it.
+/// An exit status, and the text that is written before the program exits with it.
 #[derive(Drop)]
 pub struct Outcome {
-    /// The exit status, as long as the whole text can be written.
+    /// The exit status if the whole text can be written.
     pub status: u8,
-    /// What is written to standard output.
+    /// The text for standard output.
     pub text: Blob,
 }
 
@@ -25,7 +25,7 @@ impl Model for Outcome {
     ghost view = { λ o. record { status = o.status; text = o.text } };
 }
 
-/// The answer to words that are no command.
+/// The outcome for words that are not a command.
 #[tactic(auto, unfolding(crate::specs::Answer::usage_text, crate::specs::Outcomes::usage_answer))]
 pub fn answer_usage(alloc: Global) -> Result<Outcome, NoMemory>
     ensures { IfOk result (λ outcome. outcome ≡ usage_answer) }
@@ -39,7 +39,7 @@ pub fn answer_usage(alloc: Global) -> Result<Outcome, NoMemory>
     })
 }
 
-/// The answer where the shelf failed.
+/// The outcome for a shelf that failed.
 #[tactic(auto, unfolding(crate::specs::Answer::shelf_text, crate::specs::Outcomes::shelf_answer))]
 pub fn answer_shelf(alloc: Global) -> Result<Outcome, NoMemory>
     ensures { IfOk result (λ outcome. outcome ≡ shelf_answer) }

@@ -1,4 +1,4 @@
-//! What is answered to a configuration and a trace.
+//! The outcome for a configuration and a trace.
 
 ghost use Rattle.std.specs.Prelude.{◌≡◌, ◌++◌, Ok, IfOk, string_bytes};
 ghost use Rattle.std.specs.Fmt.{decimal};
@@ -16,7 +16,7 @@ use oidc_replay::{ReplayEnd, Trace, TraceNo, read_trace, replay};
 use sso_base::{Blob, NoMemory};
 use std::alloc::Global;
 
-// The status of a replay, by how its play ended.
+// The status of a replay, by the end of its play.
 pub(crate) fn end_status(end: &ReplayEnd) -> u8
     ensures { result ≡ spec.end_status end.now }
 {
@@ -27,14 +27,14 @@ pub(crate) fn end_status(end: &ReplayEnd) -> u8
     }
 }
 
-// The name of a refusal, with the number of its line.
+// The name of a refusal, with its line number.
 fn with_line(alloc: Global, name: &str, line: u64) -> Result<String, NoMemory>
     ensures { IfOk result (λ text. string_bytes text ≡ name.now ++ decimal line) }
 {
     Ok(format!(in alloc; "{name}{line}")?)
 }
 
-// The name of a refusal of a trace, and the number of its first bad line, as they are printed.
+// The printed name of a refusal of a trace, with the number of its first bad line.
 #[tactic(auto, unfolding(crate::specs::Answer::trace_name))]
 fn name_of(alloc: Global, why: &TraceNo) -> Result<String, NoMemory>
     ensures { IfOk result (λ text. string_bytes text ≡ spec.trace_name why.now) }
@@ -52,7 +52,7 @@ fn name_of(alloc: Global, why: &TraceNo) -> Result<String, NoMemory>
     }
 }
 
-// The answer to a trace that is refused.
+// The outcome for a rejected trace.
 #[tactic(auto, unfolding(crate::specs::Answer::refused_text))]
 pub(crate) fn refuse_trace(alloc: Global, why: &TraceNo) -> Result<Outcome, NoMemory>
     ensures { IfOk result (λ outcome. outcome ≡ record { status = 4; text = refused_text why.now }) }
@@ -65,7 +65,7 @@ pub(crate) fn refuse_trace(alloc: Global, why: &TraceNo) -> Result<Outcome, NoMe
     })
 }
 
-// The answer to a trace that was read for the registry.
+// The outcome for a trace that was read for the registry.
 fn answer_play(alloc: Global, registry: Registry, trace: &Trace) -> Result<Outcome, NoMemory>
     requires { IsReadFor registry trace.now }
     ensures answer { IfOk result (λ outcome. outcome ≡ trace_answer registry (Ok trace.now)) }
@@ -78,7 +78,7 @@ fn answer_play(alloc: Global, registry: Registry, trace: &Trace) -> Result<Outco
     })
 }
 
-// The answer to a trace that is to be played over a registry. Its bytes are given up before it is played, which takes memory.
+// The outcome for the bytes of a trace over a registry. They are freed before the play, which takes memory.
 fn answer_trace(alloc: Global, registry: Registry, trace: Blob) -> Result<Outcome, NoMemory>
     ensures answer { IfOk result (λ outcome. outcome ≡ trace_answer registry (trace_told registry trace)) }
     ensures well { IfOk result (λ outcome. PlaysOver registry trace) }
@@ -92,7 +92,7 @@ fn answer_trace(alloc: Global, registry: Registry, trace: Blob) -> Result<Outcom
     }
 }
 
-/// The answer to a configuration and a trace.
+/// The outcome for a configuration and a trace.
 #[tactic(auto, unfolding(crate::specs::Answer::answer_to, crate::specs::Outcomes::Plays))]
 pub fn answer_replay(alloc: Global, config: Blob, trace: Blob) -> Result<Outcome, NoMemory>
     ensures answer { IfOk result (λ outcome. outcome ≡ answer_to config trace) }

@@ -1,4 +1,4 @@
-//! What is answered to a configuration whose provider, or one of whose parties, is to be served.
+//! The outcomes of serving the provider of a configuration, or one of its parties.
 
 ghost use Rattle.std.specs.Prelude.{◌≡◌, ◌^◌, ◌≤◌, ◌<◌, false, length, Ok, IfOk};
 ghost use Rattle.std.specs.List.{All};
@@ -23,7 +23,7 @@ use std::thread::Threads;
 /// The most bytes of a provider's metadata.
 const MOST_METADATA: usize = 65_536;
 
-/// What is told of a server none of whose doors failed.
+/// The outcome of a server none of whose doors failed.
 #[tactic(auto, unfolding(crate::specs::Asked::served_text))]
 fn answer_served(alloc: Global, served: u64, entries: u64) -> Result<Outcome, NoMemory>
     ensures { IfOk result (λ outcome. outcome ≡ server_answer false served entries) }
@@ -35,7 +35,7 @@ fn answer_served(alloc: Global, served: u64, entries: u64) -> Result<Outcome, No
     })
 }
 
-/// What is told of a server that ended.
+/// The outcome of a server that has ended.
 #[tactic(auto, unfolding(crate::specs::Asked::door_text))]
 fn answer_server(alloc: Global, fault: bool, served: u64, entries: u64) -> Result<Outcome, NoMemory>
     ensures { IfOk result (λ outcome. outcome ≡ server_answer fault served entries) }
@@ -65,7 +65,7 @@ fn serve_provider<R: Threads + Wait + Sync, D: Door, L: Link, C: Clock, W: Draw>
     answer_server(alloc, ran.fault, ran.served, ran.entries)
 }
 
-/// Serves the provider of a configuration, and answers how that ended, or why the configuration is refused.
+/// Serves the provider of a configuration. Returns how that ended, or why the configuration is rejected.
 #[tactic(auto, unfolding(crate::specs::Asked::op_asked))]
 pub fn answer_op<R: Threads + Wait + Sync, D: Door, L: Link, C: Clock, W: Draw>(
     rt: &R,
@@ -84,7 +84,7 @@ pub fn answer_op<R: Threads + Wait + Sync, D: Door, L: Link, C: Clock, W: Draw>(
     }
 }
 
-/// The name of a refusal of metadata, as it is printed.
+/// The printed name of a refusal of metadata.
 #[tactic(auto, unfolding(crate::specs::Asked::metadata_name))]
 fn metadata_name(why: &DiscNo) -> &'static str
     ensures { result.now ≡ spec.metadata_name why.now }
@@ -99,7 +99,7 @@ fn metadata_name(why: &DiscNo) -> &'static str
     }
 }
 
-/// The answer to metadata that are refused, by the reason's name.
+/// The outcome for rejected metadata, given the refusal's name.
 #[tactic(auto, unfolding(crate::specs::Asked::metadata_text))]
 fn refuse_metadata(alloc: Global, name: &str) -> Result<Outcome, NoMemory>
     ensures { IfOk result (λ outcome. outcome ≡ metadata_refusal name.now) }
@@ -111,7 +111,7 @@ fn refuse_metadata(alloc: Global, name: &str) -> Result<Outcome, NoMemory>
     })
 }
 
-/// The provider of metadata, or the answer where they are refused.
+/// The provider that the metadata describe, or the outcome if they are rejected.
 #[tactic(auto, unfolding(crate::specs::Asked::described))]
 fn described(
     alloc: Global,
@@ -130,7 +130,7 @@ fn described(
     }
 }
 
-/// The provider that a party trusts, or the answer where its metadata are refused.
+/// The provider that a party trusts, or the outcome if its metadata are rejected.
 fn trusted(
     alloc: Global,
     registry: &Registry,
@@ -144,7 +144,7 @@ fn trusted(
     }
 }
 
-/// Serves the party of this number, which trusts this provider.
+/// Serves the party with this number, which trusts this provider.
 fn serve_trusting<R: Threads + Wait + Sync, D: Door, L: Link, C: Clock, W: Draw>(
     rt: &R,
     alloc: Global,
@@ -163,7 +163,7 @@ fn serve_trusting<R: Threads + Wait + Sync, D: Door, L: Link, C: Clock, W: Draw>
     answer_server(alloc, ran.fault, ran.served, ran.entries)
 }
 
-/// Serves the party of this name.
+/// Serves the party with this name.
 fn serve_party<R: Threads + Wait + Sync, D: Door, L: Link, C: Clock, W: Draw>(
     rt: &R,
     alloc: Global,
@@ -185,8 +185,8 @@ fn serve_party<R: Threads + Wait + Sync, D: Door, L: Link, C: Clock, W: Draw>(
     }
 }
 
-/// Serves the party of this name in a configuration, which trusts the provider of these metadata, or else the configuration's, and
-/// answers how that ended, or why nothing was served.
+/// Serves the party with this name in a configuration. It trusts the provider of these metadata, or else the configuration's.
+/// Returns how that ended, or why nothing was served.
 #[tactic(auto, unfolding(crate::specs::Asked::rp_asked))]
 pub fn answer_rp<R: Threads + Wait + Sync, D: Door, L: Link, C: Clock, W: Draw>(
     rt: &R,

@@ -1,4 +1,4 @@
-//! What is answered to the two numbers of a storm.
+//! The outcome of a storm, given its two numbers.
 
 ghost use Rattle.std.specs.Prelude.{◌≡◌, ◌≤◌, Ok, IfOk};
 ghost use Rattle.trace_lines.specs.Trace.{trace_told};
@@ -18,7 +18,7 @@ use sso_base::NoMemory;
 use std::alloc::Global;
 use storm_texts::{storm_config, storm_trace};
 
-// The answer to the trace of a storm that was read for the registry.
+// The outcome for a storm's trace that was read for the registry.
 fn answer_play(
     alloc: Global,
     registry: Registry,
@@ -37,7 +37,7 @@ fn answer_play(
     })
 }
 
-// The answer to a storm over a registry. The bytes of its trace are given up before it is played, which takes memory.
+// The outcome of a storm over a registry. The bytes of its trace are freed before the play, which takes memory.
 fn answer_over(
     alloc: Global,
     registry: Registry,
@@ -58,8 +58,8 @@ fn answer_over(
     }
 }
 
-/// The answer to a storm of two numbers. Its configuration and its trace are read as those of a replay are, and neither is ever refused
-/// (`storms_are_accepted`).
+/// The outcome of a storm, given its two numbers. Its configuration and its trace are read as those of a replay, and neither is
+/// ever rejected (`storms_are_accepted`).
 #[tactic(auto, unfolding(crate::specs::Answer::storm_answer, crate::specs::Outcomes::Plays))]
 pub fn answer_storm(alloc: Global, number: u32, count: u32) -> Result<Outcome, NoMemory>
     requires { count ≤ 10000 }

@@ -1,4 +1,4 @@
-//! What is answered to a secret and a token.
+//! The outcome for a secret and a token.
 
 ghost use Rattle.std.specs.Prelude.{◌≡◌, IfOk};
 ghost use Rattle.sso.specs.Answer.{without_feed, token_text, payload_answer, token_refusal, token_answer};
@@ -11,14 +11,14 @@ use std::alloc::Global;
 /// The most bytes of a secret.
 const MOST_SECRET: usize = 128;
 
-/// The bytes without their last, where that is a line feed.
+/// The bytes without their last, if that is a line feed.
 fn without_feed(bytes: &[u8]) -> &[u8]
     ensures { result.now ≡ without_feed bytes.now }
 {
     bytes.strip_suffix(b"\n").unwrap_or(bytes)
 }
 
-/// The answer to a token that is refused, by the name of the refusal.
+/// The outcome for a rejected token, given the refusal's name.
 #[tactic(auto, unfolding(crate::specs::Answer::token_text))]
 fn refusal(alloc: Global, name: &str) -> Result<Outcome, NoMemory>
     ensures { IfOk result (λ outcome. outcome ≡ token_refusal name.now) }
@@ -30,7 +30,7 @@ fn refusal(alloc: Global, name: &str) -> Result<Outcome, NoMemory>
     })
 }
 
-/// The answer to a token that holds this payload.
+/// The outcome for a token with this payload.
 fn opening(alloc: Global, payload: &[u8]) -> Result<Outcome, NoMemory>
     ensures { IfOk result (λ outcome. outcome ≡ payload_answer payload.now) }
 {
@@ -42,7 +42,7 @@ fn opening(alloc: Global, payload: &[u8]) -> Result<Outcome, NoMemory>
     })
 }
 
-/// The answer to the contents of a secret's file and a token's file.
+/// The outcome for the contents of a secret's file and of a token's file.
 #[tactic(auto, unfolding(crate::specs::Answer::token_answer))]
 pub fn answer_token(alloc: Global, secret: &[u8], token: &[u8]) -> Result<Outcome, NoMemory>
     ensures { IfOk result (λ outcome. outcome ≡ token_answer secret.now token.now) }

@@ -20,7 +20,7 @@ use std::alloc::Global;
 use std::sync::Wait;
 use std::thread::Threads;
 
-/// Writes the text of an outcome, and answers the status.
+/// Writes the text of an outcome, and returns the exit status.
 fn write_outcome<K: Sink>(out: &mut K, outcome: &Outcome) -> u8
     ensures written { IsWritten (K.taken out.old) (K.taken out.new) (K.faults out.old) (K.faults out.new) outcome.now result }
     ensures later { K.faults out.old ≤ K.faults out.new }
@@ -31,7 +31,7 @@ fn write_outcome<K: Sink>(out: &mut K, outcome: &Outcome) -> u8
     }
 }
 
-// The program, as one statement of how it ends.
+// The program, with its contract as one statement about how it ends.
 fn run<R: Threads + Wait + Sync, H: Shelf, K: Sink, D: Door, L: Link, C: Clock, W: Draw>(
     rt: &R,
     alloc: Global,
@@ -57,31 +57,32 @@ fn run<R: Threads + Wait + Sync, H: Shelf, K: Sink, D: Door, L: Link, C: Clock, 
     }
 }
 
-/// The program: what these words ask for, with contents fetched from the shelf, the text written to the sink, and the desks at which
-/// connections are served. The words are those after the program's name. It answers the status.
+/// Runs the program and returns its exit status. The words are those after the program's name. Files are fetched from the
+/// shelf, the text is written to the sink, and connections are served at the desks.
 ///
-/// | Status | Comes exactly where | Text |
+/// | Status | Meaning | Text |
 /// |---|---|---|
-/// | 0 | `replay`: the trace was played to its end and no premise failed, and all was written | the text of its play |
-/// | | `storm`: its play went to its end and no premise failed, and all was written | the summary of its play |
-/// | | `token`: the token is sealed under the secret, and all was written | its payload and a line feed |
-/// | | `op`, `rp`: each desk served its turns, or its door is closed, and all was written | `served`, the connections, `entries` and those of the history |
-/// | 1 | memory ran out | none |
-/// | 2 | the words are no command | the usage |
-/// | 3 | CONFIG is refused, or NAME is no party of it | `configuration`, the refusal's name and its values, or `configuration NoParty` |
+/// | 0 | `replay`: the trace was played to its end, no premise failed, and the whole text was written | the text of its play |
+/// | | `storm`: its play went to its end, no premise failed, and the whole text was written | the summary of its play |
+/// | | `token`: the token is sealed under the secret, and the whole text was written | its payload and a line feed |
+/// | | `op`, `rp`: each desk served its turns or has a closed door, and the whole text was written | `served` with the number of connections, `entries` with those of the history |
+/// | 1 | out of memory | none |
+/// | 2 | the words are not a command | the usage |
+/// | 3 | CONFIG is rejected, or has no party NAME | `configuration`, the refusal's name and its values, or `configuration NoParty` |
 /// | 4 | TRACE is not an accepted trace | `trace`, the refusal's name and the number of its line |
-/// | 5 | (only where) the shelf's faults rose | `shelf` |
-/// | 6 | (only where) the sink's faults rose | a front of one of these texts |
-/// | 7 | the trace was played to its end, a premise failed, and all was written | the text or the summary of its play, with the first place at which one fails |
-/// | 8 | a history would have passed its limit before the last line was played, and all was written | the text or the summary so far, and `journal` with the place |
-/// | 9 | (only where) a door's faults rose | `door` |
-/// | 10 | the secret has no byte or more than 128, or the token is not sealed under it | `token Secret`, or `token` and the refusal's name |
+/// | 5 | the shelf's fault count rose | `shelf` |
+/// | 6 | the sink's fault count rose | a prefix of one of these texts |
+/// | 7 | the trace was played to its end, a premise failed, and the whole text was written | the text or the summary of its play, with the first place at which one fails |
+/// | 8 | a history would have exceeded its limit before the end of the trace, and the whole text was written | the text or the summary so far, and `journal` with the place |
+/// | 9 | a door's fault count rose | `door` |
+/// | 10 | the secret is empty or longer than 128 bytes, or the token is not sealed under it | `token Secret`, or `token` and the refusal's name |
 /// | | DISCOVERY has more than 65,536 bytes, or is not the metadata of the configuration's issuer | `discovery Size`, or `discovery` and the refusal's name |
 ///
-/// The statuses are tried in the order 2, 5, 3, 10 for DISCOVERY, 4, 8, 7, 10, 9, 0. A secret and a token are their files' contents, each
-/// without one line feed at its end, if there is one.
+/// The words and the contents of the shelf determine the status, unless memory ran out, the shelf or the sink failed, or desks
+/// served. The statuses are tried in the order 2, 5, 3, 10 for DISCOVERY, 4, 8, 7, 10, 9, 0. A secret and a token are the
+/// contents of their files, each without one line feed at its end, if there is one.
 ///
-/// There are at most 64 desks, each of at most 2^56 turns, whose doors gave fewer than 2^63 connections.
+/// Needs at most 64 desks, each of at most 2^56 turns, whose doors have given fewer than 2^63 connections.
 pub fn sso<R: Threads + Wait + Sync, H: Shelf, K: Sink, D: Door, L: Link, C: Clock, W: Draw>(
     rt: &R,
     alloc: Global,
@@ -93,8 +94,8 @@ pub fn sso<R: Threads + Wait + Sync, H: Shelf, K: Sink, D: Door, L: Link, C: Clo
     requires few { length desks.old.items ≤ 64 }
     requires desks { All (λ desk. (desk.turns ≤ 2 ^ 56) × ((D.state desk.door).given < 2 ^ 63)) desks.old.items }
 
-    // The sign-on theorem, and that honest logins succeed, are parts of these six clauses: they are about the very play whose text was
-    // written.
+    // The sign-on theorem, and that honest logins succeed, are parts of these six clauses. They are about the same play whose
+    // text was written.
     ensures replayed { result ≡ 0 → asks_replay (command_of words.now) ≡ true → Replays (H.contents shelf.old) words.now 0 (K.taken out.old) (K.taken out.new) }
     ensures broken { result ≡ 7 → asks_replay (command_of words.now) ≡ true → Replays (H.contents shelf.old) words.now 7 (K.taken out.old) (K.taken out.new) }
     ensures full { result ≡ 8 → asks_replay (command_of words.now) ≡ true → Replays (H.contents shelf.old) words.now 8 (K.taken out.old) (K.taken out.new) }
@@ -118,13 +119,13 @@ pub fn sso<R: Threads + Wait + Sync, H: Shelf, K: Sink, D: Door, L: Link, C: Clo
     ensures door { result ≡ 9 → RunsProvider ⟦<Desk<D, L, C, W> as Tells>⟧.telling desks.old.items desks.new.items (H.contents shelf.old) words.now true (K.taken out.old) (K.taken out.new) ⊎ RunsParty ⟦<Desk<D, L, C, W> as Tells>⟧.telling desks.old.items desks.new.items (H.contents shelf.old) words.now true (K.taken out.old) (K.taken out.new) }
     ensures refused { result ≡ 10 → RefusesToken (H.contents shelf.old) words.now (K.taken out.old) (K.taken out.new) ⊎ RefusesMetadata (H.contents shelf.old) words.now (K.taken out.old) (K.taken out.new) }
 
-    // Each status comes where it should: by the words alone, and by the contents of a shelf that tells them.
+    // Which status is returned: by the words alone, and by the contents of a shelf, if they are known.
     ensures range { result ≤ 10 }
     ensures words { is_command words.now ≡ false → IsStatus 2 result }
     ensures storm { (number count : ℕ) → command_of words.now ≡ Some (Storm number count) → IsStatus (storm_answer number count).status result }
     ensures contents { (contents : List Content) → H.contents shelf.old ≡ Some contents → IsStatusOf (status_for contents (command_of words.now)) result }
 
-    // The desks are as they were where nothing is served. The shelf keeps what it holds, and no count falls.
+    // The desks are unchanged if nothing is served. The shelf keeps its contents, and no fault count falls.
     ensures idle { is_serving (command_of words.now) ≡ false → desks.new.items ≡ desks.old.items }
     ensures unserved { is_refusal result ≡ true → desks.new.items ≡ desks.old.items }
     ensures kept { H.contents shelf.new ≡ H.contents shelf.old }

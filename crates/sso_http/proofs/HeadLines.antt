@@ -1,4 +1,4 @@
--- A reader of bytes ends exactly at a head. Lines stand here newest first, as the bytes do.
+-- A reader of bytes ends exactly at a head. Lines are given the newest first, as the bytes are.
 use Rattle.std.proofs.Common.{◌≡◌, ℕ, ◌<◌, ◌==◌, ◌&&◌, ◌||◌, not, Bool, true, false, cond, List, [], ◌∷◌, ◌++◌, length, reverse, inl, inr, refl, sym, ◌∙◌, ap, arith}
 use Rattle.std.specs.List.{list_all, list_any}
 use Rattle.std.proofs.lemmas.Bool.{and_parts, eqb-true, false≢true}

@@ -1,4 +1,4 @@
--- What is judged of the parts of a head is judged of the head.
+-- The result of checking the parts of a head is that of checking the head.
 use Rattle.std.proofs.Common.{◌≡◌, ℕ, List, Result, Ok, Err, IfErr, refl, ◌∙◌}
 use Rattle.sso_base.specs.declared.http.Method.{Method}
 use Rattle.sso_http.specs.Fields.{Fields}

@@ -1,4 +1,4 @@
--- Bytes begin with one head at most, and no front without a head is as long as it.
+-- Bytes begin with at most one head, and a prefix without a head is shorter than it.
 use Rattle.std.proofs.Common.{◌≡◌, ℕ, ◌+◌, ◌<◌, ◌≤◌, ◌||◌, Bool, true, false, List, [], ◌∷◌, ◌++◌, length, take, drop, reverse, inl, inr, refl, sym, ◌∙◌, ap, arith}
 use Rattle.std.proofs.lemmas.Bool.{cases_lt, false≢true}
 use Rattle.std.proofs.lemmas.List.{append_assoc, append_cancel_left, reverse-append, reverse-reverse, length-append, take-append-drop, take-append-le}
@@ -20,12 +20,12 @@ head_has head i = ap has_head i.parts ∙ ap (λ b. b || has_head i.seen) i.ends
 front_has : (head d : List ℕ) → IsEnded head → has_head (reverse (head ++ d)) ≡ true
 front_has head d i = ap has_head (reverse-append head d) ∙ later (reverse d) (reverse head) (head_has head i)
 
--- where the reader saw no end there is no head
+-- if the reader saw no end, there is no head
 pub unended : (bytes : List ℕ) → IsUnended bytes → HasNoHead bytes
 unended bytes none head rest e i =
     false≢true (sym none ∙ ap (λ l. has_head (reverse l)) e ∙ front_has head rest (lines_end head i))
 
--- where it saw the first end there is one
+-- if it saw the first end, there is one
 pub ended_head : (old bytes : List ℕ) (b : ℕ) → bytes ≡ old ++ b ∷ [] → IsUnended old → ends_head (b ∷ reverse old) ≡ true → IsHead bytes
 ended_head old bytes b e none ends =
     only_lines bytes (record { last = b; seen = reverse old; parts = ap (λ l. reverse l) e ∙ reverse-append old (b ∷ []); first = none; ends = ends })
@@ -46,7 +46,7 @@ same_long a r p x e long =
 pub same_rest : (a r p x : List ℕ) → a ++ r ≡ p ++ x → a ≡ p → r ≡ x
 same_rest a r p x e same = append_cancel_left p r x (ap (λ l. l ++ r) (sym same) ∙ e)
 
--- a head is longer than a front that has none
+-- a head is longer than a prefix without one
 pub behind : (head r p x : List ℕ) → IsHead head → head ++ r ≡ p ++ x → HasNoHead p → length p < length head
 behind head r p x i e none =
     elim (cases_lt (length p) (length head)) [

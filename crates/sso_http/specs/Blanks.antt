@@ -2,11 +2,11 @@
 use Rattle.std.specs.Prelude.{ℕ, ◌-◌, ◌==◌, ◌&&◌, ◌||◌, Bool, List, length, take, drop}
 use Rattle.std.specs.List.{prefix_len, suffix_len}
 
--- a space, or a tab where tabs count
+-- a space, or a tab if tabs count
 abbrev pub is_blank : Bool → ℕ → Bool
 is_blank tabs b = b == 32 || (tabs && b == 9)
 
--- without the longest front, or the longest end, of which each byte passes the test
+-- without the longest prefix, or the longest suffix, all of whose bytes pass the test
 abbrev pub without_front : (ℕ → Bool) → List ℕ → List ℕ
 without_front test text = drop (prefix_len test text) text
 

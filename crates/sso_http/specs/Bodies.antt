@@ -1,4 +1,4 @@
--- What fields say of a body: its transfer coding (RFC 9112, 6.1), its length (RFC 9110, 8.6) and its type (8.3).
+-- The fields about a body: its transfer coding (RFC 9112, 6.1), its length (RFC 9110, 8.6) and its type (8.3).
 use Rattle.std.specs.Prelude.{ℕ, nat_lt, not, Bool, true, false, List, [], ◌∷◌, codes, Option, Some, None, option_and_then, Result, Ok}
 use Rattle.std.specs.List.{before_first}
 use Rattle.std.specs.Str.{str_eq_ignore_ascii_case}
@@ -19,11 +19,11 @@ is_empty (x ∷ xs) = false
 abbrev pub has_transfer : Fields → Bool
 has_transfer fields = not (is_empty (values_of (codes "transfer-encoding") fields))
 
--- the most bytes of a body (own)
+-- the most bytes of a body (our own bound)
 abbrev pub most_body : ℕ
 most_body = 32768
 
--- the length that the one value says
+-- the length in the single value
 abbrev pub length_of : List (List ℕ) → Result ℕ HttpNo
 length_of values =
     demand NoLength (option_and_then decimal_of (only_of values)) (λ n. forbid BodyTooLong (nat_lt most_body n) (Ok n))
@@ -33,7 +33,7 @@ abbrev pub body_length : Method → Fields → Result ℕ HttpNo
 body_length Post fields = length_of (values_of (codes "content-length") fields)
 body_length method fields = Ok 0
 
--- the type of a form, with or without parameters, in any case of letters (RFC 9110, 8.3.1)
+-- the media type of a form, with or without parameters, in any case of letters (RFC 9110, 8.3.1)
 abbrev pub is_form_type : List ℕ → Bool
 is_form_type value =
     str_eq_ignore_ascii_case (trimmed true (before_first is_semicolon value)) (codes "application/x-www-form-urlencoded")

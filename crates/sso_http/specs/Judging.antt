@@ -1,4 +1,4 @@
--- What a request asks, as far as its head says it, or why it is refused (RFC 9112, 3 and 6).
+-- The request that a head makes, or why it is refused (RFC 9112, 3 and 6).
 use Rattle.std.specs.Prelude.{◌≡◌, ◌≤◌, ℕ, ◌==◌, not, Bool, false, List, [], ◌∷◌, length, map, codes, Option, None, Result, Ok, Err, if◌then◌else◌}
 use Rattle.std.specs.List.{before_first, after_first}
 use Rattle.std.specs.Str.{bytes_eq}
@@ -15,7 +15,7 @@ use Rattle.sso_http.specs.declared.judge.Judged.{Judged}
 use Rattle.sso_http.specs.declared.no.HttpNo.{HttpNo}
 use Rattle.sso_http.specs.declared.no.HttpNo.TheVariants.{NoMemory, ReadFault, EndedEarly, HeadTooLong, BadHead, Transfer, BadTarget}
 
--- the method, whose name has upper-case letters (RFC 9110, 9.1)
+-- the method, whose name is in upper case (RFC 9110, 9.1)
 abbrev pub method_of : List ℕ → Method
 method_of name = if bytes_eq name (codes "GET") then Get else if bytes_eq name (codes "POST") then Post else Other
 
@@ -26,7 +26,7 @@ abbrev pub begins_with_slash : List ℕ → Bool
 begins_with_slash [] = false
 begins_with_slash (b ∷ target) = b == 47
 
--- what is asked, but for the body; the path is the target up to its first `?`, and the query what follows that
+-- the request without its body; the path is the target up to its first `?`, and the query is what follows that
 abbrev pub asked : Method → List ℕ → Fields → Option (List ℕ) → Option (List ℕ) → ℕ → Judged
 asked method target fields first second count = record {
   ask = record {
@@ -42,7 +42,7 @@ asked method target fields first second count = record {
   form = has_form method fields;
 }
 
--- the refusals in their order, and then what is asked; `first` and `second` name the server's cookies
+-- the refusals in their order, and otherwise the request; `first` and `second` name the server's cookies
 unfoldable pub judgement_of : List ℕ → List ℕ → Method → List ℕ → Fields → Result Judged HttpNo
 judgement_of first second method target fields =
     forbid Transfer (has_transfer fields) (
@@ -55,7 +55,7 @@ judgement_of first second method target fields =
 abbrev pub judgement : List ℕ → List ℕ → RequestHead → Result Judged HttpNo
 judgement first second h = judgement_of first second (method_of h.method) h.target (map name_and_value h.fields)
 
--- the most fields of a head (own)
+-- the most fields of a head (our own bound)
 abbrev pub most_fields : ℕ
 most_fields = 64
 
@@ -63,7 +63,7 @@ most_fields = 64
 abbrev pub IsHeadOf : List ℕ → RequestHead → Type 0
 IsHeadOf bytes h = ReadsRequest bytes h [] × (length h.fields ≤ most_fields)
 
--- the bytes are a head, and it is judged so
+-- the bytes are a head, and this is the result of checking it
 pub record IsJudged (first second bytes : List ℕ) (told : Result Judged HttpNo) : Type 0 where
   pub head : RequestHead
   pub reads : IsHeadOf bytes head
@@ -78,7 +78,7 @@ RefusesHead first second bytes HeadTooLong = ⊥
 RefusesHead first second bytes BadHead = (h : RequestHead) → ¬ (IsHeadOf bytes h)
 RefusesHead first second bytes e = IsJudged first second bytes (Err e)
 
--- the parts of a head that are judged
+-- the parts of a head that are checked
 pub record IsParts (bytes : List ℕ) (method : Method) (target : List ℕ) (fields : Fields) : Type 0 where
   pub head : RequestHead
   pub reads : IsHeadOf bytes head

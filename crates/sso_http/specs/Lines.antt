@@ -1,5 +1,5 @@
--- The head of a request as lines (RFC 9112, 2.1 and 2.2). A line ends with a line feed, and a carriage return directly before
--- it is no part of it.
+-- The head of a request as lines (RFC 9112, 2.1 and 2.2). A line ends with a line feed. A carriage return directly before the
+-- line feed is not part of the line.
 use Rattle.std.specs.Prelude.{◌≡◌, ℕ, ◌==◌, ◌<◌, not, Bool, true, false, List, [], ◌∷◌, ◌++◌, length}
 use Rattle.std.specs.List.{list_all}
 
@@ -7,7 +7,7 @@ use Rattle.std.specs.List.{list_all}
 abbrev pub is_line : List ℕ → Bool
 is_line line = list_all (λ b. not (b == 10)) line
 
--- nothing stands before the line feed, or a carriage return alone
+-- there is nothing before the line feed, or only a carriage return
 abbrev pub is_empty_line : List ℕ → Bool
 is_empty_line [] = true
 is_empty_line (b ∷ []) = b == 13
@@ -21,7 +21,7 @@ abbrev pub text_of : List (List ℕ) → List ℕ
 text_of [] = []
 text_of (line ∷ lines) = line ++ 10 ∷ text_of lines
 
--- a head is empty lines, then one or more that are not empty, and an empty line, which ends it
+-- a head: empty lines, then one or more that are not empty, and the empty line that ends it
 pub record IsHead (bytes : List ℕ) : Type 0 where
   pub before : List (List ℕ)
   pub lines : List (List ℕ)

@@ -1,4 +1,4 @@
--- The bytes of a message from one server to another, and the place that it is sent to (RFC 9112, 3.2.1; the URL Standard, 4).
+-- The bytes of a message from one server to another, and its recipient (RFC 9112, 3.2.1; the URL Standard, 4).
 use Rattle.std.specs.Prelude.{ℕ, ◌++◌, ◌||◌, Bool, List, [], ◌∷◌, length, codes, decimal, Option, Some, None, option_map, unwrap_or, Result, Ok, Err, if◌then◌else◌}
 use Rattle.std.specs.List.{concat}
 use Rattle.std.specs.Option.{option_or}
@@ -21,18 +21,18 @@ abbrev pub if_parsed : Result Parts ParseError → Option Parts
 if_parsed (Ok url) = if_web url
 if_parsed (Err e) = None
 
--- the http or https URL of a text
+-- parses an http or https URL
 unfoldable pub web_url : List ℕ → Option Parts
 web_url text = if_parsed (parse_url None text)
 
 abbrev pub host_of : Parts → List ℕ
 host_of url = unwrap_or (option_map host_text (nonempty_host url)) []
 
--- the port, 80 or 443 where none is written
+-- the port, or 80 or 443 if none is written
 abbrev pub port_of : Parts → ℕ
 port_of url = unwrap_or (option_or url.port (default_port url.scheme)) 80
 
--- HOST:PORT; where there is no such URL, the host is empty and the port is 80 (own)
+-- HOST:PORT; if there is no such URL, the host is empty and the port is 80 (our own choice)
 abbrev pub place_of : Option Parts → List ℕ
 place_of None = codes ":80"
 place_of (Some url) = concat (host_of url ∷ codes ":" ∷ decimal (port_of url) ∷ [])
@@ -46,7 +46,7 @@ abbrev pub target_of : Option Parts → List ℕ
 target_of None = codes "/"
 target_of (Some url) = url.path ++ query_part url.query
 
--- a POST of a form where there is a body, else a GET
+-- a POST of a form if there is a body, otherwise a GET
 abbrev pub method_name : Option (List ℕ) → List ℕ
 method_name None = codes "GET "
 method_name (Some body) = codes "POST "
@@ -69,7 +69,7 @@ message_head m url =
     ++ form_lines m.body
     ++ last_lines
 
--- the place that a message is sent to
+-- the recipient of a message
 unfoldable pub message_place : Message → List ℕ
 message_place m = place_of (web_url m.to)
 

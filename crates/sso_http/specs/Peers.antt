@@ -8,11 +8,11 @@ use Rattle.sso_http.specs.Decimals.{short_decimal}
 use Rattle.sso_http.specs.Fields.{Fields, values_of}
 use Rattle.sso_http.specs.Judging.{most_fields}
 
--- the first so many of the bytes, where there are so many
+-- the first `n` of the bytes, if there are that many
 abbrev pub front_of : List ℕ → ℕ → Option (List ℕ)
 front_of rest n = if nat_le n (length rest) then Some (take n rest) else None
 
--- all bytes that follow the head, or the first so many of them
+-- all bytes after the head, or the first `Content-Length` of them
 abbrev pub cut_body : List (List ℕ) → List ℕ → Option (List ℕ)
 cut_body [] rest = Some rest
 cut_body (value ∷ []) rest = option_and_then (front_of rest) (short_decimal value)
@@ -24,26 +24,26 @@ peer_body fields rest = if has_transfer fields then None else cut_body (values_o
 abbrev pub with_status : ℕ → List ℕ → Answered
 with_status status body = record { status = status; body = body }
 
--- what is answered, from the head and the bytes behind it
+-- the answer, from the head and the bytes after it
 abbrev pub answered : ResponseHead → List ℕ → Option Answered
 answered h rest = option_map (with_status (status_code h)) (peer_body (map name_and_value h.fields) rest)
 
--- the bytes are this head and then these bytes
+-- the bytes are this head followed by this rest
 abbrev pub IsResponse : List ℕ → ResponseHead → List ℕ → Type 0
 IsResponse bytes h rest = ReadsResponse bytes h rest × (length h.fields ≤ most_fields)
 
--- the bytes are an answer
+-- the bytes are this answer
 pub record IsAnswer (bytes : List ℕ) (a : Answered) : Type 0 where
   pub head : ResponseHead
   pub rest : List ℕ
   pub reads : IsResponse bytes head rest
   pub told : answered head rest ≡ Some a
 
--- the bytes are no answer
+-- the bytes are not an answer
 abbrev pub IsNoAnswer : List ℕ → Type 0
 IsNoAnswer bytes = (a : Answered) → ¬ (IsAnswer bytes a)
 
--- the parts of a response head, and what follows it
+-- the parts of a response head, and the bytes after it
 pub record IsResponseParts (bytes : List ℕ) (status : ℕ) (fields : Fields) (rest : List ℕ) : Type 0 where
   pub head : ResponseHead
   pub reads : IsResponse bytes head rest

@@ -1,11 +1,11 @@
--- How a refused request is replied (RFC 9110, 15.5 and 15.6).
+-- The replies to refused requests (RFC 9110, 15.5 and 15.6).
 use Rattle.std.specs.Prelude.{ℕ, List, codes, Option, Some, None, option_map}
 use Rattle.http_reply.specs.Replies.{plain}
 use Rattle.sso_http.specs.Replies.{reply_bytes}
 use Rattle.sso_http.specs.declared.no.HttpNo.{HttpNo}
 use Rattle.sso_http.specs.declared.no.HttpNo.TheVariants.{NoMemory, ReadFault, EndedEarly, HeadTooLong, BadHead, Transfer, NoLength, BodyTooLong, BadTarget, CookieTwice}
 
--- the status of the reply; where the connection failed or ended, nobody is there to reply to
+-- the status of the reply; none if the connection failed or ended, since nobody would receive one
 abbrev pub status_of : HttpNo → Option ℕ
 status_of NoMemory = None
 status_of ReadFault = None

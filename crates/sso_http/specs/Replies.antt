@@ -7,7 +7,7 @@ use Rattle.sso_base.specs.declared.http.Kind.TheVariants.{Empty, Plain, Html, Js
 use Rattle.sso_http.specs.Bodies.{is_empty}
 use Rattle.sso_http.specs.Writing.{line_end, field, field_if, last_lines, no_store}
 
--- the reason of a status (RFC 9110, 15; `Other` is own)
+-- the reason phrase of a status (RFC 9110, 15; `Other` is our own)
 unfoldable pub reason : ℕ → List ℕ
 reason n =
     if n == 200 then codes "OK" else

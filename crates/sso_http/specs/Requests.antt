@@ -1,4 +1,4 @@
--- A whole request (RFC 9112, 2 to 6), and what is read of a source as one.
+-- A whole request (RFC 9112, 2 to 6), and reading one from a source.
 use Rattle.std.specs.Prelude.{◌≡◌, ◌⊎◌, ℕ, ◌<◌, ◌≤◌, List, ◌++◌, length, Option, Some, None, Result, Ok, Err, if◌then◌else◌}
 use Rattle.httparse.specs.Grammar.{RequestHead}
 use Rattle.server_desk.specs.Sources.{Gives, IsSpent}
@@ -10,16 +10,16 @@ use Rattle.sso_http.specs.declared.judge.Judged.{Judged}
 use Rattle.sso_http.specs.declared.no.HttpNo.{HttpNo}
 use Rattle.sso_http.specs.declared.no.HttpNo.TheVariants.{NoMemory, ReadFault, EndedEarly, HeadTooLong, BadHead}
 
--- the head that the bytes are, of at most so many bytes
+-- the bytes are a head, of at most 16,384 bytes
 pub record IsShortHead (bytes : List ℕ) : Type 0 where
   pub head : IsHead bytes
   pub within : length bytes ≤ most_head
 
--- a body that is no form counts as absent
+-- a body that is not a form counts as absent
 abbrev pub with_body : Judged → List ℕ → Ask
 with_body j body = record j.ask { body = if j.form then Some body else None }
 
--- a head, and the body that it says, ask this
+-- a head, and a body of the length that it says, make this request
 pub record IsRequest (first second head body : List ℕ) (ask : Ask) : Type 0 where
   pub short : IsShortHead head
   pub judged : Judged
@@ -27,20 +27,20 @@ pub record IsRequest (first second head body : List ℕ) (ask : Ask) : Type 0 wh
   pub whole : length body ≡ judged.count
   pub asks : ask ≡ with_body judged body
 
--- a head, and less of a body than it says
+-- a head, and a body shorter than it says
 pub record IsPartOfRequest (first second head body : List ℕ) : Type 0 where
   pub short : IsShortHead head
   pub judged : Judged
   pub judged_so : IsJudged first second head (Ok judged)
   pub part : length body < judged.count
 
--- the bytes begin a request, and do not end it
+-- the bytes begin a request, but do not complete it
 abbrev pub BeginsRequest : List ℕ → List ℕ → List ℕ → Type 0
 BeginsRequest first second bytes =
     ((length bytes < most_head) × HasNoHead bytes)
     ⊎ ((head : List ℕ) × (body : List ℕ) × (bytes ≡ head ++ body) × IsPartOfRequest first second head body)
 
--- why the bytes that came are refused, where this is left behind them
+-- why the bytes that were read are refused, given the bytes that are left after them
 abbrev pub Refuses : List ℕ → List ℕ → List ℕ → Option (List ℕ) → HttpNo → Type 0
 Refuses first second bytes left NoMemory = Unit {0}
 Refuses first second bytes left ReadFault = Unit {0}
@@ -49,25 +49,25 @@ Refuses first second bytes left HeadTooLong = (length bytes ≡ most_head) × Ha
 Refuses first second bytes left BadHead = IsShortHead bytes × ((h : RequestHead) → ¬ (IsHeadOf bytes h))
 Refuses first second bytes left e = IsShortHead bytes × IsJudged first second bytes (Err e)
 
--- a request was read, and no byte behind its body
+-- a request was read, and no byte after its body
 pub record IsAskRead (first second : List ℕ) (old new : Option (List ℕ)) (ask : Ask) : Type 0 where
   pub head : List ℕ
   pub body : List ℕ
   pub given : Gives old new (head ++ body)
   pub request : IsRequest first second head body ask
 
--- bytes were read that are refused
+-- the bytes that were read are refused
 pub record IsRefused (first second : List ℕ) (old new : Option (List ℕ)) (e : HttpNo) : Type 0 where
   pub bytes : List ℕ
   pub given : Gives old new bytes
   pub cause : Refuses first second bytes new e
 
--- what is answered of these bytes, so that these are left
+-- the result for these bytes, and the bytes that are left
 abbrev pub Answers : List ℕ → List ℕ → List ℕ → List ℕ → Result Ask HttpNo → Type 0
 Answers first second bytes left (Ok ask) = IsAskRead first second (Some bytes) (Some left) ask
 Answers first second bytes left (Err e) = IsRefused first second (Some bytes) (Some left) e
 
--- want of memory and a fault of the source say nothing of the bytes; every other answer does
+-- `NoMemory` and `ReadFault` say nothing about the bytes; every other result does
 abbrev pub IsOfBytes : Result Ask HttpNo → Type 0
 IsOfBytes (Err NoMemory) = ⊥
 IsOfBytes (Err ReadFault) = ⊥

@@ -1,5 +1,5 @@
--- A judgement that a definition tells, but for want of memory, which may come at any call that takes memory. The refusals that
--- come before the head is judged are none of a judgement.
+-- A result of checking a head that a definition determines, except for `NoMemory`, which may come at any call that takes
+-- memory. The refusals before the head is checked are not among these results.
 use Rattle.std.specs.Prelude.{◌≡◌, Result, Ok, Err}
 use Rattle.sso_http.specs.declared.no.HttpNo.{HttpNo}
 use Rattle.sso_http.specs.declared.no.HttpNo.TheVariants.{NoMemory, ReadFault, EndedEarly, HeadTooLong, BadHead}

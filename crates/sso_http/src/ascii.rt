@@ -1,4 +1,4 @@
-// Values in ASCII are texts.
+// Values in ASCII as texts.
 
 ghost use Rattle.std.specs.Prelude.{◌≡◌, true, map, option_and_then, IfOk};
 ghost use Rattle.sso_base.specs.Texts as texts;
@@ -24,7 +24,7 @@ pub(crate) fn ascii_text(bytes: &[u8]) -> &str
     std::str::from_utf8(bytes).unwrap()
 }
 
-// The text of a value, where it is ASCII.
+// The text of a value, if it is ASCII.
 fn text_if_ascii(alloc: Global, value: &[u8]) -> Result<Option<Text>, NoMemory>
     ensures { IfOk result (λ t. t ≡ spec.if_ascii value.now) }
 {
@@ -34,7 +34,7 @@ fn text_if_ascii(alloc: Global, value: &[u8]) -> Result<Option<Text>, NoMemory>
     Ok(Some(Text::new(alloc, ascii_text(value))?))
 }
 
-/// The credentials of a request (RFC 9110, 11.6.2), from the values of its `Authorization` fields: the first value, where it is
+/// The credentials of a request (RFC 9110, 11.6.2), from the values of its `Authorization` fields: the first value, if it is
 /// ASCII.
 pub(crate) fn credentials(alloc: Global, values: &[&[u8]]) -> Result<Option<Text>, NoMemory>
     ensures { IfOk result (λ t. t ≡ option_and_then spec.if_ascii (first_of (map (λ v. v.now) values.now))) }

@@ -1,4 +1,4 @@
-// Requests are read.
+// Reads requests.
 
 ghost use Rattle.std.specs.Prelude.{◌≡◌, ◌≤◌, Ok, IfOk, IfErr};
 ghost use Rattle.sso_http.specs.Input.{FaultRose};
@@ -12,7 +12,7 @@ use server_desk::Source;
 use sso_base::{Ask, Blob, Text};
 use std::alloc::Global;
 
-// What is asked, with its body, which counts as absent where it is no form.
+// The request with its body, which counts as absent if it is not a form.
 fn with_body(judged: Judged, body: Vec<u8>) -> Ask
     ensures { result ≡ with_body_of judged body.items }
 {
@@ -25,7 +25,7 @@ fn with_body(judged: Judged, body: Vec<u8>) -> Ask
     ask
 }
 
-// Judges the head, under the names of the server's cookies.
+// Parses and checks the head, given the names of the server's cookies.
 fn judge_head(alloc: Global, head: &Vec<u8>, first: &Text, second: &Text) -> Result<Judged, HttpNo>
     ensures ok { IfOk result (λ j. IsJudged first.now second.now head.now.items (Ok j)) }
     ensures err { IfErr result (RefusesHead first.now second.now head.now.items) }
@@ -40,10 +40,10 @@ fn judge_head(alloc: Global, head: &Vec<u8>, first: &Text, second: &Text) -> Res
 
 /// Reads one request, and no byte past its body (RFC 9112, 2 to 6). `first` and `second` name the server's two cookies.
 ///
-/// What is answered is a function of the bytes that the source gives, however it cuts them. The head ends with its first empty
-/// line that follows a line which is not empty, and is read byte by byte. Only a POST has a body. The body of a request counts as
-/// absent where it is no form, and a cookie where it is no word's text. [`HttpNo`] says why a request is refused, which is judged
-/// when the head has ended and before a byte of the body is read.
+/// The result is a function of the bytes that the source gives, however it splits them. The head is read byte by byte, and ends
+/// with the first empty line after a line that is not empty. Only a POST has a body. A body that is not a form counts as
+/// absent, and so does a cookie that is not the text of a word. [`HttpNo`] is why a request is refused. This is decided after
+/// the head, before a byte of the body is read.
 pub fn read_ask<S: Source>(
     alloc: Global,
     source: &mut S,

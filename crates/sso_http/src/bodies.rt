@@ -1,4 +1,4 @@
-// What fields say of a body (RFC 9112, 6.1; RFC 9110, 8.3 and 8.6).
+// The fields about a body (RFC 9112, 6.1; RFC 9110, 8.3 and 8.6).
 
 ghost use Rattle.std.specs.Prelude.{◌≡◌, map, length, All, IfOk};
 ghost use Rattle.httparse.specs.Spans.{IsHeaderWithin, header_bytes};
@@ -66,7 +66,7 @@ pub(crate) fn body_length(
     }
 }
 
-// Whether the type is that of a form, with or without parameters.
+// Whether the media type is that of a form, with or without parameters.
 fn is_form_type(value: &[u8]) -> bool
     ensures { result ≡ spec.is_form_type value.now }
 {

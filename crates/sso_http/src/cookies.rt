@@ -13,7 +13,7 @@ use httparse::spans::HeaderSpan;
 use sso_base::{NoMemory, Word};
 use std::alloc::{AllocError, Global};
 
-// The name and the value of a piece, where it has an equals sign.
+// The name and the value of a piece, if it has an equals sign.
 fn pair(piece: &[u8]) -> Option<(&[u8], &[u8])>
     ensures { option_map (λ p. (p.0.now, p.1.now)) result ≡ spec.pair_of piece.now }
 {
@@ -25,7 +25,7 @@ fn pair(piece: &[u8]) -> Option<(&[u8], &[u8])>
     }
 }
 
-// The value of a piece, where it has this name.
+// The value of a piece, if it has this name.
 fn value_in<'b>(name: &[u8], piece: &'b [u8]) -> Option<&'b [u8]>
     ensures { option_copied result ≡ spec.value_in name.now piece.now }
 {
@@ -54,7 +54,7 @@ fn all_pieces<'b>(alloc: Global, values: &[&'b [u8]]) -> Result<Vec<&'b [u8]>, N
     Ok(all)
 }
 
-// The values that a name has, in order.
+// The values with this name, in order.
 fn named_values<'b>(
     alloc: Global,
     name: &[u8],
@@ -71,7 +71,7 @@ fn named_values<'b>(
     Ok(found)
 }
 
-// The word of the one value. A value that is no word's text counts as absent.
+// The word of the single value. A value that is not the text of a word counts as absent.
 fn word_of(values: &[&[u8]]) -> Result<Option<Word>, HttpNo>
     ensures { IsTold result (spec.word_of (map (λ v. v.now) values.now)) }
 {
@@ -84,7 +84,7 @@ fn word_of(values: &[&[u8]]) -> Result<Option<Word>, HttpNo>
     Ok(Word::read(values[0]))
 }
 
-// The word that the cookie of a name holds, from the values of the `Cookie` fields.
+// The word in the cookie with this name, from the values of the `Cookie` fields.
 fn word_named(alloc: Global, values: &[&[u8]], name: &[u8]) -> Result<Option<Word>, HttpNo>
     ensures { IsTold result (spec.word_of (spec.named_values name.now (flat_map spec.pieces_of (map (λ v. v.now) values.now)))) }
 {
@@ -93,7 +93,7 @@ fn word_named(alloc: Global, values: &[&[u8]], name: &[u8]) -> Result<Option<Wor
     word_of(&found)
 }
 
-/// The word that the cookie of a name holds.
+/// The word in the cookie with this name.
 pub(crate) fn cookie_word(
     alloc: Global,
     bytes: &[u8],

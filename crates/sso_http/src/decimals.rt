@@ -15,14 +15,14 @@ fn has_digits_alone(text: &[u8]) -> bool
     text.iter().all(|&b| b.is_ascii_digit())
 }
 
-/// Whether it is one or more digits.
+/// Whether the text is one or more digits.
 pub(crate) fn is_decimal(text: &[u8]) -> bool
     ensures { result ≡ spec.is_decimal text.now }
 {
     !text.is_empty() && has_digits_alone(text)
 }
 
-// The number that digits spell, or the greatest of 64 bits where it is greater.
+// The number with these digits, or the greatest of 64 bits if it is greater.
 fn parsed(digits: &str) -> usize
     requires { spec.is_decimal digits.now ≡ true }
     ensures { result ≡ min (digits_value 10 digits.now) (2 ^ 64 - 1) }
@@ -30,7 +30,7 @@ fn parsed(digits: &str) -> usize
     digits.parse::<usize>().unwrap_or(usize::MAX)
 }
 
-/// The number that digits spell, or the greatest of 64 bits where it is greater.
+/// The number with these digits, or the greatest of 64 bits if it is greater.
 #[tactic(auto, using(crate::proofs::Numbers::digits_are_ascii))]
 pub(crate) fn number(digits: &[u8]) -> usize
     requires { spec.is_decimal digits.now ≡ true }
@@ -39,7 +39,7 @@ pub(crate) fn number(digits: &[u8]) -> usize
     parsed(ascii_text(digits))
 }
 
-/// The number that 1 to 9 digits spell.
+/// The number with these 1 to 9 digits.
 #[tactic(auto, using(crate::proofs::Numbers::short_is_small))]
 pub(crate) fn short_decimal(text: &[u8]) -> Option<usize>
     ensures { result ≡ spec.short_decimal text.now }

@@ -9,14 +9,14 @@ use httparse::spans::HeaderSpan;
 use sso_base::NoMemory;
 use std::alloc::Global;
 
-/// Whether two names are the same, in any case of ASCII letters.
+/// Whether two names are the same, up to the case of ASCII letters.
 pub(crate) fn is_same_name(one: &[u8], other: &[u8]) -> bool
     ensures { result ≡ str_eq_ignore_ascii_case one.now other.now }
 {
     one.eq_ignore_ascii_case(other)
 }
 
-/// The values of the fields of a name, in any case of ASCII letters.
+/// The values of the fields with a name, up to the case of ASCII letters.
 pub(crate) fn values<'b>(
     alloc: Global,
     bytes: &'b [u8],
@@ -35,7 +35,7 @@ pub(crate) fn values<'b>(
     Ok(values)
 }
 
-/// The value that stands alone.
+/// The value, if there is exactly one.
 pub(crate) fn only<'b>(values: &[&'b [u8]]) -> Option<&'b [u8]>
     ensures { option_copied result ≡ spec.only_of (map (λ v. v.now) values.now) }
 {
@@ -46,7 +46,7 @@ pub(crate) fn only<'b>(values: &[&'b [u8]]) -> Option<&'b [u8]>
     }
 }
 
-/// The value that stands first.
+/// The first value.
 pub(crate) fn first<'b>(values: &[&'b [u8]]) -> Option<&'b [u8]>
     ensures { option_copied result ≡ spec.first_of (map (λ v. v.now) values.now) }
 {

@@ -1,4 +1,4 @@
-// The head of a request, byte after byte.
+// The head of a request, byte by byte.
 
 ghost use Rattle.std.specs.Prelude.{◌≡◌, ◌++◌, ℕ, List, [], ◌∷◌, reverse, IfOk, OnErr};
 ghost use Rattle.sso_http.specs.Reading.{after_byte, ends_head, kind_of, Tracks};
@@ -6,28 +6,28 @@ ghost use Rattle.sso_http.specs.Reading.{after_byte, ends_head, kind_of, Tracks}
 use sso_base::NoMemory;
 use std::alloc::Global;
 
-/// The line that is begun, as far as it matters.
+/// The current line, as far as it matters.
 #[derive(Clone, Copy, PartialEq, Eq)]
 pub(crate) enum Begun {
-    /// No byte of it came.
+    /// It has no byte.
     Nothing,
-    /// A carriage return alone.
+    /// It is one carriage return.
     Return,
     /// Anything else.
     More,
 }
 
-/// The bytes of a head, as far as they came.
+/// The bytes of a head so far.
 #[derive(Drop)]
 pub(crate) struct Reader {
     pub(crate) bytes: Vec<u8>,
     begun: Begun,
-    // Whether some line that has ended is not empty.
+    // Whether some complete line is not empty.
     line: bool,
 }
 
 impl Reader {
-    /// No byte came yet.
+    /// A reader without bytes.
     pub(crate) fn new(alloc: Global) -> Reader
         ensures tracks { Tracks result }
         ensures none { result.bytes.items ≡ [] }
@@ -39,7 +39,7 @@ impl Reader {
         }
     }
 
-    /// Takes one more byte, and answers whether the head ends with it.
+    /// Takes one more byte, and returns whether the head ends with it.
     pub(crate) fn take(&mut self, byte: u8) -> Result<bool, NoMemory>
         requires tracks { Tracks self.old }
         ensures more { IfOk result (λ ends. (self.new.bytes.items ≡ self.old.bytes.items ++ byte ∷ []) × Tracks self.new × (ends ≡ ends_head (byte ∷ reverse self.old.bytes.items))) }
@@ -56,7 +56,7 @@ impl Reader {
     }
 }
 
-// The line that is begun after one more byte.
+// The current line after one more byte.
 fn next(begun: Begun, byte: u8) -> Begun
     ensures { (line : List ℕ) → begun ≡ kind_of line → result ≡ kind_of (after_byte byte line) }
 {

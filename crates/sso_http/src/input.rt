@@ -1,4 +1,4 @@
-// Heads and bodies are read from a source.
+// Reads heads and bodies from a source.
 
 ghost use Rattle.std.specs.Prelude.{◌≡◌, ◌≤◌, length, IfOk, OnErr, IfErr};
 ghost use Rattle.sso_base.specs.Faults.{HasCause};
@@ -13,7 +13,7 @@ use std::alloc::Global;
 // The most bytes of a head.
 const MOST_HEAD: usize = 16_384;
 
-// The next byte, or None at the end of the input.
+// The next byte, or `None` at the end of the input.
 fn read_byte<S: Source>(source: &mut S) -> Result<Option<u8>, SourceFault>
     ensures given { IfOk result (GivesByte (S.left source.old) (S.left source.new)) }
     ensures kept { OnErr result (S.left source.new ≡ S.left source.old) }
@@ -27,7 +27,7 @@ fn read_byte<S: Source>(source: &mut S) -> Result<Option<u8>, SourceFault>
     Ok(Some(byte[0]))
 }
 
-/// Reads the head, one byte at a time, and no byte behind it.
+/// Reads the head, one byte at a time, and no byte after it.
 #[tactic(auto, using(crate::proofs::OneHead::unended))]
 pub(crate) fn read_head<S: Source>(alloc: Global, source: &mut S) -> Result<Vec<u8>, HttpNo>
     ensures ok { IfOk result (λ head. IsHeadRead (S.left source.old) (S.left source.new) head.items) }
@@ -47,14 +47,14 @@ pub(crate) fn read_head<S: Source>(alloc: Global, source: &mut S) -> Result<Vec<
     Err(HttpNo::HeadTooLong)
 }
 
-// Room for so many bytes.
+// A buffer of `count` bytes.
 fn room(alloc: Global, count: usize) -> Result<Vec<u8>, NoMemory>
     ensures { IfOk result (λ room. length room.items ≡ count) }
 {
     Ok(vec![in alloc; 0; count]?)
 }
 
-/// Reads a body of so many bytes, and no byte behind it.
+/// Reads a body of `count` bytes, and no byte after it.
 #[tactic(auto, using(crate::proofs::ReadBodies::whole_body, crate::proofs::ReadBodies::part_of_body, crate::proofs::ReadBodies::fault_in_body))]
 pub(crate) fn read_body<S: Source>(
     alloc: Global,

@@ -1,4 +1,4 @@
-// The head of a request is judged.
+// Parses and checks the head of a request.
 
 ghost use Rattle.std.specs.Prelude.{◌≡◌, ◌≤◌, length, take, map, All, Ok, IfOk, IfErr, IfSome, IfNone};
 ghost use Rattle.std.specs.List.{before_first, after_first};
@@ -18,10 +18,10 @@ use httparse::spans::{EMPTY_HEADER_SPAN, HeaderSpan, parse_request};
 use sso_base::{Ask, Blob, Method, NoMemory, Text};
 use std::alloc::Global;
 
-/// What a request asks, as far as its head says it.
+/// The request that a head makes.
 #[derive(Drop)]
 pub(crate) struct Judged {
-    /// What it asks, but for the body.
+    /// The request without its body.
     pub(crate) ask: Ask,
     /// The length of the body in bytes.
     pub(crate) count: usize,
@@ -29,7 +29,7 @@ pub(crate) struct Judged {
     pub(crate) form: bool,
 }
 
-// The method of this name (RFC 9110, 9.1).
+// The method with this name (RFC 9110, 9.1).
 fn method_of(name: &[u8]) -> Method
     ensures { result ≡ spec.method_of name.now }
 {
@@ -51,7 +51,7 @@ fn auth(alloc: Global, bytes: &[u8], spans: &[HeaderSpan]) -> Result<Option<Text
     credentials(alloc, &found)
 }
 
-// The path and the query: what stands before and after the first `?` (RFC 9112, 3.2.1).
+// The path and the query: the text before and after the first `?` (RFC 9112, 3.2.1).
 fn split_target(target: &str) -> (&str, &str)
     ensures path { result.0.now ≡ before_first spec.is_question target.now }
     ensures query { result.1.now ≡ after_first spec.is_question target.now }
@@ -70,7 +70,7 @@ fn begins_with_slash(target: &str) -> bool
     !bytes.is_empty() && bytes[0] == b'/'
 }
 
-// The parts of a head are judged.
+// Checks the parts of a head.
 #[tactic(auto, unfolding(crate::specs::Judging::judgement_of))]
 fn judge_parts(
     alloc: Global,
@@ -109,7 +109,7 @@ fn judge_parts(
     })
 }
 
-// The parts of a head that is all of these bytes: the method, the target, and how many fields there are.
+// The parts of a head that is all of these bytes: the method, the target, and the number of fields.
 fn parts<'b>(bytes: &'b [u8], spans: &mut [HeaderSpan; 64]) -> Option<(Method, &'b str, usize)>
     ensures within { IfSome result (λ p. (p.2 ≤ spec.most_fields) × All (IsHeaderWithin (length bytes.now)) (take p.2 spans.new)) }
     ensures parts { IfSome result (λ p. spec.IsParts bytes.now p.0 p.1.now (map (header_bytes bytes.now) (take p.2 spans.new))) }
@@ -127,7 +127,7 @@ fn parts<'b>(bytes: &'b [u8], spans: &mut [HeaderSpan; 64]) -> Option<(Method, &
     Some((method_of(head.method.of(bytes)), target, head.headers))
 }
 
-/// Judges the bytes of a head. `first` and `second` name the server's two cookies.
+/// Parses and checks the bytes of a head. `first` and `second` name the server's two cookies.
 pub(crate) fn judge(
     alloc: Global,
     bytes: &[u8],

@@ -1,20 +1,20 @@
-//! HTTP/1.1 as the servers of the sign-on system speak it (RFC 9110, RFC 9112; cookies: RFC 6265). Heads are read with
-//! `httparse`, and URLs with `url`.
+//! HTTP/1.1 for the servers of the sign-on system (RFC 9110, RFC 9112; cookies: RFC 6265). Heads are parsed with `httparse`,
+//! and URLs with `url`.
 //!
 //! | Module | What it has |
 //! |---|---|
 //! | `ask` | [`read_ask`] reads a request from a source, and no byte past its body |
-//! | `no` | [`HttpNo`], why a request is refused |
-//! | `head`, `input` | where a head ends; heads and bodies, read from a source |
-//! | `judge` | what a head asks |
-//! | `fields`, `ascii`, `blanks`, `decimals` | the fields of a head, and what their values say |
-//! | `bodies`, `cookies` | what fields say of a body; the cookies of a request |
+//! | `no` | [`HttpNo`], the refusals of requests |
+//! | `head`, `input` | the end of a head; heads and bodies, read from a source |
+//! | `judge` | the request that a head makes |
+//! | `fields`, `ascii`, `blanks`, `decimals` | the fields of a head, and their values |
+//! | `bodies`, `cookies` | the fields about a body; the cookies of a request |
 //! | `reply` | [`print_reply`]: the bytes of a reply |
 //! | `refusal` | [`print_http_no`]: the bytes of the reply to a refused request |
-//! | `message` | [`print_message`] and [`message_place`]: the bytes of a message to another server, and where it goes |
+//! | `message` | [`print_message`] and [`message_place`]: the bytes of a message to another server, and its recipient |
 //! | `peer` | [`read_peer`] reads another server's answer |
-//! | `lines` | lines of a head are written |
-//! | `law` | laws of requests, replies and peers' answers, for the crates above |
+//! | `lines` | writes lines of a head |
+//! | `law` | lemmas about requests, replies and peers' answers, for the crates above |
 #![tactic(auto)]
 
 mod ascii;

@@ -1,4 +1,4 @@
-// Lines of a head are written.
+// Writes lines of a head.
 
 ghost use Rattle.std.specs.Prelude.{◌≡◌, ◌++◌, map, decimal, string_bytes, IfOk, OnOk};
 ghost use Rattle.std.specs.List.{concat};
@@ -25,7 +25,7 @@ pub(crate) fn put_field(out: &mut String, name: &str, value: &str) -> Result<(),
     put_all(out, &[name, ": ", value, "\r\n"])
 }
 
-/// Writes a field that has a value.
+/// Writes a field, if it has a value.
 pub(crate) fn put_field_if(
     out: &mut String,
     name: &str,
@@ -39,7 +39,7 @@ pub(crate) fn put_field_if(
     }
 }
 
-/// Writes the last field of a head, and the empty line behind it.
+/// Writes the last field of a head, and the empty line after it.
 #[tactic(auto, unfolding(crate::specs::Writing::last_lines))]
 pub(crate) fn put_last(out: &mut String) -> Result<(), NoMemory>
     ensures { OnOk result (string_bytes out.new ≡ string_bytes out.old ++ spec.last_lines) }
@@ -47,7 +47,7 @@ pub(crate) fn put_last(out: &mut String) -> Result<(), NoMemory>
     put_all(out, &["Connection: close", "\r\n", "\r\n"])
 }
 
-/// Writes that nobody keeps the reply.
+/// Writes that the reply must not be stored.
 #[tactic(auto, unfolding(crate::specs::Writing::no_store))]
 pub(crate) fn put_no_store(out: &mut String) -> Result<(), NoMemory>
     ensures { OnOk result (string_bytes out.new ≡ string_bytes out.old ++ spec.no_store) }
@@ -55,7 +55,7 @@ pub(crate) fn put_no_store(out: &mut String) -> Result<(), NoMemory>
     put_field(out, "Cache-Control", "no-store")
 }
 
-/// Writes the type of a form.
+/// Writes the media type of a form.
 #[tactic(auto, unfolding(crate::specs::Writing::form_type))]
 pub(crate) fn put_form_type(out: &mut String) -> Result<(), NoMemory>
     ensures { OnOk result (string_bytes out.new ≡ string_bytes out.old ++ spec.form_type) }

@@ -1,4 +1,4 @@
-// Messages from one server to another are printed.
+// Prints messages from one server to another.
 
 ghost use Rattle.std.specs.Prelude.{◌≡◌, ◌++◌, [], ◌∷◌, codes, string_bytes, option_copied, unwrap_or, IfOk, OnOk};
 ghost use Rattle.std.specs.Str.{bytes_eq};
@@ -20,7 +20,7 @@ fn same(a: &str, b: &str) -> bool
     a == b
 }
 
-// The http or https URL of a text.
+// Parses an http or https URL.
 #[tactic(auto, unfolding(crate::specs::Messages::web_url))]
 fn web_url(alloc: Global, text: &str) -> Result<Option<Url>, NoMemory>
     ensures { IfOk result (λ o. o ≡ spec.web_url text.now) }
@@ -156,8 +156,8 @@ fn body_bytes(body: &Option<Blob>) -> &[u8]
     }
 }
 
-/// The place that a message is sent to, as `HOST:PORT`, with the port of its URL, or 80 or 443 where none is written. Where the
-/// message's `to` is no URL of http or https, it is `:80`.
+/// The recipient of a message, as `HOST:PORT`. The port is that of its URL or, if none is written, 80 or 443. If the message's
+/// `to` is not a URL of http or https, this is `:80`.
 #[tactic(auto, unfolding(crate::specs::Messages::message_place))]
 pub fn message_place(alloc: Global, message: &Message) -> Result<Text, NoMemory>
     ensures { IfOk result (λ t. t ≡ spec.message_place message.now) }
@@ -166,8 +166,9 @@ pub fn message_place(alloc: Global, message: &Message) -> Result<Text, NoMemory>
     place(alloc, &url)
 }
 
-/// The bytes of a message (RFC 9112, 3 to 6): a POST of a form where it has a body, else a GET, to the path and query of its URL;
-/// `Host` has what [`message_place`] answers. Where the message's `to` is no URL of http or https, the target is `/`.
+/// The bytes of a message (RFC 9112, 3 to 6): a POST of a form if it has a body, otherwise a GET. The target is the path and
+/// query of its URL, and `Host` is the result of [`message_place`]. If the message's `to` is not a URL of http or https, the
+/// target is `/`.
 #[tactic(auto, unfolding(crate::specs::Messages::message_bytes))]
 pub fn print_message(alloc: Global, message: &Message) -> Result<Blob, NoMemory>
     ensures { IfOk result (λ b. b ≡ spec.message_bytes message.now) }

@@ -1,4 +1,4 @@
-// The answers of peers are read.
+// Parses the answers of peers.
 
 ghost use Rattle.std.specs.Prelude.{◌≡◌, ◌≤◌, ℕ, List, length, take, map, All, option_copied, IfOk, IfSome, IfNone};
 ghost use Rattle.httparse.specs.Grammar.{ResponseHead};
@@ -14,7 +14,7 @@ use httparse::spans::{EMPTY_HEADER_SPAN, HeaderSpan, parse_response};
 use sso_base::{Answered, Blob, NoMemory};
 use std::alloc::Global;
 
-// The first so many bytes, where there are so many.
+// The first `count` bytes, if there are that many.
 fn front_of(rest: &[u8], count: usize) -> Option<&[u8]>
     ensures { option_copied result ≡ spec.front_of rest.now count }
 {
@@ -25,7 +25,7 @@ fn front_of(rest: &[u8], count: usize) -> Option<&[u8]>
     }
 }
 
-// The body, from the values of the `Content-Length` fields and the bytes that follow the head.
+// The body, from the values of the `Content-Length` fields and the bytes after the head.
 fn cut_body<'b>(values: &[&[u8]], rest: &'b [u8]) -> Option<&'b [u8]>
     ensures { option_copied result ≡ spec.cut_body (map (λ v. v.now) values.now) rest.now }
 {
@@ -38,7 +38,7 @@ fn cut_body<'b>(values: &[&[u8]], rest: &'b [u8]) -> Option<&'b [u8]>
     front_of(rest, short_decimal(values[0])?)
 }
 
-// The body, from the fields and the bytes that follow the head.
+// The body, from the fields and the bytes after the head.
 #[tactic(auto, unfolding(crate::specs::Peers::peer_body))]
 fn peer_body<'b>(
     alloc: Global,
@@ -56,7 +56,7 @@ fn peer_body<'b>(
     Ok(cut_body(&lengths, rest))
 }
 
-// The parts of a response head: the status, how many fields there are, and what follows it.
+// The parts of a response head: the status, the number of fields, and the bytes after it.
 fn parts<'b>(bytes: &'b [u8], spans: &mut [HeaderSpan; 64]) -> Option<(u16, usize, &'b [u8])>
     ensures within { IfSome result (λ p. (p.1 ≤ most_fields) × All (IsHeaderWithin (length bytes.now)) (take p.1 spans.new)) }
     ensures parts { IfSome result (λ p. spec.IsResponseParts bytes.now p.0 (map (header_bytes bytes.now) (take p.1 spans.new)) p.2.now) }
@@ -68,10 +68,10 @@ fn parts<'b>(bytes: &'b [u8], spans: &mut [HeaderSpan; 64]) -> Option<(u16, usiz
     }
 }
 
-/// Reads the answer of a peer (RFC 9112, 4 to 6): a response head of HTTP/1.0 or HTTP/1.1 with at most 64 fields and no
-/// `Transfer-Encoding`, and a body. The body is all bytes that follow or, where there is a `Content-Length`, the first so
-/// many of them. None exactly where the bytes are no such answer: also where there are two `Content-Length` fields or one
-/// that is not 1 to 9 decimal digits, or fewer bytes follow than it says.
+/// Parses the answer of a peer (RFC 9112, 4 to 6): a response head of HTTP/1.0 or HTTP/1.1 with at most 64 fields and no
+/// `Transfer-Encoding`, and a body. The body is all bytes after the head. If there is a `Content-Length`, it is the first that
+/// many of them. `None` if and only if the bytes are no such answer. This includes two `Content-Length` fields, one that is not
+/// 1 to 9 decimal digits, and one that is more than the number of bytes after the head.
 pub fn read_peer(alloc: Global, bytes: &[u8]) -> Result<Option<Answered>, NoMemory>
     ensures some { IfOk result (λ o. IfSome o (spec.IsAnswer bytes.now)) }
     ensures none { IfOk result (λ o. IfNone o (spec.IsNoAnswer bytes.now)) }

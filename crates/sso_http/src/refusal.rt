@@ -1,4 +1,4 @@
-// Refused requests are replied.
+// Replies to refused requests.
 
 ghost use Rattle.std.specs.Prelude.{◌≡◌, ◌≢◌, IfOk};
 ghost use Rattle.sso_http.specs.Refusals as spec;
@@ -9,7 +9,7 @@ use http_reply::plain;
 use sso_base::{Blob, NoMemory};
 use std::alloc::Global;
 
-// The status of the reply, where there is one.
+// The status of the reply, if there is one.
 fn status_of(why: &HttpNo) -> Option<u16>
     ensures { result ≡ spec.status_of why.now }
 {
@@ -23,8 +23,8 @@ fn status_of(why: &HttpNo) -> Option<u16>
     }
 }
 
-/// The bytes of the reply to a refused request: the line `request` with the refusal's status. None exactly where the source
-/// failed or ended: then nothing is written.
+/// The bytes of the reply to a refused request: the line `request` with the refusal's status. `None` if and only if the source
+/// failed or ended, and nothing is to be written.
 #[tactic(auto, unfolding(crate::specs::Refusals::refusal_bytes))]
 pub fn print_http_no(alloc: Global, why: &HttpNo) -> Result<Option<Blob>, NoMemory>
     requires { why.now ≢ HttpNo.NoMemory }

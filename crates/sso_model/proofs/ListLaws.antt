@@ -1,4 +1,4 @@
--- Small laws of lists: what holds of each element, which elements a list has, and lists in which no element stands twice.
+-- Small lemmas about lists: what is true for each element, the elements of a list, and lists without repeated elements.
 use Rattle.std.proofs.Common.{◌≡◌, Bool, true, false, cond, List, [], ◌∷◌, ◌++◌, filter, inl, inr, refl, sym, ap, ◌∙◌, subst}
 use Rattle.std.specs.List.{AllByRecursion}
 use Rattle.sso_model.specs.Lists.{Has, Lacks, AreDistinct}
@@ -19,13 +19,13 @@ all_has P [] x all has = absurd has
 all_has P (y ∷ ys) x all (inl same) = subst P same all.0
 all_has P (y ∷ ys) x all (inr has) = all_has P ys x all.1 has
 
--- what holds of each holds of each that a test keeps
+-- what is true for each is true for each that a test keeps
 pub all_filter : {A : Type 0} (P : A → Type 0) (test : A → Bool) (xs : List A) → AllByRecursion P xs → AllByRecursion P (filter test xs)
 all_filter P test [] all = tt
 all_filter P test (x ∷ xs) all =
     elim (test x) as (λ b. AllByRecursion P (cond b (x ∷ filter test xs) (filter test xs))) [ true ↦ (all.0, all_filter P test xs all.1) | false ↦ all_filter P test xs all.1 ]
 
--- what holds of each of two lists holds of each of both together
+-- what is true for each element of two lists is true for each of their concatenation
 pub all_append : {A : Type 0} (P : A → Type 0) (xs ys : List A) → AllByRecursion P xs → AllByRecursion P ys → AllByRecursion P (xs ++ ys)
 all_append P [] ys first second = second
 all_append P (x ∷ xs) ys first second = (first.0, all_append P xs ys first.1 second)
@@ -57,12 +57,12 @@ filter_has test (x ∷ xs) =
     let rest : AllByRecursion (Has (x ∷ xs)) (filter test xs) = all_weaker (Has xs) (Has (x ∷ xs)) (filter test xs) (λ y has. inr has) (filter_has test xs) in
     elim (test x) as (λ b. AllByRecursion (Has (x ∷ xs)) (cond b (x ∷ filter test xs) (filter test xs))) [ true ↦ (inl refl, rest) | false ↦ rest ]
 
--- where no element stands twice in both together, none does in the second
+-- if no element occurs twice in a concatenation, none does in the second list
 pub distinct_tail : {A : Type 0} (xs ys : List A) → AreDistinct (xs ++ ys) → AreDistinct ys
 distinct_tail [] ys distinct = distinct
 distinct_tail (x ∷ xs) ys distinct = distinct_tail xs ys distinct.1
 
--- where no element stands twice in both together, the second lacks what the first has
+-- if no element occurs twice in a concatenation, the second list lacks what the first has
 pub distinct_apart : {A : Type 0} (xs ys : List A) (x : A) → AreDistinct (xs ++ ys) → Has xs x → Lacks ys x
 distinct_apart [] ys x distinct has = absurd has
 distinct_apart (y ∷ xs) ys x distinct (inl same) = λ has. distinct.0 (has_append_right xs ys y (subst (Has ys) (sym same) has))

@@ -20,7 +20,7 @@ same_number m n h = grind (arith, nat_tests)
 number_same : (m n : ℕ) → m ≡ n → eqb m n ≡ true
 number_same m n h = grind (arith, nat_tests)
 
--- the session identifier counts where the message says so
+-- the session identifier counts if the message says so
 sid_named : (only same : Bool) → (not only || same) ≡ true → only ≡ true → same ≡ true
 sid_named true same h is = h
 sid_named false same h is = (let clash : false ≡ true = is in cc)

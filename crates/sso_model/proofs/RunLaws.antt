@@ -84,7 +84,7 @@ without_event_same event (row ∷ rows) other =
     let KeptIf : Bool → List Live = λ b. cond b (row ∷ without_event event rows) (without_event event rows) in
     ap KeptIf (not_of_other event row other.0) ∙ ap (λ (ys : List Live). row ∷ ys) (without_event_same event rows other.1)
 
--- a session of an event of its own stays in front
+-- a session with its own event stays at the start
 without_other : (gone : List Live) (row : Live) (rows : List Live) → AllByRecursion (λ (x : Live). x.event ≢ row.event) gone → without gone (row ∷ rows) ≡ row ∷ without gone rows
 unfolding without
 without_other [] row rows other = refl

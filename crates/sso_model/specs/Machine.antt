@@ -1,15 +1,16 @@
--- The sign-on machine: when a step may be taken, and what it leaves.
+-- The sign-on machine: when a step is allowed, and the state after it.
 use Rattle.std.specs.Prelude.{◌≡◌, ◌≢◌, ℕ, Bool, List, [], ◌∷◌, ◌++◌, length, filter, not, ◌&&◌, ◌||◌, ◌==◌}
 use Rattle.std.specs.List.{AllByRecursion}
 use Rattle.std.specs.Str.{bytes_eq}
 use Rattle.sso_model.specs.Lists.{Has, Lacks}
 use Rattle.sso_model.specs.Rows.{Began, Signed, Answered, Sent, Entered, Live, Machine, Step, begin, sign, answer, redeem, out, close, enter, see, drop, end, lapse, unnamed}
 
--- nothing happened
+-- the initial state
 abbrev pub start : Machine
 start = record { began = []; signed = []; answered = []; redeemed = []; out = []; closed = []; entered = []; live = []; ended = [] }
 
--- what an accepted logout message ends: the sessions of its client and user and, where it says so, of its session identifier
+-- the sessions that an accepted logout message ends: those of its client and user and, if it says so, of its session identifier
+-- only
 abbrev pub is_meant : Sent → Live → Bool
 is_meant message row = (row.client == message.client) && (row.user == message.user) && (not message.only || bytes_eq row.sid message.sid)
 
@@ -25,7 +26,7 @@ entered_row row = record { client = row.client; nonce = row.nonce }
 abbrev pub signed_row : Answered → Signed
 signed_row row = record { sid = row.sid; user = row.user; browser = row.browser }
 
--- the provider answered this nonce of this client for this user, whatever browser it answered
+-- the provider answered this nonce of this client for this user, to any browser
 pub record IsAnsweredFor (m : Machine) (row : Live) : Type 0 where
   pub answered : Answered
   pub has : Has m.answered answered
@@ -34,7 +35,7 @@ pub record IsAnsweredFor (m : Machine) (row : Live) : Type 0 where
   pub user : answered.user ≡ row.user
   pub sid : answered.sid ≡ row.sid
 
--- when a step may be taken
+-- a step is allowed
 abbrev pub MayTake : Machine → Step → Type 0
 MayTake m (begin row) = AllByRecursion (λ (b : Began). b.nonce ≢ row.nonce) m.began
 MayTake m (sign row) = AllByRecursion (λ (s : Signed). s.sid ≡ row.sid → s ≡ row) m.signed × Lacks m.closed row.sid
@@ -53,7 +54,7 @@ MayTake m (end row count) = Has m.out row × Lacks m.ended row × (count ≡ len
 MayTake m (lapse event) = (row : Live) × Has m.live row × (row.event ≡ event)
 MayTake m unnamed = ⊥
 
--- what a step leaves
+-- the state after a step
 abbrev pub after : Machine → Step → Machine
 after m (begin row) = record m { began = row ∷ m.began }
 after m (sign row) = record m { signed = row ∷ m.signed }
@@ -72,7 +73,7 @@ abbrev pub after_all : Machine → List Step → Machine
 after_all m [] = m
 after_all m (s ∷ ss) = after_all (after m s) ss
 
--- each step may be taken where it stands
+-- each step is allowed in the state before it
 abbrev pub IsRun : Machine → List Step → Type 0
 IsRun m [] = Unit {0}
 IsRun m (s ∷ ss) = MayTake m s × IsRun (after m s) ss

@@ -2,7 +2,7 @@
 use Rattle.std.specs.Prelude.{◌≡◌, true}
 use Rattle.sso_model.specs.Rows.{Live, Sent}
 
--- it is a session of the message's client and user and, where the message says so, of its session identifier
+-- the session is one of the message's client and user and, if the message says so, of its session identifier
 pub record IsNamed (message : Sent) (row : Live) : Type 0 where
   pub client : row.client ≡ message.client
   pub user : row.user ≡ message.user

@@ -1,5 +1,5 @@
--- The rows of the sign-on machine, and the steps that it takes. Clients, users and browsers are numbers. A nonce and a
--- session identifier are the bytes that stand in the request or the token. The number of a place names what happened there.
+-- The rows and the steps of the sign-on machine. Clients, users and browsers are numbers. A nonce and a session identifier are
+-- the bytes of the request or the token. An event is the number of the place at which it happened.
 use Rattle.std.specs.Prelude.{ℕ, Bool, List, Option}
 
 -- a browser began a login at a client
@@ -23,16 +23,16 @@ pub record Answered : Type 0 where
   pub user : ℕ
   pub sid : List ℕ
 
--- the provider sent a client a logout message; its event is a place and the client
+-- the provider sent a client a logout message; its place and client identify it
 pub record Sent : Type 0 where
   pub place : ℕ
   pub client : ℕ
   pub user : ℕ
   pub sid : List ℕ
-  -- it ends the sessions of this session identifier alone
+  -- it ends only the sessions with this session identifier
   pub only : Bool
 
--- a client let a login of its own in
+-- a client accepted a login that it had begun
 pub record Entered : Type 0 where
   pub client : ℕ
   pub nonce : Option (List ℕ)
@@ -46,7 +46,7 @@ pub record Live : Type 0 where
   pub user : ℕ
   pub sid : List ℕ
 
--- the live sessions stand in the order in which they were entered, all else with the newest first
+-- the live sessions are in the order in which they were entered; all other lists have the newest first
 pub record Machine : Type 0 where
   pub began : List Began
   pub signed : List Signed
@@ -71,7 +71,7 @@ pub data Step : Type 0 where
   out : (row : Sent) → Step
   -- a session of the provider ends
   close : (sid : List ℕ) → Step
-  -- a client lets a login in
+  -- a client accepts a login
   enter : (row : Live) → Step
   -- a client shows its user to a browser
   see : (event client browser user : ℕ) → Step
@@ -79,7 +79,7 @@ pub data Step : Type 0 where
   drop : (event client browser : ℕ) → Step
   -- a client accepts a logout message and ends this number of sessions
   end : (row : Sent) (count : ℕ) → Step
-  -- a session's time is over
+  -- the lifetime of a session is over
   lapse : (event : ℕ) → Step
-  -- a step that names nothing that is there
+  -- a step about something that does not exist
   unnamed : Step

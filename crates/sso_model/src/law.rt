@@ -1,4 +1,4 @@
-//! Laws of every run of the machine.
+//! Lemmas about every run of the machine.
 
 ghost use Rattle.std.specs.Prelude.{ℕ, List};
 ghost use Rattle.sso_model.specs.Lists.{Has};
@@ -7,8 +7,8 @@ ghost use Rattle.sso_model.specs.Machine.{start, after, after_all, IsRun};
 ghost use Rattle.sso_model.specs.Founded.{HoldsOnlyFounded, OnceEach};
 ghost use Rattle.sso_model.specs.Named.{IsNamed};
 
-/// After any run, a relying party holds a session for a browser only where that browser began that login there, and the
-/// provider answered its nonce for that session's user, in a browser that had signed in as that user by password.
+/// After any run, each session that a relying party holds for a browser is founded. That browser began that login there. The
+/// provider answered its nonce for that session's user, to a browser that had signed in as that user by password.
 pub fn begun_answered_signed()
     ensures { (steps : List Step) → IsRun start steps → HoldsOnlyFounded (after_all start steps) }
 {}
@@ -19,8 +19,8 @@ pub fn once_each()
     ensures { (steps : List Step) → IsRun start steps → OnceEach (after_all start steps) }
 {}
 
-/// A logout message that is accepted ends exactly the sessions that it names: none of those is left, and every other one stays,
-/// also those of other clients and of other users.
+/// An accepted logout message ends exactly the sessions that it names: none of those is left, and every other one stays,
+/// including those of other clients and of other users.
 pub fn named_sessions_end()
     ensures ended { (m : Machine) (message : Sent) (count : ℕ) (row : Live) → IsNamed message row → Has (after m (end message count)).live row → ⊥ }
     ensures others { (m : Machine) (message : Sent) (count : ℕ) (row : Live) → (IsNamed message row → ⊥) → Has m.live row → Has (after m (end message count)).live row }

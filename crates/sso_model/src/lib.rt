@@ -1,7 +1,7 @@
-//! The sign-on machine: what a sign-on system may do, and what it holds after that. It has no keys, times, tokens or
-//! tables, so that a person can read it and agree. The reading of a world (crate `sign_on`) is shown to be one of its runs.
+//! The sign-on machine: what a sign-on system may do, and the state after that. It has no keys, times, tokens or tables, so
+//! that a person can read it and agree. The crate `sign_on` proves that the reading of a world is one of its runs.
 //!
-//! `specs/Rows.antt` has its rows and steps, `specs/Machine.antt` when a step may be taken and what it leaves.
+//! `specs/Rows.antt` has its rows and steps. `specs/Machine.antt` defines when a step is allowed, and the state after it.
 #![tactic(auto)]
 
 mod law;

@@ -1,4 +1,4 @@
--- Half digests that clash: which place is the first that clashes with another, and that none does where all differ.
+-- Half hashes that clash: the first place that clashes with another, and none if all differ.
 use Rattle.std.proofs.Common.{◌≡◌, ℕ, suc, ◌<◌, ◌≤◌, ◌&&◌, not, Bool, true, false, cond, [], ◌∷◌, length, Option, Some, None, inl, inr, refl, sym, ap, ◌∙◌, subst, arith}
 use Rattle.std.proofs.lemmas.Bool.{and_parts, cases_lt}
 use Rattle.std.proofs.lemmas.Option.{same_Some}
@@ -27,7 +27,7 @@ one_word v w apart same =
       | inr other ↦ (let never : true ≡ false = sym (ap N other) ∙ rest in cc)
     ]
 
--- words of which one half digest says that they are one do not clash
+-- words that are equal if their half hashes are do not clash
 no_clash : (v w : Word) → (half_digest v ≡ half_digest w → v ≡ w) → do_clash v w ≡ true → ⊥
 no_clash v w one clash =
     let parts = and_parts (not (bytes_eq v w)) (bytes_eq (half_digest v) (half_digest w)) clash in
@@ -70,7 +70,7 @@ pub record IsFirstOf (x : Place) (world : World) (number : ℕ) : Type 0 where
 abbrev or_here : Option ℕ → ℕ → Bool → Option ℕ
 or_here o n b = or_else o (cond b (Some n) None)
 
--- where none is found, none clashes
+-- if none is found, none clashes
 pub none_clashes : (x : Place) (world : World) (y : Place) → first_clash x world ≡ None → Has world y → clashes x y ≡ false
 none_clashes x [] y none has = absurd has
 none_clashes x (z ∷ world) y none has =

@@ -1,4 +1,4 @@
--- Lists: what a test that finds nothing says of each element, where the element of a longer list stands, and elements by their index.
+-- Lists: what follows for each element from a test that finds nothing, the position in a longer list, and elements by index.
 use Rattle.std.proofs.Common.{◌≡◌, ◌<◌, ℕ, zero, suc, Bool, true, false, List, [], ◌∷◌, ◌++◌, length, slice_index_or, ◌||◌, ◌⊎◌, inl, inr, refl, sym, ap, ◌∙◌, subst, arith}
 use Rattle.std.proofs.lemmas.Bool.{or_parts}
 use Rattle.std.specs.List.{list_any}
@@ -30,7 +30,7 @@ any_has {A} test (y ∷ ys) found =
       | inr away ↦ (let rest = any_has test ys (sym (ap T away) ∙ found) in (rest.0, inr rest.1, rest.2))
     ]
 
--- an element of two lists, one behind the other, is in one of them
+-- an element of the concatenation of two lists is in one of them
 pub has_append : {A : Type 0} (xs ys : List A) (x : A) → Has (xs ++ ys) x → Has xs x ⊎ Has ys x
 has_append [] ys x has = inr has
 has_append (z ∷ xs) ys x (inl same) = inl (inl same)
@@ -43,7 +43,7 @@ index_has [] k d low = absurd (omega arith)
 index_has (x ∷ xs) zero d low = inl refl
 index_has (x ∷ xs) (suc k) d low = inr (index_has xs k d (omega arith))
 
--- two elements of a list of distinct ones that stand at different places differ
+-- two elements at different positions of a list of distinct ones differ
 pub index_other : {A : Type 0} (xs ys : List A) (j k : ℕ) (d : A) → AreDistinct (xs ++ ys) → j < k → k < length xs → slice_index_or xs j d ≡ slice_index_or xs k d → ⊥
 index_other [] ys j k d distinct order low same = absurd (omega arith)
 index_other (x ∷ xs) ys j zero d distinct order low same = absurd (omega arith)

@@ -183,7 +183,7 @@ pub callback_is_answered : rp_answer (setup_at site 0) rp.past_begin callback_en
 unfolding rp_answer
 callback_is_answered = refl
 
--- ---- the shop asks for tokens
+-- ---- the shop requests tokens
 
 abbrev pub redeems : Ask
 redeems = record { method = Post; path = codes "/token"; query = []; body = message.body; first = None; second = None; auth = message.auth }

@@ -14,7 +14,7 @@ use Rattle.sso_places.specs.World.{Provider, Party, Nothing, World, rp_past}
 use Rattle.sso_places.specs.Legal.{IsAsked, IsLegalWorld}
 use Rattle.sso_places.specs.Merges.{AreHistories, IsMerge}
 
--- nobody asked a party that the registry does not have
+-- a party that the registry does not have received no request
 nobody_asked : (c : Configuration) (n : ℕ) (world : World) → length c.parties ≤ n → AllByRecursion (IsAsked c) world → rp_past n world ≡ []
 nobody_asked c n [] high asked = refl
 nobody_asked c n (Provider from request p ∷ world) high asked = nobody_asked c n world high asked.1

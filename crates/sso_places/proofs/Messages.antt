@@ -50,7 +50,7 @@ module _ (c : Configuration) (out : Ended) (answered : List Bool) where
   one n client false (Some uri) at is = tt
   one n client false None at is = tt
 
-  -- the clients from a number on stand in the registry at these numbers
+  -- the clients from a number on are in the registry at these numbers
   from : (n : ℕ) (clients : List Client) → ((k : ℕ) (client : Client) → slice_get clients k ≡ Some client → slice_get c.clients (n + k) ≡ Some client)
       → Each (Carries c) (map token (told_from answered n clients)) (messages_from c out answered n clients)
   from n [] stand = tt

@@ -61,7 +61,7 @@ legal_before s (Party n from request p) world legal =
     record { provider = legal.provider; parties = λ k. legal_if s k (n == k) p (rp_past k world) (legal.parties k); asked = legal.asked.1 }
 legal_before s Nothing world legal = record { provider = legal.provider; parties = legal.parties; asked = legal.asked.1 }
 
--- what a legal world says of the pair of its last place
+-- the pair of the last place of a legal world
 pub party_legal : (s : Site) (n from : ℕ) (request : WorldAsk) (p : RpPair) (world : World) → IsLegalWorld s (Party n from request p ∷ world) → IsLegalRp (setup_at s n) (p ∷ rp_past n world)
 party_legal s n from request p world legal =
     let L : RpPast → Type 0 = λ past. IsLegalRp (setup_at s n) past in

@@ -286,7 +286,7 @@ other_site is =
     let same : length (other_provider.issuer) ≡ length (small.provider.issuer) = ap (λ (t : Text). length t) (is.one_issuer 0) in
     absurd (cc)
 
--- ---- who asked for a nonce, and what stands beside what
+-- ---- who sent a nonce, and what is in one reply
 
 asked_from_one : IsAskedOnlyFrom consented 1 (Some (word_text (word 3)))
 asked_from_one = (λ never. absurd never, (λ never. absurd never, (λ asked. refl, (tt, tt))))
@@ -345,7 +345,7 @@ rows_differ code spells other same =
     let never : true ≡ false = sym (bytes_true (codes "sid") (word_text (word 10)) one) ∙ other in
     absurd (cc)
 
--- ---- who was answered, and what a party exchanges and asks for
+-- ---- who received an answer, and what a party exchanges and requests
 
 answered_to_one : (code : Text) → word_of_text code ≡ Some (word 15) → IsAnsweredOnlyTo (machine_of site (signed_on code)).answered 1 (Some (word_text (word 3)))
 unfolding no_clients
@@ -378,7 +378,7 @@ exchanges =
       replied = refl;
     }
 
--- a party of the type `code` has no ID Token beside its code
+-- a party of the type `code` has no ID Token with its code
 exchanges_alone : ExchangesCode site 0 responded (codes "id") (codes "code") → ⊥
 exchanges_alone h = let never : false ≡ true = h.has_id in absurd (cc)
 

@@ -31,7 +31,7 @@ configuration = record sample { users = alice ∷ bob ∷ []; subjects = (codes 
 abbrev pub site : Site
 site = own_site configuration
 
--- a request that presents these cookies; where it goes is not read
+-- a request that presents these cookies; its path is not read
 abbrev pub shows : Option Word → Option Word → Ask
 shows first second = record { method = Get; path = []; query = []; body = None; first = first; second = second; auth = None }
 

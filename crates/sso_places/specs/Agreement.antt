@@ -1,4 +1,4 @@
--- The sign-on theorem: what is said of a world.
+-- The sign-on theorem: its conclusion about a world.
 use Rattle.std.specs.Prelude.{◌≡◌, ◌<◌, ℕ, ◌==◌, List, [], ◌∷◌, length, filter, Some}
 use Rattle.sso_base.specs.Legal.{last_moment}
 use Rattle.sso_base.specs.Words.{word_text}
@@ -14,8 +14,8 @@ use Rattle.sso_places.specs.World.{World, Party, place_at, rp_past}
 use Rattle.sso_places.specs.Each.{Each}
 use Rattle.sso_places.specs.Reading.{user_of_subject, steps_at, machine_of}
 
--- The session that the machine holds is the one that the history of the party of a number calls live: it was entered at that
--- place by that browser under that session word, for the login of that nonce, the user with that subject and that `sid`.
+-- The machine's session is the same as this live session of the party's history: the browser entered it at that place, under
+-- that session word, for the login with that nonce. It is for the user with that subject, and has that `sid`.
 pub record IsSameSession (s : Site) (world : World) (n : ℕ) (row : Live) (visit : SessionRow) : Type 0 where
   pub request : WorldAsk
   pub pair : RpPair
@@ -30,14 +30,14 @@ pub record IsSameSession (s : Site) (world : World) (n : ℕ) (row : Live) (visi
 abbrev pub rows_of : ℕ → List Live → List Live
 rows_of client rows = filter (λ (row : Live). row.client == client) rows
 
--- for each party, the live rows of its client are, in order, the sessions that its history calls live at its last moment
+-- for each party, the live rows of its client are, in order, the sessions that are live in its history at its last moment
 abbrev pub LiveRowsAgree : Site → World → Type 0
 LiveRowsAgree s world =
     (n : ℕ) → n < length s.configuration.parties
     → Each (IsSameSession s world n) (rows_of (client_of_party s n) (machine_of s world).live)
     (live_visits (types_at s n) (rp_past n world) (last_moment (rp_past n world)))
 
--- The reading is a run of the sign-on machine at every prefix, and after each prefix the live rows agree.
+-- After each prefix of the world, the reading is a run of the sign-on machine, and the live rows agree.
 unfoldable pub SignsOn : Site → World → Type 0
 SignsOn s [] = Unit {0}
 SignsOn s (x ∷ world) =

@@ -1,5 +1,6 @@
--- Binding: a code that is exchanged and redeemed, and an access token that UserInfo answers, stood in one reply of the
--- provider with the ID Token beside which the relying party took it (OpenID Connect Core 1.0, 3.1.3.8, 3.2.2.9 and 3.3.2.10).
+-- Binding (OpenID Connect Core 1.0, 3.1.3.8, 3.2.2.9 and 3.3.2.10): a code that is exchanged and redeemed was in one reply of
+-- the provider, together with the ID Token with which the relying party received it. The same is true for an access token that
+-- UserInfo answers.
 use Rattle.std.specs.Prelude.{◌≡◌, ℕ, true, ◌∷◌, ◌++◌, Option, Some, is_some, option_map, Result, Ok}
 use Rattle.sso_base.specs.Words.{Word, Text, word_text}
 use Rattle.sso_base.specs.declared.http.Ask.{Ask}
@@ -25,20 +26,20 @@ use Rattle.sso_places.specs.declared.types.WorldAsk.{WorldAsk}
 use Rattle.sso_places.specs.Site.{Site, setup_at, types_at}
 use Rattle.sso_places.specs.World.{World, Provider, Party}
 
--- ---- what stands in one reply of the provider
+-- ---- the contents of one reply of the provider
 
--- the ID Token beside the code
+-- it has both the ID Token and the code
 abbrev pub HasCodeBeside : Text → Text → OpReply → Type 0
 HasCodeBeside id code (op.Answered answer given) = (answer.id ≡ Some id) × (option_map word_text answer.code ≡ Some code)
 HasCodeBeside id code reply = ⊥
 
--- the ID Token beside the access token
+-- it has both the ID Token and the access token
 abbrev pub HasAccessBeside : Text → Text → OpReply → Type 0
 HasAccessBeside id access (op.Answered answer given) = (answer.id ≡ Some id) × (option_map word_text answer.access ≡ Some access)
 HasAccessBeside id access (op.Tokens w text) = (text ≡ id) × (word_text w ≡ access)
 HasAccessBeside id access reply = ⊥
 
--- some reply of the provider is so
+-- some reply of the provider has this property
 pub record IsReplied (Is : OpReply → Type 0) (world : World) : Type 0 where
   pub from : ℕ
   pub request : Ask
@@ -48,7 +49,7 @@ pub record IsReplied (Is : OpReply → Type 0) (world : World) : Type 0 where
 
 -- ---- codes
 
--- a party of a response type with a code and an ID Token exchanges the code of a response that has this ID Token
+-- a party, whose response type has a code and an ID Token, exchanges the code of a response that has this ID Token
 pub record ExchangesCode (s : Site) (n : ℕ) (p : RpPair) (id code : Text) : Type 0 where
   pub has_code : (types_at s n).code ≡ true
   pub has_id : (types_at s n).id_token ≡ true
@@ -62,7 +63,7 @@ pub record ExchangesCode (s : Site) (n : ℕ) (p : RpPair) (id code : Text) : Ty
   pub message : Message
   pub replied : p.reply ≡ rp.Exchange word message
 
--- the provider gave tokens for the code
+-- the provider issued tokens for the code
 pub record IsRedeemed (world : World) (code : Text) : Type 0 where
   pub from : ℕ
   pub request : Ask
@@ -75,7 +76,7 @@ pub record IsRedeemed (world : World) (code : Text) : Type 0 where
   pub id : Text
   pub replied : pair.reply ≡ op.Tokens access id
 
--- such a code stood in an earlier reply beside that ID Token
+-- an earlier reply had such a code together with that ID Token
 abbrev pub CodesAreBound : Site → World → Type 0
 CodesAreBound s world =
     (n from : ℕ) (request : WorldAsk) (p : RpPair) (later earlier : World) (id code : Text)
@@ -84,14 +85,14 @@ CodesAreBound s world =
 
 -- ---- access tokens
 
--- the access token with which UserInfo is asked for, and the last ID Token of the login: those of a response, or of a token
--- response
+-- the access token of the UserInfo request, and the last ID Token of the login: both from an authorization response, or both
+-- from a token response
 abbrev pub CameTogether : PartySetup → RpAsk → Text → Text → Type 0
 CameTogether s (rp_ask.Callback (Ok heard) read browser) id access = (heard.id ≡ Some id) × (front_access s heard ≡ Some access)
 CameTogether s (rp_ask.Tokens pending (Ok came) read) id access = (came.id ≡ id) × (came.access ≡ access)
 CameTogether s asked id access = ⊥
 
--- a party asks for UserInfo with them, and the ID Token has an `at_hash`
+-- a party sends a UserInfo request with that access token, and the ID Token has an `at_hash`
 pub record AsksForInfo (s : Site) (n : ℕ) (p : RpPair) (id access : Text) : Type 0 where
   pub came : CameTogether (setup_at s n) p.entry.ask id access
   pub claims : IdClaims
@@ -113,7 +114,7 @@ pub record IsInformed (world : World) (access : Text) : Type 0 where
   pub claims : Text
   pub replied : pair.reply ≡ op.Info claims
 
--- such an access token stood in an earlier reply beside that ID Token
+-- an earlier reply had such an access token together with that ID Token
 abbrev pub AccessTokensAreBound : Site → World → Type 0
 AccessTokensAreBound s world =
     (n from : ℕ) (request : WorldAsk) (p : RpPair) (later earlier : World) (id access : Text)

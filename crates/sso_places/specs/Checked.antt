@@ -1,4 +1,4 @@
--- The token texts that a place checks under the secret of a client: those that the reading of its request opens.
+-- The tokens that a place checks under the secret of a client: those that parsing its request verifies.
 use Rattle.std.specs.Prelude.{ℕ, List, [], ◌∷◌, Some, Result, Ok, Err}
 use Rattle.sso_base.specs.declared.http.Ask.{Ask}
 use Rattle.client_registry.specs.Configuration.{Configuration}
@@ -18,23 +18,23 @@ use Rattle.sso_places.specs.Site.{Site, client_of_party}
 use Rattle.sso_places.specs.World.{Place, Provider, Party, Nothing}
 use Rattle.sso_places.specs.Tokens.{TokenText, token_if}
 
--- the request object of an authorization request that can be read, where its client is known (Core 6.1 and 6.3)
+-- the request object of an authorization request that can be read, if its client is known (Core 6.1 and 6.3)
 abbrev pub object_in : Configuration → Result Params AskNo → List TokenText
 object_in c (Ok params) = token_if (client_number c params) params.request
 object_in c (Err why) = []
 
--- such a request gives the ask Authorize, and no other does
+-- only `Authorize` comes from such a request
 abbrev pub op_checked : Configuration → Ask → OpAsk → List TokenText
 op_checked c request (op_ask.Authorize verdict browser session) = object_in c (request_read (form_of request.method request))
 op_checked c request asked = []
 
--- the logout token of a logout request; it is the empty text where there is none, or more than one
+-- the logout token of a logout request; the empty text if there is none, or more than one
 abbrev pub logout_checked : ℕ → WorldAsk → List TokenText
 logout_checked client (Http request) = (client, logout_token_in (posted request.body)) ∷ []
 logout_checked client (Tokens w answer) = []
 logout_checked client (Info w answer) = []
 
--- the ID Token of a response that can be read, also where its type has none, or it is refused before it is judged
+-- the ID Token of a readable response, even if the response type has none or the response is refused before verification
 abbrev pub rp_checked : ℕ → WorldAsk → RpAsk → List TokenText
 rp_checked client request (rp_ask.Callback (Ok heard) id browser) = token_if (Some client) heard.id
 rp_checked client request (rp_ask.Tokens w (Ok came) id) = (client, came.id) ∷ []

@@ -1,4 +1,4 @@
--- Two lists of one length whose elements stand in a relation, in order.
+-- Two lists of the same length whose elements are related, in order.
 use Rattle.std.specs.Prelude.{List, [], ◌∷◌}
 
 abbrev pub Each : {A B : Type 0} → (A → B → Type 0) → List A → List B → Type 0

@@ -1,5 +1,5 @@
--- The first premise that fails, of the three that are tested at each place: at one place a forged text comes before a cookie
--- that leaks, and that before a half digest that clashes.
+-- The first failed premise, of the three that are tested at each place. At one place, a forged token comes before a leaked
+-- cookie, and a leaked cookie before a half-hash clash.
 use Rattle.std.specs.Prelude.{◌≡◌, ◌<◌, ℕ, suc, Bool, true, false, ◌&&◌, not, [], ◌∷◌, ◌++◌, length, Option, Some, None, if◌then◌else◌}
 use Rattle.std.specs.List.{list_any}
 use Rattle.std.specs.Str.{bytes_eq}
@@ -10,9 +10,9 @@ use Rattle.sso_places.specs.Site.{Site}
 use Rattle.sso_places.specs.World.{Place, World, place_at}
 use Rattle.sso_places.specs.Premises.{forges, leaks, issued_at, half_digest, IsUnforged, IsUnleaked, HasDistinctHashes}
 
--- ---- half digests that clash
+-- ---- half hashes that clash
 
--- two words differ and have one half digest
+-- two different words have the same half hash
 abbrev pub do_clash : Word → Word → Bool
 do_clash v w = not (bytes_eq v w) && bytes_eq (half_digest v) (half_digest w)
 
@@ -29,13 +29,13 @@ abbrev pub first_clash : Place → World → Option ℕ
 first_clash x [] = None
 first_clash x (y ∷ world) = or_else (first_clash x world) (if clashes x y then Some (suc (length world)) else None)
 
--- ---- the first that fails
+-- ---- the first failure
 
 abbrev pub clash_at : ℕ → Option ℕ → Option Broken
 clash_at number None = None
 clash_at number (Some first) = Some (HashClash first number)
 
--- of a request, whose place has this number
+-- the result for a place with this number that has a request: forged before leaked
 abbrev pub verdict : ℕ → Bool → Bool → Option Broken
 verdict number forged leaked = if forged then Some (Forged number) else if leaked then Some (Leaked number) else None
 
@@ -47,15 +47,15 @@ abbrev pub first_broken : Site → World → Option Broken
 first_broken s [] = None
 first_broken s (x ∷ world) = or_else (first_broken s world) (broken_at s world x)
 
--- ---- what it says
+-- ---- its meaning
 
--- none fails
+-- no premise fails
 pub record IsUnbroken (s : Site) (world : World) : Type 0 where
   pub unforged : IsUnforged s world
   pub unleaked : IsUnleaked world
   pub hashes : HasDistinctHashes world
 
--- the place has this number, after earlier places at which none fails
+-- the place has this number, and no premise fails at the places before it
 pub record IsFirst (s : Site) (world : World) (number : ℕ) (place : Place) (earlier : World) : Type 0 where
   pub later : World
   pub parts : world ≡ later ++ place ∷ earlier
@@ -75,7 +75,7 @@ pub record IsFirstLeaked (s : Site) (world : World) (number : ℕ) : Type 0 wher
   pub unforged : forges s earlier place ≡ false
   pub leaked : leaks earlier place ≡ true
 
--- of the places that clash with it, this one itself included, the other is the earliest
+-- the other place is the earliest that clashes with this one; it may be this one itself
 pub record IsFirstClash (s : Site) (world : World) (other number : ℕ) : Type 0 where
   pub place : Place
   pub earlier : World

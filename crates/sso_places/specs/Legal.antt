@@ -1,4 +1,4 @@
--- Legal worlds: the history of each role is legal, and each ask is what reading the request gives.
+-- Legal worlds: the history of each role is legal, and each entry is the parsed request.
 use Rattle.std.specs.Prelude.{◌≡◌, ◌<◌, ℕ, length}
 use Rattle.std.specs.List.{AllByRecursion}
 use Rattle.client_registry.specs.Configuration.{Configuration}
@@ -19,19 +19,19 @@ abbrev pub IsRole : Configuration → To → Type 0
 IsRole c to.Provider = Unit {0}
 IsRole c (to.Party n) = n < length c.parties
 
--- what the party of a number is asked
+-- the parsed request to the party with this number
 abbrev pub party_prepared : Configuration → ℕ → WorldAsk → RpAsk
 party_prepared c n (Http request) = rp_prepared c n request
 party_prepared c n (Tokens w answer) = tokens_prepared c n w answer
 party_prepared c n (Info w answer) = info_prepared w answer
 
--- the ask is what reading the request gives, and the party is one of the registry
+-- the entry is the parsed request, and the party is in the registry
 abbrev pub IsAsked : Configuration → Place → Type 0
 IsAsked c (Provider from request p) = p.entry.ask ≡ op_prepared c request
 IsAsked c (Party n from request p) = (n < length c.parties) × (p.entry.ask ≡ party_prepared c n request)
 IsAsked c Nothing = Unit {0}
 
--- each reply is the answer of the role's core to its entry after its own past, and the moments of a role never decrease
+-- each reply is the core's answer to its entry and the role's earlier history, and the moments of a role never decrease
 pub record IsLegalWorld (s : Site) (world : World) : Type 0 where
   pub provider : IsLegalOp s.configuration (op_past world)
   pub parties : (n : ℕ) → IsLegalRp (setup_at s n) (rp_past n world)

@@ -1,6 +1,6 @@
--- The premises of the sign-on theorem: no token text is forged, no cookie is used under another number, all drawn words differ,
--- and a provider's answer comes under the number of the question. For the binding of codes and access tokens there is one
--- more: their half digests differ. That honest logins succeed needs, beside the drawn words, that time goes on.
+-- The sign-on theorem has four premises: no token is forged, no cookie is used under another browser number, all random words
+-- differ, and a provider's answer comes under the number of its request. The binding of codes and access tokens has one more:
+-- their half hashes differ. That honest logins succeed needs two: random words differ, and time goes on.
 use Rattle.std.specs.Prelude.{◌≡◌, ◌≤◌, ℕ, Bool, false, ◌==◌, ◌&&◌, not, List, [], ◌∷◌, ◌++◌, Option, Some, None, if◌then◌else◌}
 use Rattle.std.specs.List.{list_any}
 use Rattle.std.specs.Str.{bytes_eq}
@@ -20,9 +20,9 @@ use Rattle.sso_places.specs.Written.{written}
 use Rattle.sso_places.specs.Checked.{checked}
 use Rattle.op_exchange.specs.Replied.{code_in, access_in}
 
--- ---- unforged: each text that is checked and is sealed under the client's secret was written for this client at an earlier
--- place. This is the one premise in which MACs count: it holds, but for chance, where HMAC with SHA-256 is unforgeable and only
--- the provider and the client have the secret.
+-- ---- unforged: each checked token that is sealed under the client's secret was written for this client at an earlier place.
+-- This is the only premise about MACs. It holds, except by chance, if HMAC with SHA-256 is unforgeable and only the provider
+-- and the client have the secret.
 
 abbrev pub is_written : Site → World → TokenText → Bool
 is_written s world t = list_any (is_token t) (written s world)
@@ -30,7 +30,7 @@ is_written s world t = list_any (is_token t) (written s world)
 abbrev pub is_forged : Site → World → TokenText → Bool
 is_forged s world t = is_sealed (client_secret s.configuration t.0) t.1 && not (is_written s world t)
 
--- the place checks a text that is forged
+-- the place checks a forged token
 abbrev pub forges : Site → World → Place → Bool
 forges s world x = list_any (is_forged s world) (checked s x)
 
@@ -38,7 +38,7 @@ abbrev pub IsUnforged : Site → World → Type 0
 IsUnforged s [] = Unit {0}
 IsUnforged s (x ∷ world) = IsUnforged s world × (forges s world x ≡ false)
 
--- ---- unleaked: no place presents a cookie word that an earlier reply set for another number; 0 is a number too
+-- ---- unleaked: no place presents a cookie that an earlier reply set for another number; 0 counts as a number
 
 abbrev pub sets_elsewhere : ℕ → Word → Place → Bool
 sets_elsewhere from w y = not (from_of y == from) && list_any (λ v. bytes_eq v w) (set_at y)
@@ -46,7 +46,7 @@ sets_elsewhere from w y = not (from_of y == from) && list_any (λ v. bytes_eq v 
 abbrev pub set_elsewhere : World → ℕ → Word → Bool
 set_elsewhere world from w = list_any (sets_elsewhere from w) world
 
--- the place presents a word that was set elsewhere
+-- the place presents a cookie that was set for another number
 abbrev pub leaks : World → Place → Bool
 leaks world x = list_any (set_elsewhere world (from_of x)) (presented x)
 
@@ -54,7 +54,7 @@ abbrev pub IsUnleaked : World → Type 0
 IsUnleaked [] = Unit {0}
 IsUnleaked (x ∷ world) = IsUnleaked world × (leaks world x ≡ false)
 
--- ---- half digests (OpenID Connect Core 1.0, 3.1.3.6 and 3.3.2.11)
+-- ---- half hashes (OpenID Connect Core 1.0, 3.1.3.6 and 3.3.2.11)
 
 -- the code and the access token that a place issues
 abbrev pub issued_at : Place → List Word
@@ -69,18 +69,18 @@ issued (x ∷ world) = issued_at x ++ issued world
 abbrev pub half_digest : Word → Text
 half_digest w = half_hash_of (word_text w)
 
--- no two codes or access tokens that were issued have one half digest
+-- no two issued codes or access tokens have the same half hash
 abbrev pub HasDistinctHashes : World → Type 0
 HasDistinctHashes world = (v w : Word) → Has (issued world) v → Has (issued world) w → half_digest v ≡ half_digest w → v ≡ w
 
--- ---- all words that were drawn differ
+-- ---- all random words differ
 
 abbrev pub HasDistinctWords : World → Type 0
 HasDistinctWords world = AreDistinct (drawn world)
 
--- ---- joined: an answer of the token endpoint or of UserInfo comes under the number of the last place that holds the question
+-- ---- joined: an answer of the token endpoint or of UserInfo comes under the number of the last place that holds its request
 
--- the reply holds a question that waits under the word
+-- the reply holds a request to the provider that is pending under this word
 abbrev pub asks_under : Word → RpReply → Bool
 asks_under w (rp.Exchange v message) = bytes_eq v w
 asks_under w (rp.Fetch v message) = bytes_eq v w
@@ -106,9 +106,9 @@ IsJoined (Provider from request p ∷ world) = IsJoined world
 IsJoined (Party n from request p ∷ world) = IsJoined world × IsJoinedAt world from request
 IsJoined (Nothing ∷ world) = IsJoined world
 
--- ---- time goes on: no place comes at an earlier moment than one before it. (Of the places of one role a legal world says so.)
+-- ---- time goes on: no place has an earlier moment than one before it. (A legal world demands this for each role only.)
 
--- the moment of the newest place at which something was asked, and 0 before
+-- the moment of the newest place with a request, and 0 if there is none
 abbrev pub last_at : World → ℕ
 last_at [] = 0
 last_at (Provider from request p ∷ world) = p.entry.at

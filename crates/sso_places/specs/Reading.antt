@@ -31,9 +31,9 @@ use Rattle.sso_places.specs.World.{Place, Provider, Party, Nothing, World, place
 use Rattle.sso_places.specs.Told.{told_clients, session_ended}
 use Rattle.id_token.specs.Judging.{is_given}
 
--- ---- the provider: a right password
+-- ---- the provider: a correct password
 
--- a reply with a session word: the user signs in under the session identifier of that session
+-- a reply that sets a session word: the user signs in, under the session identifier (`sid`) of that session
 abbrev pub sign_of : ℕ → Option ℕ → Option SessionRow → Step
 sign_of from (Some user) (Some session) = sign (record { sid = word_text session.sid; user = user; browser = from })
 sign_of from user session = unnamed
@@ -42,7 +42,7 @@ abbrev pub sign_steps : ℕ → OpPast → OpPair → Option Word → List Step
 sign_steps from past p None = []
 sign_steps from past p (Some w) = sign_of from (signed_user p.entry.ask) (session_of (p ∷ past) (Some w)) ∷ []
 
--- ---- an answer: of the wish and the session that its code would be of
+-- ---- an answer: by the request and the session to which its code would belong
 
 abbrev pub answer_of : ℕ → ℕ → Option Wish → Option SessionRow → Step
 answer_of number from (Some wish) (Some session) =
@@ -56,15 +56,15 @@ answer_of number from (Some wish) (Some session) =
     })
 answer_of number from wish session = unnamed
 
--- ---- tokens: the place that made the code, and the client of the grant
+-- ---- tokens: the place that issued the code, and the client of the grant
 
 abbrev pub redeem_of : Option ℕ → OpAsk → Step
 redeem_of (Some event) (op_ask.Token (Ok grant)) = redeem event grant.client
 redeem_of event asked = unnamed
 
--- ---- a sign-out of a live session: a message goes out to each client that is told, and the session ends
+-- ---- a sign-out of a live session: a message goes out to each notified client, and the session ends
 
--- a message, by the place of the sign-out and the client
+-- a message, identified by the place of the sign-out and the client
 abbrev pub sent_to : Configuration → ℕ → SessionRow → ℕ → Sent
 sent_to c number session client =
     record {
@@ -106,12 +106,12 @@ enter_as number client from nonce (Some user) (Some sid) =
     enter (record { event = number; client = client; browser = from; nonce = Some (word_text nonce); user = user; sid = sid })
 enter_as number client from nonce user sid = unnamed
 
--- the session that begins has the nonce of its login, and the subject and the `sid` of its last ID Token
+-- the new session has the nonce of its login, and the subject and `sid` of its last ID Token
 abbrev pub enter_of : Configuration → ℕ → ℕ → ℕ → Option Visit → Step
 enter_of c number client from None = unnamed
 enter_of c number client from (Some visit) = enter_as number client from visit.nonce (user_of_subject c client visit.sub) visit.sid
 
--- ---- who is logged in is shown; a browser leaves: the session that the cookie names, by the place at which it was entered
+-- ---- a user is shown, or a browser leaves: the session that the cookie names, by the place at which it was entered
 
 abbrev pub see_of : Option ℕ → ℕ → ℕ → Option ℕ → Step
 see_of (Some event) client from (Some user) = see event client from user
@@ -121,9 +121,9 @@ abbrev pub drop_of : Option ℕ → ℕ → ℕ → Step
 drop_of (Some event) client from = drop event client from
 drop_of None client from = unnamed
 
--- ---- a logout token is accepted: the message that its `jti` names (OpenID Connect Back-Channel Logout 1.0, 2.4)
+-- ---- a logout token is accepted: the message with its `jti` (OpenID Connect Back-Channel Logout 1.0, 2.4)
 
--- the `jti` of a message is made of the word that was drawn for the sign-out, and of the client
+-- the `jti` of a message is made from a random word of the sign-out and the client
 abbrev pub jti_at : ℕ → Option Place → Option Text
 jti_at client None = None
 jti_at client (Some place) = Some (logout_id (fresh_word (fresh_of place) 0) client)
@@ -131,7 +131,7 @@ jti_at client (Some place) = Some (logout_id (fresh_word (fresh_of place) 0) cli
 abbrev pub has_jti : World → ℕ → Text → Sent → Bool
 has_jti world client jti message = (message.client == client) && is_given jti (jti_at client (place_at world message.place))
 
--- the message to the client that has this `jti`, of those that went out
+-- the message with this `jti` to the client, among those that went out
 abbrev pub message_named : World → ℕ → Text → List Sent → Option Sent
 message_named world client jti [] = None
 message_named world client jti (message ∷ messages) =
@@ -141,7 +141,7 @@ abbrev pub end_of : Option Sent → ℕ → Step
 end_of (Some message) count = end message count
 end_of None count = unnamed
 
--- ---- all steps of a place of a party but its lapses
+-- ---- all steps of a place of a party, except its lapses
 
 abbrev pub party_steps : Site → World → List Sent → ℕ → ℕ → RpPast → RpPair → RpAsk → RpReply → List Step
 party_steps s world sent n from past p asked (rp.Ask to browser) =
@@ -160,7 +160,7 @@ party_steps s world sent n from past p (rp_ask.Logout (Ok claims)) (rp.Ended cou
 party_steps s world sent n from past p asked (rp.Ended count) = unnamed ∷ []
 party_steps s world sent n from past p asked reply = []
 
--- ---- lapses: the sessions of the client that were entered as long ago as their life, or longer
+-- ---- lapses: the client's sessions whose age has reached their lifetime
 
 abbrev pub is_after : ℕ → ℕ → Option ℕ → Bool
 is_after life at None = false
@@ -170,7 +170,7 @@ abbrev pub is_over : World → ℕ → ℕ → Live → Bool
 is_over world client at row =
     (row.client == client) && is_after visit_life at (option_and_then moment_of (place_at world row.event))
 
--- in the order in which they were entered
+-- in the order in which the sessions were entered
 abbrev pub lapses : World → ℕ → ℕ → Machine → List Step
 lapses world client at m = map (λ (row : Live). lapse row.event) (filter (is_over world client at) m.live)
 

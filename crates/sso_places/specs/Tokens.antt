@@ -1,4 +1,4 @@
--- Token texts, each with the number of the client under whose secret it is sealed (OpenID Connect Core 1.0, 10.1).
+-- Tokens as text, each with the number of the client whose secret is its key (OpenID Connect Core 1.0, 10.1).
 use Rattle.std.specs.Prelude.{ℕ, Bool, ◌==◌, ◌&&◌, List, [], ◌∷◌, Option, Some, is_some}
 use Rattle.std.specs.Result.{result_ok}
 use Rattle.std.specs.Str.{bytes_eq}
@@ -11,11 +11,11 @@ TokenText = ℕ × Text
 abbrev pub is_token : TokenText → TokenText → Bool
 is_token t u = (u.0 == t.0) && bytes_eq u.1 t.1
 
--- the text is sealed under the key (RFC 7515, 5.2)
+-- the token's MAC is valid under this key (RFC 7515, 5.2)
 abbrev pub is_sealed : Text → Text → Bool
 is_sealed key text = is_some (result_ok (verdict key text))
 
--- the one text, where there is a client and a text
+-- the one token, if there are a client and a text
 abbrev pub token_if : Option ℕ → Option Text → List TokenText
 token_if (Some client) (Some text) = (client, text) ∷ []
 token_if client text = []

@@ -1,4 +1,4 @@
--- The token texts that are written for a client, under its secret: the provider's ID Tokens (OpenID Connect Core 1.0, 2) and
+-- The tokens that are written for a client, under its secret: the provider's ID Tokens (OpenID Connect Core 1.0, 2), its
 -- logout tokens (Back-Channel Logout 1.0, 2.4), and the request objects of the party that is the client (Core 6.1).
 use Rattle.std.specs.Prelude.{◌≡◌, ℕ, List, [], ◌∷◌, ◌++◌, codes, map, Option, Some, None, Ok, if◌then◌else◌}
 use Rattle.sso_base.specs.Words.{Word, Text, fresh_word}
@@ -24,25 +24,25 @@ use Rattle.sso_places.specs.Tokens.{TokenText, token_if}
 
 -- ---- the provider
 
--- the client that has a redirection URI; no two clients have one
+-- the client with this redirect URI; no two clients share one
 abbrev pub client_of_uri : Configuration → Text → Option ℕ
 client_of_uri c uri = redirect_place uri c.clients
 
--- the logout tokens of a sign-out, one in each of its messages
+-- the logout tokens of a sign-out, one for each of its messages
 abbrev pub logouts_written : Configuration → Entry OpAsk → Option SessionRow → List TokenText
 logouts_written c e None = []
 logouts_written c e (Some session) =
     map (λ client. (client, issued_logout c client (sign_out_of e session))) (told_clients c session.clients)
 
--- An authorization response is for the client whose redirection URI it is sent to, a token response for the client that
--- asked.
+-- The ID Token of an authorization response is for the client whose redirect URI receives it. The one of a token response is
+-- for the client of the token request.
 abbrev pub op_written : Configuration → OpPast → Entry OpAsk → OpAsk → OpReply → List TokenText
 op_written c past e asked (op.Answered answer given) = token_if (client_of_uri c answer.redirect) answer.id
 op_written c past e (op_ask.Token (Ok grant)) (op.Tokens access id) = (grant.client, id) ∷ []
 op_written c past e asked (op.SignedOut messages) = logouts_written c e (session_ended past e.at asked)
 op_written c past e asked reply = []
 
--- ---- a party: the request object of a login, where its requests are signed
+-- ---- a party: the request object of a login, if it signs its requests
 
 abbrev pub object_written : Site → ℕ → List Word → List TokenText
 object_written s n fresh =

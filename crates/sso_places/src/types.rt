@@ -1,29 +1,29 @@
-//! What a world is asked and replies.
+//! The requests of a world, its replies, and the premises that can fail.
 
 use op_exchange::OpReply;
 use rp_exchange::RpReply;
 use sso_base::{Answered, Ask, Word};
 
-/// Whom a request is to: the provider, or the relying party of a number, from 0.
+/// The recipient of a request: the provider, or the relying party with this number, from 0.
 #[derive(Clone, Copy, Debug, PartialEq, Eq)]
 pub enum To {
     Provider,
     Party(u32),
 }
 
-/// What is asked.
+/// A request or an answer that reaches a role.
 #[derive(Drop)]
 pub enum WorldAsk {
-    /// A request of a browser or of a server.
+    /// An HTTP request of a browser or of a server.
     Http(Ask),
-    /// What a provider answered to the token request of the exchange that waits under this word (OpenID Connect Core 1.0,
-    /// 3.1.3.3). Only a relying party is asked so.
+    /// The provider's answer to a token request (OpenID Connect Core 1.0, 3.1.3.3). The word names the pending exchange.
+    /// Only a relying party receives this.
     Tokens(Word, Answered),
-    /// What it answered to the UserInfo request of that exchange (Core 5.3.2). Only a relying party is asked so.
+    /// The provider's answer to the UserInfo request of that exchange (Core 5.3.2). Only a relying party receives this.
     Info(Word, Answered),
 }
 
-/// The reply of the role that was asked, or nothing.
+/// The reply of the role that received the request, or nothing.
 #[derive(Drop)]
 pub enum WorldReply {
     Provider(OpReply),
@@ -38,14 +38,14 @@ pub struct Jar {
     pub second: Option<Word>,
 }
 
-/// The premise of the sign-on theorem that fails first, and where. Places are counted from 1.
+/// The first premise of the sign-on theorem that fails, and the place at which it fails. Places are counted from 1.
 #[derive(Clone, Copy, Debug, PartialEq, Eq)]
 pub enum Broken {
-    /// At this place a text passed the check of its MAC that no role had written for this client at an earlier place.
+    /// At this place a token passed the check of its MAC, but no role had written it for this client at an earlier place.
     Forged(u64),
-    /// At this place a cookie was presented that a reply had set for another number.
+    /// At this place a request presented a cookie that a reply had set for another browser number.
     Leaked(u64),
-    /// A code or access token of the second place has the half digest of another one, of the first place. It fails at the
-    /// second place; the first is the earliest such place, and may be the second place itself.
+    /// A code or access token of the second place has the same half hash as a different one of the first place. The premise
+    /// fails at the second place. The first is the earliest such place, and may be the second place itself.
     HashClash(u64, u64),
 }

@@ -1,4 +1,4 @@
--- What a relying party's server did, where its core was set up so and its first door listens there.
+-- What a relying party's server did, if its core has this setup and its first door listens there.
 use Rattle.std.proofs.Common.{◌≡◌, List, Result, subst}
 use Rattle.std.specs.Result.{IfOk}
 use Rattle.sso_base.specs.Words.{Text}

@@ -1,4 +1,4 @@
--- What the two servers speak for.
+-- The roles of the two servers.
 use Rattle.std.specs.Prelude.{ℕ, List, [], Option, Some, None}
 use Rattle.sso_base.specs.declared.message.Message.{Message}
 use Rattle.sso_base.specs.declared.message.Answered.{Answered}
@@ -29,12 +29,12 @@ use Rattle.serving.specs.Manner.{Manner}
 
 -- ---- the provider
 
--- a sign-out is told to the clients of the session (OpenID Connect Back-Channel Logout 1.0, 2.5)
+-- the clients of the session are notified of a sign-out (OpenID Connect Back-Channel Logout 1.0, 2.5)
 abbrev pub op_notices : OpReply → List Message
 op_notices (SignedOut messages) = messages
 op_notices reply = []
 
--- it puts no questions
+-- it makes no requests to other servers
 abbrev pub op_manner : Configuration → Manner OpAsk OpReply
 op_manner c = record {
   first = op_cookies.browser_cookie;
@@ -47,28 +47,28 @@ op_manner c = record {
   weighs = op_weight.ask_weight;
 }
 
--- what the provider was set up with, and its history
+-- the setup of the provider, and its history
 abbrev pub op_registry : Providing → Configuration
 op_registry p = p.registry
 
 abbrev pub op_history : Providing → List OpPair
 op_history p = p.history
 
--- ---- the relying party of a number
+-- ---- the relying party with a number
 
--- a token request and a UserInfo request are questions to the provider (OpenID Connect Core 1.0, 3.1.3.1 and 5.3.1)
+-- a token request and a UserInfo request go to the provider (OpenID Connect Core 1.0, 3.1.3.1 and 5.3.1)
 abbrev pub rp_question : RpReply → Option Message
 rp_question (Exchange pending message) = Some message
 rp_question (Fetch pending message) = Some message
 rp_question reply = None
 
--- what the provider's answer asks
+-- the parsed answer of the provider
 abbrev pub rp_answered : Configuration → ℕ → RpReply → Answered → RpAsk
 rp_answered c n (Exchange pending message) answer = tokens_prepared c n pending answer
 rp_answered c n (Fetch pending message) answer = info_prepared pending answer
 rp_answered c n reply answer = rp_ask.NotHere
 
--- after a token request a UserInfo request may follow, and after that one nothing
+-- after a token request a UserInfo request may follow, and after that no further one
 abbrev pub rp_rounds : RpReply → ℕ
 rp_rounds (Exchange pending message) = 2
 rp_rounds (Fetch pending message) = 1
@@ -86,7 +86,7 @@ rp_manner c n = record {
   weighs = rp_weight.ask_weight;
 }
 
--- what a relying party was set up with, and its history
+-- the setup of a relying party, and its history
 abbrev pub rp_setup : Relying → PartySetup
 rp_setup r = r.setup
 

@@ -1,4 +1,4 @@
--- How many questions may follow a reply.
+-- How many requests to other servers (questions) may follow a reply.
 use Rattle.std.proofs.Common.{◌≡◌, ◌≢◌, ℕ, ◌≤◌, ◌<◌, List, [], ◌∷◌, ◌++◌, reverse, Option, None, Result, Ok, Err, refl, sym, subst, arith}
 use Rattle.std.proofs.lemmas.List.{reverse-append}
 use Rattle.sso_base.specs.Words.{Word, Text}
@@ -26,7 +26,7 @@ use Rattle.rp_answer.proofs.Answers.{exchanges_have_a_cause, fetches_have_a_caus
 use Rattle.rp_request.specs.Prepared.{tokens_prepared, tokens_asked, info_prepared}
 use Rattle.sso_serve.specs.Roles.{rp_question, rp_answered, rp_rounds}
 
--- a reply of a relying party that puts a question has rounds left
+-- a reply of a relying party with a question has rounds left
 pub rp_few_rounds : (r : RpReply) → (rp_rounds r ≤ 2) × (rp_question r ≢ None → 0 < rp_rounds r)
 rp_few_rounds (reply.Ask to browser) = (omega arith, λ question. absurd (question refl))
 rp_few_rounds reply.Fragment = (omega arith, λ question. absurd (question refl))
@@ -40,7 +40,7 @@ rp_few_rounds (reply.Ended count) = (omega arith, λ question. absurd (question 
 rp_few_rounds (reply.Refused why) = (omega arith, λ question. absurd (question refl))
 rp_few_rounds reply.NotHere = (omega arith, λ question. absurd (question refl))
 
--- a token response is asked, and a UserInfo response
+-- the entry is a token response, or a UserInfo response
 abbrev IsTokens : RpAsk → Type 0
 IsTokens asked = (pending : Word) × (came : Result Tokens TokensNo) × (id : Option (Result IdClaims IdNo)) × (asked ≡ ask.Tokens pending came id)
 
@@ -74,7 +74,7 @@ after_tokens s past p is (reply.Ended count) h = omega arith
 after_tokens s past p is (reply.Refused why) h = omega arith
 after_tokens s past p is reply.NotHere h = omega arith
 
--- after a UserInfo response nothing is asked of the provider
+-- after a UserInfo response no request to the provider follows
 after_info : (s : PartySetup) (past : RpPast) (p : RpPair) → IsInfo p.entry.ask → (r : RpReply) → rp_answer s past p.entry ≡ r → rp_rounds r < 1
 after_info s past p is (reply.Exchange w message) h = absurd (no_exchange_now s past p p.entry.ask w message is (exchanges_have_a_cause s past p.entry w message h))
 after_info s past p is (reply.Fetch w message) h = absurd (no_fetch s past p p.entry.ask w message is (fetches_have_a_cause s past p.entry w message h))
@@ -88,7 +88,7 @@ after_info s past p is (reply.Ended count) h = omega arith
 after_info s past p is (reply.Refused why) h = omega arith
 after_info s past p is reply.NotHere h = omega arith
 
--- the newest pair of a legal history is answered by its own past
+-- the newest reply of a legal history is the answer to its entry and the history before it
 newest_answer : (s : PartySetup) (before : List RpPair) (p : RpPair) → IsLegalHistory s (before ++ p ∷ []) → rp_answer s (reverse before) p.entry ≡ p.reply
 newest_answer s before p legal =
     let past : IsLegalRp s (p ∷ reverse before) = subst (λ (past : RpPast). IsLegalRp s past) (reverse-append before (p ∷ [])) legal.past in

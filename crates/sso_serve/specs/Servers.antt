@@ -16,20 +16,20 @@ use Rattle.serving.specs.Summaries.{Telling, Summarises}
 use Rattle.sso_serve.specs.declared.ran.Ran.{Ran}
 use Rattle.sso_serve.specs.Roles.{op_manner, op_registry, op_history, rp_manner, rp_setup, rp_history}
 
--- what is told of a server that did this
+-- the result of a server that did this
 abbrev pub ran_of : {O A R : Type 0} → Summary O A R → Ran
 ran_of s = record { fault = s.fault; served = s.served; entries = s.entries }
 
 module _ {D L C W S K : Type 0} (t : Telling D L C W S K) (olds news : List (Desk D L C W)) where
-  -- the provider of a configuration was served, at its `listen`
+  -- the provider of a configuration was served, at its `listen` address
   abbrev pub ServesOp : Configuration → Summary Providing OpAsk OpReply → Type 0
   ServesOp c s = Summarises t (op_manner c) op_registry op_history op.IsLegalHistory c c.listen olds news s
 
-  -- the relying party of a setup was served, at its `listen`
+  -- the relying party of a setup was served, at its `listen` address
   abbrev pub ServesRp : PartySetup → Summary Relying RpAsk RpReply → Type 0
   ServesRp p s = Summarises t (rp_manner p.configuration p.number) rp_setup rp_history rp.IsLegalHistory p (party_of p).listen olds news s
 
-  -- the same, where this is told of it
+  -- the same, with this result
   abbrev pub RanOp : Configuration → Ran → Type 0
   RanOp c ran = (s : Summary Providing OpAsk OpReply) × ServesOp c s × (ran ≡ ran_of s)
 

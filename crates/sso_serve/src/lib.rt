@@ -1,13 +1,13 @@
-//! The two roles of the sign-on system for servers over worker threads, and their servers.
+//! The two roles of the sign-on system for servers with worker threads, and their servers.
 //!
-//! How a server serves is said once, by the crate `serving`; here is what is theirs: which cores they step, what requests ask of
-//! these, and how the replies go out.
+//! The crate `serving` defines how any server works. This crate has what differs between the two: their cores, how requests are
+//! parsed for them, and how their replies are sent.
 //!
 //! | Module | What it has |
 //! |---|---|
 //! | `op_role`, `rp_role` | [`OpRole`] and [`RpRole`], the roles |
 //! | `op`, `rp` | [`serve_op`] and [`serve_rp`], the servers |
-//! | `ran` | [`run_op`] and [`run_rp`], the same where the core is of no interest, and [`Ran`], what is told then |
+//! | `ran` | [`run_op`] and [`run_rp`], the same without the core, and [`Ran`], their result |
 #![tactic(auto)]
 
 mod op;

@@ -14,13 +14,13 @@ use std::alloc::Global;
 use std::sync::Wait;
 use std::thread::Threads;
 
-/// Serves the provider of this registry at its `listen`, by one worker a desk beside each other.
+/// Serves the provider of this registry at its `listen` address, with one worker for each desk, concurrently.
 ///
-/// There are at most 64 desks, each of at most 2^56 turns, whose doors gave fewer than 2^63 connections.
+/// Needs at most 64 desks, each of at most 2^56 turns, whose doors have given fewer than 2^63 connections.
 ///
 /// # Errors
 ///
-/// `NoMemory` where memory ran out, before the first door was started: the desks are as they were.
+/// `NoMemory` if memory ran out, before the first door was started. The desks are unchanged.
 pub fn serve_op<R: Threads + Wait + Sync, D: Door, L: Link, C: Clock, W: Draw>(
     rt: &R,
     alloc: Global,

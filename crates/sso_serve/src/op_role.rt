@@ -15,7 +15,7 @@ const BROWSER: &str = "op_b";
 /// The name of the session's cookie.
 const SESSION: &str = "op_s";
 
-/// What the provider's server speaks for: the provider of this registry.
+/// The role of the provider's server: the provider of this registry.
 #[derive(Drop)]
 pub struct OpRole<'a> {
     pub registry: &'a Registry,

@@ -1,4 +1,4 @@
-// What is told of a server that ended.
+// The result of a server that has ended.
 
 ghost use Rattle.std.specs.Prelude.{◌≡◌, ◌^◌, ◌≤◌, ◌<◌, length, IfOk, OnErr};
 ghost use Rattle.std.specs.List.{All};
@@ -15,18 +15,18 @@ use std::alloc::Global;
 use std::sync::Wait;
 use std::thread::Threads;
 
-/// What is told of a server that ended. Its core is gone.
+/// The result of a server that has ended, without its core.
 #[derive(Clone, Copy)]
 pub struct Ran {
     /// Whether a door failed.
     pub fault: bool,
-    /// How many connections its desks served.
+    /// The number of connections that its desks served.
     pub served: u64,
-    /// How many entries the history of its core has.
+    /// The number of entries in the history of its core.
     pub entries: u64,
 }
 
-/// Serves as [`serve_op`], and tells how that ended.
+/// Serves as [`serve_op`], and returns how that ended.
 ///
 /// # Errors
 ///
@@ -50,7 +50,7 @@ pub fn run_op<R: Threads + Wait + Sync, D: Door, L: Link, C: Clock, W: Draw>(
     })
 }
 
-/// Serves as [`serve_rp`], and tells how that ended.
+/// Serves as [`serve_rp`], and returns how that ended.
 ///
 /// # Errors
 ///

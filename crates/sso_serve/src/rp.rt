@@ -16,7 +16,7 @@ use std::alloc::Global;
 use std::sync::Wait;
 use std::thread::Threads;
 
-// Where the party of this number listens.
+// The address at which the party with this number listens.
 fn listen_of(registry: &Registry, party: u32) -> &Text
     requires { party < length registry.now.parties }
     ensures { result.now ≡ (party_row registry.now party).listen }
@@ -24,14 +24,14 @@ fn listen_of(registry: &Registry, party: u32) -> &Text
     &registry.party(party).listen
 }
 
-/// Serves the party of this number in the registry, which trusts this provider, at the party's `listen`, by one worker a desk beside
-/// each other. The provider's issuer is the registry's.
+/// Serves the party with this number in the registry at its `listen` address, with one worker for each desk, concurrently. It
+/// trusts this provider, whose issuer must be the registry's.
 ///
-/// There are at most 64 desks, each of at most 2^56 turns, whose doors gave fewer than 2^63 connections.
+/// Needs at most 64 desks, each of at most 2^56 turns, whose doors have given fewer than 2^63 connections.
 ///
 /// # Errors
 ///
-/// `NoMemory` where memory ran out, before the first door was started: the desks are as they were.
+/// `NoMemory` if memory ran out, before the first door was started. The desks are unchanged.
 pub fn serve_rp<R: Threads + Wait + Sync, D: Door, L: Link, C: Clock, W: Draw>(
     rt: &R,
     alloc: Global,

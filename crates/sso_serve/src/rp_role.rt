@@ -12,7 +12,7 @@ use serving::Role;
 use sso_base::{Answered, Ask, HttpReply, Message, Messages, NoMemory, Text};
 use std::alloc::Global;
 
-/// What a relying party's server speaks for: the party of this number in the registry.
+/// The role of a relying party's server: the party with this number in the registry.
 #[derive(Drop)]
 pub struct RpRole<'a> {
     pub registry: &'a Registry,
@@ -26,7 +26,7 @@ impl<'a> Role for RpRole<'a> {
 
     type Core = RpCore;
 
-    /// Its number is one of a party.
+    /// The party is in the registry.
     ghost ready = { λ role. role.party < length role.registry.now.parties };
 
     ghost manner = { λ role. rp_manner role.registry.now role.party };

@@ -1,4 +1,4 @@
--- The configuration of a storm: two users, and three clients, each of which is a party and has the consent of the users.
+-- The configuration of a storm: two users, and three clients, each of which is a party and has the users' consent.
 use Rattle.std.specs.Prelude.{◌++◌, codes}
 use Rattle.sso_base.specs.Words.{Text}
 
@@ -53,7 +53,7 @@ clients_text =
     ++ codes "response_types = [\"code id_token\"]\n"
     ++ codes "consent = \"given\"\n"
 
--- the parties `shop`, `news` and `mail`: of the code flow, the implicit and the hybrid one
+-- the parties `shop`, `news` and `mail`: one each for the code flow, the implicit flow and the hybrid flow
 unfoldable pub parties_text : Text
 parties_text =
     codes "[[party]]\n"

@@ -1,4 +1,4 @@
--- The logins of a storm, by their numbers from 0: who logs in and where, what else happens, and the lines of the trace.
+-- The logins of a storm, by their numbers from 0: the user and the party, the variation, and the lines of the trace.
 use Rattle.std.specs.Prelude.{ℕ, ◌+◌, ◌*◌, ◌/◌, ◌%◌, ◌^◌, ◌==◌, nat_lt, [], ◌++◌, codes, if◌then◌else◌}
 use Rattle.sso_base.specs.Words.{Text}
 use Rattle.storm_texts.specs.declared.login.User.{User}
@@ -29,7 +29,7 @@ twist_of k =
     else if k / 3 % 4 == 2 then OtherBrowser
     else LoginAgain
 
--- the login of number k, by the state of the generator, after so many places
+-- login number k, given the state of the generator and the number of places before it
 abbrev pub login_of : ℕ → ℕ → ℕ → Login
 login_of k state places =
     record { at = 1000 + k; browser = k + 1; user = user_of state; party = party_of k; twist = twist_of k; places = places }
@@ -51,24 +51,24 @@ abbrev pub other_lines : Twist → ℕ → Text
 other_lines OtherBrowser answer = follow_line 65535 answer
 other_lines twist answer = []
 
--- how many places that takes
+-- the number of places that this takes
 abbrev pub others : Twist → ℕ
 others OtherBrowser = 1
 others twist = 0
 
--- what the party asks the provider: for tokens with a code, and for UserInfo
+-- the party's requests to the provider: for tokens with a code, and for UserInfo
 abbrev pub exchanged_lines : Party → ℕ → Text
 exchanged_lines Shop asked = exchange_lines asked
 exchanged_lines News asked = []
 exchanged_lines Mail asked = exchange_lines asked ++ exchange_lines (asked + 2)
 
--- how many places that takes
+-- the number of places that these take
 abbrev pub exchanges : Party → ℕ
 exchanges Shop = 2
 exchanges News = 0
 exchanges Mail = 4
 
--- the browser does again what it did
+-- the browser repeats a step
 abbrev pub again_lines : Login → Twist → Text
 again_lines login AnswerAgain = follow_line login.browser (login.places + 3)
 again_lines login LoginAgain = login_line login.browser (login.places + 2) (credentials login.user)
@@ -94,7 +94,7 @@ end_lines login = visit_line login.browser (party_name login.party) ++ again_lin
 unfoldable pub login_lines : Login → Text
 login_lines login = begun_lines login ++ answer_lines login ++ end_lines login
 
--- how many places that takes
+-- the number of places that this takes
 abbrev pub twists : Twist → ℕ
 twists Plain = 0
 twists twist = 1

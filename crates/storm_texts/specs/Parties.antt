@@ -1,4 +1,4 @@
--- A configuration that a storm can be played over.
+-- A configuration over which a storm can be played.
 use Rattle.std.specs.Prelude.{◌≡◌, true, is_some}
 use Rattle.client_registry.specs.Configuration.{Configuration}
 use Rattle.client_registry.specs.Rules.{party_place}

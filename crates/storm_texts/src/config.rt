@@ -95,8 +95,8 @@ signed = true
 "
 }
 
-/// The configuration of every storm: two users, and three clients, each of which is a party and has the consent of the users. It is
-/// that of `examples/sample.toml`, where the client of the party `shop` does not ask the users.
+/// The configuration of every storm: two users, and three clients, each of which is a party and has the users' consent. It
+/// equals `examples/sample.toml`, except that the client of the party `shop` does not prompt the users for consent.
 #[tactic(auto, unfolding(crate::specs::Config::config_text))]
 pub fn storm_config(alloc: Global) -> Result<Blob, NoMemory>
     ensures { IfOk result (λ b. b ≡ config_text) }

@@ -1,10 +1,10 @@
-//! The configuration and the trace of a storm, which is a trial of a provider and three relying parties by many logins.
+//! The configuration and the trace of a storm, which tests a provider and three relying parties with many logins.
 //!
 //! | Module | What it has | Its definitions, in `specs/` |
 //! |---|---|---|
 //! | `config` | [`storm_config`] | `Config` |
 //! | `lines` | the lines of a trace | `Lines` |
-//! | `login` | what the logins are | `Logins` |
+//! | `login` | the logins | `Logins` |
 //! | `trace` | [`storm_trace`] | `Trace` |
 //! | `law` | [`storms_are_accepted`] | `Parties` |
 #![tactic(auto)]

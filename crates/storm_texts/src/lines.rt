@@ -1,4 +1,4 @@
-// The lines of a trace that logins are made of. Browsers and places are numbered from 1.
+// The kinds of lines in logins. Browsers and places are numbered from 1.
 
 ghost use Rattle.std.specs.Prelude.{◌≡◌, ◌<◌, ◌^◌, ◌++◌, string_bytes, OnOk};
 ghost use Rattle.storm_texts.specs.Lines as spec;
@@ -15,7 +15,7 @@ pub(crate) fn push_at(alloc: Global, out: &mut String, seconds: u32) -> Result<(
     Ok(())
 }
 
-/// A browser begins a login at a party.
+/// Adds the line: a browser begins a login at a party.
 #[tactic(auto, unfolding(crate::specs::Lines::begin_line))]
 pub(crate) fn push_begin(
     alloc: Global,
@@ -30,7 +30,7 @@ pub(crate) fn push_begin(
     Ok(())
 }
 
-/// It follows the location of the reply of a place.
+/// Adds the line: it follows the location of a place's reply.
 #[tactic(auto, unfolding(crate::specs::Lines::follow_line))]
 pub(crate) fn push_follow(
     alloc: Global,
@@ -45,7 +45,7 @@ pub(crate) fn push_follow(
     Ok(())
 }
 
-/// It posts the login form of a place, with a name and a password.
+/// Adds the line: it posts the login form of a place, with a name and a password.
 #[tactic(auto, unfolding(crate::specs::Lines::login_line))]
 pub(crate) fn push_login(
     alloc: Global,
@@ -61,7 +61,7 @@ pub(crate) fn push_login(
     Ok(())
 }
 
-/// It visits a party.
+/// Adds the line: it visits a party.
 #[tactic(auto, unfolding(crate::specs::Lines::visit_line))]
 pub(crate) fn push_visit(
     alloc: Global,
@@ -76,7 +76,7 @@ pub(crate) fn push_visit(
     Ok(())
 }
 
-/// What the party asked at a place goes to the provider, and the answer goes back.
+/// Adds the lines: the party's request of a place is carried to the provider, and the answer is returned.
 #[tactic(auto, unfolding(crate::specs::Lines::exchange_lines))]
 pub(crate) fn push_exchange(alloc: Global, out: &mut String, place: u64) -> Result<(), NoMemory>
     requires { place < 2 ^ 60 }

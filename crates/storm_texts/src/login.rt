@@ -1,4 +1,4 @@
-// The logins of a storm: who logs in and where, what else happens, and the lines of the trace.
+// The logins of a storm: the user and the party, the variation, and the lines of the trace.
 
 ghost use Rattle.std.specs.Prelude.{◌≡◌, ◌≤◌, ◌<◌, ◌^◌, ◌+◌, ◌++◌, string_bytes, IfOk, OnOk};
 ghost use Rattle.storm_texts.specs.Logins as spec;
@@ -10,14 +10,14 @@ use std::alloc::Global;
 /// A browser that logs in nowhere.
 const OTHER: u32 = 65_535;
 
-/// Who logs in.
+/// The user of a login.
 #[derive(Clone, Copy)]
 pub(crate) enum User {
     Alice,
     Bob,
 }
 
-/// The party at which a login is: each has another flow.
+/// The party of a login. Each has another flow.
 #[derive(Clone, Copy, PartialEq, Eq)]
 pub(crate) enum Party {
     /// The code flow (OpenID Connect Core 1.0, 3.1).
@@ -28,10 +28,10 @@ pub(crate) enum Party {
     Mail,
 }
 
-/// What else happens at a login.
+/// The variation of a login.
 #[derive(Clone, Copy, PartialEq, Eq)]
 pub(crate) enum Twist {
-    /// Nothing.
+    /// None.
     Plain,
     /// The browser follows the answer a second time.
     AnswerAgain,
@@ -50,7 +50,7 @@ pub(crate) struct Login {
     user: User,
     party: Party,
     twist: Twist,
-    /// How many places there are before it.
+    /// The number of places before it.
     places: u64,
 }
 
@@ -110,7 +110,7 @@ impl Party {
 }
 
 impl Login {
-    /// The login of number k, from 0, by the state of the generator, after so many places.
+    /// The login number k, from 0, given the state of the generator and the number of places before it.
     pub(crate) fn new(k: u32, state: u64, places: u64) -> Login
         requires { k < 2 ^ 31 }
         ensures { result ≡ spec.login_of k state places }
@@ -125,7 +125,7 @@ impl Login {
         }
     }
 
-    // The lines up to the login.
+    // Adds the lines up to the login form.
     fn push_begun(&self, alloc: Global, out: &mut String) -> Result<(), NoMemory>
         requires { self.now.places < 2 ^ 40 }
         ensures { OnOk result (string_bytes out.new ≡ string_bytes out.old ++ spec.begun_lines self.now) }
@@ -142,7 +142,7 @@ impl Login {
         )
     }
 
-    // Another browser follows the answer first, if it is so. It answers how many places that takes.
+    // Adds that another browser follows the answer first, in that variation. Returns the number of places that this takes.
     fn push_other(&self, alloc: Global, out: &mut String) -> Result<u64, NoMemory>
         requires { self.now.places < 2 ^ 40 }
         ensures lines { OnOk result (string_bytes out.new ≡ string_bytes out.old ++ spec.other_lines self.now.twist (self.now.places + 3)) }
@@ -155,7 +155,7 @@ impl Login {
         Ok(0)
     }
 
-    // What the party asks the provider, from this place on.
+    // Adds the party's requests to the provider, from this place on.
     fn push_exchanged(&self, alloc: Global, out: &mut String, asked: u64) -> Result<(), NoMemory>
         requires { asked < 2 ^ 41 }
         ensures { OnOk result (string_bytes out.new ≡ string_bytes out.old ++ spec.exchanged_lines self.now.party asked) }
@@ -170,7 +170,7 @@ impl Login {
         }
     }
 
-    // The lines of the answer.
+    // Adds the lines of the answer.
     fn push_answer(&self, alloc: Global, out: &mut String) -> Result<(), NoMemory>
         requires { self.now.places < 2 ^ 40 }
         ensures { OnOk result (string_bytes out.new ≡ string_bytes out.old ++ spec.answer_lines self.now) }
@@ -180,7 +180,7 @@ impl Login {
         self.push_exchanged(alloc, out, self.places + 4 + others)
     }
 
-    // The browser does again what it did, if it is so.
+    // Adds that the browser repeats a step, in those variations.
     fn push_again(&self, alloc: Global, out: &mut String) -> Result<(), NoMemory>
         requires { self.now.places < 2 ^ 40 }
         ensures { OnOk result (string_bytes out.new ≡ string_bytes out.old ++ spec.again_lines self.now self.now.twist) }
@@ -200,7 +200,7 @@ impl Login {
         }
     }
 
-    /// The lines of the login.
+    /// Adds the lines of the login.
     #[tactic(auto, unfolding(crate::specs::Logins::login_lines))]
     pub(crate) fn push(&self, alloc: Global, out: &mut String) -> Result<(), NoMemory>
         requires { self.now.places < 2 ^ 40 }
@@ -212,7 +212,7 @@ impl Login {
         self.push_again(alloc, out)
     }
 
-    /// How many places they take.
+    /// The number of places that its lines take.
     pub(crate) fn places(&self) -> u64
         ensures places { result ≡ spec.places_of self.now }
         ensures few { result ≤ 10 }

@@ -20,7 +20,7 @@ fn next(state: u64) -> u64
         .wrapping_add(1_442_695_040_888_963_407)
 }
 
-// The seed of the words that the roles draw.
+// The seed of the random words.
 fn seed_of(alloc: Global, number: u64) -> Result<Vec<u8>, NoMemory>
     ensures { IfOk result (λ seed. seed.items ≡ spec.seed_of number) }
 {
@@ -40,9 +40,10 @@ fn header(alloc: Global, number: u64) -> Result<String, NoMemory>
     Ok(format!(in alloc; "sso-trace 1 {}\n", digits.as_str())?)
 }
 
-/// The trace of a storm: so many logins of as many browsers at three parties in turn, each in two to four requests to the provider,
-/// a fourth of them with an answer that is followed twice, a fourth with one that another browser follows, and a fourth with a login
-/// form that is posted twice. The users are chosen by a linear congruential generator that begins with the number.
+/// The trace of a storm of `count` logins, each of its own browser, at three parties in turn. Each login makes two to four
+/// requests to the provider. In a fourth of them the browser follows the answer twice, in a fourth another browser follows it,
+/// and in a fourth the login form is posted twice. A linear congruential generator, which starts with `number`, chooses the
+/// users.
 #[tactic(auto, unfolding(crate::specs::Trace::trace_text))]
 pub fn storm_trace(alloc: Global, number: u32, count: u32) -> Result<Blob, NoMemory>
     requires { count ≤ 10000 }

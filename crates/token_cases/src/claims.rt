@@ -1,4 +1,4 @@
-// Claim sets that are read and asked.
+// Claim sets that are read and queried.
 
 use case_lines::{
     bytes, claim_refusal, told, told_bytes, told_number, told_refusal, told_text, told_texts,
@@ -8,7 +8,7 @@ use claim_set::{ClaimNo, ClaimSet, read_claims, write_claims};
 use sso_base::{NoMemory, Text, Texts};
 use std::alloc::Global;
 
-/// What a call of this module answers; none where it is another's.
+/// The answer of a call of this module; none if the call is another module's.
 pub fn answer(alloc: Global, fields: &[&str]) -> Option<Result<String, NoMemory>> {
     match fields {
         ["claims", text] => Some(read(alloc, text)),
@@ -20,7 +20,7 @@ pub fn answer(alloc: Global, fields: &[&str]) -> Option<Result<String, NoMemory>
     }
 }
 
-/// The claim set that a field writes; `-` is the empty one.
+/// The claim set of a field; `-` is the empty one.
 pub fn set_of(alloc: Global, field: &str) -> Result<Result<ClaimSet, ClaimNo>, NoMemory> {
     if field == "-" {
         return Ok(Ok(ClaimSet::new(alloc)));
@@ -34,7 +34,7 @@ pub fn refused(alloc: Global, why: &ClaimNo) -> Result<String, NoMemory> {
     told_refusal(alloc, claim_refusal(why))
 }
 
-/// The claim set as it is written.
+/// The text of the claim set.
 pub fn written(alloc: Global, set: &ClaimSet) -> Result<String, NoMemory> {
     let blob = write_claims(set)?;
     told_bytes(alloc, blob.as_bytes())
@@ -47,13 +47,13 @@ fn told_set(alloc: Global, read: &Result<ClaimSet, ClaimNo>) -> Result<String, N
     }
 }
 
-// `claims|TEXT`: the claim set of the text, as it is written.
+// `claims|TEXT`: the claim set of the text, written again.
 fn read(alloc: Global, text: &str) -> Result<String, NoMemory> {
     let read = set_of(alloc, text)?;
     told_set(alloc, &read)
 }
 
-// How deep the set nests, and whether it is written as this text.
+// The depth of nesting of the set, and whether it is written as this text.
 fn told_depth(alloc: Global, set: &ClaimSet, text: &[u8]) -> Result<String, NoMemory> {
     let blob = write_claims(set)?;
     let back = if blob.as_bytes() == text {
@@ -64,7 +64,7 @@ fn told_depth(alloc: Global, set: &ClaimSet, text: &[u8]) -> Result<String, NoMe
     Ok(format!(in alloc; "{}, written as {back}", set.depth())?)
 }
 
-// `depth|TEXT`: how deep the claim set nests.
+// `depth|TEXT`: the depth of nesting of the claim set.
 fn depth(alloc: Global, field: &str) -> Result<String, NoMemory> {
     let text = bytes(alloc, field)?;
     let read = read_claims(alloc, text.as_slice());
@@ -126,7 +126,7 @@ fn claim_in(alloc: Global, kind: &str, set: &ClaimSet, name: &str) -> Result<Str
     }
 }
 
-// `claim|KIND|SET|NAME`: the claim of this name.
+// `claim|KIND|SET|NAME`: the claim with this name.
 fn claim(alloc: Global, kind: &str, set: &str, name: &str) -> Result<String, NoMemory> {
     let read = set_of(alloc, set)?;
     match &read {
@@ -135,7 +135,7 @@ fn claim(alloc: Global, kind: &str, set: &str, name: &str) -> Result<String, NoM
     }
 }
 
-// `has|SET|NAME`: whether a claim of this name is there.
+// `has|SET|NAME`: whether there is a claim with this name.
 fn has(alloc: Global, set: &str, name: &str) -> Result<String, NoMemory> {
     let read = set_of(alloc, set)?;
     match &read {
@@ -144,21 +144,21 @@ fn has(alloc: Global, set: &str, name: &str) -> Result<String, NoMemory> {
     }
 }
 
-// A copy without the name, as it is written.
+// A copy without the name, as text.
 fn less(alloc: Global, set: &ClaimSet, name: &str) -> Result<String, NoMemory> {
     let mut copied = set.copy()?;
     copied.remove(name);
     written(alloc, &copied)
 }
 
-// A copy without the name, and what it is a copy of.
+// A copy without the name, and the original.
 fn less_and_whole(alloc: Global, set: &ClaimSet, name: &str) -> Result<String, NoMemory> {
     let less = less(alloc, set, name)?;
     let whole = written(alloc, set)?;
     Ok(format!(in alloc; "{less} of {whole}")?)
 }
 
-// `copy without|SET|NAME`: a copy from which the name is taken out, and the set after that.
+// `copy without|SET|NAME`: a copy from which the name is removed, and the original after that.
 fn copy_without(alloc: Global, set: &str, name: &str) -> Result<String, NoMemory> {
     let read = set_of(alloc, set)?;
     match &read {

@@ -14,7 +14,7 @@ use jws_compact::{Typ, seal};
 use sso_base::{Moment, NoMemory, Text, Texts};
 use std::alloc::Global;
 
-/// What a call of this module answers; none where it is another's.
+/// The answer of a call of this module; none if the call is another module's.
 pub fn answer(alloc: Global, fields: &[&str]) -> Option<Result<String, NoMemory>> {
     match fields {
         ["check", key, at, claims] => Some(check(alloc, key, at, claims)),
@@ -32,7 +32,7 @@ pub fn answer(alloc: Global, fields: &[&str]) -> Option<Result<String, NoMemory>
     }
 }
 
-/// The rules of the client `c` of the provider `i`, which asked at 1000, with the nonce `n`, and no more.
+/// The rules of the client `c` of the provider `i`, which sent its request at 1000, with the nonce `n`, and nothing else.
 pub fn plain_rules(alloc: Global) -> Result<IdRules, NoMemory> {
     Ok(IdRules {
         issuer: Text::new(alloc, "i")?,
@@ -45,7 +45,7 @@ pub fn plain_rules(alloc: Global) -> Result<IdRules, NoMemory> {
     })
 }
 
-// Those rules of a client that asked for a login within 100 seconds, and has a code and an access token.
+// The same for a client that requested a login within 100 seconds, and has a code and an access token.
 fn rules(alloc: Global) -> Result<IdRules, NoMemory> {
     let mut rules = plain_rules(alloc)?;
     rules.max_age = Some(100);
@@ -54,7 +54,7 @@ fn rules(alloc: Global) -> Result<IdRules, NoMemory> {
     Ok(rules)
 }
 
-// The name of a refusal, and what it names.
+// The name of a refusal, and a detail: the name of a claim, or of an inner refusal.
 fn refusal(why: &IdNo) -> (&str, &str) {
     match why {
         IdNo::NoMemory => ("no memory", ""),
@@ -74,7 +74,7 @@ fn refusal(why: &IdNo) -> (&str, &str) {
     }
 }
 
-/// A refusal, with the moment or the name that it has.
+/// A refusal, with its moment or its detail.
 pub fn refused(alloc: Global, why: &IdNo) -> Result<String, NoMemory> {
     let (name, what) = refusal(why);
     match why {
@@ -115,25 +115,25 @@ fn check(alloc: Global, key: &str, at: &str, claims: &str) -> Result<String, NoM
     }
 }
 
-// `subject|TEXT`: whether a text is a subject.
+// `subject|TEXT`: whether a text is a valid subject.
 fn subject(alloc: Global, field: &str) -> Result<String, NoMemory> {
     let text = Text::from_string(written(alloc, field)?);
     told_truth(alloc, is_subject(&text))
 }
 
-// `half|TEXT`: the half digest of a text.
+// `half|TEXT`: the half hash of a text.
 fn half(alloc: Global, text: &str) -> Result<String, NoMemory> {
     told_bytes(alloc, &half_hash(text.as_bytes()))
 }
 
-/// The client `c` alone.
+/// The client `c` only.
 pub fn audience(alloc: Global) -> Result<Texts, NoMemory> {
     let mut clients = Texts::new(alloc);
     clients.push(Text::new(alloc, "c")?)?;
     Ok(clients)
 }
 
-// The claims' length and the ID Token. None where the subject is none, or the claims are too long.
+// The claims' length and the ID Token. `None` if the subject is not valid, or the claims are too long.
 fn sealed_claims(
     alloc: Global,
     key: &[u8],
@@ -164,8 +164,8 @@ fn sealed_claims(
     Ok(Some((length, seal_id(alloc, key, &claims)?)))
 }
 
-/// The ID Token of the issuer for the client `c`, and how many bytes its claims have: of a login at 990, issued at 1000 until
-/// 1300, with the nonce `n`.
+/// The ID Token of the issuer for the client `c`, and the number of bytes of its claims. It is for a login at 990, issued at
+/// 1000 until 1300, with the nonce `n`.
 pub fn seal_parts(
     alloc: Global,
     key: &str,
@@ -190,7 +190,8 @@ pub fn seal_parts(
     )
 }
 
-/// `seal ID Token|KEY|ISSUER|SUBJECT|SESSION|HASH`, and the same of logout tokens: how many bytes the claims have, and the token.
+/// `seal ID Token|KEY|ISSUER|SUBJECT|SESSION|HASH`, and the same for logout tokens: the number of bytes of the claims, and the
+/// token.
 pub fn told_sealed(
     alloc: Global,
     sealed: &Result<Option<(usize, Text)>, NoMemory>,
@@ -202,7 +203,7 @@ pub fn told_sealed(
     }
 }
 
-// What else an ID Token tells.
+// The other claims of an ID Token.
 fn told_hashes(alloc: Global, claims: &IdClaims) -> Result<String, NoMemory> {
     let at_hash = told_text(alloc, &claims.at_hash)?;
     let c_hash = told_text(alloc, &claims.c_hash)?;
@@ -246,7 +247,7 @@ fn judged(alloc: Global, claims: &IdClaims, at: Moment) -> Result<String, NoMemo
     }
 }
 
-// `judge ID Token|KEY|TEXT|AT`: whether the claims are good at the moment AT.
+// `judge ID Token|KEY|TEXT|AT`: the result of verifying the claims at the moment AT.
 fn judge(alloc: Global, key: &str, text: &str, at: &str) -> Result<String, NoMemory> {
     let Some(at) = moment(at) else {
         return told(alloc, "no moment");

@@ -14,7 +14,7 @@ use request_params::Params;
 use sso_base::{NoMemory, Text, Texts};
 use std::alloc::Global;
 
-/// What a call of this module answers; none where it is another's.
+/// The answer of a call of this module; none if the call is another module's.
 pub fn answer(alloc: Global, fields: &[&str]) -> Option<Result<String, NoMemory>> {
     match fields {
         ["read as", reader, kind] => Some(read_as(alloc, reader, kind)),
@@ -49,7 +49,7 @@ fn text_alone(sealed: Option<(usize, Text)>) -> Option<Text> {
     }
 }
 
-// A sealed text of this kind: what the provider `i`, or the client itself, issued for alice's login.
+// A sealed text of this kind, which the provider `i`, or the client itself, issued for alice's login.
 fn sealed_text(alloc: Global, kind: &str) -> Result<Option<Text>, NoMemory> {
     match kind {
         "an ID Token of i" => {
@@ -121,7 +121,7 @@ fn read_text(alloc: Global, reader: &str, text: &[u8]) -> Result<String, NoMemor
     }
 }
 
-// `read as|KIND|KIND`: what the second, sealed, is as the first at 1000.
+// `read as|KIND|KIND`: the result of reading the second, sealed, as the first at 1000.
 fn read_as(alloc: Global, reader: &str, kind: &str) -> Result<String, NoMemory> {
     match sealed_text(alloc, kind)? {
         Some(text) => read_text(alloc, reader, text.as_str().as_bytes()),

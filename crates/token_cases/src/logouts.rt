@@ -9,7 +9,7 @@ use logout_token::{LogoutClaims, LogoutNo, judge_logout, read_logout, seal_logou
 use sso_base::{Moment, NoMemory, Text, Texts};
 use std::alloc::Global;
 
-/// What a call of this module answers; none where it is another's.
+/// The answer of a call of this module; none if the call is another module's.
 pub fn answer(alloc: Global, fields: &[&str]) -> Option<Result<String, NoMemory>> {
     match fields {
         ["check logout token", at, claims] => Some(check(alloc, at, claims)),
@@ -24,7 +24,7 @@ pub fn answer(alloc: Global, fields: &[&str]) -> Option<Result<String, NoMemory>
     }
 }
 
-// The name of a refusal, and what it names.
+// The name of a refusal, and a detail: the name of a claim, or of an inner refusal.
 fn refusal(why: &LogoutNo) -> (&str, &str) {
     match why {
         LogoutNo::NoMemory => ("no memory", ""),
@@ -43,7 +43,7 @@ fn refusal(why: &LogoutNo) -> (&str, &str) {
     }
 }
 
-// A refusal, with the moment or the name that it has.
+// A refusal, with its moment or its detail.
 fn refused(alloc: Global, why: &LogoutNo) -> Result<String, NoMemory> {
     let (name, what) = refusal(why);
     match why {
@@ -70,7 +70,7 @@ fn read_and_judged(alloc: Global, text: &Text, at: Moment) -> Result<String, NoM
     }
 }
 
-// `check logout token|AT|CLAIMS`: the claims are sealed as a logout token, read again, and judged by the client `c` of the
+// `check logout token|AT|CLAIMS`: the claims are sealed as a logout token, read again, and verified by the client `c` of the
 // provider `i` at the moment AT.
 fn check(alloc: Global, at: &str, claims: &str) -> Result<String, NoMemory> {
     match moment(at) {
@@ -111,7 +111,7 @@ fn read(alloc: Global, key: &str, text: &str) -> Result<String, NoMemory> {
     told_read(alloc, &answer)
 }
 
-// The claims' length and the logout token. None where it names nobody, or the claims are too long.
+// The claims' length and the logout token. `None` if it names nobody, or the claims are too long.
 fn sealed_claims(
     alloc: Global,
     key: &[u8],
@@ -137,7 +137,7 @@ fn sealed_claims(
     Ok(Some((length, seal_logout(alloc, key, &claims)?)))
 }
 
-/// The logout token, issued at 1000 until 1120 as `j`, and how many bytes its claims have.
+/// The logout token, issued at 1000 until 1120 as `j`, and the number of bytes of its claims.
 pub fn seal_parts(
     alloc: Global,
     key: &str,

@@ -4,7 +4,7 @@ use case_lines::{bytes, in_32, told, told_hex};
 use sso_base::NoMemory;
 use std::alloc::Global;
 
-/// What a call of this module answers; none where it is another's.
+/// The answer of a call of this module; none if the call is another module's.
 pub fn answer(alloc: Global, fields: &[&str]) -> Option<Result<String, NoMemory>> {
     match fields {
         ["mac", key, text] => Some(mac(alloc, key, text)),
@@ -21,7 +21,8 @@ fn mac(alloc: Global, key: &str, text: &str) -> Result<String, NoMemory> {
     told_hex(alloc, &hmac256::mac(key.as_slice(), text.as_slice()))
 }
 
-// `chain|COUNT`: the last of so many MACs of 200 times `t`, in hex. The first is under 32 times `k`, and each is the next one's key.
+// `chain|COUNT`: the last of COUNT MACs of 200 times `t`, in hex. The first is under 32 times `k`, and each is the next one's
+// key.
 fn chain(alloc: Global, count: &str) -> Result<String, NoMemory> {
     let mut last = [b'k'; 32];
     for _ in 0..count.parse::<u32>().unwrap_or(0) {

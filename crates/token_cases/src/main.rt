@@ -1,19 +1,20 @@
-//! Cases of MACs, sealed texts, claim sets and tokens, each a line that a person can read: what each is read as, or why it is refused, and
-//! how it is written.
+//! Cases of MACs, sealed texts, claim sets and tokens, each a line that a person can read: how each is read, or why it is
+//! refused, and how it is written.
 //!
-//! The file `stdin` has the cases, and `stdout` the same with their answers. `case_lines` says how a line is read, and the comments
-//! there where the expected answers come from: the standards that are named, and other programs. `$NAME$` is a text of `names`.
+//! The file `stdin` has the cases, and `stdout` has them with their answers. The crate `case_lines` documents how a line is
+//! read. The comments in the table name the source of the expected answers: standards, and other programs. `$NAME$` is a text
+//! of `names`.
 //!
 //! | Module | Its calls |
 //! |---|---|
 //! | `macs` | MACs, and the proofs of passwords |
 //! | `sealed` | texts that are sealed and unsealed |
-//! | `claims` | claim sets that are read and asked |
+//! | `claims` | claim sets that are read and queried |
 //! | `puts` | claims that are put into a set |
 //! | `ids` | ID Tokens |
 //! | `logouts` | logout tokens |
 //! | `kinds` | each kind of sealed text, read as another |
-//! | `names` | none; the texts that have names |
+//! | `names` | none; the named texts |
 #![tactic(auto)]
 
 mod claims;
@@ -34,7 +35,7 @@ use std::io;
 #[derive(Drop)]
 struct TokenCases {}
 
-// What a call on MACs and sealed texts answers, where there is one of this name.
+// The answer of a call about MACs and sealed texts, if there is one with this name.
 fn of_texts(alloc: Global, fields: &[&str]) -> Option<Result<String, NoMemory>> {
     if let Some(answer) = macs::answer(alloc, fields) {
         return Some(answer);

@@ -1,6 +1,6 @@
-// Texts that stand in many cases, or are long.
+// Texts that are used in many cases, or are long.
 
-/// The text of this name.
+/// The text with this name.
 pub fn text(name: &str) -> Option<&'static str> {
     match name {
         "131 bytes" => Some(LONG_KEY),
@@ -15,14 +15,14 @@ pub fn text(name: &str) -> Option<&'static str> {
     }
 }
 
-// 131 bytes AA (RFC 4231, 4.7).
+// 131 bytes 0xaa (RFC 4231, 4.7).
 const LONG_KEY: &str = "\
     hex:\
     aaaaaaaaaaaaaaaaaaaaaaaaaaaaaaaaaaaaaaaaaaaaaaaaaaaaaaaaaaaaaaaaaaaaaaaaaaaaaaaaaaaaaaaaaaaaaaaa\
     aaaaaaaaaaaaaaaaaaaaaaaaaaaaaaaaaaaaaaaaaaaaaaaaaaaaaaaaaaaaaaaaaaaaaaaaaaaaaaaaaaaaaaaaaaaaaaaa\
     aaaaaaaaaaaaaaaaaaaaaaaaaaaaaaaaaaaaaaaaaaaaaaaaaaaaaaaaaaaaaaaaaaaaaa";
 
-// The key of RFC 7515, A.1.1, which is written there in base64url.
+// The key of RFC 7515, A.1.1, which has it in base64url.
 const RFC_KEY: &str = "\
     hex:\
     0323354b2b0fa5bc837e0665777ba68f5ab328e6f054c928a90f84b2d2502ebf\

@@ -6,7 +6,7 @@ use claim_set::{ClaimNo, ClaimSet, read_claims};
 use sso_base::NoMemory;
 use std::alloc::Global;
 
-/// What a call of this module answers; none where it is another's.
+/// The answer of a call of this module; none if the call is another module's.
 ///
 /// `put|KIND|SET|NAME|VALUE`: the set, with the value for the name. `put audience|SET|TEXT,TEXT`: the set for these clients.
 pub fn answer(alloc: Global, fields: &[&str]) -> Option<Result<String, NoMemory>> {
@@ -27,7 +27,7 @@ fn put_number(set: &mut ClaimSet, name: &str, value: &str) -> Result<bool, NoMem
     }
 }
 
-// The claim set that is put must leave room for one level.
+// Puts a claim set, which must leave room for one more level.
 fn put_low_set(set: &mut ClaimSet, name: &str, inner: ClaimSet) -> Result<bool, NoMemory> {
     if inner.depth() > 126 {
         return Ok(false);
@@ -47,7 +47,7 @@ fn put_set(
     }
 }
 
-// Puts a value that may not be there.
+// Puts a value, if there is one.
 fn put_if(
     alloc: Global,
     set: &mut ClaimSet,
@@ -68,7 +68,7 @@ fn put_if(
     Ok(true)
 }
 
-// Puts a value, and tells whether there is one of this kind.
+// Puts a value, and returns whether there is one of this kind.
 fn put_value(
     alloc: Global,
     set: &mut ClaimSet,

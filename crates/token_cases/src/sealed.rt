@@ -5,7 +5,7 @@ use jws_compact::{JwsNo, Typ, Unsealed, seal, unseal};
 use sso_base::{NoMemory, Text};
 use std::alloc::Global;
 
-/// What a call of this module answers; none where it is another's.
+/// The answer of a call of this module; none if the call is another module's.
 pub fn answer(alloc: Global, fields: &[&str]) -> Option<Result<String, NoMemory>> {
     match fields {
         ["seal", typ, key, payload] => Some(sealed(alloc, typ, key, payload)),
@@ -23,7 +23,7 @@ fn typ_named(name: &str) -> Option<Typ> {
     }
 }
 
-/// The payload, sealed under the key. None where it is too long.
+/// The payload, sealed under the key. `None` if it is too long.
 pub fn sealed_under(
     alloc: Global,
     typ: Typ,
@@ -52,7 +52,7 @@ fn sealed(alloc: Global, typ: &str, key: &str, payload: &str) -> Result<String, 
     }
 }
 
-// What a sealed text holds, or why there is none.
+// The contents of a sealed text, or why there are none.
 fn told_unsealed(alloc: Global, answer: &Result<Unsealed, JwsNo>) -> Result<String, NoMemory> {
     match answer {
         Ok(unsealed) => {
@@ -89,7 +89,7 @@ fn told_back(alloc: Global, key: &str, text: &Text, payload: &[u8]) -> Result<St
     Ok(format!(in alloc; "{} characters, read as {back}", text.as_str().len())?)
 }
 
-// `seal and unseal|KEY|PAYLOAD`: how long the sealed text is, and whether the payload is read from it.
+// `seal and unseal|KEY|PAYLOAD`: the length of the sealed text, and whether the payload is read from it.
 fn sealed_and_unsealed(alloc: Global, key: &str, payload: &str) -> Result<String, NoMemory> {
     let payload = bytes(alloc, payload)?;
     if payload.len() > 6000 {

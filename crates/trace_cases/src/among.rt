@@ -5,7 +5,7 @@ use case_lines::{field, push_part};
 use sso_base::NoMemory;
 use std::alloc::Global;
 
-// The reply at a place of a play that ended well, as `play` tells it.
+// The reply at a place of a play that ended well, as `play` prints it.
 fn reply_at<'a>(told: &'a str, place: &str) -> Option<&'a str> {
     for line in told.strip_prefix("Met: ")?.split(" / ") {
         match line.split_once(' ') {
@@ -16,8 +16,8 @@ fn reply_at<'a>(told: &'a str, place: &str) -> Option<&'a str> {
     None
 }
 
-// The replies to the lines of a login that is played alone, if the whole play has the same at these places; else the first of these
-// places that has another one.
+// The replies to the lines of a login that is played alone, if the whole play has the same at these places. Otherwise the first
+// of these places with another reply.
 fn compared(alloc: Global, whole: &str, alone: &str, places: &str) -> Result<String, NoMemory> {
     let mut replies = String::new(alloc);
     for (number, place) in places.split(' ').enumerate() {
@@ -30,8 +30,8 @@ fn compared(alloc: Global, whole: &str, alone: &str, places: &str) -> Result<Str
     Ok(format!(in alloc; "as alone: {}", replies.as_str())?)
 }
 
-/// `among|NAME|LINES|LOGIN|PLACES|..`: the play of these lines, as `play` tells it; then each login compared with a play of it alone. LOGIN
-/// is the lines of the login alone, and PLACES the places that they have among LINES.
+/// `among|NAME|LINES|LOGIN|PLACES|..`: the play of these lines, as `play` prints it, and then each login compared with a play
+/// of the login alone. LOGIN is the lines of the login alone, and PLACES are the places that they have among LINES.
 pub fn among(alloc: Global, name: &str, lines: &str, logins: &[&str]) -> Result<String, NoMemory> {
     let whole = play(alloc, name, lines)?;
     let mut told = String::from_str(alloc, whole.as_str())?;

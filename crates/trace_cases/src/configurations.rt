@@ -104,7 +104,7 @@ pub fn registry(alloc: Global) -> Result<Option<Registry>, NoMemory> {
     Ok(read_registry(alloc, file.as_bytes()).ok())
 }
 
-/// The configuration of this name: `sample`, `news`, `wide`, or a response type.
+/// The configuration with this name: `sample`, `news`, `wide`, or a response type.
 pub fn configuration(alloc: Global, name: &str) -> Result<String, NoMemory> {
     match name {
         "sample" => sample(alloc),

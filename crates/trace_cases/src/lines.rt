@@ -1,4 +1,4 @@
-// How lines are told: the name of the line, and what it has.
+// Prints lines: the name of the line, and its parts.
 
 use sso_base::{Method, NoMemory, Text};
 use sso_places::To;
@@ -50,7 +50,7 @@ fn push_cookie(
     }
 }
 
-// Adds the request of a line `raw`; what is absent is left out.
+// Adds the request of a line `raw`, without the absent parts.
 fn push_raw(alloc: Global, text: &mut String, line: &Line) -> Result<(), NoMemory> {
     let Line::Raw {
         from,
@@ -76,7 +76,7 @@ fn push_raw(alloc: Global, text: &mut String, line: &Line) -> Result<(), NoMemor
     push_part(text, " body=", body)
 }
 
-// A line with texts but no request.
+// A line with texts, but without a request.
 fn texts(alloc: Global, line: &Line) -> Result<Option<String>, NoMemory> {
     let text = match line {
         Line::Mix {
@@ -132,7 +132,7 @@ fn plain(alloc: Global, line: &Line) -> Result<Option<String>, NoMemory> {
     Ok(Some(text))
 }
 
-/// Adds what a line says.
+/// Adds a line.
 pub fn push_line(alloc: Global, text: &mut String, line: &Line) -> Result<(), NoMemory> {
     if let Some(said) = plain(alloc, line)? {
         return Ok(text.push_str(said.as_str())?);

@@ -1,21 +1,21 @@
-//! Cases of traces, each a line that a person can read: which traces are read, what their lines say, and why others are refused; and how
-//! the play of a trace over a configuration ends, with what it prints.
+//! Cases of traces, each a line that a person can read: which traces are accepted, what their lines parse to, and why others
+//! are rejected; and how the play of a trace over a configuration ends, with the text that it prints.
 //!
-//! The file `stdin` has the cases, and `stdout` the same with their answers. `case_lines` says how a line is read, and the comments there
-//! which configurations there are, and where the expected answers come from. ` / ` stands for a line feed. Beside the texts of words,
-//! names stand for those of `texts`.
+//! The file `stdin` has the cases, and `stdout` has them with their answers. The crate `case_lines` documents how a line is
+//! read. The comments in the table list the configurations, and name the source of the expected answers. ` / ` is a line feed.
+//! Besides the texts of words, the names are those of `texts`.
 //!
-//! There are two tables. A line `table|lines` or `table|plays` begins a table, and all lines after it are asked of that one. The traces of
-//! `lines` are read for a registry that has the parties shop, news and mail, whose numbers are 0, 1 and 2.
+//! There are two tables. A line `table|lines` or `table|plays` begins a table, and all lines after it are calls of that table.
+//! The traces of `lines` are read for a registry with the parties shop, news and mail, whose numbers are 0, 1 and 2.
 //!
 //! | Module | What it has |
 //! |---|---|
-//! | `traces` | the calls `trace`, `whole`, `long` and `seed` of the table `lines`: a trace is read |
-//! | `lines` | how lines are told |
-//! | `plays` | the calls `play`, `whole` and `end` of the table `plays`: a trace is played |
-//! | `among` | the call `among` of the table `plays`: logins are played alone and among other lines, and compared |
+//! | `traces` | the calls `trace`, `whole`, `long` and `seed` of the table `lines`, which read a trace |
+//! | `lines` | prints lines |
+//! | `plays` | the calls `play`, `whole` and `end` of the table `plays`, which play a trace |
+//! | `among` | the call `among` of the table `plays`, which compares logins played alone and among other lines |
 //! | `configurations` | the configurations |
-//! | `texts` | the texts that names in a line stand for |
+//! | `texts` | the named texts in a line |
 #![tactic(auto)]
 
 mod among;
@@ -38,7 +38,7 @@ enum Table {
     Plays,
 }
 
-// The table that began last, and the registry for which the traces of `lines` are read.
+// The current table, and the registry for which the traces of `lines` are read.
 #[derive(Drop)]
 struct TraceCases {
     table: Option<Table>,

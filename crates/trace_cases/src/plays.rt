@@ -1,4 +1,4 @@
-// Traces are played.
+// Plays traces.
 
 ghost use Rattle.trace_lines.specs.Order.{IsReadFor};
 
@@ -11,7 +11,7 @@ use sso_base::NoMemory;
 use sso_places::Broken;
 use std::alloc::Global;
 
-// Adds a line, or `COUNT*LINE` so many times, each with its line feed.
+// Adds a line, or for `COUNT*LINE` the line COUNT times, each with its line feed.
 fn push_line(file: &mut String, line: &str) -> Result<(), NoMemory> {
     let (count, line) = times(line).unwrap_or((1, line));
     for _ in 0..count {
@@ -21,7 +21,7 @@ fn push_line(file: &mut String, line: &str) -> Result<(), NoMemory> {
     Ok(())
 }
 
-// Adds these lines, between which stands ` / `.
+// Adds these lines, which are separated by ` / `.
 fn push_lines(file: &mut String, lines: &str) -> Result<(), NoMemory> {
     for line in lines.split(" / ") {
         push_line(file, line)?;
@@ -45,20 +45,20 @@ fn told_end(alloc: Global, end: &ReplayEnd) -> Result<String, NoMemory> {
     }
 }
 
-// Which part of a play is told: all its lines, or the last.
+// The part of a play that is printed: all its lines, or the last.
 #[derive(Clone, Copy)]
 enum Part {
     All,
     Last,
 }
 
-// The end of a play, and its lines with ` / ` between.
+// The end of a play, and its lines, separated by ` / `.
 fn told_all(alloc: Global, end: &str, text: &str) -> Result<String, NoMemory> {
     let lines = text.trim_end_matches('\n').replace(alloc, "\n", " / ")?;
     Ok(format!(in alloc; "{end}: {}", lines.as_str())?)
 }
 
-// The end of a play, how many lines it printed, and the last.
+// The end of a play, the number of lines that it printed, and the last one.
 fn told_last(alloc: Global, end: &str, text: &str) -> Result<String, NoMemory> {
     let last = text.lines().last().unwrap_or("");
     let count = text.lines().count();
@@ -109,7 +109,7 @@ fn answer(alloc: Global, part: Part, name: &str, file: &str) -> Result<String, N
     }
 }
 
-// These lines behind a header.
+// These lines after a header.
 fn with_header(alloc: Global, lines: &str) -> Result<String, NoMemory> {
     let mut file = String::new(alloc);
     push_line(&mut file, HEADER)?;
@@ -117,20 +117,20 @@ fn with_header(alloc: Global, lines: &str) -> Result<String, NoMemory> {
     Ok(file)
 }
 
-/// `play|NAME|LINES`: the play of these lines behind a header, over the configuration of this name.
+/// `play|NAME|LINES`: the play of these lines after a header, over the configuration with this name.
 pub fn play(alloc: Global, name: &str, lines: &str) -> Result<String, NoMemory> {
     let file = with_header(alloc, lines)?;
     answer(alloc, Part::All, name, file.as_str())
 }
 
-/// `whole|NAME|LINES`: the same, where the first line is the header.
+/// `whole|NAME|LINES`: the same, but the first line is the header.
 pub fn whole(alloc: Global, name: &str, lines: &str) -> Result<String, NoMemory> {
     let mut file = String::new(alloc);
     push_lines(&mut file, lines)?;
     answer(alloc, Part::All, name, file.as_str())
 }
 
-/// `end|NAME|LINES`: how many lines the play of `play` prints, and the last.
+/// `end|NAME|LINES`: the number of lines that the play of `play` prints, and the last one.
 pub fn end(alloc: Global, name: &str, lines: &str) -> Result<String, NoMemory> {
     let file = with_header(alloc, lines)?;
     answer(alloc, Part::Last, name, file.as_str())

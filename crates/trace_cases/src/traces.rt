@@ -1,4 +1,4 @@
-// Traces are read.
+// Reads traces.
 
 use crate::lines::push_line;
 use crate::texts::HEADER;
@@ -26,7 +26,7 @@ fn refused(alloc: Global, why: TraceNo) -> Result<String, NoMemory> {
     }
 }
 
-// The lines, each behind ` / `.
+// The lines, each after ` / `.
 fn told_lines(alloc: Global, trace: &Trace) -> Result<String, NoMemory> {
     let mut text = String::from_str(alloc, "read")?;
     for line in trace.lines() {
@@ -67,7 +67,7 @@ fn file_of(alloc: Global, text: &str) -> Result<Vec<u8>, NoMemory> {
     Ok(file)
 }
 
-/// `trace|LINES`: these lines behind a header. Each is a text, or bytes as `case_lines` reads them.
+/// `trace|LINES`: these lines after a header. Each is a text, or bytes as `case_lines` reads them.
 pub fn trace(alloc: Global, registry: &Registry, lines: &str) -> Result<String, NoMemory> {
     let text = format!(in alloc; "{HEADER} / {lines}")?;
     answer(alloc, registry, file_of(alloc, text.as_str())?.as_slice())
@@ -78,7 +78,7 @@ pub fn whole(alloc: Global, registry: &Registry, lines: &str) -> Result<String, 
     answer(alloc, registry, file_of(alloc, lines)?.as_slice())
 }
 
-/// `long|COUNT`: a header, and comments behind it up to so many bytes.
+/// `long|COUNT`: a header, and comments after it, up to COUNT bytes.
 pub fn long(alloc: Global, registry: &Registry, count: &str) -> Result<String, NoMemory> {
     let mut comment = bytes(alloc, "hex:0a ++ # ++ 65534*x")?;
     let mut file = Vec::new(alloc);
@@ -92,7 +92,7 @@ pub fn long(alloc: Global, registry: &Registry, count: &str) -> Result<String, N
     answer(alloc, registry, file.as_slice())
 }
 
-/// `seed|HEADER`: the seed of a trace of this line alone.
+/// `seed|HEADER`: the seed of a trace with only this line.
 pub fn seed(alloc: Global, registry: &Registry, header: &str) -> Result<String, NoMemory> {
     match read_trace(alloc, registry, header.as_bytes()) {
         Ok(trace) => told_seed(alloc, &trace.seed()),

@@ -11,7 +11,7 @@ use Rattle.trace_lines.specs.Said.{line_said}
 use Rattle.trace_lines.specs.Trace.{line_read, added, onward, lines_read, AreAccepted}
 use Rattle.trace_lines.proofs.LineReading.{line_guiltless, line_says, line_refused, guiltless_read, guilty_refused}
 
--- each of these lines is guilty of nothing after those before it, and in the end this was said; oldest first
+-- each of these lines has no fault after those before it, and they parse to these in the end; the oldest first
 abbrev pub Goes : Configuration → List Line → List (List ℕ) → List Line → Type 0
 Goes c before [] after = after ≡ before
 Goes c before (line ∷ lines) after = (line_faults c before line ≡ []) × Goes c (added (line_said c line) before) lines after

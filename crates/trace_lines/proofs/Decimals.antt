@@ -109,7 +109,7 @@ number_read (suc m) room =
     let same : value_from 0 (decimal n) ≡ n = digits_value-decimal numerals n room in
     digits_read (decimal n) (first_decimal n (omega arith) room) (digits_decimal numerals n room) (omega arith) ∙ ap Some same
 
--- A word is read as a number exactly where it is the text of that number.
+-- A word is read as a number if and only if it is the decimal text of that number.
 pub number_is_decimal : (word : List ℕ) (n : ℕ) → (number_of word ≡ Some n) ↔ ((word ≡ decimal n) × (n < 2 ^ 64))
 number_is_decimal word n = (
   λ read. let is = subst (λ o. IfSome o (IsTextOf word)) read (number_text word) in (is.text, is.bound),

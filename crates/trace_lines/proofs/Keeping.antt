@@ -103,7 +103,7 @@ part_step false word is = is
 part_visible : (word : Text) → IsVisibleWord word → IfSome (part_of word) IsVisibleWord
 part_visible word is = part_step (bytes_eq word (codes "-")) word is
 
--- ---- what no fault tells
+-- ---- what follows from no fault
 
 onto_none : (o : Option Fault) (es : List Fault) → onto o es ≡ [] → o ≡ None
 onto_none None es h = refl
@@ -113,7 +113,7 @@ pub onto_rest : (o : Option Fault) (es : List Fault) → onto o es ≡ [] → es
 onto_rest None es h = h
 onto_rest (Some e) es h = absurd (cc)
 
--- no word is guilty as its field
+-- no word has a fault as its field
 abbrev pub AreGuiltless : Configuration → List Line → List Field → List Text → Type 0
 AreGuiltless c before (field ∷ fields) (word ∷ words) = (field_fault c before field word ≡ None) × AreGuiltless c before fields words
 AreGuiltless c before fields words = Unit {0}

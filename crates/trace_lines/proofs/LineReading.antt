@@ -1,4 +1,4 @@
--- A line is read where it is guilty of nothing; else the least of its faults is answered.
+-- A line is parsed if it has no fault; otherwise the first of its faults is returned.
 use Rattle.std.proofs.Common.{◌≡◌, ◌<◌, ◌≤◌, ℕ, Bool, true, false, cond, nat_lt, List, [], length, Option, Some, None, Ok, Err, refl, sym, ap, ◌∙◌, arith}
 use Rattle.std.proofs.lemmas.Bool.{ltb-false}
 use Rattle.client_registry.specs.Configuration.{Configuration}

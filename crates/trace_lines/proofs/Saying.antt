@@ -1,4 +1,4 @@
--- A line that is guilty of nothing says something, unless it is skipped.
+-- A line without a fault parses to a line, unless it is skipped.
 use Rattle.std.proofs.Common.{◌≡◌, ◌==◌, ℕ, List, [], ◌∷◌, length, Bool, true, false, cond, nat_lt, Option, Some, None, refl, arith}
 use Rattle.std.specs.Prelude.{is_some, option_map}
 use Rattle.std.proofs.lemmas.Bool.{eqb-true}

@@ -1,4 +1,4 @@
--- What is kept of every trace that was read for a registry: its lines name what is there, and time never goes back.
+-- The invariant of every trace that was read for a registry: its lines name only what exists, and time never goes back.
 use Rattle.std.specs.Prelude.{◌<◌, ◌≤◌, ℕ, List, [], ◌∷◌, length, IfSome}
 use Rattle.sso_base.specs.Values.{IsWide, latest_moment}
 use Rattle.client_registry.specs.Configuration.{Configuration}
@@ -13,7 +13,7 @@ use Rattle.trace_lines.specs.Trace.{Told}
 abbrev pub IsBrowser : ℕ → Type 0
 IsBrowser n = (1 ≤ n) × (n ≤ 65535)
 
--- a place that lines before this one took
+-- a place that lines before this one have taken
 abbrev pub IsTaken : List Line → ℕ → Type 0
 IsTaken before place = (1 ≤ place) × (place ≤ places_after before)
 

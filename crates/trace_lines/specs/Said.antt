@@ -1,4 +1,4 @@
--- What a line says.
+-- Parsing a line.
 use Rattle.std.specs.Prelude.{ℕ, List, [], ◌∷◌, Option, Some, None, option_map, if◌then◌else◌}
 use Rattle.sso_base.specs.Words.{Text}
 use Rattle.client_registry.specs.Configuration.{Configuration}
@@ -11,12 +11,12 @@ use Rattle.trace_lines.specs.Values.{moment_of, browser_of, sender_of, place_of,
 use Rattle.trace_lines.specs.Verbs.{verb_of}
 use Rattle.trace_lines.specs.Guilt.{is_skipped}
 
--- the line of these two, where both are there
+-- the line of these two, if both are there
 abbrev pub of_two : {A B : Type 0} → (A → B → Line) → Option A → Option B → Option Line
 of_two f (Some a) (Some b) = Some (f a b)
 of_two f a b = None
 
--- the same of three
+-- the same for three
 abbrev pub of_three : {A B C : Type 0} → (A → B → C → Line) → Option A → Option B → Option C → Option Line
 of_three f (Some a) (Some b) (Some k) = Some (f a b k)
 of_three f a b k = None
@@ -41,7 +41,7 @@ abbrev pub consent_said : Text → Text → Text → Option Line
 consent_said from place choice =
     of_three (λ b p agree. line.Consent b p agree) (browser_of from) (place_of place) (choice_of choice)
 
--- one request as it is written: its method, target, cookies, authorization and body
+-- one request, written out in full: its method, target, cookies, authorization and body
 abbrev pub request_said : Configuration → Text → Text → List Text → Option Line
 request_said c from to (method ∷ target ∷ first ∷ second ∷ auth ∷ body ∷ []) =
     of_two
@@ -56,7 +56,7 @@ raw_said c words = None
 
 -- ---- all lines
 
--- what the words behind the first one say in another line than `raw`
+-- the parsed words after the first one, for a line that is not `raw`
 abbrev pub short_said : Configuration → Verb → List Text → Option Line
 short_said c At (seconds ∷ []) = option_map (λ at. line.At at) (moment_of seconds)
 short_said c Steal (thief ∷ owner ∷ []) = of_two (λ t o. line.Steal t o) (browser_of thief) (browser_of owner)
@@ -74,22 +74,22 @@ short_said c Carry (place ∷ message ∷ []) = of_two (λ p k. line.Carry p k) 
 short_said c Back (place ∷ answer ∷ []) = of_two (λ p q. line.Back p q) (place_of place) (place_of answer)
 short_said c verb words = None
 
--- what the words behind the first one say; none where one of them can't be read, or there are more or fewer
+-- the parsed words after the first one; none if one of them can't be read, or there are more or fewer
 abbrev pub verb_said : Configuration → Verb → List Text → Option Line
 verb_said c Raw words = raw_said c words
 verb_said c verb words = short_said c verb words
 
--- the same where the first word is that of a kind
+-- the same, if the first word is that of a kind
 abbrev pub by_verb : Configuration → Option Verb → List Text → Option Line
 by_verb c None words = None
 by_verb c (Some verb) words = verb_said c verb words
 
--- what the words of a line say
+-- the parsed words of a line
 abbrev pub words_said : Configuration → Option (List Text) → Option Line
 words_said c None = None
 words_said c (Some []) = None
 words_said c (Some (verb ∷ words)) = by_verb c (verb_of verb) words
 
--- what a line says; none where it is skipped, or its words say nothing
+-- the parsed line; none if it is skipped, or its words can't be parsed
 abbrev pub line_said : Configuration → List ℕ → Option Line
 line_said c line = if is_skipped line then None else words_said c (words_in line)

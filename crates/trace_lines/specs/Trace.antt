@@ -1,4 +1,4 @@
--- What the bytes of a trace say, or why they are refused. The lines that were read stand with the newest first.
+-- Parsing the bytes of a trace, or why they are rejected. Lists of lines that were read have the newest first.
 use Rattle.std.specs.Prelude.{◌≡◌, ◌≤◌, ℕ, ◌+◌, ◌==◌, List, [], ◌∷◌, ◌++◌, length, reverse, nat_lt, Option, Some, None, Result, Ok, Err, if◌then◌else◌}
 use Rattle.std.specs.List.{slice_split}
 use Rattle.sso_base.specs.Words.{Text}
@@ -13,41 +13,41 @@ use Rattle.trace_lines.specs.declared.verb.Verb.{Verb}
 use Rattle.trace_lines.specs.Guilt.{verb_faults, words_faults, line_faults}
 use Rattle.trace_lines.specs.Said.{by_verb, words_said, line_said}
 
--- a whole trace: the seed of the words that the roles draw, and its lines
+-- a whole trace: the seed of the random words, and its lines
 pub record Told : Type 0 where
   pub seed : List ℕ
   pub lines : List Line
 
 -- ---- lines after lines
 
--- a fault, or else what follows
+-- a fault, or else the next result
 abbrev pub unless_fault : {A : Type 0} → Option Fault → A → Result A Fault
 unless_fault None x = Ok x
 unless_fault (Some e) x = Err e
 
--- what the words behind the first one say, or the fault that is answered
+-- the parsed words after the first one, or the first fault
 abbrev pub verb_read : Configuration → List Line → Option Verb → List Text → Result (Option Line) Fault
 verb_read c before verb words = unless_fault (least (verb_faults c before verb words)) (by_verb c verb words)
 
--- the same of the words of a line
+-- the same for the words of a line
 abbrev pub words_read : Configuration → List Line → Option (List Text) → Result (Option Line) Fault
 words_read c before words = unless_fault (least (words_faults c before words)) (words_said c words)
 
--- what a line says after those before it, or the fault that is answered
+-- the line, parsed after those before it, or its first fault
 abbrev pub line_read : Configuration → List Line → List ℕ → Result (Option Line) Fault
 line_read c before line = unless_fault (least (line_faults c before line)) (line_said c line)
 
--- one more line, where it says anything
+-- one more line, if it is not skipped
 abbrev pub added : Option Line → List Line → List Line
 added None lines = lines
 added (Some line) lines = line ∷ lines
 
--- the refusal for the line of this number, or else what follows
+-- the rejection for the line with this number, or else the next result
 abbrev pub onward : {A B : Type 0} → ℕ → Result A Fault → (A → Result B TraceNo) → Result B TraceNo
 onward number (Ok x) rest = rest x
 onward number (Err e) rest = Err (refusal_of number e)
 
--- the lines in the end, or the refusal for the first bad line; the next line has this number
+-- all lines, or the rejection for the first bad one; the next line has this number
 abbrev pub lines_read : Configuration → ℕ → List Line → List (List ℕ) → Result (List Line) TraceNo
 lines_read c number before [] = Ok before
 lines_read c number before (line ∷ lines) =
@@ -74,20 +74,20 @@ abbrev pub told_of : Configuration → List (List ℕ) → Result Told TraceNo
 told_of c [] = Err Header
 told_of c (header ∷ lines) = headed c (seed_of header) lines
 
--- what the bytes of a trace say to this registry, or why they are refused
+-- the parsed trace for this registry, or why it is rejected
 unfoldable pub trace_told : Configuration → List ℕ → Result Told TraceNo
 trace_told c bytes = if nat_lt 4194304 (length bytes) then Err Size else told_of c (lines_of bytes)
 
--- ---- the same in literal words
+-- ---- the same in elementary terms
 
--- the bytes are not too many, and begin with a header of this seed; then come these lines
+-- the bytes are not too many, and begin with a header with this seed; these lines follow
 pub record IsHeaded (bytes seed : List ℕ) (lines : List (List ℕ)) : Type 0 where
   pub short : length bytes ≤ 4194304
   pub header : List ℕ
   pub lines_are : lines_of bytes ≡ header ∷ lines
   pub seed_is : seed_of header ≡ Some seed
 
--- the bytes are not too many, and the first line is no header
+-- the bytes are not too many, and the first line is not a header
 pub record HasNoHeader (bytes : List ℕ) : Type 0 where
   pub short : length bytes ≤ 4194304
   pub first : List ℕ
@@ -95,8 +95,8 @@ pub record HasNoHeader (bytes : List ℕ) : Type 0 where
   pub lines_are : lines_of bytes ≡ first ∷ lines
   pub no_seed : seed_of first ≡ None
 
--- Each of these lines is guilty of nothing after those before it, and this is what they say. Here the lines that were
--- written stand with the newest first, too.
+-- Each of these lines has no fault after those before it, and they parse to these. Here the lines of bytes also have the newest
+-- first.
 abbrev pub AreAccepted : Configuration → List (List ℕ) → List Line → Type 0
 AreAccepted c [] said = said ≡ []
 AreAccepted c (line ∷ earlier) said =
@@ -105,13 +105,13 @@ AreAccepted c (line ∷ earlier) said =
     × (line_faults c before line ≡ [])
     × (said ≡ added (line_said c line) before)
 
--- the bytes are a trace, and this is what it says
+-- the bytes are a trace, and parse to this
 pub record IsTrace (c : Configuration) (bytes : List ℕ) (told : Told) : Type 0 where
   pub lines : List (List ℕ)
   pub headed : IsHeaded bytes told.seed lines
   pub accepted : AreAccepted c (reverse lines) told.lines
 
--- The line of this number is the first bad one, all before it being accepted; and this is the fault that is answered.
+-- The line with this number is the first bad one, and this is its first fault. All lines before it are accepted.
 pub record IsFirstBad (c : Configuration) (bytes : List ℕ) (number : ℕ) (fault : Fault) : Type 0 where
   pub seed : List ℕ
   pub front : List (List ℕ)

@@ -1,4 +1,4 @@
--- What single words of a line say; none where they do not say it.
+-- The values of single words of a line; none if a word has no such value.
 use Rattle.std.specs.Prelude.{ℕ, ◌-◌, ◌^◌, Bool, true, false, codes, Option, Some, None, option_map, if◌then◌else◌}
 use Rattle.std.specs.Str.{bytes_eq}
 use Rattle.sso_base.specs.Words.{Text, Word, word_of_text}
@@ -37,7 +37,7 @@ message_of word = number_of word
 
 -- ---- roles
 
--- the number of the party of this name
+-- the number of the party with this name
 abbrev pub party_of : Configuration → Text → Option ℕ
 party_of c word = party_place word c.parties
 
@@ -55,7 +55,7 @@ choice_of word = if bytes_eq word (codes "yes") then Some true else if bytes_eq 
 abbrev pub method_of : Text → Method
 method_of word = if bytes_eq word (codes "GET") then Get else if bytes_eq word (codes "POST") then Post else Other
 
--- `-` is what is absent
+-- `-` is an absent part
 abbrev pub part_of : Text → Option Text
 part_of word = if bytes_eq word (codes "-") then None else Some word
 
@@ -64,7 +64,7 @@ abbrev pub given : Option Word → Shown
 given None = Absent
 given (Some word) = Given word
 
--- a cookie: absent, that of the jar, or the word that has this text
+-- a cookie: absent, that of the jar, or the word with this text
 abbrev pub cookie_of : Text → Shown
 cookie_of word =
     if bytes_eq word (codes "-") then Absent else if bytes_eq word (codes "jar") then Jar else given (word_of_text word)

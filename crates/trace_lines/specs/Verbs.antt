@@ -1,4 +1,4 @@
--- The lines of a trace after the first, by their first words, and what each further word is.
+-- The lines of a trace after the first, by their first words, and the kinds of their further words.
 use Rattle.std.specs.Prelude.{List, [], ◌∷◌, codes, Option, find}
 use Rattle.std.specs.Str.{bytes_eq}
 use Rattle.sso_base.specs.Words.{Text}
@@ -33,7 +33,7 @@ verb_text Raw = codes "raw"
 unfoldable pub verb_of : Text → Option Verb
 verb_of word = find (λ verb. bytes_eq (verb_text verb) word) verbs
 
--- what the words behind it are
+-- the kinds of the words after it
 abbrev pub fields_of : Verb → List Field
 fields_of At = Seconds ∷ []
 fields_of Steal = Browser ∷ Browser ∷ []

@@ -1,4 +1,4 @@
-// What a line is guilty of.
+// The faults of a line.
 
 ghost use Rattle.std.specs.Prelude.{◌≡◌, length, map};
 ghost use Rattle.trace_lines.specs.Faults as faults;
@@ -38,7 +38,7 @@ fn place_fault(before: &SoFar, place: Option<u64>) -> Option<Fault>
     }
 }
 
-// What a word is guilty of as this field.
+// The fault of a word as this field, if it has one.
 fn field_fault(registry: &Registry, before: &SoFar, field: Field, word: &str) -> Option<Fault>
     ensures { result ≡ spec.field_fault registry.now before.now field word.now }
 {
@@ -56,7 +56,7 @@ fn field_fault(registry: &Registry, before: &SoFar, field: Field, word: &str) ->
     }
 }
 
-// Of what the words are guilty of, each as its field, what is answered.
+// The first fault, in their order, of the words as these fields.
 pub(crate) fn fields_fault(
     registry: &Registry,
     before: &SoFar,

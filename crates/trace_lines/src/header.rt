@@ -21,7 +21,7 @@ fn read_seed(digits: &[u8]) -> Option<[u8; 24]>
     <[u8; 24] as FromHex>::from_hex(digits).ok()
 }
 
-// The seed in the line `sso-trace 1 SEED`: 24 bytes, as 48 lower-case hexadecimal digits. None where the line is another.
+// The seed in the line `sso-trace 1 SEED`: 24 bytes, as 48 lower-case hexadecimal digits. `None` for any other line.
 pub(crate) fn read_header(line: &[u8]) -> Option<[u8; 24]>
     ensures { result ≡ seed_of line.now }
 {

@@ -1,4 +1,4 @@
-// Which traces are read and which are refused, in the words of their grammar.
+// Which traces are accepted and which are rejected, in terms of their grammar.
 
 ghost use Rattle.std.specs.Prelude.{◌≡◌, ◌<◌, ◌^◌, ◌↔◌, ℕ, List, [], Option, Some, is_some, true, false, Ok, Err, length};
 ghost use Rattle.std.specs.Fmt.{decimal};
@@ -18,28 +18,29 @@ ghost use Rattle.trace_lines.specs.Said.{line_said};
 ghost use Rattle.trace_lines.specs.Trace.{Told, line_read, trace_told, HasNoHeader, IsTrace, IsFirstBad};
 ghost use Rattle.trace_lines.specs.Verbs.{verb_of, verb_text};
 
-/// A line is the header of a seed exactly where it is `sso-trace 1 ` and the seed's 24 bytes in lower-case hexadecimal digits.
+/// A line is the header with a seed if and only if it is `sso-trace 1 ` and the seed's 24 bytes in lower-case hexadecimal
+/// digits.
 pub fn headers_have_their_seeds()
     ensures { (line : List ℕ) (seed : List ℕ) → (seed_of line ≡ Some seed) ↔ IsHeaderOf seed line }
 {}
 
-/// A word is read as a number exactly where it is the text of that number.
+/// A word is read as a number if and only if it is the decimal text of that number, which is below 2^64.
 pub fn numbers_are_decimal()
     ensures { (word : List ℕ) (n : ℕ) → (number_of word ≡ Some n) ↔ ((word ≡ decimal n) × (n < 2 ^ 64)) }
 {}
 
-/// A line has these words exactly where it is these words, each of visible ASCII and not empty, with one space between.
+/// A line has these words if and only if it is these words, each of visible ASCII and not empty, separated by single spaces.
 pub fn lines_are_cut_at_single_spaces()
     ensures { (line : List ℕ) (words : List Text) → (words_in line ≡ Some words) ↔ AreWordsOf words line }
 {}
 
-/// A line is of a kind exactly where its first word is that of the kind.
+/// A line is of a kind if and only if its first word is that of the kind.
 pub fn kinds_have_their_first_words()
     ensures { (word : Text) (verb : Verb) → (verb_of word ≡ Some verb) ↔ (word ≡ verb_text verb) }
 {}
 
-/// A line is refused exactly for the least of all that it is guilty of. Where it is guilty of nothing it is read, and then it
-/// says something, unless it is skipped.
+/// A line is rejected for a fault if and only if that is the first of its faults in their order. A line without faults is
+/// parsed, and its result is not empty unless the line is skipped.
 pub fn the_least_fault_is_answered()
     ensures refused { (c : Configuration) (before : List Line) (line : List ℕ) (fault : Fault) → (line_read c before line ≡ Err fault) ↔ IsLeast fault (line_faults c before line) }
     ensures guiltless { (c : Configuration) (before : List Line) (line : List ℕ) (said : Option Line) → line_read c before line ≡ Ok said → line_faults c before line ≡ [] }
@@ -47,15 +48,15 @@ pub fn the_least_fault_is_answered()
     ensures says { (c : Configuration) (before : List Line) (line : List ℕ) → line_faults c before line ≡ [] → is_skipped line ≡ false → is_some (line_said c line) ≡ true }
 {}
 
-/// A trace is accepted exactly where it has a header and each of its lines is guilty of nothing after those before it; and then
-/// it says what they say.
+/// A trace is accepted if and only if it has a header and each of its lines has no fault after those before it. The result is
+/// then what these lines parse to.
 pub fn traces_are_accepted_line_by_line()
     ensures accepted { (c : Configuration) (bytes : List ℕ) (told : Told) → (trace_told c bytes ≡ Ok told) ↔ IsTrace c bytes told }
     ensures order { (c : Configuration) (bytes : List ℕ) (told : Told) → trace_told c bytes ≡ Ok told → IsReadFor c told }
 {}
 
-/// A trace is refused for its size, then for its header, and else exactly for the first bad line and the fault that is answered
-/// for it.
+/// A trace is rejected for its size, or else for its header, or else for its first bad line and the first fault of that line.
+/// Each is an equivalence.
 pub fn traces_are_refused_for_their_first_bad_line()
     ensures size { (c : Configuration) (bytes : List ℕ) → (trace_told c bytes ≡ Err no.Size) ↔ (4194304 < length bytes) }
     ensures header { (c : Configuration) (bytes : List ℕ) → (trace_told c bytes ≡ Err no.Header) ↔ HasNoHeader bytes }

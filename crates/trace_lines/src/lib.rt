@@ -1,11 +1,11 @@
-//! The grammar of traces: what browsers and servers do at a provider and its relying parties, line by line.
+//! The grammar of traces: what browsers and servers send to a provider and its relying parties, line by line.
 //!
 //! A trace is at most 4,194,304 bytes. Its lines end with a line feed, which the last one may lack, and have at most 65,536
-//! bytes without it. The first line is `sso-trace 1 SEED`, with 48 lower-case hexadecimal digits for the seed of the words that
-//! the roles draw. After it, empty lines and those that begin with `#` are skipped, but counted; each other line is one of these,
-//! of words of visible ASCII with one space between:
+//! bytes without it. The first line is `sso-trace 1 SEED`, with 48 lower-case hexadecimal digits for the seed of the random
+//! words. After it, empty lines and those that begin with `#` are skipped, but counted. Each other line is one of these. Its
+//! words are visible ASCII, separated by single spaces:
 //!
-//! | Line | What it does |
+//! | Line | Meaning |
 //! |---|---|
 //! | `at SECONDS` | sets the moment, which is 0 before and never goes back |
 //! | `steal THIEF OWNER` | copies the cookies of one browser to another |
@@ -19,30 +19,30 @@
 //! | `visit B PARTY`, `leave B PARTY` | visits the party, leaves it |
 //! | `signout B` | signs out at the provider |
 //! | `carry P K` | delivers message K of the reply of place P |
-//! | `back P Q` | gives the reply of place Q to the party of place P, as the answer to what it asked |
-//! | `raw B TO METHOD TARGET FIRST SECOND AUTH BODY` | one request as it is written, to `op` or a party |
+//! | `back P Q` | returns the reply of place Q to the party of place P, as the answer to its request |
+//! | `raw B TO METHOD TARGET FIRST SECOND AUTH BODY` | one request, written out in full, to `op` or a party |
 //!
 //! The first three take no place; each of the others takes the next one, from 1, and names only places before its own. Numbers
 //! are decimal without leading zeros, and below 2^64; seconds are at most 1,099,511,000,000. Browsers are numbered from 1 to
 //! 65,535; `raw` also takes 0, which is a server. Messages are numbered from 0. Parties are named as in the registry.
 //!
-//! In `raw`, METHOD is `GET`, `POST` or any other word, and what is absent is written `-`. A cookie, FIRST or SECOND, is `jar`,
-//! which is that of the browser's jar, or the text of a word; any other text is no cookie. The first `:` in AUTH stands for a
-//! space, and is left as it is here.
+//! In `raw`, METHOD is `GET`, `POST` or any other word, and `-` is an absent part. A cookie, FIRST or SECOND, is `jar` for the
+//! one in the browser's jar, or the text of a word; any other text is no cookie. The first `:` in AUTH is for a space. This
+//! crate leaves it unchanged.
 //!
 //! | Module | What it has | Its definitions, in `specs/` |
 //! |---|---|---|
-//! | `no` | [`TraceNo`], why a trace is not read, and faults of lines in their order | `Faults` |
+//! | `no` | [`TraceNo`], why a trace is rejected, and faults of lines in their order | `Faults` |
 //! | `number` | decimal numbers | `Number` |
 //! | `header` | the first line | `Header` |
 //! | `line_words` | the words of a line | `LineWords` |
 //! | `verb` | the table of the kinds of lines | `Verbs` |
-//! | `values` | what single words say | `Values` |
-//! | `line`, `said` | [`Line`], and what a line says | `Said` |
-//! | `so_far` | what lines set and take | `Lines` |
-//! | `guilt` | what a line is guilty of | `Guilt` |
+//! | `values` | the values of single words | `Values` |
+//! | `line`, `said` | [`Line`], and parsing a line | `Said` |
+//! | `so_far` | the moment and the places after some lines | `Lines` |
+//! | `guilt` | the faults of a line | `Guilt` |
 //! | `trace`, `reading` | [`Trace`], and [`read_trace`] | `Trace`, `Order` |
-//! | `law` | which traces are read and which are refused, in the words of their grammar | |
+//! | `law` | which traces are accepted and which are rejected, in terms of their grammar | |
 #![tactic(auto)]
 
 mod guilt;

@@ -6,9 +6,9 @@ use sso_places::To;
 /// A cookie of a raw request.
 #[derive(Clone, Copy, PartialEq, Eq)]
 pub enum Shown {
-    /// None is presented; also where the text is that of no word.
+    /// None is presented, which includes a text that is not that of a word.
     Absent,
-    /// The one that the browser's jar has.
+    /// The one in the browser's jar.
     Jar,
     /// This word.
     Given(Word),
@@ -20,7 +20,7 @@ pub enum Shown {
 /// `At`, `Steal` and `Show` take no place; each other line takes the next place, from 1.
 #[derive(Drop)]
 pub enum Line {
-    /// From here on it is this moment, in seconds since the epoch.
+    /// Sets the moment, in seconds since the epoch.
     At(Moment),
     /// The browser `thief` gets a copy of the cookies of `owner`.
     Steal {
@@ -81,17 +81,17 @@ pub enum Line {
     SignOut {
         from: u32,
     },
-    /// The message of this number of a reply is delivered.
+    /// The message with this number in a reply is delivered.
     Carry {
         place: u64,
         message: u64,
     },
-    /// The reply of `answer` is given to the party of `place` as the answer to what it asked.
+    /// The reply of `answer` is returned to the party of `place`, as the answer to its request.
     Back {
         place: u64,
         answer: u64,
     },
-    /// One request as it is written. `from` may be 0, which is a server. What is None was written `-`.
+    /// One request, written out in full. `from` may be 0, which is a server. A `None` was written `-`.
     Raw {
         from: u32,
         to: To,

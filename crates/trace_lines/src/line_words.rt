@@ -33,7 +33,7 @@ fn are_filled(words: &[&str]) -> bool
     true
 }
 
-// The words of a line. None where it is not words of visible ASCII with one space between.
+// The words of a line. `None` if it is not words of visible ASCII, separated by single spaces.
 pub(crate) fn read_words(alloc: Global, line: &[u8]) -> Result<Option<Vec<&str>>, NoMemory>
     ensures { IfOk result (λ words. option_map (λ v. map (λ w. w.now) v.items) words ≡ words_in line.now) }
 {

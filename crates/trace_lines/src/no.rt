@@ -1,4 +1,4 @@
-// Why a trace is not read.
+// Why a trace is rejected.
 
 ghost use Rattle.std.specs.Prelude.{◌≡◌};
 ghost use Rattle.trace_lines.specs.Faults as spec;
@@ -6,8 +6,8 @@ ghost use Rattle.trace_lines.specs.Faults as spec;
 use sso_base::NoMemory;
 use std::alloc::AllocError;
 
-/// Why a trace is not read: for its size, else for its header, and else for its first bad line, where of all that this line is
-/// guilty of the first in this order is answered. Lines are numbered from 1.
+/// Why a trace is rejected: its size, or else its header, or else its first bad line. For that line, the first of its faults in
+/// this order is returned. Lines are numbered from 1.
 #[derive(Clone, Copy, Debug, PartialEq, Eq)]
 pub enum TraceNo {
     /// Memory ran out.
@@ -18,21 +18,20 @@ pub enum TraceNo {
     Header,
     /// The line is longer than 65,536 bytes.
     LineTooLong(u64),
-    /// The line is not words of visible ASCII with one space between; or its first word is not in the table, or the others are
-    /// more or fewer than the table says; or the choice in it is neither `yes` nor `no`, or the subject in it is longer than 255
-    /// bytes.
+    /// The line is not words of visible ASCII, separated by single spaces. Or its first word is not in the table, or the table
+    /// has another number of further words. Or its choice is neither `yes` nor `no`, or its subject is longer than 255 bytes.
     Word(u64),
     /// A number in the line is not decimal, or has leading zeros, or is outside its range.
     Number(u64),
     /// The moment is before the last one.
     Backwards(u64),
-    /// The line names a place that no line before it took.
+    /// The line names a place that no line before it has taken.
     NoSuchReply(u64),
     /// The line names a party that is not in the registry.
     NoSuchParty(u64),
 }
 
-/// What a line is guilty of. Of several the first in this order is answered.
+/// A fault of a line. If there are several, the first in this order is returned.
 #[derive(Clone, Copy)]
 pub(crate) enum Fault {
     LineTooLong,
@@ -44,7 +43,7 @@ pub(crate) enum Fault {
 }
 
 impl Fault {
-    // The place in the order in which faults are answered.
+    // The position in the order in which faults are returned.
     fn order(self) -> u8
         ensures { result ≡ spec.order_of self }
     {
@@ -58,7 +57,7 @@ impl Fault {
         }
     }
 
-    // Of the one that was found so far and this one, the one that comes sooner in the order.
+    // The earlier in the order, of this fault and the one that was found so far.
     pub(crate) fn or_sooner(self, found: Option<Fault>) -> Fault
         ensures { result ≡ spec.sooner found self }
     {
@@ -74,7 +73,7 @@ impl Fault {
         }
     }
 
-    // The refusal of a trace whose line of this number is the first bad one.
+    // The rejection of a trace whose first bad line has this number.
     pub(crate) fn refusal(self, number: u64) -> TraceNo
         ensures { result ≡ spec.refusal_of number self }
     {

@@ -17,7 +17,7 @@ fn read_digits(word: &[u8]) -> Option<u64>
     Some(number)
 }
 
-// The number of a word of decimal digits, without leading zeros and below 2^64; None where it is no such number.
+// The number of a word of decimal digits, without leading zeros and below 2^64. `None` if it is no such number.
 pub(crate) fn read_number(word: &str) -> Option<u64>
     ensures { result ≡ number_of word.now }
 {
@@ -29,7 +29,7 @@ pub(crate) fn read_number(word: &str) -> Option<u64>
     }
 }
 
-// The number of a word, from `low` to `high`; None where it is no such number.
+// The number of a word, from `low` to `high`. `None` if it is no such number.
 pub(crate) fn read_within(word: &str, low: u64, high: u64) -> Option<u64>
     ensures { result ≡ number_within low high word.now }
 {

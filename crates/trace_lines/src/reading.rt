@@ -1,4 +1,4 @@
-// The reading of traces.
+// Reads traces.
 
 ghost use Rattle.std.specs.Prelude.{◌≡◌, ◌<◌, ◌^◌, ◌⊎◌, ℕ, [], Ok, Err, IfOk, IfErr, Some, length, map};
 ghost use Rattle.trace_lines.specs.Guilt as guilt;
@@ -24,7 +24,7 @@ const MOST_OF_TRACE: usize = 4_194_304;
 
 const MOST_OF_LINE: usize = 65_536;
 
-// What the words behind the first one say, or the fault that is answered.
+// Parses the words after the first one, or returns the first fault.
 fn read_command(
     alloc: Global,
     registry: &Registry,
@@ -44,7 +44,7 @@ fn read_command(
     Ok(Ok(read_said(alloc, registry, verb, words)?))
 }
 
-// What the words of a line say, or the fault that is answered.
+// Parses the words of a line, or returns the first fault.
 fn read_spoken(
     alloc: Global,
     registry: &Registry,
@@ -72,7 +72,7 @@ fn is_skipped(line: &[u8]) -> bool
     matches!(line, [] | [b'#', ..])
 }
 
-// What a line says after those before it, or the fault that is answered.
+// Parses a line after those before it, or returns the first fault.
 fn read_line(
     alloc: Global,
     registry: &Registry,
@@ -115,7 +115,7 @@ fn split_lines(alloc: Global, bytes: &[u8]) -> Result<Vec<&[u8]>, AllocError>
     bytes.split(|b| *b == b'\n').collect(alloc)
 }
 
-// The trace, or the refusal that is answered.
+// The trace, or why it is rejected.
 #[tactic(auto, unfolding(crate::specs::Trace::trace_told))]
 fn read_told(alloc: Global, registry: &Registry, bytes: &[u8]) -> Result<Trace, TraceNo>
     ensures ok { IfOk result (λ trace. spec.trace_told registry.now bytes.now ≡ Ok trace) }
@@ -138,9 +138,9 @@ fn read_told(alloc: Global, registry: &Registry, bytes: &[u8]) -> Result<Trace, 
     })
 }
 
-/// Reads a trace for a registry, which says which parties there are.
+/// Reads a trace for a registry, which determines the parties.
 ///
-/// A refusal has its cause, as [`TraceNo`] says, and its line is the first bad one. Want of memory alone is tied to no cause.
+/// A rejected trace returns the reason, as in [`TraceNo`], with the first bad line. Only `NoMemory` has no cause in the trace.
 pub fn read_trace(alloc: Global, registry: &Registry, bytes: &[u8]) -> Result<Trace, TraceNo>
     ensures ok { IfOk result (λ trace. spec.trace_told registry.now bytes.now ≡ Ok trace) }
     ensures err { IfErr result (λ e. (e ≡ TraceNo.NoMemory) ⊎ (spec.trace_told registry.now bytes.now ≡ Err e)) }

@@ -1,4 +1,4 @@
-// What a line says.
+// Parses a line.
 
 ghost use Rattle.std.specs.Prelude.{◌≡◌, ◌∷◌, [], map, IfOk};
 ghost use Rattle.client_registry.specs.Configuration.{Configuration};
@@ -117,7 +117,7 @@ fn raw(alloc: Global, registry: &Registry, words: &[&str]) -> Result<Option<Line
     }
 }
 
-// What a line with one further word says.
+// Parses a line with one further word.
 fn one_word(verb: Verb, word: &str) -> Option<Line>
     ensures { (c : Configuration) → result ≡ spec.short_said c verb (word.now ∷ []) }
 {
@@ -133,7 +133,7 @@ fn one_word(verb: Verb, word: &str) -> Option<Line>
     }
 }
 
-// What a line with two further words says.
+// Parses a line with two further words.
 fn two_words(registry: &Registry, verb: Verb, word: &str, other: &str) -> Option<Line>
     ensures { result ≡ spec.short_said registry.now verb (word.now ∷ other.now ∷ []) }
 {
@@ -170,7 +170,7 @@ fn two_words(registry: &Registry, verb: Verb, word: &str, other: &str) -> Option
     }
 }
 
-// What a line with three further words says.
+// Parses a line with three further words.
 fn three_words(
     alloc: Global,
     verb: Verb,
@@ -187,7 +187,7 @@ fn three_words(
     }
 }
 
-// What a line with four further words says.
+// Parses a line with four further words.
 fn four_words(
     alloc: Global,
     verb: Verb,
@@ -205,7 +205,7 @@ fn four_words(
     }
 }
 
-// What the words say in another line than `raw`.
+// Parses the words of a line that is not `raw`.
 fn read_short(
     alloc: Global,
     registry: &Registry,
@@ -229,7 +229,7 @@ fn read_short(
     Ok(None)
 }
 
-// What the words behind the first one say. None where one of them can't be read, or there are more or fewer.
+// Parses the words after the first one. `None` if one of them can't be read, or there are more or fewer.
 pub(crate) fn read_said(
     alloc: Global,
     registry: &Registry,

@@ -1,4 +1,4 @@
-// What lines set and take.
+// The moment and the places after some lines.
 
 ghost use Rattle.std.specs.Prelude.{◌≡◌, ◌<◌, ◌^◌, ◌∷◌, [], OnOk, OnErr, length};
 ghost use Rattle.trace_lines.specs.Lines.{moment_after, places_after, takes_place};
@@ -8,8 +8,8 @@ use sso_base::{Moment, NoMemory};
 use std::alloc::Global;
 use std::marker::Model;
 
-/// The lines that were read so far, seen with the newest first. The moment that was set last and the number of places that
-/// are taken are kept beside them.
+/// The lines that were read so far. The model has the newest first. Besides, it keeps the last moment and the number of places
+/// taken.
 #[derive(Drop)]
 pub(crate) struct SoFar {
     moment: Moment,
@@ -48,21 +48,21 @@ impl SoFar {
         }
     }
 
-    // The moment that was set last, 0 at first.
+    // The last moment, initially 0.
     pub(crate) fn moment(&self) -> u64
         ensures { result ≡ moment_after self.now }
     {
         self.moment.seconds()
     }
 
-    // How many places are taken.
+    // The number of places taken.
     pub(crate) fn places(&self) -> u64
         ensures { result ≡ places_after self.now }
     {
         self.places
     }
 
-    // One more line.
+    // Adds one more line. On an error nothing changes.
     pub(crate) fn push(&mut self, line: Line) -> Result<(), NoMemory>
         requires { length self.old < 2 ^ 60 }
         ensures ok { OnOk result (self.new ≡ line ∷ self.old) }

@@ -1,9 +1,9 @@
-// Traces that were read.
+// Traces that were accepted.
 
 use crate::line::Line;
 use std::marker::Model;
 
-/// A trace that was read: the seed of the words that the roles draw, and its lines. It is seen with the newest line first.
+/// An accepted trace: the seed of the random words, and its lines. Its model has the newest line first.
 #[derive(Drop)]
 pub struct Trace {
     pub(crate) seed: [u8; 24],
@@ -22,14 +22,14 @@ impl Model for Trace {
 impl Trace {
     ghost use Rattle.std.specs.Prelude.{◌≡◌, reverse};
 
-    /// The seed of the words that the roles draw.
+    /// The seed of the random words.
     pub fn seed(&self) -> [u8; 24]
         ensures { result ≡ self.now.seed }
     {
         self.seed
     }
 
-    /// The lines after the first, without those that are skipped, in their order.
+    /// The lines after the first, without the skipped ones, in their order.
     pub fn lines(&self) -> &[Line]
         ensures { reverse result.now ≡ self.now.lines }
     {

@@ -1,4 +1,4 @@
-// What single words of a line say.
+// The values of single words of a line.
 
 ghost use Rattle.std.specs.Prelude.{◌≡◌, IfOk};
 ghost use Rattle.trace_lines.specs.Values as spec;
@@ -47,14 +47,14 @@ pub(crate) fn read_message(word: &str) -> Option<u64>
     read_number(word)
 }
 
-// The number of the party of this name.
+// The number of the party with this name.
 pub(crate) fn read_party(registry: &Registry, word: &str) -> Option<u32>
     ensures { result ≡ spec.party_of registry.now word.now }
 {
     registry.find_party(word.as_bytes())
 }
 
-// The provider, which is `op`, or the party of this name.
+// The provider for `op`, or the party with this name.
 pub(crate) fn read_role(registry: &Registry, word: &str) -> Option<To>
     ensures { result ≡ spec.role_of registry.now word.now }
 {
@@ -65,7 +65,7 @@ pub(crate) fn read_role(registry: &Registry, word: &str) -> Option<To>
     Some(To::Party(party))
 }
 
-// Whether it is `yes`, else `no`.
+// True for `yes`, false for `no`.
 pub(crate) fn read_choice(word: &str) -> Option<bool>
     ensures { result ≡ spec.choice_of word.now }
 {
@@ -89,7 +89,7 @@ pub(crate) fn method_of(word: &str) -> Method
     }
 }
 
-// What is absent where it is `-`.
+// A part, absent if it is `-`.
 pub(crate) fn part_of(alloc: Global, word: &str) -> Result<Option<Text>, NoMemory>
     ensures { IfOk result (λ part. part ≡ spec.part_of word.now) }
 {

@@ -1,10 +1,10 @@
-// The kinds of lines, by their first words, and what each further word is.
+// The kinds of lines, by their first words, and the kinds of their further words.
 
 ghost use Rattle.std.specs.Prelude.{◌≡◌, find};
 ghost use Rattle.std.specs.Str.{bytes_eq};
 ghost use Rattle.trace_lines.specs.Verbs as spec;
 
-/// A kind of line, as its first word says it.
+/// A kind of line, by its first word.
 #[derive(Clone, Copy)]
 pub(crate) enum Verb {
     At,
@@ -24,7 +24,7 @@ pub(crate) enum Verb {
     Raw,
 }
 
-/// What a word of a line has to be.
+/// The required kind of a word.
 #[derive(Clone, Copy)]
 pub(crate) enum Field {
     /// A moment, in seconds since the epoch, which is not before the last one.
@@ -43,7 +43,7 @@ pub(crate) enum Field {
     Role,
     /// `yes` or `no`.
     Choice,
-    /// At most 255 bytes, as a subject has (OpenID Connect Core 1.0, 2).
+    /// At most 255 bytes, the limit of a subject (OpenID Connect Core 1.0, 2).
     Subject,
     /// Any word.
     Free,
@@ -67,7 +67,7 @@ const VERBS: [Verb; 15] = [
     Verb::Raw,
 ];
 
-// How the first word of a line of this kind is written.
+// The first word of a line of this kind.
 #[tactic(auto, unfolding(crate::specs::Verbs::verb_text))]
 fn verb_text(verb: Verb) -> &'static str
     ensures { result.now ≡ spec.verb_text verb }
@@ -91,7 +91,7 @@ fn verb_text(verb: Verb) -> &'static str
     }
 }
 
-// The first of these kinds whose first word this is.
+// The first of these kinds with this first word.
 fn find_verb(verbs: &[Verb], word: &str) -> Option<Verb>
     ensures { result ≡ find (λ verb. bytes_eq (spec.verb_text verb) word.now) verbs.now }
 {
@@ -103,7 +103,7 @@ fn find_verb(verbs: &[Verb], word: &str) -> Option<Verb>
     None
 }
 
-// The kind of line that begins with the word. None where there is none.
+// The kind of line that begins with the word, if there is one.
 #[tactic(auto, unfolding(crate::specs::Verbs::verb_of))]
 pub(crate) fn read_verb(word: &str) -> Option<Verb>
     ensures { result ≡ spec.verb_of word.now }
@@ -111,7 +111,7 @@ pub(crate) fn read_verb(word: &str) -> Option<Verb>
     find_verb(&VERBS, word)
 }
 
-// What the words behind the first one have to be.
+// The kinds of the words after the first one.
 pub(crate) fn fields_of(verb: Verb) -> &'static [Field]
     ensures { result.now ≡ spec.fields_of verb }
 {

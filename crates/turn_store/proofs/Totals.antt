@@ -1,4 +1,4 @@
--- Lists: their totals, what holds of each element, and what begins what.
+-- Lists: their totals, what is true for each element, and prefixes.
 use Rattle.std.proofs.Common.{◌≡◌, ◌≢◌, ◌⊎◌, ℕ, zero, suc, ◌+◌, ◌≤◌, List, [], ◌∷◌, ◌++◌, length, refl, sym, ap, ◌∙◌, subst, inl, inr, ⊎_elim, arith, append_assoc, append-nil}
 use Rattle.std.specs.Prelude.{slice_set, take, drop}
 use Rattle.std.specs.List.{AllByRecursion}
@@ -84,7 +84,7 @@ module _ {A : Type 0} where
   pub begins_none : (a : List A) → Begins [] a
   begins_none a = (a, refl)
 
-  -- what stands in a beginning stands in the whole
+  -- what is in a prefix is in the whole
   pub stands_on : (a b : List A) → Begins a b → (c : Called A) → StandsIn a c → StandsIn b c
   stands_on a b h c s = (s.0, s.1 ++ h.0, h.1 ∙ ap (λ l. l ++ h.0) s.2 ∙ append_assoc s.0 (c.pair ∷ s.1) h.0, s.3)
 

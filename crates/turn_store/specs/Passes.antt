@@ -1,4 +1,4 @@
--- What clauses say of a store and of its passes.
+-- The terms of contracts about a store and its passes.
 use Rattle.std.specs.Prelude.{◌≡◌, ℕ, List, [], ◌∷◌, false}
 use Rattle.sso_base.specs.declared.history.Pair.{Pair}
 use Rattle.sso_base.specs.Journal.{entry_of}
@@ -26,15 +26,15 @@ abbrev pub pair_of : {A R : Type 0} → List (Pair A R) → ℕ → List (List �
 pair_of history at fresh asked reply = record { entry = entry_of history at fresh asked; reply = reply }
 
 module _ {C A R : Type 0} where
-  -- which pass it is, counted from 0
+  -- the number of the pass, counted from 0
   abbrev pub number_of : Pass C A R → ℕ
   number_of pass = first_number pass.seat.me.0.passes
 
-  -- the beginning of the history that the pass has seen
+  -- the prefix of the history that the pass has seen
   abbrev pub front_of : Pass C A R → List (Pair A R)
   front_of pass = first_front pass.seat.me.0.passes
 
-  -- the calls that the pass made, each with its place and with what it stored there
+  -- the calls of the pass, each with its place and the pair that it stored there
   abbrev pub calls_of : Pass C A R → List (Called (Pair A R))
   calls_of pass = first_calls pass.seat.me.0.passes
 
@@ -43,19 +43,20 @@ module _ {C A R : Type 0} where
     pub front : front_of pass ≡ []
     pub calls : calls_of pass ≡ []
 
-  -- the core that the store was made with
+  -- the initial core of the store
   abbrev pub start_of : Turn C A R → C
   start_of turn = turn.table.shared.key.core.value
 
-  -- how many passes the store has
+  -- the number of passes of the store
   abbrev pub passes_of : Turn C A R → ℕ
   passes_of turn = turn.table.shared.key.pass_count
 
-  -- what the store was set up with
+  -- the setup of the store
   abbrev pub setup_of : {S : Type 0} → (C → S) → Turn C A R → S
   setup_of setup turn = setup (start_of turn)
 
--- It is a pass of this store: it knows the store's setup, its front is legal for it, and it holds the places of its calls.
+-- It is a pass of this store: it knows the store's setup, its front is a legal history for it, and it holds the places of its
+-- calls.
 pub record IsPassOf {C S A R : Type 0} (setup : C → S) (is_legal : S → List (Pair A R) → Type 0) (turn : Turn C A R) (pass : Pass C A R) : Type 0 where
   pub table : pass.seat.table_id ≡ turn.table.shared.table_id
   pub empty : pass.seat.me.1 ≡ []

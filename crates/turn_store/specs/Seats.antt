@@ -1,4 +1,4 @@
--- Passes as seats at the table: dealt by a new store, and gathered by one that closes.
+-- Passes as seats at the table: dealt by a new store, and gathered by a closing one.
 use Rattle.std.specs.Prelude.{◌≡◌, ℕ, List, [], ◌∷◌, ◌++◌, false}
 use Rattle.sso_base.specs.declared.history.Pair.{Pair}
 use Rattle.atomic_table.specs.Seated.{TableId}
@@ -8,13 +8,13 @@ use Rattle.turn_store.specs.Views.{idle, new_pass}
 use Rattle.turn_store.specs.Passes.{number_of}
 
 module _ {C A R : Type 0} where
-  -- a pass at this table that has seen and done nothing, as it was dealt
+  -- a new pass at this table, which has seen and done nothing
   pub record IsDealt (id : TableId) (start : C) (pass : Pass C A R) : Type 0 where
     pub table : pass.seat.table_id ≡ id
     pub view : pass.seat.me ≡ (idle (new_pass start (number_of pass) ∷ []), [])
     pub told : pass.calls.items ≡ []
 
-  -- a pass at this table that has not the turn
+  -- a pass at this table without the turn
   abbrev pub IsIdleAt : TableId → Pass C A R → Type 0
   IsIdleAt id pass = (pass.seat.table_id ≡ id) × (pass.seat.me.1 ≡ []) × (pass.seat.me.0.holds ≡ false)
 

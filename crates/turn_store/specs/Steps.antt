@@ -1,4 +1,4 @@
--- What each step on the table tells the seat that makes it: of its view and the slots that it holds, before and after.
+-- What the seat learns from each step on the table: about its view and the slots that it holds, before and after.
 use Rattle.std.specs.Prelude.{◌≡◌, ℕ, ◌≤◌, ◌==◌, List, [], ◌∷◌, ◌++◌, map, length, MatchBool, Option, Some}
 use Rattle.std.specs.List.{AllByRecursion}
 use Rattle.atomic_table.specs.Table.{Step, Me}
@@ -9,7 +9,7 @@ use Rattle.turn_store.specs.Places.{Begins, StandsIn}
 use Rattle.turn_store.specs.Views.{idle, at_turn, with_entry, with_front}
 
 module _ {C S E : Type 0} (history : C → List E) (setup : C → S) (is_legal : S → List E → Type 0) where
-  -- what a pass learns of the core that its seat took
+  -- what a pass knows about the core that its seat took
   pub record FitsCore (core : C) (pass : PassView C E) : Type 0 where
     pub same : setup core ≡ setup pass.start
     pub legal : is_legal (setup core) (history core)
@@ -21,7 +21,7 @@ module _ {C S E : Type 0} (history : C → List E) (setup : C → S) (is_legal :
   IsAtTurn before after =
       (core : C) × AllByRecursion (FitsCore core) before.0.passes × (length (history core) ≤ most_pairs) × (after ≡ (at_turn before.0 (history core), (0, Some core) ∷ []))
 
-  -- a compare-and-exchange, which took the turn or changed nothing
+  -- a compare-and-exchange, which takes the turn or changes nothing
   abbrev pub Takes : Step (Option C) → Me (Option C) (SeatView C E) → ℕ → Me (Option C) (SeatView C E) → Type 0
   Takes s before found after = MatchBool (found == s.first) (IsAtTurn before after) (after ≡ before)
 
@@ -31,7 +31,7 @@ module _ {C S E : Type 0} (history : C → List E) (setup : C → S) (is_legal :
       (core : C) (pair : E) → before.1 ≡ (0, Some core) ∷ [] → history core ≡ before.0.taken ++ pair ∷ []
       → after ≡ (idle (map (with_entry (history core) pair) before.0.passes), [])
 
-  -- a subtraction, which gives the slot back with the core's history as it was taken; the passes know what they knew
+  -- a subtraction, which gives the slot back with the core's history unchanged; the passes know what they knew
   abbrev pub Leaves : Step (Option C) → Me (Option C) (SeatView C E) → ℕ → Me (Option C) (SeatView C E) → Type 0
   Leaves s before found after = after ≡ (idle before.0.passes, [])
 

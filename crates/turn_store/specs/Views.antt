@@ -1,5 +1,5 @@
--- What a seat at the turn knows, and how that changes. A seat has one pass mostly: at first one seat has all of them, and a seat
--- that was joined into another has none.
+-- What a seat at the turn knows, and how that changes. A seat usually has one pass. The first seat starts with all passes, and
+-- a seat that was joined into another has none.
 use Rattle.std.specs.Prelude.{◌≡◌, ℕ, zero, suc, List, [], ◌∷◌, ◌++◌, length, take, drop, true, false}
 use Rattle.std.specs.List.{AllByRecursion}
 use Rattle.turn_store.specs.declared.view.Called.{Called}
@@ -12,20 +12,20 @@ module _ {C E : Type 0} where
   abbrev pub new_pass : C → ℕ → PassView C E
   new_pass start number = record { number = number; start = start; front = []; calls = [] }
 
-  -- so many of them, numbered from the first one on
+  -- `count` of them, numbered from `first` on
   abbrev pub new_passes : C → ℕ → ℕ → List (PassView C E)
   new_passes start first zero = []
   new_passes start first (suc count) = new_pass start first ∷ new_passes start (suc first) count
 
-  -- The pass knows the core of the start. Its front is a beginning of the history, and its calls stand in its front.
+  -- The pass knows the initial core. Its front is a prefix of the history, and its calls are in its front.
   abbrev pub IsSoundPass : C → List E → PassView C E → Type 0
   IsSoundPass start history pass = (pass.start ≡ start) × Begins pass.front history × AllByRecursion (StandsIn pass.front) pass.calls
 
-  -- the weights of all calls of some passes, each by its place, added up
+  -- the sum of the weights of all calls of some passes, each by its place
   abbrev pub calls_weight : (ℕ → ℕ) → List (PassView C E) → ℕ
   calls_weight weight passes = total (λ (pass : PassView C E). total (λ (call : Called E). weight call.place) pass.calls) passes
 
-  -- a pass after an entry of its own, which made this history
+  -- a pass after its own entry, which made this history
   abbrev pub with_entry : List E → E → PassView C E → PassView C E
   with_entry history pair pass = record { number = pass.number; start = pass.start; front = history; calls = pass.calls ++ call_at (length history) pair ∷ [] }
 
@@ -41,7 +41,7 @@ module _ {C E : Type 0} where
   abbrev pub at_turn : SeatView C E → List E → SeatView C E
   at_turn v history = record { passes = v.passes; holds = true; taken = history }
 
-  -- the first seat, which has all passes
+  -- the first seat, with all passes
   abbrev pub first_seat : C → ℕ → SeatView C E
   first_seat start pass_count = idle (new_passes start 0 pass_count)
 
@@ -52,7 +52,7 @@ module _ {C E : Type 0} where
   abbrev pub only_first : SeatView C E → SeatView C E
   only_first v = idle (take 1 v.passes)
 
-  -- a seat that took in the passes of another, and that other
+  -- a seat that received the passes of another, and that other
   abbrev pub joined : SeatView C E → SeatView C E → SeatView C E
   joined v w = idle (v.passes ++ w.passes)
 

@@ -14,13 +14,13 @@ use std::alloc::Global;
 use std::sync::Wait;
 
 impl<C: Core> Turn<C> {
-    /// Steps the core once the turn is this pass's, which is one of this store, and answers what the core answers. It may wait
-    /// for another pass. The entry has the four drawn words, and this moment or the last entry's where that is later.
+    /// Steps the core once it is this pass's turn, and returns the core's reply. The pass must be one of this store. The call
+    /// may wait for another pass. The entry has the four random words, and the later of this moment and the last entry's.
     ///
     /// # Errors
     ///
-    /// - `NoMemory` where memory ran out: the pass has seen nothing new.
-    /// - `JournalFull` where the core refused for the weight of its history: the pass has seen that history.
+    /// - `NoMemory` if memory ran out: the pass has seen nothing new.
+    /// - `JournalFull` if the core's history is too heavy for the entry: the pass has seen that history.
     pub fn call<R: Wait>(
         &self,
         rt: &R,

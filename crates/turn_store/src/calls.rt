@@ -1,15 +1,15 @@
-// What calls answer, and what is left of them when a store closes.
+// The results of calls, and what remains when a store closes.
 
 ghost use Rattle.std.specs.Prelude.{◌≡◌, ◌<◌, List, ℕ, length, slice_get, Some};
 
 use std::marker::Model;
 
-/// What a call answers where the core took the ask.
+/// The result of a call that the core accepted.
 #[derive(Drop)]
 pub struct Placed<R: Drop> {
-    /// What the core replied.
+    /// The core's reply.
     pub reply: R,
-    /// The place of the ask and its reply in the core's history, counted from 1.
+    /// The place of the request and its reply in the core's history, counted from 1.
     pub place: u64,
 }
 
@@ -27,7 +27,7 @@ impl Model for Places {
     ghost view = { λ p. p.list.items };
 }
 
-/// The places of the calls that each pass made, seen as one list a pass.
+/// The places of the calls of each pass. Its model is one list for each pass.
 #[derive(Drop)]
 pub struct Calls {
     pub(crate) lists: Vec<Places>,
@@ -48,14 +48,14 @@ impl Calls {
         Calls { lists }
     }
 
-    /// How many passes there were.
+    /// The number of passes.
     pub fn passes(&self) -> usize
         ensures { result ≡ length self.now }
     {
         self.lists.len()
     }
 
-    /// The places of the calls of this pass, in their order. Passes count from 0, up to one below `passes`, and places from 1.
+    /// The places of the calls of this pass, in their order. Passes count from 0, places from 1.
     pub fn of(&self, pass: usize) -> &[u64]
         requires { pass < length self.now }
         ensures { slice_get self.now pass ≡ Some result.now }
@@ -64,11 +64,11 @@ impl Calls {
     }
 }
 
-/// What is left of a store.
+/// What remains of a store.
 #[derive(Drop)]
 pub struct Closed<C: Drop> {
     /// The core, after the last entry.
     pub core: C,
-    /// Which pass made which entry.
+    /// The entries that each pass made.
     pub calls: Calls,
 }

@@ -1,4 +1,4 @@
-// A store closes: its passes are joined, and the core comes home.
+// Closes a store: joins its passes, and returns the core.
 
 ghost use Rattle.std.specs.Prelude.{◌≡◌, ◌≤◌, ◌+◌, [], ◌++◌, map, length, false, vec_len, vec_capacity};
 ghost use Rattle.std.specs.List.{All, AllByRecursion};
@@ -40,8 +40,8 @@ fn gather<C: Core>(
 }
 
 impl<C: Core> Turn<C> {
-    /// Closes the store: its passes end, and the core is left, with the places of each pass's calls. It takes no memory. The
-    /// passes are those that `new` gave, in their order.
+    /// Closes the store: its passes end, and the core is returned with the places of each pass's calls. It takes no memory. The
+    /// passes must be those that `new` returned, in their order.
     pub fn close(self, mut passes: Vec<Pass<C>>) -> Closed<C>
         requires passes { All (IsPassOf C.setup C.is_legal self) passes.items }
         requires order { map number_of passes.items ≡ numbers_from 0 (passes_of self) }

@@ -1,4 +1,4 @@
-// A store is made, and its passes are dealt.
+// Opens a store, and deals its passes.
 
 ghost use Rattle.std.specs.Prelude.{◌≡◌, ◌≤◌, ◌<◌, [], map, length, IfOk, vec_capacity};
 ghost use Rattle.std.specs.List.{All};
@@ -44,11 +44,11 @@ fn deal<C: Core>(
 }
 
 impl<C: Core> Turn<C> {
-    /// A store of this core, which has no history yet, and its passes: 1 to 64, numbered from 0 in their order.
+    /// A store of this core, which must have an empty history, and its passes: 1 to 64, numbered from 0 in their order.
     ///
     /// # Errors
     ///
-    /// `NoMemory` where memory ran out; the core is gone then.
+    /// `NoMemory` if memory ran out. The core is dropped then.
     pub fn new(alloc: Global, core: C, passes: u32) -> Result<(Turn<C>, Vec<Pass<C>>), NoMemory>
         requires passes { (0 < passes) × (passes ≤ 64) }
         requires empty { C.history core ≡ [] }

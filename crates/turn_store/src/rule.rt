@@ -1,4 +1,4 @@
-// The rule of the turn, and the kinds of steps on the table. Each kind says what it tells the seat that makes it.
+// The rule of the turn, and the kinds of steps on the table. Each kind states what the seat learns from its step.
 
 use crate::view::SeatView;
 use atomic_table::{Join, Play, Seat, Shared, Split, Table, TableRule};
@@ -7,7 +7,7 @@ use std::alloc::Global;
 use std::marker::PhantomData;
 use std::snapshot::Snapshot;
 
-/// What the store was made with.
+/// The initial state of the store.
 #[derive(Drop)]
 pub struct Start<C> {
     pub core: Snapshot<C>,
@@ -37,7 +37,7 @@ impl<C: Core> TableRule<Option<C>, SeatView<C, Pair<C::Ask, C::Reply>>, Start<C>
     ghost first = { λ key. first_seat key.core.value key.pass_count };
 }
 
-/// A try for the turn.
+/// An attempt to take the turn.
 pub struct Taking<C> {
     core: PhantomData<C>,
 }
@@ -48,7 +48,7 @@ impl<C: Core> Play<Option<C>, SeatView<C, Pair<C::Ask, C::Reply>>> for Taking<C>
     ghost then = { Takes C.history C.setup C.is_legal };
 }
 
-/// The turn ends with an entry.
+/// The turn ends with a new entry.
 pub struct Counting<C> {
     core: PhantomData<C>,
 }
@@ -59,7 +59,7 @@ impl<C: Core> Play<Option<C>, SeatView<C, Pair<C::Ask, C::Reply>>> for Counting<
     ghost then = { Counts C.history C.setup C.is_legal };
 }
 
-/// The turn ends as if it had not been taken.
+/// The turn ends with no change.
 pub struct Leaving<C> {
     core: PhantomData<C>,
 }

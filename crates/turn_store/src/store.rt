@@ -6,7 +6,7 @@ use crate::calls::Places;
 use crate::rule::{TurnSeat, TurnTable};
 use sso_base::Core;
 
-/// The right of one thread to call, one call after another. It has a number among the passes of its store.
+/// The right of one thread to call, one call after another. It is numbered among the passes of its store.
 #[derive(Drop)]
 pub struct Pass<C: Core> {
     pub(crate) seat: TurnSeat<C>,
@@ -14,11 +14,11 @@ pub struct Pass<C: Core> {
     pub(crate) calls: Vec<u64>,
 }
 
-/// One core, which passes step in turns. Threads share it by reference.
+/// One core, which passes step in turn. Threads share it by reference.
 #[derive(Drop)]
 pub struct Turn<C: Core> {
     pub(crate) table: TurnTable<C>,
-    // It is empty, and has the room for the lists of `Calls`, so that closing takes no memory.
+    // It is empty, and its capacity suffices for the lists of `Calls`, so that closing takes no memory.
     pub(crate) lists: Vec<Places>,
     ghost counts: { (table.shared.table_id.words ≡ 1) × (table.shared.table_id.slots ≡ 1) },
     ghost some: { 0 < table.shared.key.pass_count },

@@ -12,7 +12,7 @@ use crate::rule::{Counting, Leaving, LeavingFull, Passing, SharedTurn, Taking, T
 use sso_base::Core;
 use std::sync::Wait;
 
-// Waits for the turn, and takes the core. A waiting seat sleeps, and tries again once the turn was given back.
+// Waits for the turn, and takes the core. A waiting seat sleeps, and tries again when the turn was given back.
 pub(crate) fn take_turn<C: Core, R: Wait>(
     rt: &R,
     shared: &SharedTurn<C>,
@@ -41,7 +41,7 @@ pub(crate) fn take_turn<C: Core, R: Wait>(
     unreachable!()
 }
 
-// Gives the turn back, with one entry more.
+// Gives the turn back, with one more entry.
 pub(crate) fn count_entry<C: Core>(shared: &SharedTurn<C>, seat: &mut TurnSeat<C>, core: C)
     requires place { seat.old.table_id ≡ shared.now.table_id }
     requires counts { (shared.now.table_id.words ≡ 1) × (shared.now.table_id.slots ≡ 1) }
@@ -58,7 +58,7 @@ pub(crate) fn count_entry<C: Core>(shared: &SharedTurn<C>, seat: &mut TurnSeat<C
     shared.wake_one(0);
 }
 
-// Gives the turn back as it was taken.
+// Gives the turn back, with the history unchanged.
 pub(crate) fn leave_turn<C: Core>(shared: &SharedTurn<C>, seat: &mut TurnSeat<C>, core: C)
     requires place { seat.old.table_id ≡ shared.now.table_id }
     requires counts { (shared.now.table_id.words ≡ 1) × (shared.now.table_id.slots ≡ 1) }
@@ -73,7 +73,7 @@ pub(crate) fn leave_turn<C: Core>(shared: &SharedTurn<C>, seat: &mut TurnSeat<C>
     shared.wake_one(0);
 }
 
-// The same, and the pass has seen the history that was taken.
+// The same, and the pass has seen that history.
 pub(crate) fn leave_full<C: Core>(shared: &SharedTurn<C>, seat: &mut TurnSeat<C>, core: C)
     requires place { seat.old.table_id ≡ shared.now.table_id }
     requires counts { (shared.now.table_id.words ≡ 1) × (shared.now.table_id.slots ≡ 1) }

@@ -1,4 +1,4 @@
--- A text whose first colon stands for a space.
+-- A text with a space in place of its first colon.
 use Rattle.std.proofs.Common.{◌≡◌, ◌<◌, ◌+◌, ◌==◌, ◌++◌, not, ℕ, suc, Bool, true, false, cond, [], ◌∷◌, take, drop, length, refl, sym, ap, ◌∙◌, subst, arith, codes, append_assoc}
 use Rattle.std.specs.List.{before_first, after_first, position_or_len}
 use Rattle.sso_base.specs.Words.{Text}

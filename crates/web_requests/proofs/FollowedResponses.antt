@@ -1,4 +1,4 @@
--- An answer or a refusal that is followed is heard by the party as it was given.
+-- The party reads a followed answer or refusal as it was given.
 use Rattle.std.proofs.Common.{◌≡◌, ◌<◌, ◌==◌, ◌||◌, ℕ, suc, List, [], ◌∷◌, length, Bool, true, false, filter, map, Option, Some, None, is_some, option_map, option_and_then, Result, Ok, refl, sym, ap, ◌∙◌, subst, inl, inr, arith}
 use Rattle.std.proofs.lemmas.Bool.Decides.{nat_tests}
 use Rattle.std.specs.Prelude.{IfSome}

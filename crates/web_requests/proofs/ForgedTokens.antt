@@ -1,4 +1,4 @@
--- An ID Token that is forged is the same where its subject is, and else is read with the other subject.
+-- A forged ID Token is unchanged if its subject is, and otherwise is read with the other subject.
 use Rattle.std.proofs.Common.{◌≡◌, Bool, true, false, cond, length, nat_le, Some, None, Ok, refl, sym, ap, ◌∙◌, le-leb, leb-true}
 use Rattle.std.specs.Prelude.{option_and_then}
 use Rattle.std.specs.Result.{result_ok}

@@ -1,4 +1,4 @@
--- The form of a response is what stands in its location behind the redirection URI and a mark.
+-- The form of a response is the part of its location after the redirect URI and a mark.
 use Rattle.std.proofs.Common.{◌≡◌, ◌+◌, ◌++◌, Bool, true, false, cond, length, drop, codes, refl, sym, ap, ◌∙◌, length-append}
 use Rattle.std.proofs.Math.Seq.{drop-append_seam}
 use Rattle.sso_base.specs.Words.{Text}

@@ -125,7 +125,7 @@ module _ (name : Text) (location other l : Location) (h : mixed name location ot
   pub receiver_kept : (c : Configuration) → receiver c l ≡ receiver c location
   receiver_kept c = ap (receiver c) (sym is_mixed.is) ∙ receiver_with c location (form_text (with_value name is_mixed.value (form_pairs (form_of location))))
 
--- ---- exactly where both have the name
+-- ---- if and only if both have the name
 
 pub mapped_some : {A B : Type 0} (f : A → B) (o : Option A) → is_some (option_map f o) ≡ is_some o
 mapped_some f None = refl

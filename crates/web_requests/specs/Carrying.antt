@@ -37,18 +37,18 @@ abbrev pub is_text : Option Text → Text → Bool
 is_text None t = false
 is_text (Some s) t = bytes_eq s t
 
--- the client that a party is has this logout URI
+-- the client of the party has this logout URI
 abbrev pub logs_out_at : Text → Option Client → Bool
 logs_out_at uri None = false
 logs_out_at uri (Some client) = is_text client.logout uri
 
--- the first party whose client has a logout URI; several clients may have one
+-- the first party whose client has this logout URI; several clients may have the same one
 abbrev pub party_of_logout : Configuration → Text → Option ℕ
 party_of_logout c uri = position_from (λ (party : Party). logs_out_at uri (client_of c party)) 0 c.parties
 
--- ---- a message there
+-- ---- a message to that role
 
--- a POST of a form where it has a body, else a GET
+-- a POST of a form if it has a body, otherwise a GET
 abbrev pub method_of : Option (List ℕ) → Method
 method_of None = Get
 method_of (Some form) = Post
@@ -76,6 +76,6 @@ delivered c message =
     else if is_text c.provider.userinfo message.to then Some (at_provider c userinfo_path message)
     else option_map (at_party c message) (party_of_logout c message.to)
 
--- the message of this number, from 0, of a reply
+-- the message with this number, from 0, of a reply
 unfoldable pub carried : Configuration → WorldReply → ℕ → Option Sent
 carried c reply number = option_and_then (delivered c) (slice_get (messages_of reply) number)

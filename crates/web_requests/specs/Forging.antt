@@ -1,4 +1,4 @@
--- An answer whose ID Token is forged: one with the same claims but for its subject, sealed by somebody who has the client's
+-- An answer whose ID Token is forged: one with the same claims except for its subject, sealed by somebody who has the client's
 -- secret.
 use Rattle.std.specs.Prelude.{◌<◌, ◌^◌, Bool, ◌&&◌, length, nat_le, Option, Some, None, option_map, option_and_then, IfSome, if◌then◌else◌}
 use Rattle.std.specs.Result.{result_ok}
@@ -19,7 +19,7 @@ use Rattle.sso_places.specs.declared.types.WorldReply.TheVariants.{Provider}
 use Rattle.web_requests.specs.declared.location.Location.{Location}
 use Rattle.web_requests.specs.Locations.{answer_at}
 
--- the claims have a subject that is one, and are short enough to be sealed
+-- the claims have a valid subject, and are short enough to be sealed
 abbrev pub may_be_sealed : IdClaims → Bool
 may_be_sealed claims = is_subject claims.sub && nat_le (length (claims_text (id_members claims))) 6000
 
@@ -32,7 +32,7 @@ resealed secret user claims =
 abbrev pub forged_id : Text → Text → Text → Option Text
 forged_id user id secret = option_and_then (resealed secret user) (result_ok (id_read secret id))
 
--- the secret of the client that has a redirection URI
+-- the secret of the client with a redirect URI
 abbrev pub secret_at : Configuration → Text → Option Text
 secret_at c uri = option_map (client_secret c) (client_of_uri c uri)
 
@@ -44,16 +44,16 @@ forged_in c answer user = option_and_then (λ id. option_and_then (forged_id use
 abbrev pub with_id : Answer → Text → Answer
 with_id answer id = record answer { id = Some id }
 
--- the answer with one for this subject
+-- the answer with an ID Token for this subject
 abbrev pub forged_answer : Configuration → Answer → Text → Option Answer
 forged_answer c answer user = option_map (with_id answer) (forged_in c answer user)
 
--- where an answer sends a browser on whose ID Token is forged for this subject
+-- the location of an answer whose ID Token is forged for this subject
 unfoldable pub forged : Configuration → WorldReply → Text → Option Location
 forged c (Provider (op.Answered answer given)) user = option_map (answer_at c) (forged_answer c answer user)
 forged c reply user = None
 
--- what is so of claims that were read, and is asked of those that are sealed
+-- what is true for claims that were read, and required of claims to be sealed
 pub record IsOfToken (claims : IdClaims) : Type 0 where
   pub others : HasNone id_names claims.more
   pub exp : claims.exp < 2 ^ 40

@@ -1,6 +1,6 @@
--- Where a reply sends a browser on (RFC 9110, 10.2.2): a party to the provider, with an authorization request; the provider to a
--- redirection URI, with an authorization response. A login that entered sends it to the party's own home page, which is a visit
--- of its own and no location here.
+-- The location to which a reply redirects a browser (RFC 9110, 10.2.2): from a party to the provider, with an authorization
+-- request; from the provider to a redirect URI, with an authorization response. An accepted login leads to the party's own home
+-- page, which is a separate visit and not a location here.
 use Rattle.std.specs.Prelude.{ℕ, ◌==◌, Bool, true, false, List, ◌++◌, codes, Option, Some, None, option_and_then, slice_get}
 use Rattle.std.specs.List.{after_first, position_from}
 use Rattle.std.specs.Str.{bytes_eq}
@@ -20,33 +20,33 @@ use Rattle.sso_places.specs.declared.types.WorldReply.TheVariants.{Provider, Par
 use Rattle.web_requests.specs.declared.location.Location.{Location}
 use Rattle.web_requests.specs.declared.location.Location.TheVariants as location
 
--- ---- redirection URIs, as they are registered
+-- ---- registered redirect URIs
 
--- what is kept of a redirection URI of a client
+-- the parsed form of a client's redirect URI
 abbrev pub kept_url : Text → Client → Option WebUrl
 kept_url uri client = option_and_then (slice_get client.redirect_urls) (position_from (λ t. bytes_eq t uri) 0 client.redirects)
 
--- what is kept of a redirection URI
+-- the parsed form of a redirect URI
 abbrev pub registered_url : Configuration → Text → Option WebUrl
 registered_url c uri = option_and_then (kept_url uri) (option_and_then (client_at c) (client_of_uri c uri))
 
--- its query, where it has one
+-- its query, if it has one
 abbrev pub registered_query : Configuration → Text → Option Text
 registered_query c uri = option_and_then (λ (url : WebUrl). url.query) (registered_url c uri)
 
 -- ---- locations
 
--- a form in a query, behind what stands there already (RFC 6749, 3.1.2)
+-- a form in a query, after the registered query (RFC 6749, 3.1.2)
 abbrev pub behind : Option Text → List ℕ → List ℕ
 behind None form = form
 behind (Some query) form = query ++ codes "&" ++ form
 
--- a form at a redirection URI: as its fragment, or in its query
+-- a form at a redirect URI: as its fragment, or in its query
 abbrev pub location_at : Configuration → Text → Bool → List ℕ → Location
 location_at c uri true form = location.Client uri true form
 location_at c uri false form = location.Client uri false (behind (registered_query c uri) form)
 
--- an answer and a refusal, at their redirection URIs
+-- an answer and a refusal, at their redirect URIs
 abbrev pub answer_at : Configuration → Answer → Location
 answer_at c answer = location_at c answer.redirect answer.fragment (answer_form answer)
 
@@ -57,7 +57,7 @@ refusal_at c refusal = location_at c refusal.redirect refusal.fragment (refusal_
 abbrev pub is_question : ℕ → Bool
 is_question b = b == 63
 
--- where a reply sends a browser on
+-- the location to which a reply redirects a browser
 unfoldable pub location_of : Configuration → WorldReply → Option Location
 location_of c (Provider (op.Answered answer given)) = Some (answer_at c answer)
 location_of c (Provider (op.Refused refusal given)) = Some (refusal_at c refusal)

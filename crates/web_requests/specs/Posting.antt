@@ -1,4 +1,4 @@
--- What a browser sends that posts the form of the provider's login page or consent page (OpenID Connect Core 1.0, 3.1.2.3 and
+-- The requests that post the form of the provider's login page or consent page (OpenID Connect Core 1.0, 3.1.2.3 and
 -- 3.1.2.4).
 use Rattle.std.specs.Prelude.{ℕ, Bool, List, [], ◌∷◌, ◌++◌, codes, Option, Some, None, option_map, if◌then◌else◌}
 use Rattle.sso_base.specs.Words.{Word, Text, word_text}
@@ -29,18 +29,18 @@ consent_turn reply = None
 abbrev pub login_form : Word → Text → Text → List Pair
 login_form turn user password = (turn_field, word_text turn) ∷ (user_field, user) ∷ (password_field, password) ∷ []
 
--- the button that says no
+-- the button that refuses
 abbrev pub refuse_value : Text
 refuse_value = codes "no"
 
--- what the consent form says
+-- the value of the button in the consent form
 abbrev pub said : Bool → Text
 said agree = if agree then agree_value else refuse_value
 
 abbrev pub consent_form : Word → Bool → List Pair
 consent_form turn agree = (turn_field, word_text turn) ∷ (agree_field, said agree) ∷ []
 
--- ---- the request, where the reply is such a page
+-- ---- the request, if the reply is such a page
 
 -- a form that is posted to a path of the provider
 abbrev pub form_posted : Configuration → ℕ → Text → List Pair → Jar → Sent

@@ -1,4 +1,4 @@
--- A request that is written out part by part.
+-- A request that is given part by part.
 use Rattle.std.specs.Prelude.{ℕ, ◌==◌, [], ◌∷◌, Option, option_map, unwrap_or, if◌then◌else◌}
 use Rattle.std.specs.List.{before_first, after_first}
 use Rattle.sso_base.specs.Words.{Word, Text}
@@ -11,12 +11,12 @@ use Rattle.web_requests.specs.Locations.{is_question}
 
 -- ---- a header
 
--- the first colon stands for a space
+-- the text with a space in place of the first colon
 abbrev pub spaced : Text → Text
 spaced [] = []
 spaced (b ∷ t) = if b == 58 then 32 ∷ t else b ∷ spaced t
 
--- ---- the request: an absent target is empty, and what follows its first `?` is the query
+-- ---- the request: an absent target is empty, and the query is what follows its first `?`
 
 abbrev pub raw_ask : Method → Text → Option Word → Option Word → Option Text → Option Text → Ask
 raw_ask method target first second auth body =

@@ -1,4 +1,4 @@
--- Requests as they are sent: under the number of a browser, with cookies of its jar, or under 0 by a server, without any.
+-- Requests with their senders: a browser's number, with cookies of its jar, or 0 for a server, without cookies.
 use Rattle.std.specs.Prelude.{ℕ, List, [], Option, None}
 use Rattle.sso_base.specs.Words.{Text}
 use Rattle.sso_base.specs.declared.http.Method.{Method}

@@ -16,7 +16,7 @@ use sso_base::{Ask, Blob, Message, Messages, Method, NoMemory, Text, copied_text
 use sso_places::{To, WorldReply};
 use std::alloc::Global;
 
-// The message of this number.
+// The message with this number.
 fn message_at(messages: &Messages, number: u64) -> Option<&Message>
     ensures { option_map (λ m. m.now) result ≡ slice_get messages.now number }
 {
@@ -26,7 +26,7 @@ fn message_at(messages: &Messages, number: u64) -> Option<&Message>
     Some(messages.at(number as usize))
 }
 
-// The message of this number of a reply.
+// The message with this number in a reply.
 fn message_of(reply: &WorldReply, number: u64) -> Option<&Message>
     ensures { option_map (λ m. m.now) result ≡ slice_get (spec.messages_of reply.now) number }
 {
@@ -48,7 +48,7 @@ fn is_text(text: &Option<Text>, other: &str) -> bool
     }
 }
 
-// The row of the client that a party is. That the registry keeps its rules is known of its count.
+// The row of the client that a party is. Reading the count makes the registry's invariant known.
 fn client_of_party(registry: &Registry, party: u32) -> &Client
     requires { party < length registry.now.parties }
     ensures { result.now ≡ party_client registry.now party }
@@ -58,7 +58,7 @@ fn client_of_party(registry: &Registry, party: u32) -> &Client
     registry.client(number)
 }
 
-// The first party whose client has a logout URI.
+// The first party whose client has this logout URI.
 fn party_of_logout(registry: &Registry, uri: &str) -> Option<u32>
     ensures party { result ≡ spec.party_of_logout registry.now uri.now }
     ensures below { IfSome result (λ n. n < length registry.now.parties) }
@@ -117,7 +117,7 @@ fn at_provider(
     Ok(under_number(0, To::Provider, ask))
 }
 
-// The query of a URL, empty where it has none.
+// The query of a URL, empty if it has none.
 fn query_of(url: &WebUrl) -> &[u8]
     ensures { result.now ≡ unwrap_or url.now.query [] }
 {
@@ -127,7 +127,7 @@ fn query_of(url: &WebUrl) -> &[u8]
     }
 }
 
-// A message at the logout URI of a client; one that has none has the empty path.
+// A message to the logout URI of a client; if it has none, the path is empty.
 fn logout_ask(alloc: Global, url: &Option<WebUrl>, message: &Message) -> Result<Ask, NoMemory>
     ensures { IfOk result (λ a. a ≡ spec.logout_ask (unwrap_or url.now no_url) message.now) }
 {
@@ -173,12 +173,13 @@ fn delivered(
     }
 }
 
-/// What arrives of the message of this number, from 0, of a reply: of the token request or the UserInfo request of a party (OpenID
-/// Connect Core 1.0, 3.1.3.1 and 5.3.1), or of the logout requests of a sign-out (Back-Channel Logout 1.0, 2.5). None where the
-/// reply has no such message, or no role has the URL that it is sent to.
+/// The request that delivers the message with this number, from 0, of a reply. It is the token request or the UserInfo request
+/// of a party (OpenID Connect Core 1.0, 3.1.3.1 and 5.3.1), or a logout request of a sign-out (Back-Channel Logout 1.0, 2.5).
+/// `None` if the reply has no such message, or if no role has its URL.
 ///
-/// It is sent by a server, so under 0 and without cookies. The provider gets what is sent to its token endpoint or its UserInfo
-/// endpoint, and else the first party gets it whose client has that logout URI; several clients may have one.
+/// A server sends it, so it has the number 0 and no cookies. The provider receives what goes to its token endpoint or its
+/// UserInfo endpoint. Otherwise the first party receives it whose client has that logout URI; several clients may have the same
+/// one.
 #[tactic(auto, unfolding(crate::specs::Carrying::carried))]
 pub fn carried(
     alloc: Global,

@@ -1,4 +1,4 @@
-// What a browser sends that follows a location.
+// Requests that follow a location.
 
 ghost use Rattle.std.specs.Prelude.{◌≡◌, ◌<◌, ◌++◌, length, option_map, IfOk, IfSome};
 ghost use Rattle.web_requests.specs.Following as spec;
@@ -24,7 +24,7 @@ pub(crate) fn provider_path(
     Ok(Text::from_string(whole))
 }
 
-// The party that has a redirection URI.
+// The party with a redirect URI.
 #[tactic(auto, using(sso_base::proofs::ListSteps::drop_at))]
 fn party_of_uri(registry: &Registry, uri: &str) -> Option<u32>
     ensures party { result ≡ spec.party_of_uri registry.now uri.now }
@@ -38,7 +38,7 @@ fn party_of_uri(registry: &Registry, uri: &str) -> Option<u32>
     None
 }
 
-// A response at the path of a redirection URI.
+// A response at the path of a redirect URI.
 fn response_ask(
     alloc: Global,
     path: &Text,
@@ -57,7 +57,7 @@ fn response_ask(
     }
 }
 
-// What is sent to the provider.
+// The request to the provider.
 fn to_provider(
     alloc: Global,
     registry: &Registry,
@@ -72,7 +72,7 @@ fn to_provider(
     Ok(under_number(from, To::Provider, ask))
 }
 
-// What is sent to a redirection URI, where a party has it.
+// The request to a redirect URI, if a party has it.
 fn to_client(
     alloc: Global,
     registry: &Registry,
@@ -92,8 +92,8 @@ fn to_client(
     Ok(Some(under_number(from, To::Party(number), ask)))
 }
 
-/// The role that serves a location: the provider for an authorization request (OpenID Connect Core 1.0, 3.1.2.1), and for a
-/// response the party that has the redirection URI (3.1.2.5). None where no party has it. It takes no memory.
+/// The role that serves a location: the provider for an authorization request (OpenID Connect Core 1.0, 3.1.2.1), and the party
+/// with the redirect URI for a response (3.1.2.5). `None` if no party has it. It takes no memory.
 pub fn receiver(registry: &Registry, location: &Location) -> Option<To>
     ensures { result ≡ spec.receiver registry.now location.now }
 {
@@ -106,11 +106,11 @@ pub fn receiver(registry: &Registry, location: &Location) -> Option<To>
     }
 }
 
-/// What the browser of this number sends that follows a location, with the cookies of its jar at the [`receiver`]; none where the
-/// location has no receiver.
+/// The request with which a browser follows a location, with its cookies for the [`receiver`]. `None` if the location has no
+/// receiver.
 ///
-/// An authorization request is a GET of the provider's authorization endpoint. A response in the query is a GET of the path of the
-/// registered redirection URI. A response in the fragment is posted to this path, as the page does that is served there (OpenID
+/// An authorization request is a GET of the provider's authorization endpoint. A response in the query is a GET of the path of
+/// the registered redirect URI. A response in the fragment is posted to this path by the page that is served there (OpenID
 /// Connect Core 1.0, 3.2.2.5 and 15.5.3).
 #[tactic(auto, unfolding(crate::specs::Following::followed))]
 pub fn followed(

@@ -14,14 +14,14 @@ use sso_base::{NoMemory, Text};
 use sso_places::WorldReply;
 use std::alloc::Global;
 
-// Whether the claims have a subject that is one, and are short enough to be sealed.
+// Whether the claims have a valid subject, and are short enough to be sealed.
 fn may_be_sealed(claims: &IdClaims) -> Result<bool, NoMemory>
     ensures { IfOk result (λ b. b ≡ spec.may_be_sealed claims.now) }
 {
     Ok(is_subject(&claims.sub) && written_len(claims)? <= 6000)
 }
 
-// The claims of an ID Token under this key, where it is one.
+// The claims of an ID Token under this key, if it is one.
 #[tactic(auto, using(crate::proofs::ReadClaims::of_token))]
 fn claims_of(alloc: Global, key: &[u8], id: &Text) -> Result<Option<IdClaims>, NoMemory>
     ensures claims { IfOk result (λ o. o ≡ result_ok (id_read key.now id.now)) }
@@ -62,7 +62,7 @@ fn forged_id(alloc: Global, user: &Text, id: &Text, secret: &Text) -> Result<Opt
     }
 }
 
-// The secret of the client that has a redirection URI.
+// The secret of the client with a redirect URI.
 fn secret_at<'a>(registry: &'a Registry, uri: &str) -> Option<&'a Text>
     ensures { option_map (λ t. t.now) result ≡ spec.secret_at registry.now uri.now }
 {
@@ -93,10 +93,11 @@ fn forged_answer(
     Ok(Some(forged))
 }
 
-/// Where an answer sends a browser on whose ID Token is forged: it has the same claims but for the subject, which is this user,
-/// and is sealed anew under the secret of the client that has the redirection URI. None for any other reply, where the answer has
-/// no ID Token of that client, and where the user is no subject (OpenID Connect Core 1.0, 2) or the claims would become too long
-/// to be sealed.
+/// The location of an answer with a forged ID Token: it has the same claims except for the subject, which is this user. It is
+/// sealed under the secret of the client with the redirect URI. `None` in these cases:
+///
+/// - The reply is not an answer, or the answer has no ID Token of that client.
+/// - The user is not a valid subject (OpenID Connect Core 1.0, 2), or the claims would become too long to be sealed.
 #[tactic(auto, unfolding(crate::specs::Forging::forged))]
 pub fn forged(
     alloc: Global,

@@ -1,4 +1,4 @@
-// The printed reply of one role, handed to the party that waits for it.
+// The printed reply of one role, passed to the party that waits for it.
 
 ghost use Rattle.std.specs.Prelude.{◌≡◌, IfOk};
 ghost use Rattle.sso_places.specs.Legal.{IsRole};
@@ -13,9 +13,9 @@ use sso_base::{Answered, HttpReply, NoMemory};
 use sso_places::{To, WorldAsk, WorldReply};
 use std::alloc::Global;
 
-/// The reply of a role in HTTP (RFC 9110). None where it is no reply of this role.
+/// The reply of a role in HTTP (RFC 9110). `None` if it is not a reply of this role.
 ///
-/// The role is one of the registry, as a condition.
+/// The role must be in the registry.
 #[tactic(auto, unfolding(crate::specs::Handing::printed))]
 pub fn printed(
     alloc: Global,
@@ -64,11 +64,11 @@ fn handed(from: u32, role: &To, reply: &WorldReply, answer: Answered) -> Option<
     })
 }
 
-/// What hands the reply of another role, as it is [`printed`], back to the role of a reply, as the answer to the token request or
-/// the UserInfo request in it, under the number under which that was asked (OpenID Connect Core 1.0, 3.1.3.3, 3.1.3.4 and 5.3.2).
-/// None where the reply has no such request or its role is no party, and where the other's is no reply of that role.
+/// Passes the reply of another role, as [`printed`], back to the role of a reply, as the answer to its token request or its
+/// UserInfo request. The sender's number is that of the request (OpenID Connect Core 1.0, 3.1.3.3, 3.1.3.4 and 5.3.2). `None`
+/// if the reply has no such request, if its role is not a party, or if the other reply is not one of the other role.
 ///
-/// It may be any reply, whether or not it answers that request. The other role is one of the registry, as a condition.
+/// It may be any reply, whether or not it answers that request. The other role must be in the registry.
 #[tactic(auto, unfolding(crate::specs::Handing::handed_back))]
 pub fn handed_back(
     alloc: Global,

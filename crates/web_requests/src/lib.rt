@@ -1,21 +1,21 @@
-//! What browsers and servers send to the provider and to its relying parties in the course of logins and logouts, as functions of a
-//! reply and of the cookies that a browser keeps (OpenID Connect Core 1.0, 3.1.2 and 3.2.2; OpenID Connect Back-Channel Logout 1.0,
-//! 2.5). The types of what is asked, of replies and of cookies are those of `sso_places`. Nothing is sent here: what is asked is
-//! made, and whoever has the roles asks them.
+//! The requests of browsers and servers to the provider and to its relying parties during logins and logouts. They are
+//! functions of a reply and of a browser's cookies (OpenID Connect Core 1.0, 3.1.2 and 3.2.2; OpenID Connect Back-Channel
+//! Logout 1.0, 2.5). The types of requests, replies and cookies are those of `sso_places`. Nothing is sent here: the crate only
+//! builds requests.
 //!
 //! | Module | What it has | Its definitions, in `specs/` |
 //! |---|---|---|
-//! | `sent` | [`Sent`], a request as it is sent | `Sending` |
-//! | `location` | [`Location`], and [`location_of`]: where a reply sends a browser on | `Locations` |
+//! | `sent` | [`Sent`], a request with its sender and its recipient | `Sending` |
+//! | `location` | [`Location`], and [`location_of`]: the location to which a reply redirects a browser | `Locations` |
 //! | `following` | [`followed`] follows a location to its [`receiver`] | `Following` |
 //! | `mixing` | [`mixed`]: a location with the value of a parameter of another | `Mixing` |
 //! | `forging` | [`forged`]: the location of an answer whose ID Token is forged | `Forging` |
 //! | `posting` | [`login_posted`] and [`consent_posted`] post the forms of the provider's pages | `Posting` |
-//! | `visiting` | [`login_begun`], [`party_visited`], [`party_left`] and [`signed_out`], of a browser's own accord | `Visiting` |
+//! | `visiting` | [`login_begun`], [`party_visited`], [`party_left`] and [`signed_out`], a browser's own requests | `Visiting` |
 //! | `carrying` | [`carried`]: a message from one server to another | `Carrying` |
-//! | `handing` | [`printed`]: a reply in HTTP; [`handed_back`]: that reply, handed to the party that waits for it | `Handing` |
-//! | `raw` | [`raw_sent`]: a request that is written out part by part | `Raw` |
-//! | `law` | what holds of what is sent, for the crates above | `Asked`, `Arriving` |
+//! | `handing` | [`printed`]: a reply in HTTP; [`handed_back`]: that reply, passed to the party that waits for it | `Handing` |
+//! | `raw` | [`raw_sent`]: a request that is given part by part | `Raw` |
+//! | `law` | lemmas about requests, for the crates above | `Asked`, `Arriving` |
 #![tactic(auto)]
 
 mod carrying;

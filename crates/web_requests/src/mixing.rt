@@ -1,4 +1,4 @@
-// A location in which the value of a parameter is that of another location.
+// A location with the value of a parameter of another location.
 
 ghost use Rattle.std.specs.Prelude.{◌≡◌, map, IfOk};
 ghost use Rattle.std.specs.Option.{option_copied};
@@ -13,7 +13,7 @@ use request_params::{Pair, read_pairs, value_of};
 use sso_base::{Blob, NoMemory, Text};
 use std::alloc::Global;
 
-// The form that is written of pairs.
+// The form of these pairs.
 #[tactic(auto, unfolding(request_params::specs::Form::form_text))]
 fn written_form(alloc: Global, pairs: &[(&str, &str)]) -> Result<Blob, NoMemory>
     ensures { IfOk result (λ b. b ≡ form_text (map pair_text pairs.now)) }
@@ -57,7 +57,7 @@ fn has_name(pairs: &[Pair], name: &str) -> bool
     value_of(pairs, name).is_some()
 }
 
-// The pairs, with this value in those of this name.
+// The pairs, with this value for each of this name.
 fn with_value<'a>(
     alloc: Global,
     name: &'a str,
@@ -77,7 +77,7 @@ fn with_value<'a>(
     Ok(mixed)
 }
 
-// The form of pairs in which the name has another value.
+// The form of the pairs with another value for the name.
 fn mixed_form(
     alloc: Global,
     name: &str,
@@ -96,11 +96,11 @@ fn mixed_form(
     Ok(Some(written_form(alloc, &mixed)?))
 }
 
-/// The location in which each parameter of this name has the value that the first of this name has in the other location. None
-/// where either location has no parameter of this name.
+/// The location in which each parameter with this name has the value of the first such parameter in the other location. `None`
+/// if either location has no parameter with this name.
 ///
-/// The parameters are those of the form, also of one in the fragment, and of one in the query with what is registered there (the
-/// URL Standard, 5.1 and 5.2).
+/// The parameters are those of the form: also of one in the fragment, and of one in the query together with the registered
+/// query (the URL Standard, 5.1 and 5.2).
 #[tactic(auto, unfolding(crate::specs::Mixing::mixed))]
 pub fn mixed(
     alloc: Global,

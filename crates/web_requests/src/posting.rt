@@ -1,4 +1,4 @@
-// What a browser sends that posts the form of a page.
+// Requests that post the form of a page.
 
 ghost use Rattle.std.specs.Prelude.{◌≡◌, IfOk};
 ghost use Rattle.request_params.specs.Form.{form_text};
@@ -14,7 +14,7 @@ use sso_base::{Blob, NoMemory, Word};
 use sso_places::{Jar, To, WorldReply};
 use std::alloc::Global;
 
-// The value of the button that says no.
+// The value of the button that refuses.
 const REFUSE_VALUE: &str = "no";
 
 // The turn of a login page.
@@ -50,7 +50,7 @@ fn login_form(alloc: Global, turn: &Word, user: &str, password: &str) -> Result<
     Ok(Blob::from_vec(form.finish().into_bytes()))
 }
 
-// What the consent form says.
+// The value of the button in the consent form.
 fn said(agree: bool) -> &'static str
     ensures { result.now ≡ spec.said agree }
 {
@@ -69,8 +69,8 @@ fn consent_form(alloc: Global, turn: &Word, agree: bool) -> Result<Blob, NoMemor
     Ok(Blob::from_vec(form.finish().into_bytes()))
 }
 
-/// What the browser of this number sends that posts the login form of a reply, with this user and this password and the cookies of
-/// its jar at the provider (OpenID Connect Core 1.0, 3.1.2.3). None where the reply is no login page.
+/// The request with which a browser posts the login form of a reply, with this user and this password, and with its cookies for
+/// the provider (OpenID Connect Core 1.0, 3.1.2.3). `None` if the reply is not a login page.
 #[tactic(auto, unfolding(crate::specs::Posting::login_posted))]
 pub fn login_posted(
     alloc: Global,
@@ -92,8 +92,8 @@ pub fn login_posted(
     Ok(Some(under_number(from, To::Provider, ask)))
 }
 
-/// What the browser of this number sends that posts the consent form of a reply, by the button that agrees or the one that does
-/// not, with the cookies of its jar at the provider (OpenID Connect Core 1.0, 3.1.2.4). None where the reply is no consent page.
+/// The request with which a browser posts the consent form of a reply, by the button that agrees or the one that refuses, and
+/// with its cookies for the provider (OpenID Connect Core 1.0, 3.1.2.4). `None` if the reply is not a consent page.
 #[tactic(auto, unfolding(crate::specs::Posting::consent_posted))]
 pub fn consent_posted(
     alloc: Global,

@@ -1,4 +1,4 @@
-// A request that is written out part by part.
+// A request that is given part by part.
 
 ghost use Rattle.std.specs.Prelude.{◌≡◌, ◌++◌, [], option_map, unwrap_or, IfOk};
 ghost use Rattle.std.specs.List.{before_first, after_first};
@@ -10,7 +10,7 @@ use sso_base::{Ask, Blob, Method, NoMemory, Text, Word};
 use sso_places::To;
 use std::alloc::Global;
 
-// The path and the query: what stands before and after the first `?` (RFC 9112, 3.2.1).
+// The path and the query: the text before and after the first `?` (RFC 9112, 3.2.1).
 fn split_target(target: &str) -> (&str, &str)
     ensures path { result.0.now ≡ before_first is_question target.now }
     ensures query { result.1.now ≡ after_first is_question target.now }
@@ -21,7 +21,7 @@ fn split_target(target: &str) -> (&str, &str)
     }
 }
 
-// Three texts, one behind another.
+// Joins three texts.
 fn joined(alloc: Global, front: &str, mark: &str, back: &str) -> Result<Text, NoMemory>
     ensures { IfOk result (λ t. t ≡ front.now ++ mark.now ++ back.now) }
 {
@@ -31,7 +31,7 @@ fn joined(alloc: Global, front: &str, mark: &str, back: &str) -> Result<Text, No
     Ok(Text::from_string(text))
 }
 
-// The first colon stands for a space.
+// The text with a space in place of the first colon.
 #[tactic(auto, using(crate::proofs::Colons::spaced_joined, crate::proofs::Colons::spaced_whole))]
 fn spaced(alloc: Global, text: &str) -> Result<Text, NoMemory>
     ensures { IfOk result (λ t. t ≡ spec.spaced text.now) }
@@ -92,11 +92,11 @@ fn raw_ask(
     })
 }
 
-/// A request to a role that is written out part by part: what is sent under this number, with this method, and with a target, two
-/// cookies (`first` the browser's, `second` the session's), an `Authorization` header and a body, each where it is there.
+/// A request to a role that is given part by part: its sender's number and its method. It may have a target, two cookies
+/// (`first` the browser's, `second` the session's), an `Authorization` header and a body.
 ///
-/// The target is cut into path and query at its first `?` (RFC 9112, 3.2.1); an absent one is empty. The first colon of the header
-/// stands for a space. The body is that of a form. No part is judged here.
+/// The target is split into path and query at its first `?` (RFC 9112, 3.2.1); an absent one is empty. The first colon of the
+/// header becomes a space. The body is that of a form. No part is checked here.
 #[tactic(auto, unfolding(crate::specs::Raw::raw_sent))]
 pub fn raw_sent(
     alloc: Global,

@@ -1,4 +1,4 @@
-// Requests as they are sent.
+// Requests with their senders and recipients.
 
 ghost use Rattle.std.specs.Prelude.{◌≡◌, IfOk};
 ghost use Rattle.web_requests.specs.Sending as spec;
@@ -7,14 +7,14 @@ use sso_base::{Ask, Blob, Method, NoMemory, Text};
 use sso_places::{Jar, To, WorldAsk};
 use std::alloc::Global;
 
-/// A request as it is sent.
+/// A request with its sender and its recipient.
 #[derive(Drop)]
 pub struct Sent {
     /// The number of the browser, or 0 for a server.
     pub from: u32,
-    /// Whom it is sent to.
+    /// The recipient.
     pub to: To,
-    /// What is asked.
+    /// The request.
     pub ask: WorldAsk,
 }
 

@@ -1,4 +1,4 @@
-// What a browser sends of its own accord.
+// Requests that a browser sends on its own.
 
 ghost use Rattle.std.specs.Prelude.{◌≡◌, IfOk};
 ghost use Rattle.web_requests.specs.Visiting as spec;
@@ -11,7 +11,8 @@ use sso_base::{NoMemory, Text};
 use sso_places::{Jar, To};
 use std::alloc::Global;
 
-/// To begin a login at a party: a GET of `/login` there (own), with the cookies of the browser's jar at the party.
+/// The request that begins a login at a party: a GET of `/login` there (our own path), with the browser's cookies for the
+/// party.
 pub fn login_begun(alloc: Global, from: u32, party: u32, jar: &Jar) -> Result<Sent, NoMemory>
     ensures { IfOk result (λ s. s ≡ spec.login_begun from party jar.now) }
 {
@@ -20,7 +21,8 @@ pub fn login_begun(alloc: Global, from: u32, party: u32, jar: &Jar) -> Result<Se
     Ok(under_number(from, To::Party(party), ask))
 }
 
-/// To ask a party who is logged in: a GET of `/` there (own), with the cookies of the browser's jar at the party.
+/// The request that shows who is logged in at a party: a GET of `/` there (our own path), with the browser's cookies for the
+/// party.
 pub fn party_visited(alloc: Global, from: u32, party: u32, jar: &Jar) -> Result<Sent, NoMemory>
     ensures { IfOk result (λ s. s ≡ spec.party_visited from party jar.now) }
 {
@@ -29,7 +31,7 @@ pub fn party_visited(alloc: Global, from: u32, party: u32, jar: &Jar) -> Result<
     Ok(under_number(from, To::Party(party), ask))
 }
 
-/// To leave a party: a POST to `/leave` there (own), with the cookies of the browser's jar at the party.
+/// The request that leaves a party: a POST to `/leave` there (our own path), with the browser's cookies for the party.
 pub fn party_left(alloc: Global, from: u32, party: u32, jar: &Jar) -> Result<Sent, NoMemory>
     ensures { IfOk result (λ s. s ≡ spec.party_left from party jar.now) }
 {
@@ -38,7 +40,8 @@ pub fn party_left(alloc: Global, from: u32, party: u32, jar: &Jar) -> Result<Sen
     Ok(under_number(from, To::Party(party), ask))
 }
 
-/// To sign out at the provider: a POST to `/signout` below its issuer (own), with the cookies of the browser's jar at the provider.
+/// The request that signs out at the provider: a POST to `/signout` below its issuer (our own path), with the browser's cookies
+/// for the provider.
 pub fn signed_out(
     alloc: Global,
     registry: &Registry,

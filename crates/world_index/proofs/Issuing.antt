@@ -1,4 +1,4 @@
--- A word that is issued is noted under its half digest, where none was, and under no other.
+-- An issued word is noted under its half hash, if there was none, and under no other.
 use Rattle.std.proofs.Common.{◌≡◌, ℕ, cond, List, Option, Some, None, inl, inr, refl, sym, ap, ◌∙◌, subst}
 use Rattle.std.specs.Str.{bytes_eq}
 use Rattle.sso_base.specs.Words.{Word, Text}

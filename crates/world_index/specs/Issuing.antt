@@ -1,4 +1,4 @@
--- Codes and access tokens that were issued, each under its half digest (OpenID Connect Core 1.0, 3.1.3.6 and 3.3.2.11).
+-- Issued codes and access tokens, each under its half hash (OpenID Connect Core 1.0, 3.1.3.6 and 3.3.2.11).
 use Rattle.std.specs.Prelude.{ℕ, List, Option, Some, None, if◌then◌else◌}
 use Rattle.std.specs.Map.{lookup}
 use Rattle.std.specs.Str.{bytes_eq}
@@ -6,20 +6,20 @@ use Rattle.sso_base.specs.Words.{Word, Text}
 use Rattle.sso_places.specs.Premises.{half_digest}
 use Rattle.world_index.specs.declared.halves.Issued.{Issued}
 
--- what was noted first of a half digest
+-- the first note of a half hash
 abbrev pub issued_of : List (Text × Issued) → Text → Option Issued
 issued_of halves half = lookup (λ h. bytes_eq half h) halves
 
--- what stands first
+-- the first, or else the later one
 abbrev pub first_of : Option Issued → Option Issued → Option Issued
 first_of None later = later
 first_of (Some issued) later = Some issued
 
--- a word that is issued at a place, where the half digest is its own
+-- a word that is issued at a place, if this is its half hash
 abbrev pub issued_as : Text → Word → ℕ → Option Issued
 issued_as half w place = if bytes_eq (half_digest w) half then Some (record { word = w; place = place }) else None
 
--- the place of another word
+-- the place, if the word there is a different one
 abbrev pub other_place : Word → Option Issued → Option ℕ
 other_place w None = None
 other_place w (Some issued) = if bytes_eq issued.word w then None else Some issued.place

@@ -1,4 +1,4 @@
-// For each half digest, the first word that was issued with it, and where.
+// For each half hash, the first word that was issued with it, and its place.
 
 ghost use Rattle.std.specs.Prelude.{◌≡◌, None, OnOk, OnErr};
 ghost use Rattle.sso_base.specs.Words.{Text as TextOf};
@@ -11,15 +11,15 @@ use std::alloc::Global;
 use std::collections::HashMap;
 use std::marker::Model;
 
-// A word that was issued, and the place at which it was.
+// An issued word, and the place that issued it.
 #[derive(Clone, Copy)]
 struct Issued {
     word: Word,
     place: u64,
 }
 
-/// The half digests of the codes and access tokens that were issued, each with the first word that has it and with the place
-/// at which that was issued first (OpenID Connect Core 1.0, 3.1.3.6 and 3.3.2.11).
+/// The half hashes of the issued codes and access tokens. Each has the first word with it, and the place that first issued that
+/// word (OpenID Connect Core 1.0, 3.1.3.6 and 3.3.2.11).
 #[derive(Drop)]
 pub struct Halves {
     words: HashMap<[u8; 22], Issued>,
@@ -35,7 +35,7 @@ impl Model for Halves {
 }
 
 impl Halves {
-    /// No word was issued.
+    /// No word is issued.
     pub fn new(alloc: Global) -> Halves
         ensures { (half : TextOf) → issued_of result half ≡ None }
     {
@@ -44,7 +44,7 @@ impl Halves {
         }
     }
 
-    /// The place at which another word of the same half digest was issued, where the first of them is another.
+    /// The place of the first word with the same half hash, if that is a different word.
     pub fn clash(&self, word: &Word) -> Option<u64>
         ensures { result ≡ other_place word.now (issued_of self.now (half_digest word.now)) }
     {
@@ -60,7 +60,7 @@ impl Halves {
         }
     }
 
-    /// The word is issued at a place.
+    /// Notes that a place issued the word. On an error nothing changes.
     pub fn note(&mut self, word: &Word, place: u64) -> Result<(), NoMemory>
         ensures ok { OnOk result ((half : TextOf) → issued_of self.new half ≡ first_of (issued_of self.old half) (issued_as half word.now place)) }
         ensures err { OnErr result (self.new ≡ self.old) }

@@ -10,15 +10,15 @@ use std::alloc::Global;
 use std::collections::HashMap;
 use std::marker::Model;
 
-// Of one word: the first number whose reply set it, and whether another number's did.
+// For one word: the first number whose reply set it, and whether the reply of another number did.
 #[derive(Clone, Copy)]
 struct Setter {
     first: u32,
     several: bool,
 }
 
-/// The words that replies set as cookies, each with the numbers whose replies did. Whose reply set a word counts only as one
-/// number, or several.
+/// The words that replies set as cookies, each with the numbers whose replies did. Only the first number is kept, and whether
+/// there are several.
 #[derive(Drop)]
 pub struct Setters {
     words: HashMap<[u8; 32], Setter>,
@@ -33,7 +33,7 @@ impl Model for Setters {
     ghost view = { λ s. s.words.entries };
 }
 
-// A number sets the word that this was noted of.
+// The note of a word after a reply of this number set it.
 fn setter_after(from: u32, noted: Option<&Setter>) -> Setter
     ensures { result ≡ setter_noted from (option_copied noted.entry) }
 {
@@ -50,7 +50,7 @@ fn setter_after(from: u32, noted: Option<&Setter>) -> Setter
 }
 
 impl Setters {
-    /// No word was set.
+    /// No word is set.
     pub fn new(alloc: Global) -> Setters
         ensures { (w : WordOf) (from : ℕ) → set_for_other result w from ≡ false }
     {
@@ -69,7 +69,7 @@ impl Setters {
         }
     }
 
-    /// A reply of this number sets the word.
+    /// Notes that a reply of this number set the word. On an error nothing changes.
     pub fn note(&mut self, word: &Word, from: u32) -> Result<(), NoMemory>
         ensures ok { OnOk result ((w : WordOf) (other : ℕ) → set_for_other self.new w other ≡ ((bytes_eq word.now w && not (from == other)) || set_for_other self.old w other)) }
         ensures err { OnErr result (self.new ≡ self.old) }

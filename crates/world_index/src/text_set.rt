@@ -10,7 +10,7 @@ use std::alloc::Global;
 use std::collections::HashSet;
 use std::marker::Model;
 
-/// A set of texts, seen as the list of them.
+/// A set of texts. Its model is the list of them.
 #[derive(Drop)]
 pub(crate) struct TextSet {
     texts: HashSet<String>,
@@ -25,7 +25,7 @@ impl Model for TextSet {
 }
 
 impl TextSet {
-    /// No text.
+    /// The empty set.
     pub(crate) fn new(alloc: Global) -> TextSet
         ensures { result ≡ [] }
     {
@@ -41,7 +41,7 @@ impl TextSet {
         self.texts.contains(text.as_str())
     }
 
-    /// Adds a text.
+    /// Adds a text. On an error nothing changes.
     pub(crate) fn add(&mut self, alloc: Global, text: &Text) -> Result<(), NoMemory>
         ensures ok { OnOk result ((t : TextOf) → has_text t self.new ≡ (bytes_eq text.now t || has_text t self.old)) }
         ensures err { OnErr result (self.new ≡ self.old) }

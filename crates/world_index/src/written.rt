@@ -1,4 +1,4 @@
-// For each client, the texts that were written for it.
+// For each client, the tokens that were written for it.
 
 ghost use Rattle.std.specs.Prelude.{◌≡◌, ℕ, ◌<◌, ◌==◌, ◌&&◌, ◌||◌, false, length, IfOk, OnOk, OnErr};
 ghost use Rattle.std.specs.Str.{bytes_eq};
@@ -10,7 +10,7 @@ use sso_base::{NoMemory, Text};
 use std::alloc::Global;
 use std::marker::Model;
 
-/// The token texts that were written for each client, by the client's number, seen as a list of texts for each.
+/// The tokens that were written for each client, by the client's number. Its model is a list of texts for each client.
 #[derive(Drop)]
 pub struct Written {
     sets: Vec<TextSet>,
@@ -25,7 +25,7 @@ impl Model for Written {
 }
 
 impl Written {
-    /// For so many clients, for which no text was written.
+    /// For `clients` clients, without tokens.
     pub fn new(alloc: Global, clients: u32) -> Result<Written, NoMemory>
         ensures count { IfOk result (λ w. length w ≡ clients) }
         ensures none { IfOk result (λ w. (t : TextOf) (client : ℕ) → is_written_for w t client ≡ false) }
@@ -37,7 +37,7 @@ impl Written {
         Ok(Written { sets })
     }
 
-    /// Whether the text was written for the client.
+    /// Whether the token was written for the client.
     pub fn is_written_for(&self, text: &Text, client: u32) -> bool
         ensures { result ≡ is_written_for self.now text.now client }
     {
@@ -47,7 +47,7 @@ impl Written {
         }
     }
 
-    /// The text is written for the client.
+    /// Notes that the token was written for the client. On an error nothing changes.
     pub fn note(&mut self, alloc: Global, text: &Text, client: u32) -> Result<(), NoMemory>
         requires { client < length self.old }
         ensures count { length self.new ≡ length self.old }

@@ -28,7 +28,7 @@ pub fn name_of(code: AuthError) -> &'static str {
     }
 }
 
-/// The code of this name; `Other` where none of the codes has it.
+/// The code with this name, or `Other` if no code has it.
 pub fn named(name: &str) -> AuthError {
     for code in &ERROR_CODES {
         if name_of(*code) == name {
@@ -48,12 +48,12 @@ pub fn all(alloc: Global) -> Result<String, NoMemory> {
     told(alloc, list.as_str().trim_end())
 }
 
-/// `error_text|NAME`: how a code is written.
+/// `error_text|NAME`: the text of a code.
 pub fn text(alloc: Global, name: &str) -> Result<String, NoMemory> {
     told(alloc, error_text(named(name)))
 }
 
-/// `read_error|TEXT`: the code that is written so.
+/// `read_error|TEXT`: the code with this text.
 pub fn read(alloc: Global, text: &str) -> Result<String, NoMemory> {
     told(alloc, name_of(read_error(text)))
 }

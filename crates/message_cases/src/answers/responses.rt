@@ -1,4 +1,4 @@
-// Authorization responses are written and read.
+// Writes and reads authorization responses.
 
 use crate::answers::error_codes::{name_of, named};
 use auth_answer::{Answer, AnswerNo, Heard, print_answer, print_refusal, read_answer};
@@ -24,8 +24,8 @@ fn answer(
     })
 }
 
-/// `print_answer|REDIRECT|PLACE|CODE|ACCESS|ID|STATE`: the location of an answer, by way of a copy of it. PLACE is `query` or
-/// `fragment`, CODE and ACCESS words in hex.
+/// `print_answer|REDIRECT|PLACE|CODE|ACCESS|ID|STATE`: the location of an answer, printed from a copy. PLACE is `query` or
+/// `fragment`, and CODE and ACCESS are words in hex.
 pub fn print(
     alloc: Global,
     to: (&str, &str),
@@ -55,7 +55,7 @@ pub fn refuse(
     told(alloc, location.as_str())
 }
 
-// Adds the state, in hex, where there is one.
+// Adds the state, in hex, if there is one.
 fn push_state(alloc: Global, list: &mut String, heard: &Heard) -> Result<(), NoMemory> {
     if let Some(state) = &heard.state {
         let digits = told_hex(alloc, &state.bytes())?;

@@ -1,4 +1,4 @@
-// The clients and users of the cases, and texts with names.
+// The clients and users of the cases, and named texts.
 
 use sample_rows::{ALICE, ALICES_CLAIMS, BOB, ESCAPED_CLIENT, NEWS_CLIENT, PROVIDER, SHOP_CLIENT};
 use sso_base::NoMemory;
@@ -11,8 +11,8 @@ phone_number = \"+1 555\"
 country = \"Utopia\"
 ";
 
-/// Three clients, of whom the first is pairwise, and the second has an id and a secret that forms write with escapes. Two users,
-/// one of whom holds claims of each kind.
+/// Three clients and two users. The first client is pairwise, and forms write the second's id and secret with escapes. One user
+/// holds claims of each kind.
 pub fn sample(alloc: Global) -> Result<String, NoMemory> {
     let users = [PROVIDER, ALICE, ALICES_CLAIMS, MORE_CLAIMS, BOB].concat(alloc)?;
     let clients = [
@@ -25,8 +25,11 @@ pub fn sample(alloc: Global) -> Result<String, NoMemory> {
     Ok([users.as_str(), clients.as_str()].concat(alloc)?)
 }
 
-/// The text that the name in a case stands for: what clients show by HTTP Basic, by Python's urllib and base64; what the first
-/// shows by parameters; the rest of a good token request; and a word of 32 equal bytes, in hex, and its text, by Python's base64.
+/// The text with this name:
+///
+/// - the credentials of clients by HTTP Basic, computed with Python's urllib and base64;
+/// - those of the first client by parameters, and the rest of a good token request;
+/// - a word of 32 equal bytes, in hex, with its text by Python's base64.
 pub fn text(name: &str) -> Option<&'static str> {
     match name {
         "shop" => Some("Basic c2hvcC1jbGllbnQ6c2hvcC1zZWNyZXQtc2hvcC1zZWNyZXQtc2hvcC1zZWNyZXQ="),

@@ -1,4 +1,4 @@
-// Answers to token requests are written and read.
+// Writes and reads answers to token requests.
 
 use case_lines::{claim_refusal, hex_word, told, told_bytes, told_refusal};
 use sso_base::{Answered, Blob, NoMemory, Text, Word};
@@ -10,7 +10,7 @@ fn printed(alloc: Global, access: &Word, id: &str) -> Result<String, NoMemory> {
     told_bytes(alloc, body.as_bytes())
 }
 
-/// `print_tokens|ACCESS|ID`: the body that gives the access token of a word, and an ID Token.
+/// `print_tokens|ACCESS|ID`: the body with the access token of a word, and an ID Token.
 pub fn print(alloc: Global, access: &str, id: &str) -> Result<String, NoMemory> {
     match hex_word(access) {
         Some(access) => printed(alloc, &access, id),
@@ -28,7 +28,7 @@ fn error_named(code: &str) -> Option<TokenError> {
     }
 }
 
-/// `print_token_error|CODE`: the body that tells an error.
+/// `print_token_error|CODE`: the body with an error.
 pub fn print_error(alloc: Global, code: &str) -> Result<String, NoMemory> {
     match error_named(code) {
         Some(error) => {

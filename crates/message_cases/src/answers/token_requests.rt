@@ -1,4 +1,4 @@
-// Token requests are read and written.
+// Reads and writes token requests.
 
 use crate::answers::messages::told_message;
 use crate::clients::client_of;
@@ -22,7 +22,7 @@ fn refusal(why: &GrantNo) -> (&str, &str) {
     }
 }
 
-// The error code of a refusal that has one.
+// The error code of a refusal, if it has one.
 fn error_of(why: &GrantNo) -> &'static str {
     match why {
         GrantNo::NoMemory => "",
@@ -30,7 +30,7 @@ fn error_of(why: &GrantNo) -> &'static str {
     }
 }
 
-// The id of the client of this number.
+// The id of the client with this number.
 fn id_of(registry: &Registry, place: u32) -> &str {
     if place < registry.clients() {
         registry.client(place).id.as_str()
@@ -58,8 +58,8 @@ fn told_grant(
     }
 }
 
-/// `read_grant|AUTHORIZATION|BODY`: the client, the code and the redirection URI, or why the request is refused and the error
-/// code that it is answered with.
+/// `read_grant|AUTHORIZATION|BODY`: the client, the code and the redirect URI, or why the request is refused and the error code
+/// of the answer.
 pub fn read(
     alloc: Global,
     registry: &Registry,

@@ -1,4 +1,4 @@
-// What is told of a user, the header of a request for it, and its answer.
+// The claims about a user, the header of a UserInfo request, and its answer.
 
 use crate::answers::messages::told_message;
 use case_lines::{
@@ -15,18 +15,18 @@ fn told_claims(alloc: Global, claims: &ClaimSet) -> Result<String, NoMemory> {
     told_bytes(alloc, body.as_bytes())
 }
 
-// The number of the user of this id.
+// The number of the user with this id.
 fn user_place(registry: &Registry, id: &str) -> u32 {
     registry.find_user(id.as_bytes()).unwrap_or(u32::MAX)
 }
 
-// The number of the client of this id.
+// The number of the client with this id.
 fn client_place(registry: &Registry, id: &str) -> u32 {
     registry.find_client(id.as_bytes()).unwrap_or(u32::MAX)
 }
 
-/// `info_claims|CLIENT|USER|SCOPES|ASKED`: what UserInfo tells a client of a user, for scope values and the claims that are asked
-/// for by name.
+/// `info_claims|CLIENT|USER|SCOPES|ASKED`: the claims that UserInfo returns to a client about a user, for scope values and for
+/// the claims that are requested by name.
 pub fn info(
     alloc: Global,
     registry: &Registry,
@@ -45,7 +45,7 @@ pub fn info(
     told_claims(alloc, &claims)
 }
 
-/// `held_claims|USER|SCOPES|ASKED`: the user's claims that are wanted.
+/// `held_claims|USER|SCOPES|ASKED`: the user's claims that are requested.
 pub fn held(
     alloc: Global,
     registry: &Registry,
@@ -110,7 +110,7 @@ fn read_answer(alloc: Global, status: u16, body: Blob) -> Result<String, NoMemor
     told_subject(alloc, &answer)
 }
 
-/// `read_info|STATUS|BODY`: the subject that an answer names, or why it is refused.
+/// `read_info|STATUS|BODY`: the subject in an answer, or why it is refused.
 pub fn read(alloc: Global, status: &str, body: &str) -> Result<String, NoMemory> {
     match status.parse::<u16>() {
         Ok(status) => read_answer(alloc, status, Blob::from_vec(bytes(alloc, body)?)),

@@ -1,4 +1,4 @@
-// Configurations are read.
+// Reads configurations.
 
 use crate::registries::sample::{ALONE, changed};
 use case_lines::{told_refusal, written};
@@ -6,7 +6,7 @@ use client_registry::{RegNo, Registry, read_registry};
 use sso_base::NoMemory;
 use std::alloc::Global;
 
-// The name of a refusal, and the text that it carries: the first, where it carries several.
+// The name of a refusal, and its text, or the first of several texts.
 fn refusal(why: &RegNo) -> (&str, &str) {
     match why {
         RegNo::NoMemory => ("NoMemory", ""),
@@ -38,13 +38,13 @@ fn told_registry(alloc: Global, answer: &Result<Registry, RegNo>) -> Result<Stri
     }
 }
 
-// How many rows a file has, or why it is refused.
+// The number of rows of a file, or why it is rejected.
 fn read(alloc: Global, file: &[u8]) -> Result<String, NoMemory> {
     let answer = read_registry(alloc, file);
     told_registry(alloc, &answer)
 }
 
-/// `registry|OLD|NEW`: the sample with the first OLD replaced by NEW. ` / ` stands for a line feed.
+/// `registry|OLD|NEW`: the sample with the first OLD replaced by NEW. ` / ` is a line feed.
 pub fn registry(alloc: Global, old: &str, new: &str) -> Result<String, NoMemory> {
     let old = case_lines::given(old).unwrap_or("");
     let new = case_lines::given(new).unwrap_or("");
@@ -53,7 +53,7 @@ pub fn registry(alloc: Global, old: &str, new: &str) -> Result<String, NoMemory>
     read(alloc, file.as_bytes())
 }
 
-/// `file|TEXT`: a whole file. ` / ` stands for a line feed.
+/// `file|TEXT`: a whole file. ` / ` is a line feed.
 pub fn file(alloc: Global, text: &str) -> Result<String, NoMemory> {
     let lines = text.replace(alloc, " / ", "\n")?;
     let file = case_lines::bytes(alloc, lines.as_str())?;
@@ -89,7 +89,7 @@ fn push_row(alloc: Global, file: &mut String, row: &str, number: u32) -> Result<
     Ok(())
 }
 
-// Adds so many rows, with the numbers from 0.
+// Adds `count` rows, with the numbers from 0.
 fn push_rows(alloc: Global, file: &mut String, row: &str, count: &str) -> Result<(), NoMemory> {
     for number in 0..count.parse::<u32>().unwrap_or(0) {
         push_row(alloc, file, row, number)?;
@@ -97,7 +97,7 @@ fn push_rows(alloc: Global, file: &mut String, row: &str, count: &str) -> Result
     Ok(())
 }
 
-/// `users|COUNT|TEXT`: a file with this text, and behind it so many users. ` / ` stands for a line feed.
+/// `users|COUNT|TEXT`: a file with this text, and after it COUNT users. ` / ` is a line feed.
 pub fn users(alloc: Global, count: &str, text: &str) -> Result<String, NoMemory> {
     let first = written(alloc, text.replace(alloc, " / ", "\n")?.as_str())?;
     let mut file = [ALONE, first.as_str(), "\n"].concat(alloc)?;
@@ -105,7 +105,7 @@ pub fn users(alloc: Global, count: &str, text: &str) -> Result<String, NoMemory>
     read(alloc, file.as_bytes())
 }
 
-/// `rows|USERS|CLIENTS|PARTIES`: a file with so many rows of each kind.
+/// `rows|USERS|CLIENTS|PARTIES`: a file with these numbers of rows.
 pub fn rows(alloc: Global, users: &str, clients: &str, parties: &str) -> Result<String, NoMemory> {
     let mut file = String::from_str(alloc, ALONE)?;
     push_rows(alloc, &mut file, USER, users)?;

@@ -1,4 +1,4 @@
-// Discovery documents are written and read.
+// Writes and reads discovery documents (OpenID Connect Discovery 1.0, 4).
 
 use crate::registries::sample::DOCUMENT;
 use case_lines::{told, told_refusal};
@@ -58,7 +58,7 @@ fn document_with(alloc: Global, members: &str) -> Result<String, NoMemory> {
     Ok(format!(in alloc; "{open},{members}}}")?)
 }
 
-// The claims of the document. Of members with one name the last counts.
+// The claims of the document. Of several members with the same name, the last counts.
 fn document_claims(alloc: Global, members: &str) -> Result<ClaimSet, ClaimNo> {
     match case_lines::given(members) {
         Some(members) => read_claims(alloc, document_with(alloc, members)?.as_bytes()),
@@ -76,8 +76,8 @@ fn read_less(alloc: Global, claims: &mut ClaimSet, name: &str) -> Result<String,
     read(alloc, "http://127.0.0.1:8080", text.as_bytes())
 }
 
-/// `less|NAME|MEMBERS`: the sample's document, with these members in place of its own and without the one of this name, is
-/// read for its issuer.
+/// `less|NAME|MEMBERS`: the sample's document, read for its issuer, with these members in place of its own and without the one
+/// with this name.
 pub fn less(alloc: Global, name: &str, members: &str) -> Result<String, NoMemory> {
     match document_claims(alloc, members) {
         Ok(mut claims) => read_less(alloc, &mut claims, name),

@@ -1,11 +1,11 @@
-// The sample's registry is asked.
+// Queries of the sample's registry.
 
 use case_lines::{flagged, told, told_words};
 use client_registry::{Client, Party, Registry, User};
 use sso_base::{NoMemory, Text};
 use std::alloc::Global;
 
-/// `provider`: the path of the issuer, where the provider listens, whether it is https, and its token endpoint.
+/// `provider`: the path of the issuer, the address at which the provider listens, whether it is https, and its token endpoint.
 pub fn provider(alloc: Global, registry: &Registry) -> Result<String, NoMemory> {
     let (prefix, listen) = (registry.prefix().as_str(), registry.listen().as_str());
     let (secure, token) = (registry.secure(), registry.provider().token.as_str());
@@ -23,7 +23,7 @@ fn place(registry: &Registry, kind: &str, name: &str) -> Option<u32> {
     }
 }
 
-/// `find|KIND|NAME`: the number of the user or client of this id, or of the party of this name.
+/// `find|KIND|NAME`: the number of the user or client with this id, or of the party with this name.
 pub fn find(
     alloc: Global,
     registry: &Registry,
@@ -110,7 +110,7 @@ fn told_row(
     }
 }
 
-/// `row|KIND|NUMBER`: the row of this number, in a copy of the registry.
+/// `row|KIND|NUMBER`: the row with this number, in a copy of the registry.
 pub fn row(
     alloc: Global,
     registry: &Registry,

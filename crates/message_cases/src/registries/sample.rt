@@ -1,4 +1,4 @@
-// The configuration that the cases ask and change, and texts with names.
+// The configuration that the cases use and change, and named texts.
 
 use sample_rows::{
     ALICE, ALICES_CLAIMS, ANY_CLIENT, BOB, ESCAPED_CLIENT, MAIL_CLIENT, MAIL_PARTY, NEWS_CLIENT,
@@ -61,12 +61,12 @@ pub fn sample(alloc: Global) -> Result<String, NoMemory> {
     Ok([users.as_str(), clients.as_str(), parties.as_str()].concat(alloc)?)
 }
 
-/// A configuration of a provider alone.
+/// A configuration with a provider only.
 pub const ALONE: &str = r#"version = 1
 provider = {issuer = "https://a.b", listen = "a.b:443", salt = "00112233445566778899aabbccddeeff"}
 "#;
 
-/// The sample with the first of one text replaced by another.
+/// The sample with the first occurrence of one text replaced by another.
 pub fn changed(alloc: Global, old: &str, new: &str) -> Result<String, NoMemory> {
     Ok(sample(alloc)?.as_str().replacen(alloc, old, new, 1)?)
 }
@@ -75,7 +75,7 @@ pub fn changed(alloc: Global, old: &str, new: &str) -> Result<String, NoMemory> 
 pub const DOCUMENT: &str =
     r#"{"authorization_endpoint":"http://127.0.0.1:8080/authorize","backchannel_logout_session_supported":true,"backchannel_logout_supported":true,"claims_parameter_supported":true,"id_token_signing_alg_values_supported":["HS256"],"issuer":"http://127.0.0.1:8080","jwks_uri":"http://127.0.0.1:8080/jwks","request_object_signing_alg_values_supported":["HS256"],"request_parameter_supported":true,"request_uri_parameter_supported":false,"response_modes_supported":["query","fragment"],"response_types_supported":["code","id_token","id_token token","code id_token","code token","code id_token token"],"scopes_supported":["openid","profile","email","address","phone"],"subject_types_supported":["public","pairwise"],"token_endpoint":"http://127.0.0.1:8080/token","token_endpoint_auth_methods_supported":["client_secret_basic","client_secret_post"],"userinfo_endpoint":"http://127.0.0.1:8080/userinfo"}"#;
 
-/// The text of this name.
+/// The text with this name.
 pub fn text(name: &str) -> Option<&'static str> {
     match name {
         "provider" => Some(ALONE),

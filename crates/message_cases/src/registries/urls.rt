@@ -30,7 +30,7 @@ fn told_url(alloc: Global, answer: &Result<WebUrl, UrlNo>) -> Result<String, NoM
     }
 }
 
-/// `url|TEXT`: what is kept of a URL, or why it is refused.
+/// `url|TEXT`: the parsed URL, or why it is refused.
 pub fn url(alloc: Global, text: &str) -> Result<String, NoMemory> {
     let text = written(alloc, text)?;
     let answer = read_url(alloc, text.as_str());
@@ -68,7 +68,7 @@ fn both(alloc: Global, one: &str, other: &str) -> Result<WebUrls, UrlNo> {
     Ok(urls)
 }
 
-// How many there are, and their paths.
+// The number of URLs, and their paths.
 fn paths(alloc: Global, urls: &WebUrls) -> Result<String, NoMemory> {
     let mut text = urls.count().to_string(alloc)?;
     for place in 0..urls.count() {
@@ -84,7 +84,7 @@ fn told_urls(alloc: Global, answer: &Result<WebUrls, UrlNo>) -> Result<String, N
     }
 }
 
-/// `urls|URL|URL`: how many there are in a copy of a list of both, and their paths.
+/// `urls|URL|URL`: the number of URLs in a copy of a list of both, and their paths.
 pub fn urls(alloc: Global, one: &str, other: &str) -> Result<String, NoMemory> {
     let answer = both(alloc, one, other);
     told_urls(alloc, &answer)

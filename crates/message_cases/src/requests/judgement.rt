@@ -1,4 +1,4 @@
-// Authorization requests are judged.
+// Verifies authorization requests (OpenID Connect Core 1.0, 3.1.2.2).
 
 use crate::requests::parameters::{params_of, set_pairs};
 use auth_request::{PageNo, Verdict, Wish, judge};
@@ -19,7 +19,7 @@ fn push(text: &mut String, name: &str, value: &str) -> Result<(), NoMemory> {
     Ok(())
 }
 
-// Adds a value behind its name, where there is one.
+// Adds a value after its name, if there is one.
 fn push_value(text: &mut String, name: &str, value: &Option<Text>) -> Result<(), NoMemory> {
     match value {
         Some(value) => push(text, name, value.as_str()),
@@ -63,7 +63,7 @@ fn push_prompt(alloc: Global, text: &mut String, wish: &Wish) -> Result<(), NoMe
     Ok(())
 }
 
-// The words of a wish, and the subjects that it names, where it names any.
+// The response type, scope and other words of an accepted request, and the subjects that it names.
 fn push_wish(alloc: Global, text: &mut String, wish: &Wish) -> Result<(), NoMemory> {
     push_types(alloc, text, wish)?;
     push(text, ", scope ", told_scopes(alloc, wish.scopes)?.as_str())?;
@@ -74,7 +74,7 @@ fn push_wish(alloc: Global, text: &mut String, wish: &Wish) -> Result<(), NoMemo
     }
 }
 
-// What else a wish has.
+// The other parts of an accepted request.
 fn push_details(alloc: Global, text: &mut String, wish: &Wish) -> Result<(), NoMemory> {
     push(text, ", client ", wish.client.to_string(alloc)?.as_str())?;
     push(text, " at ", wish.redirect.as_str())?;
@@ -119,7 +119,7 @@ fn page(page: PageNo) -> &'static str {
     }
 }
 
-// What was answered, told of a copy.
+// The result, printed from a copy.
 fn told_verdict(alloc: Global, verdict: &Verdict, is_whole: bool) -> Result<String, NoMemory> {
     match verdict {
         Verdict::Page(why) => told(alloc, page(*why)),
@@ -135,22 +135,22 @@ fn changed(alloc: Global, changes: &str) -> Result<Params, NoMemory> {
     Ok(params)
 }
 
-/// The judgement of the good request with changes. Its request object is refused where `object=refused` is among them.
+/// The verification of the good request with changes. Its request object is refused if `object=refused` is among them.
 pub fn judged(alloc: Global, registry: &Registry, changes: &str) -> Result<Verdict, NoMemory> {
     let changes = written(alloc, changes)?;
     let params = changed(alloc, changes.as_str())?;
     judge(alloc, registry, &params, changes.contains("object=refused"))
 }
 
-/// `judge|CHANGES`: the judgement of the good request with these changes: a page, an error and where it stands, or a grant
-/// with its words and subjects.
+/// `judge|CHANGES`: the verification of the good request with these changes. The result is a page, an error and where it is
+/// sent, or an accepted request with its words and subjects.
 pub fn judge_short(alloc: Global, registry: &Registry, changes: &str) -> Result<String, NoMemory> {
     let verdict = judged(alloc, registry, changes)?;
     told_verdict(alloc, &verdict, false)
 }
 
-/// `judge_whole|CHANGES`: the same with all that the answer has, and the claims that are asked for in the ID Token and from
-/// the UserInfo endpoint.
+/// `judge_whole|CHANGES`: the same with all parts of the result, and the claims that are requested in the ID Token and from the
+/// UserInfo endpoint.
 pub fn judge_whole(alloc: Global, registry: &Registry, changes: &str) -> Result<String, NoMemory> {
     let verdict = judged(alloc, registry, changes)?;
     told_verdict(alloc, &verdict, true)

@@ -1,4 +1,4 @@
-// What requests still need before they are answered.
+// The needs of requests before they are answered.
 
 use crate::requests::judgement::judged;
 use auth_request::{Verdict, Wish};
@@ -9,7 +9,7 @@ use request_need::{Need, Standing, decide, needed_scopes};
 use sso_base::{Moment, NoMemory};
 use std::alloc::Global;
 
-// The session that a field tells: `session`, then `in_turn`, `agreed` and the scope values that are granted.
+// The session in a field: `session`, then `in_turn`, `agreed` and the granted scope values.
 fn standing(alloc: Global, session: &str) -> Result<Option<Standing>, NoMemory> {
     let Some(words) = session.strip_prefix("session") else {
         return Ok(None);
@@ -23,7 +23,7 @@ fn standing(alloc: Global, session: &str) -> Result<Option<Standing>, NoMemory> 
     }))
 }
 
-// The need of a wish at a registry that has its client and its user.
+// The need of an accepted request at a registry that has its client and its user.
 fn decided(
     registry: &Registry,
     wish: &Wish,
@@ -52,7 +52,7 @@ fn told_need(alloc: Global, need: Option<Need>) -> Result<String, NoMemory> {
     }
 }
 
-// The judgement of the good request for `openid profile`, with changes.
+// The verification of the good request for `openid profile`, with changes.
 fn judged_profile(alloc: Global, registry: &Registry, changes: &str) -> Result<Verdict, NoMemory> {
     let changes = format!(in alloc; "scope=openid profile&{changes}")?;
     judged(alloc, registry, changes.as_str())
@@ -73,7 +73,7 @@ fn need_of(
     }
 }
 
-/// `need|CHANGES|SESSION|AT`: what the good request for `openid profile` with these changes needs at this moment.
+/// `need|CHANGES|SESSION|AT`: the need of the good request for `openid profile` with these changes, at this moment.
 pub fn need(
     alloc: Global,
     registry: &Registry,
@@ -95,8 +95,7 @@ fn scopes_of(alloc: Global, verdict: &Verdict) -> Result<String, NoMemory> {
     }
 }
 
-/// `needed_scopes|CHANGES`: the scope values that a consent to the good request for `openid profile` with these changes is
-/// about.
+/// `needed_scopes|CHANGES`: the scope values of a consent to the good request for `openid profile` with these changes.
 pub fn scopes_needed(
     alloc: Global,
     registry: &Registry,

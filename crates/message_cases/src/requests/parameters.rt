@@ -18,7 +18,7 @@ fn refusal(why: &AskNo) -> (&str, &str) {
     }
 }
 
-// Adds a parameter, where it is there.
+// Adds a parameter, if it is present.
 fn push_param(
     alloc: Global,
     text: &mut String,
@@ -32,7 +32,7 @@ fn push_param(
     Ok(())
 }
 
-// The parameters that are there.
+// The parameters that are present.
 fn parameters(alloc: Global, params: &Params) -> Result<String, NoMemory> {
     let mut text = String::new(alloc);
     for name in &ALL_NAMES {
@@ -55,7 +55,7 @@ pub fn form(alloc: Global, form: &str) -> Result<String, NoMemory> {
     told_params(alloc, &answer)
 }
 
-// Sets the parameter that is written as `NAME=VALUE`. A name alone takes it out.
+// Sets the parameter `NAME=VALUE`. A name without a value removes it.
 fn set_pair(alloc: Global, params: &mut Params, pair: &str) -> Result<(), NoMemory> {
     let (name, value) = match pair.split_once('=') {
         Some((name, value)) => (name, Some(Text::new(alloc, value)?)),
@@ -67,7 +67,7 @@ fn set_pair(alloc: Global, params: &mut Params, pair: &str) -> Result<(), NoMemo
     Ok(())
 }
 
-/// Sets the parameters that are written so, with this text between. Nothing in them is an escape.
+/// Sets these parameters, which are separated by the text `between`. They have no escapes.
 pub fn set_pairs(
     alloc: Global,
     params: &mut Params,
@@ -80,22 +80,22 @@ pub fn set_pairs(
     Ok(())
 }
 
-/// The parameters that are written so, with this text between.
+/// These parameters, which are separated by the text `between`.
 pub fn params_of(alloc: Global, pairs: &str, between: &str) -> Result<Params, NoMemory> {
     let mut params = Params::new();
     set_pairs(alloc, &mut params, pairs, between)?;
     Ok(params)
 }
 
-// The parameters of a request object put over those beside it.
+// The parameters of a request object, which replace those outside it.
 fn merged(alloc: Global, outer: &Params, pairs: &str) -> Result<String, NoMemory> {
     let inner = params_of(alloc, pairs, "&")?;
     let answer = merge(alloc, outer, &inner);
     told_params(alloc, &answer)
 }
 
-/// `merge|FORM|PAIRS`: the parameters of a request object, as `NAME=VALUE` without escapes, put over those of a form beside
-/// it.
+/// `merge|FORM|PAIRS`: the parameters of a request object, as `NAME=VALUE` without escapes, which replace those of the form
+/// outside it.
 pub fn merge_forms(alloc: Global, outer: &str, inner: &str) -> Result<String, NoMemory> {
     match read_request(alloc, outer.as_bytes()) {
         Ok(outer) => merged(alloc, &outer, inner),

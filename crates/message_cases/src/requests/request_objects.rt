@@ -1,4 +1,4 @@
-// Request objects of the client `mail-client` are written and read.
+// Writes and reads request objects of the client `mail-client`.
 
 use crate::clients::client_of;
 use crate::requests::parameters::params_of;
@@ -10,7 +10,7 @@ use request_params::{ALL_NAMES, Params};
 use sso_base::{NoMemory, Text};
 use std::alloc::Global;
 
-// The parameters that are there, by their names.
+// The parameters that are present, by name.
 fn listed(alloc: Global, params: &Params) -> Result<String, NoMemory> {
     let mut list = String::new(alloc);
     for name in &ALL_NAMES {
@@ -23,7 +23,7 @@ fn listed(alloc: Global, params: &Params) -> Result<String, NoMemory> {
     or_else(list, "nothing")
 }
 
-// The name of a refusal, and what it names.
+// The name of a refusal, and a detail: the name of a claim, or of an inner refusal.
 fn refusal(why: &ObjNo) -> (&str, &str) {
     match why {
         ObjNo::NoMemory => ("NoMemory", ""),
@@ -78,7 +78,7 @@ pub fn object(
     }
 }
 
-// How many bytes the claims of the object with these parameters have, and the object. None where it may not be sealed.
+// The number of bytes of the claims of the object with these parameters, and the object. `None` if it must not be sealed.
 fn sealed(
     alloc: Global,
     client: &Client,
@@ -113,7 +113,7 @@ fn sealed_pairs(
     told_sealed(alloc, &sealed)
 }
 
-/// `seal_request|NAME=VALUE & ..`: the request object with these parameters, behind the number of bytes of its claims.
+/// `seal_request|NAME=VALUE & ..`: the number of bytes of the claims, and the request object with these parameters.
 pub fn seal(alloc: Global, registry: &Registry, pairs: &str) -> Result<String, NoMemory> {
     match client_of(registry, "mail-client") {
         Some(client) => sealed_pairs(alloc, client, &registry.provider().issuer, pairs),

@@ -1,4 +1,4 @@
-// The configuration that the cases ask, and texts with names.
+// The configuration of the cases, and named texts.
 
 use sample_rows::{ALICE, ANY_CLIENT, MAIL_CLIENT, NEWS_CLIENT, PROVIDER, SHOP_CLIENT};
 use sso_base::NoMemory;
@@ -8,7 +8,7 @@ const NEWS_LINES: &str = "response_types = [\"id_token token\"]
 consent = \"given\"
 ";
 
-/// One user and four clients. The second asks for no consent and has one response type, the last has every one.
+/// One user and four clients. The second requires no consent and has one response type, and the last has every response type.
 pub fn sample(alloc: Global) -> Result<String, NoMemory> {
     Ok([
         PROVIDER,
@@ -22,7 +22,7 @@ pub fn sample(alloc: Global) -> Result<String, NoMemory> {
     .concat(alloc)?)
 }
 
-/// The text of this name.
+/// The text with this name.
 pub fn text(name: &str) -> Option<&'static str> {
     match name {
         "beside" => Some("client_id=a&response_type=code"),

@@ -16,7 +16,7 @@ returns-in_default-session-clause-row c =
     is_absent session_life session_begun (lives_at c.args.self.now c.args.at) (row_of session_name w t.sessions) c.in_default-session.ensures.row
     ∙ session_live c.self.inside.core c.args.self.now c.self.view_is t c.args.at c.tables.ensures.agrees c.in_default-session.ensures.held c.args.word.now w c.in-Some.is
 
--- where it lives
+-- if it is live
 found : (c : goal.After-result-1) → Some c.in-Some-session.row.now ≡ live_session (past_of c.args.self.now) (lives_at c.args.self.now c.args.at) c.args.word.now
 found c =
     let w = c.in-Some.word in

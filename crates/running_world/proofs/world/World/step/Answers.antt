@@ -10,7 +10,7 @@ use Rattle.running_world.proofs.Signing.{op_theorem, rp_theorem}
 use Rattle.running_world.proofs.Steps.{op_keeps, rp_keeps, rp_found, rp_weighs}
 use Rattle.running_world.proofs.world.World.step.Goals as goal
 
--- ---- the provider was asked
+-- ---- the provider received a request
 
 pub invariant_of-self : goal.invariant_of-self
 invariant_of-self c =
