@@ -50,7 +50,7 @@ abbrev pub names : List Entry → List (List ℕ)
 names [] = []
 names (e ∷ es) = e.0 ∷ names es
 
--- no entry has the name; no name stands twice
+-- no entry has the name; no name occurs twice
 abbrev pub is_apart : List ℕ → List Entry → Bool
 is_apart k [] = true
 is_apart k (e ∷ es) = not (bytes_eq e.0 k) && is_apart k es
