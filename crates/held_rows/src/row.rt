@@ -25,7 +25,7 @@ pub trait Row {
     /// The bytes of this key, if the row has it.
     ghost key: { By → Self → Option (List ℕ) };
 
-    /// The moment.
+    /// The moment from which it lives.
     ghost begun: { Self → ℕ };
 
     /// A further invariant of each row of its table.
