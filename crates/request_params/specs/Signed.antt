@@ -19,8 +19,7 @@ outer_params params object = record no_params {
 abbrev pub inner_params : Params → Params
 inner_params params = record params { request = None; request_uri = None; registration = None }
 
--- a request that can be signed: it names its client, its response type and its scope, and has no `request_uri` and no
--- `registration`
+-- a request that can be signed: it has a client, a response type and a scope, but no `request_uri` and no `registration`
 pub record IsSignable (params : Params) : Type 0 where
   pub client : IsTrue (is_some params.client_id)
   pub response_type : IsTrue (is_some params.response_type)

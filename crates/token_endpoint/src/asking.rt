@@ -1,4 +1,4 @@
-// A token request is written.
+// Writing a token request.
 
 ghost use Rattle.std.specs.Prelude.{◌≡◌, IfOk};
 ghost use Rattle.request_params.specs.Form.{form_text};
