@@ -54,7 +54,7 @@ session_replaced None left = None
 session_replaced (Some presented) None = None
 session_replaced (Some presented) (Some left) = if bytes_eq presented left then None else Some presented
 
--- the session that a sign-out ends, or a login
+-- the session that a sign-out or a login ends
 abbrev pub session_ended : OpAsk → OpReply → Option Word
 session_ended (SignOut session) (SignedOut messages) = session
 session_ended (Login turn signed b presented) reply = session_replaced presented (session_set (Login turn signed b presented) reply)

@@ -154,7 +154,7 @@ fn grant_answered<'a>(ask: &'a OpAsk, reply: &OpReply) -> Option<&'a Grant>
     }
 }
 
-// Redeems a code. A text that is not a word's changes nothing.
+// Redeems a code. A text that is not a word's, or a client number that no code can have, changes nothing.
 fn ask_code(grants: &mut Grants, grant: &Grant, at: Moment)
     ensures { grants.new ≡ spec.code_asked (word_of_text grant.now.code) grant.now at grants.old }
 {
