@@ -32,7 +32,7 @@ impl Change<CodeRow> for Spent {
 }
 
 impl Grants {
-    /// Adds a code. Room was reserved, its word is new, and no other code was issued later.
+    /// Adds a code. Room was reserved, the table is not full, its word is new, and no other code was issued later.
     pub fn issue_code(&mut self, row: CodeRow)
         requires reserved { self.old.reserved.codes ≡ true }
         requires few { length self.old.codes < most_rows }

@@ -44,7 +44,7 @@ impl Change<SessionRow> for WithClient {
 }
 
 impl Grants {
-    /// Adds a session. Room was reserved, its word is new, and no other session began later.
+    /// Adds a session. Room was reserved, the table is not full, its word is new, and no other session began later.
     pub fn start_session(&mut self, row: SessionRow)
         requires reserved { self.old.reserved.sessions ≡ true }
         requires few { length self.old.sessions < most_rows }

@@ -55,7 +55,7 @@ impl Grants {
         self.tokens.take_out(&OfCode { code });
     }
 
-    /// Adds an access token. Room was reserved, its word is new, and no other token was issued later.
+    /// Adds an access token. Room was reserved, the table is not full, its word is new, and no other token was issued later.
     pub fn issue_token(&mut self, row: TokenRow)
         requires reserved { self.old.reserved.tokens ≡ true }
         requires few { length self.old.tokens < most_rows }

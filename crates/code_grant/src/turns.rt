@@ -70,7 +70,7 @@ impl Change<TurnRow> for WithSession {
 }
 
 impl Grants {
-    /// Adds a turn. Room was reserved, its word is new, and no other turn began later.
+    /// Adds a turn. Room was reserved, the table is not full, its word is new, and no other turn began later.
     pub fn start_turn(&mut self, row: TurnRow)
         requires reserved { self.old.reserved.turns ≡ true }
         requires few { length self.old.turns < most_rows }

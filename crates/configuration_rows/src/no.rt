@@ -25,8 +25,8 @@ pub enum RegNo {
     WrongKind(Text),
     /// The text at this path violates the rule for URLs, or a party's redirect URI violates its own.
     BadUrl(Text),
-    /// This user id, client id, party name or redirect URI occurs twice; or a client's id is the issuer; or the client with
-    /// this id has the secret of an earlier one, or is used by two parties; or a party has the name `op`.
+    /// One of: this user id, client id, party name or redirect URI occurs twice; a client's id is the issuer; the client with
+    /// this id has the secret of an earlier one; two parties use the client with this id; a party has the name `op`.
     Twice(Text),
     /// The secret of the client with this id has fewer than 32 characters.
     ShortSecret(Text),

@@ -1,5 +1,5 @@
-//! The table of named rows, used by the tables of both roles. Its laws relate a table to the history that it is kept for: the
-//! live rows of the table are the rows that live after the history, and this stays true after one more pair.
+//! The table of named rows, used by the tables of both roles. Its laws relate a table to a history: if the live rows of both
+//! are the same, they are still the same after one more pair.
 //!
 //! | Module | What it has |
 //! |---|---|

@@ -1,5 +1,5 @@
-//! What the HTTP replies of both roles share: cookies that hold words, as a server sets them (RFC 6265, 4.1) and as a user
-//! agent reads them (RFC 6265, 5.2), and the kinds of replies (RFC 9110).
+//! The shared parts of both roles' HTTP replies. Cookies hold words; a server sets them (RFC 6265, 4.1) and a user agent reads
+//! them (RFC 6265, 5.2). There are a few kinds of replies (RFC 9110).
 //!
 //! | Module | What it has |
 //! |---|---|

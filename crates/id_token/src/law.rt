@@ -25,8 +25,8 @@ pub fn read_tokens_are_sealed_claims()
     ensures read { (k t : List ℕ) (x : IdClaims) → IsIdToken k t x → id_read k t ≡ Ok x }
 {}
 
-/// A text that is no ID Token is rejected for the first reason: it is not sealed under the key, its payload is no claim set, or
-/// a condition of `id_refusals` is true. Of these conditions, the first counts.
+/// A text that is no ID Token is rejected for the first of these reasons. It is not sealed under the key; its payload is no
+/// claim set; or a condition of `id_refusals` is true, the first of which counts.
 pub fn refused_tokens_have_the_first_reason()
     ensures unopened { (k t : List ℕ) (e : JwsNo) → verdict k t ≡ Err e → id_read k t ≡ Err (no.Jws e) }
     ensures unread { (k h p t : List ℕ) (e : ClaimNo) → Sealed k h p t → claims_read p ≡ Err e → id_read k t ≡ Err (no.Claims e) }

@@ -105,7 +105,7 @@ fn sent_params(
     outer_params(alloc, client, row, object)
 }
 
-/// The location to which a browser is sent to begin a login of a party of the registry: the authorization endpoint of the
+/// The location to which a browser is sent to begin a login of a party of the registry. It is the authorization endpoint of the
 /// provider, with the authorization request in its query (OpenID Connect Core 1.0, 3.1.2.1, 3.2.2.1 and 3.3.2.1; RFC 6749,
 /// 4.1.1).
 ///

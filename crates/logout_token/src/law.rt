@@ -18,15 +18,15 @@ ghost use Rattle.logout_token.specs.Judging.{logout_judged, IsGoodLogoutToken};
 ghost use Rattle.logout_token.specs.Token.{IsLogoutToken, logout_refusals};
 ghost use Rattle.logout_token.specs.Fitting.{HasTexts, IsSealable};
 
-/// A text is accepted if and only if it is a logout token under the key: a sealed claim set that contains the claims and the
-/// logout event, and no nonce (OpenID Connect Back-Channel Logout 1.0, 2.4).
+/// A text is accepted if and only if it is a logout token under the key: a sealed claim set with the claims and the logout
+/// event, and without a nonce (OpenID Connect Back-Channel Logout 1.0, 2.4).
 pub fn read_tokens_are_sealed_claims()
     ensures token { (k t : List ℕ) (x : LogoutClaims) → logout_read k t ≡ Ok x → IsLogoutToken k t x }
     ensures read { (k t : List ℕ) (x : LogoutClaims) → IsLogoutToken k t x → logout_read k t ≡ Ok x }
 {}
 
-/// A text that is no logout token is rejected for the first reason: it is not sealed under the key, its payload is no claim
-/// set, or a condition of [`logout_refusals`] on its claims and its `typ` is true. Of these conditions, the first counts.
+/// A text that is no logout token is rejected for the first of these reasons. It is not sealed under the key; its payload is no
+/// claim set; or a condition of [`logout_refusals`] is true for its claims and its `typ`, the first of which counts.
 pub fn refused_tokens_have_the_first_reason()
     ensures unopened { (k t : List ℕ) (e : JwsNo) → verdict k t ≡ Err e → logout_read k t ≡ Err (no.Jws e) }
     ensures unread { (k h p t : List ℕ) (e : ClaimNo) → Sealed k h p t → claims_read p ≡ Err e → logout_read k t ≡ Err (no.Claims e) }

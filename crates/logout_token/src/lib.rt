@@ -1,7 +1,7 @@
 //! Logout tokens: what a provider sends a relying party to end a session (OpenID Connect Back-Channel Logout 1.0, 2.4 and 2.6).
 //!
-//! A logout token is a sealed text whose payload is a claim set with `iss`, `aud`, `iat`, `exp`, `jti`, the logout event
-//! in `events`, `sub` or `sid` or both, and no `nonce`. Moments are in seconds since the epoch.
+//! A logout token is a sealed claim set with `iss`, `aud`, `iat`, `exp`, `jti` and the logout event in `events`. It has `sub`
+//! or `sid` or both, and no `nonce`. Moments are in seconds since the epoch.
 //!
 //! | Module | What it has |
 //! |---|---|

@@ -1,5 +1,5 @@
--- The literal meaning of a grant of a scope value by a user to a client: some consent form with a yes got an authorization
--- response, for a turn of that client and a session of that user, and the consent covers the scope value.
+-- The literal meaning of "a user has granted a scope value to a client": some consent form with a yes got an authorization
+-- response. It was for a turn of that client and a session of that user, and the consent covers the scope value.
 use Rattle.std.specs.Prelude.{◌≡◌, ℕ, Bool, true, ◌∷◌, ◌++◌, Option, Some}
 use Rattle.sso_base.specs.Words.{Word}
 use Rattle.oidc_words.specs.declared.scopes.Scopes.{Scopes}

@@ -39,7 +39,7 @@ turn_started at ask reply = None
 abbrev pub turn_made : List TurnRow → OpPast → OpPair → Option TurnRow
 turn_made held past p = turn_started p.entry.at p.entry.ask p.reply
 
--- A consent page after a login gives the turn that login's session, and marks the turn.
+-- A consent page after a login gives the turn that login's session, and sets `in_turn`.
 abbrev pub turn_taken : OpAsk → OpReply → TurnRow → TurnRow
 turn_taken (Login turn signed b presented) (ConsentPage w browser (Some session) client scopes) row =
     record row { session = Some session; in_turn = true }

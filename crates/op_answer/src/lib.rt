@@ -1,10 +1,13 @@
 //! The definition of the provider's answers (OpenID Connect Core 1.0, 3): one reply for each past and each request, and laws
 //! about it. It has no running code.
 //!
-//! The definitions are in `specs/`: the rows after a past (`Turns`, `Sessions`, `Codes`, `AccessTokens`, `Consents`); the
-//! reply, which depends on these rows (`Replies`, `Room`, `Answering`), and the logins in its tokens (`Authentications`); what
-//! a reply implies about the past (`Causes`, `FullTables`, `Legal`); the contents of the rows of a legal past and the source of
-//! their words (`OwnRows`, `Drawn`); and the literal meaning of a granted scope value (`Granted`).
+//! The definitions are in `specs/`:
+//!
+//! - the rows after a past: `Turns`, `Sessions`, `Codes`, `AccessTokens`, `Consents`;
+//! - the reply, which depends on these rows: `Replies`, `Room`, `Answering`; the logins in its tokens: `Authentications`;
+//! - what a reply implies about the past: `Causes`, `FullTables`, `Legal`;
+//! - the contents of the rows of a legal past, and the source of their words: `OwnRows`, `Drawn`;
+//! - the literal meaning of a granted scope value: `Granted`.
 #![tactic(auto)]
 
 mod law;

@@ -1,5 +1,5 @@
--- The literal meaning of a message of a sign-out: the session has logged in to some client of the registry that has a logout
--- URI, and the message is the one to this client.
+-- The literal meaning of a message of a sign-out: some client of the registry has a logout URI, the session has logged in to
+-- it, and the message is the one to this client.
 use Rattle.std.specs.Prelude.{◌≡◌, ℕ, Bool, true, List, [], ◌∷◌, Some, ◌⊎◌}
 use Rattle.sso_base.specs.Words.{Text}
 use Rattle.sso_base.specs.declared.message.Message.{Message}

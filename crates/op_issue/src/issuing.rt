@@ -54,9 +54,8 @@ fn id_if_wished(
 }
 
 /// The successful authorization response to a wish, for the user who logged in (OpenID Connect Core 1.0, 3.1.2.5, 3.2.2.5 and
-/// 3.3.2.5). It has those that the response type requests of a code, which is the third of the four fresh words, an access
-/// token, which is the fourth, and an ID Token about both. It is in the fragment if [`oidc_words::Types::is_in_fragment`] is
-/// true.
+/// 3.3.2.5). The response type decides which of these it has: a code, the third of the four fresh words; an access token, the
+/// fourth; and an ID Token about both. It is in the fragment if [`oidc_words::Types::is_in_fragment`] is true.
 ///
 /// The client and the user are in the registry, and the nonce has at most 255 bytes.
 pub fn issue(

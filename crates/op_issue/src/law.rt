@@ -23,9 +23,9 @@ pub fn issued_tokens_are_read()
     ensures read_back { (c : Configuration) (wish : Wish) (who : Authentication) (at : ℕ) (access code : Option Word) → MayIssue c wish who at → IsWishValue wish → id_read (client_secret c wish.client) (issued_id c wish who at access code) ≡ Ok (id_claims c wish who at access code) }
 {}
 
-/// The issued claims are accepted by the wish's client, with its nonce and with the access token and the code that they came
-/// with, for 360 seconds: their life of 300 seconds plus 60 seconds of leeway. They are not accepted with another issuer,
-/// client or nonce, or later.
+/// The wish's client accepts the issued claims for 360 seconds: their life of 300 seconds plus 60 seconds of leeway. It needs
+/// the wish's nonce, the access token and the code that came with them, and a login within its `max_age`. The claims are not
+/// accepted with another issuer, client or nonce, or later.
 pub fn issued_tokens_are_good()
     ensures good { (c : Configuration) (wish : Wish) (who : Authentication) (at : ℕ) (access code : Option Word) (nonce : Text) (begun : ℕ) (max_age : Option ℕ) (later : ℕ) → wish.nonce ≡ Some nonce → IsInAge max_age (Some who.auth_time) begun → at ≤ later + 60 → later < at + 360 → IsGoodIdToken (client_rules c wish.client nonce begun max_age access code) (id_claims c wish who at access code) later }
     ensures issuer { (c : Configuration) (wish : Wish) (who : Authentication) (at : ℕ) (access code : Option Word) (rules : IdRules) (later : ℕ) → IsGoodIdToken rules (id_claims c wish who at access code) later → rules.issuer ≡ c.provider.issuer }

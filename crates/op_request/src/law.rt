@@ -32,8 +32,8 @@ pub fn requests_are_told_by_method_and_path()
     ensures own { (c : Configuration) (request : Ask) (e : Endpoint) → own_endpoint (prepared c request) ≡ Some e → IsTo c request e }
 {}
 
-/// A request gives `Twice` if and only if a field name of its login or consent form occurs twice, with any values, or a
-/// parameter of its authorization request occurs twice with values (RFC 6749, 3.1).
+/// A request gives `Twice` if and only if it repeats a name (RFC 6749, 3.1): a field name of its login or consent form, with
+/// any values, or a parameter of its authorization request, with values that are not empty.
 pub fn repeated_names_are_refused()
     ensures twice { (c : Configuration) (request : Ask) → RepeatsAName c request → prepared c request ≡ ask.Twice }
     ensures cause { (c : Configuration) (request : Ask) → prepared c request ≡ ask.Twice → RepeatsAName c request }

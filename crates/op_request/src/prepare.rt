@@ -187,13 +187,13 @@ fn token(alloc: Global, registry: &Registry, ask: &Ask) -> Result<OpAsk, NoMemor
     }
 }
 
-/// The value of a request to the provider with this registry. `first` of the request is the browser's cookie and `second` the
-/// session's.
+/// Reads a request to the provider with this registry, as an [`OpAsk`]. `first` of the request is the browser's cookie and
+/// `second` the session's.
 ///
 /// The path is the issuer's path without a last `/`, followed by one of these. Any other request, also one with another method,
 /// is [`OpAsk::NotHere`].
 ///
-/// | Request | Value |
+/// | Request | Result |
 /// |---|---|
 /// | GET `/.well-known/openid-configuration` | [`OpAsk::Metadata`] |
 /// | GET `/jwks` | [`OpAsk::Keys`] |

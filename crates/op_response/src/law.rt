@@ -28,7 +28,7 @@ ghost use Rattle.op_response.specs.Lines.{line_of};
 ghost use Rattle.http_reply.specs.Told.{kept, sets_cookie};
 ghost use Rattle.op_response.specs.Told.{browser_given, words_set, is_token_response, has_mark};
 
-/// The cookies of a reply are exactly the words that it sets, in order: the browser word of a page, and the session word, if
+/// The cookies of a reply hold exactly the words that it sets, in order: the browser word of a page, and the session word, if
 /// there is one. A user agent reads each under its name as the word's text, for every path, `HttpOnly`, `SameSite=Lax` and, if
 /// and only if the issuer is https, `Secure` (RFC 6265, 5.2). A reply without a session word sets no session cookie.
 pub fn cookies_hold_the_words_of_replies()

@@ -44,10 +44,14 @@ fn signed_out(alloc: Global, messages: usize) -> Result<Text, NoMemory>
     phrase(alloc, "signout ", count.as_str())
 }
 
-/// The line of this reply in the text of a replay, without its index and its role. It is one of: `login`, `login again`,
-/// `consent`, `answer` with its parts in the order `code`, `id_token` and `token`, `error` with the code, `page` with the
-/// reason, `tokens`, `refused` with the code, `info`, `info invalid_token`, `info no_token`, `signout` with the number of
-/// messages, `metadata`, `keys`, `nothing` or `full`. It shows no word, token or claim.
+/// The line of this reply in the text of a replay, without its index and its role:
+///
+/// - `login`, `login again`, `consent`;
+/// - `answer` with its parts in the order `code`, `id_token` and `token`; `error` with the code; `page` with the reason;
+/// - `tokens`; `refused` with the code; `info`, `info invalid_token`, `info no_token`;
+/// - `signout` with the number of messages; `metadata`, `keys`, `nothing`, `full`.
+///
+/// It shows no word, token or claim.
 #[tactic(auto, unfolding(crate::specs::Lines::line_of))]
 pub fn op_line(alloc: Global, reply: &OpReply) -> Result<Text, NoMemory>
     ensures { IfOk result (λ t. t ≡ spec.line_of reply.now) }

@@ -128,9 +128,11 @@ fn kept(alloc: Global, url: &Url) -> Result<WebUrl, NoMemory>
 
 /// Reads a URL that may be registered (OpenID Connect Discovery 1.0, 3; RFC 6749, 3.1.2; the URL Standard).
 ///
-/// The rule for URLs: the text has at most 512 bytes of visible ASCII, parses as a URL, has no fragment and no user
+/// The rule for URLs: the text has at most 512 bytes of visible ASCII and parses as a URL. The URL has no fragment and no user
 /// information, and is https, or http with the host `127.0.0.1` or `localhost`. Scheme, host, fragment and user information are
-/// those of the parsed URL. Returns [`UrlNo::BadUrl`] if and only if the text violates the rule.
+/// those of the parsed URL.
+///
+/// Returns [`UrlNo::BadUrl`] if and only if the text violates the rule.
 pub fn read_url(alloc: Global, text: &str) -> Result<WebUrl, UrlNo>
     ensures ok { IfOk result (λ u. url_of text.now ≡ Some u) }
     ensures err { IfErr result (λ e. (e ≡ UrlNo.NoMemory) ⊎ ((e ≡ UrlNo.BadUrl) × (url_of text.now ≡ None))) }

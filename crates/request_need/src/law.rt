@@ -18,7 +18,7 @@ pub fn answered_requests_are_answerable()
     ensures answered { (c : Configuration) (wish : Wish) (s : Standing) (at : ℕ) → IsAnswerable c wish s at → needed c wish (Some s) at ≡ need.Answer }
 {}
 
-/// If `prompt` is `none`, no page is shown (OpenID Connect Core 1.0, 3.1.2.1).
+/// If `prompt` has `none` and requests no login, no page is shown (OpenID Connect Core 1.0, 3.1.2.1).
 pub fn silent_requests_show_no_page()
     ensures login { (c : Configuration) (wish : Wish) (standing : Option Standing) (at : ℕ) → wish.none ≡ true → wish.login ≡ false → needed c wish standing at ≢ need.Login }
     ensures consent { (c : Configuration) (wish : Wish) (standing : Option Standing) (at : ℕ) → wish.none ≡ true → wish.login ≡ false → needed c wish standing at ≢ need.Consent }
@@ -29,8 +29,8 @@ pub fn given_consent_is_not_asked()
     ensures { (c : Configuration) (wish : Wish) (standing : Option Standing) (at : ℕ) → asks_consent (client_at c wish.client) ≡ false → needed c wish standing at ≢ need.Consent }
 {}
 
-/// A request is refused if a login or a consent is needed and `prompt` is `none`, or if the user who logged in for it is none
-/// of the requested users (OpenID Connect Core 1.0, 3.1.2.6).
+/// A request is refused only for these causes: a login or a consent is needed and `prompt` is `none`, or the user who logged in
+/// for it is none of the requested users (OpenID Connect Core 1.0, 3.1.2.6).
 pub fn refusals_have_their_causes()
     ensures { (c : Configuration) (wish : Wish) (standing : Option Standing) (at : ℕ) (code : AuthError) → needed c wish standing at ≡ need.Error code → HasCause c wish standing at code }
 {}

@@ -24,8 +24,8 @@ pub fn read_objects_are_request_objects()
     ensures read { (client : Client) (issuer t : List ℕ) (p : Params) → IsRequestObject client issuer t p → request_read client issuer t ≡ Ok p }
 {}
 
-/// A text that is no request object is rejected for the first reason: it is not sealed under the client's secret, its payload
-/// is no claim set, or a condition of `request_refusals` is true. Of these conditions, the first counts.
+/// A text that is no request object is rejected for the first of these reasons. It is not sealed under the client's secret; its
+/// payload is no claim set; or a condition of `request_refusals` is true, the first of which counts.
 pub fn refused_objects_have_the_first_reason()
     ensures unopened { (client : Client) (issuer t : List ℕ) (e : JwsNo) → verdict client.secret t ≡ Err e → request_read client issuer t ≡ Err (no.Jws e) }
     ensures unread { (client : Client) (issuer h p t : List ℕ) (e : ClaimNo) → Sealed client.secret h p t → claims_read p ≡ Err e → request_read client issuer t ≡ Err (no.Claims e) }

@@ -44,8 +44,8 @@ pub fn merged_parameters_agree()
     ensures merged { (outer inner params : Params) → IsMerged outer inner params → request_merged outer inner ≡ Ok params }
 {}
 
-/// Merging is rejected for exactly these causes: the client is absent outside the request object or differs in it; or else the
-/// response type does; or else the scope outside does not have the word `openid`.
+/// The causes of a rejected merge, in order: the client is absent outside the request object or differs in it; the same for the
+/// response type; the scope outside does not have the word `openid`.
 pub fn refused_merges_have_a_cause()
     ensures cause { (outer inner : Params) (e : AskNo) → request_merged outer inner ≡ Err e → RefusesMerge outer inner e }
     ensures refused { (outer inner : Params) (e : AskNo) → RefusesMerge outer inner e → request_merged outer inner ≡ Err e }

@@ -1,6 +1,6 @@
 //! What a relying party accepts (OpenID Connect Core 1.0, 3.1.3.7, 3.2.2.9, 3.3.2.9 and 5.3.2). This crate has the replies to
-//! an authorization response of a login, to the tokens of an exchange, and to the UserInfo subject, and the verification of a
-//! logout token (OpenID Connect Back-Channel Logout 1.0, 2.6). They depend on the party's setup, and not on which logins and
+//! an authorization response of a login, to the tokens of an exchange, and to the UserInfo subject. It also verifies logout
+//! tokens (OpenID Connect Back-Channel Logout 1.0, 2.6). The results depend on the party's setup, and not on which logins and
 //! exchanges live.
 //!
 //! | Module | What it has |

@@ -1,5 +1,5 @@
--- Legal pasts of a relying party, and what is true in them: a new session has a live login of the same browser and nonce and an
--- accepted ID Token, and each login gives at most one session.
+-- Legal pasts of a relying party, and what is true in them. A new session has a live login of the same browser and nonce, and
+-- an accepted ID Token. Each login gives at most one session.
 use Rattle.std.specs.Prelude.{◌≡◌, ℕ, ◌+◌, List, ◌∷◌, ◌++◌, length, Option, Some, None, option_map, Result, Ok, ◌⊎◌}
 use Rattle.sso_base.specs.Words.{Word, Text, fresh_word, word_text}
 use Rattle.sso_base.specs.Legal.{IsLegalBy}
@@ -100,8 +100,8 @@ pub record JudgedWith (s : PartySetup) (e : Entry RpAsk) (login : LoginRow) (cla
 
 -- ---- who sent the pending requests
 
--- a pair exchanged the code of a login's response and drew the exchange's word; the pending exchange has the login's nonce,
--- begin and index, the response's code, and the subject and `sid` of its ID Token, if its type has one
+-- A pair exchanged the code of a login's response and drew the exchange's word. The pending exchange has the login's nonce,
+-- begin and index, the response's code, and the subject and `sid` of its ID Token, if its type has one.
 pub record ExchangedBy (s : PartySetup) (past : RpPast) (pending : PendingRow) : Type 0 where
   pub later : RpPast
   pub maker : RpPair

@@ -38,8 +38,8 @@ pub fn ended_rows_are_gone()
     ensures other_sessions { (v w : Word) (t : Tables) → bytes_eq v w ≡ false → row_of visit_name w (calls.after (calls.end_session v) t).visits ≡ row_of visit_name w t.visits }
 {}
 
-/// An absent row stays absent through all calls that do not add its name again. So a login that is ended is never found again,
-/// and its callback counts once.
+/// An absent row stays absent through all calls that do not add its name again. This is why the callback of a login counts only
+/// once.
 pub fn rows_come_back_by_adds_alone()
     ensures login { (state : Word) (steps : List calls.Call) (t : Tables) → row_of login_name state t.logins ≡ None → calls.NoneAdds (calls.adds_login state) steps → row_of login_name state (calls.after_all steps t).logins ≡ None }
     ensures pending { (w : Word) (steps : List calls.Call) (t : Tables) → row_of pending_name w t.pendings ≡ None → calls.NoneAdds (calls.adds_pending w) steps → row_of pending_name w (calls.after_all steps t).pendings ≡ None }
@@ -62,8 +62,8 @@ pub fn purges_make_the_room()
     ensures seens { (at : ℕ) (t : Tables) → has_room table.Seen at t ≡ true → length (calls.after (calls.purge at) t).seens < most_rows }
 {}
 
-/// A logout token that was accepted is found through all calls, except a purge 661 or more seconds later. So it is not accepted
-/// twice (OpenID Connect Back-Channel Logout 1.0, 2.6).
+/// A logout token that was accepted is found through all calls, except a purge 661 or more seconds later. This is why it is not
+/// accepted twice (OpenID Connect Back-Channel Logout 1.0, 2.6).
 pub fn seen_tokens_are_remembered()
     ensures { (row : SeenRow) (steps : List calls.Call) (t : Tables) → row_of seen_name row.jti t.seens ≡ Some row → calls.AllLeaveSeen row.accepted steps → row_of seen_name row.jti (calls.after_all steps t).seens ≡ Some row }
 {}

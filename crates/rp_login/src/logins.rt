@@ -48,7 +48,7 @@ impl Test<LoginRow> for OfBrowser {
 }
 
 impl Logins {
-    /// Adds a login. Room was reserved, its state is new, and no other login began later.
+    /// Adds a login. Room was reserved, the table is not full, its state is new, and no other login began later.
     pub fn add_login(&mut self, row: LoginRow)
         requires reserved { self.old.reserved.logins ≡ true }
         requires few { length self.old.logins < most_rows }

@@ -12,7 +12,7 @@ use crate::tables::Logins;
 use sso_base::Word;
 
 impl Logins {
-    /// Adds a pending exchange. Room was reserved, its word is new, and no other exchange began later.
+    /// Adds a pending exchange. Room was reserved, the table is not full, its word is new, and no other exchange began later.
     pub fn add_pending(&mut self, row: PendingRow)
         requires reserved { self.old.reserved.pendings ≡ true }
         requires few { length self.old.pendings < most_rows }

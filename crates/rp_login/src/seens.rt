@@ -11,7 +11,8 @@ use crate::rows::SeenRow;
 use crate::tables::Logins;
 
 impl Logins {
-    /// Adds a logout token that was accepted. Room was reserved, its `jti` is new, and no other token was accepted later.
+    /// Adds a logout token that was accepted. Room was reserved, the table is not full, its `jti` is new, and no other token
+    /// was accepted later.
     pub fn add_seen(&mut self, row: SeenRow)
         requires reserved { self.old.reserved.seens ≡ true }
         requires few { length self.old.seens < most_rows }

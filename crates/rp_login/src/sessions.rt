@@ -95,7 +95,7 @@ impl Test<SessionRow> for OfSub<'_> {
 }
 
 impl Logins {
-    /// Adds a session. Room was reserved, its word is new, and no other session began later.
+    /// Adds a session. Room was reserved, the table is not full, its word is new, and no other session began later.
     pub fn add_session(&mut self, row: SessionRow)
         requires reserved { self.old.reserved.visits ≡ true }
         requires few { length self.old.visits < most_rows }

@@ -34,7 +34,7 @@ ghost use Rattle.rp_request.specs.declared.routes.Endpoint.TheVariants as endpoi
 ghost use Rattle.rp_request.specs.Prepared.{wants_page, logout_token_in, prepared, tokens_prepared, info_prepared};
 ghost use Rattle.rp_request.specs.Requests.{IsTo, own_endpoint, IsOpened, IsLogoutOpened, StandsAlone, HasCookies};
 
-/// A request gives `NotHere` if and only if it is to no endpoint: its path is neither listed for its method nor that of the
+/// A request gives `NotHere` if and only if it is to no endpoint: its path is not listed for its method, and is not that of the
 /// redirect URI or of the logout URI. Any other value belongs to the endpoint that the request is to.
 pub fn requests_are_told_by_method_and_path()
     ensures elsewhere { (c : Configuration) (n : ℕ) (request : Ask) → ((e : Endpoint) → ¬ IsTo c n request e) → prepared c n request ≡ ask.NotHere }
@@ -42,8 +42,8 @@ pub fn requests_are_told_by_method_and_path()
     ensures own { (c : Configuration) (n : ℕ) (request : Ask) (e : Endpoint) → own_endpoint (prepared c n request) ≡ Some e → IsTo c n request e }
 {}
 
-/// The fragment page is requested if and only if the request is a GET of the redirect URI with an empty query, and the response
-/// is in the fragment for the response type (OpenID Connect Core 1.0, 3.2.2.5).
+/// The fragment page is requested by a GET of the redirect URI with an empty query, if the response is in the fragment for the
+/// response type, and by no other request (OpenID Connect Core 1.0, 3.2.2.5).
 pub fn the_page_is_asked_for_without_a_query()
     ensures wanted { (c : Configuration) (n : ℕ) (request : Ask) → prepared c n request ≡ ask.Fragment → IsTo c n request endpoint.Redirection × (wants_page (party_row c n).types request ≡ true) }
     ensures asked { (c : Configuration) (n : ℕ) (request : Ask) → IsRegistry c → IsTo c n request endpoint.Redirection → wants_page (party_row c n).types request ≡ true → prepared c n request ≡ ask.Fragment }
@@ -113,7 +113,7 @@ pub fn asks_have_the_cookies()
     ensures { (c : Configuration) (n : ℕ) (request : Ask) → HasCookies request (prepared c n request) }
 {}
 
-/// Reading requests and responses produces only possible values: an ID Token was read if and only if there is one, a logout
+/// Reading requests and responses produces only possible values. An ID Token was read if and only if there is one, a logout
 /// token that was read names a user or a session, and there is no `NoMemory` inside.
 pub fn prepared_asks_are_given_by_requests()
     ensures request { (c : Configuration) (n : ℕ) (request : Ask) → is_prepared (prepared c n request) ≡ true }

@@ -136,10 +136,10 @@ fn redirected(alloc: Global, secret: &[u8], types: &Types, ask: &Ask) -> Result<
     callback(alloc, secret, ask.first, form_of(ask))
 }
 
-/// The value of a request to the relying party with this number in the registry. `first` of the request is the browser's cookie
-/// and `second` the session's.
+/// Reads a request to the relying party with this number in the registry, as an [`RpAsk`]. `first` of the request is the
+/// browser's cookie and `second` the session's.
 ///
-/// | Request | Value |
+/// | Request | Result |
 /// |---|---|
 /// | GET `/login` | [`RpAsk::Begin`] |
 /// | GET of the path of the redirect URI with an empty query, if the response is in the fragment | [`RpAsk::Fragment`] |
@@ -181,10 +181,10 @@ pub fn prepare_rp(
     }
 }
 
-/// The value of a token response to the relying party with this number, in the exchange that is waiting for it under the word
+/// Reads a token response to the relying party with this number, in the exchange that is waiting for it under the word
 /// `pending` (OpenID Connect Core 1.0, 3.1.3.3).
 ///
-/// It is [`RpAsk::Tokens`] of that word, with the tokens as in `read_tokens`, and their ID Token as in `read_id`, under the
+/// Returns [`RpAsk::Tokens`] of that word, with the tokens as in `read_tokens`, and their ID Token as in `read_id`, under the
 /// secret of the party's client. If the response is rejected, no ID Token is read.
 ///
 /// The precondition is that of [`prepare_rp`].
@@ -218,10 +218,10 @@ pub fn prepare_tokens(
     })
 }
 
-/// The value of a UserInfo response to a relying party, in the exchange that is waiting for it under the word `pending` (OpenID
+/// Reads a UserInfo response to a relying party, in the exchange that is waiting for it under the word `pending` (OpenID
 /// Connect Core 1.0, 5.3.2).
 ///
-/// It is [`RpAsk::Info`] of that word, with the subject as in `read_info`.
+/// Returns [`RpAsk::Info`] of that word, with the subject as in `read_info`.
 #[tactic(auto, unfolding(crate::specs::Prepared::info_prepared))]
 pub fn prepare_info(alloc: Global, pending: Word, answer: &Answered) -> Result<RpAsk, NoMemory>
     ensures { IfOk result (λ asked. asked ≡ spec.info_prepared pending answer.now) }

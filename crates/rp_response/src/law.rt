@@ -21,17 +21,17 @@ ghost use Rattle.rp_response.specs.Lines.{line_of};
 ghost use Rattle.http_reply.specs.Told.{kept, sets_cookie};
 ghost use Rattle.rp_response.specs.Told.{browser_given, session_given, words_set, sends_on, is_full};
 
-/// The cookies of a reply are exactly the words that it sets: the browser word at the begin of a login, and the session word at
-/// the begin of a session. A user agent reads each under its name as the word's text, for every path, `HttpOnly`,
-/// `SameSite=Lax` and, if and only if the issuer is https, `Secure` (RFC 6265, 5.2).
+/// The cookies of a reply hold exactly the words that it sets: the browser word when a login begins, and the session word when
+/// a session begins. A user agent reads each under its name as the word's text, for every path, `HttpOnly`, `SameSite=Lax` and,
+/// if and only if the issuer is https, `Secure` (RFC 6265, 5.2).
 pub fn cookies_hold_the_words_of_replies()
     ensures read { (c : Configuration) (n : ℕ) (r : RpReply) → IsRegistry c → map cookie_read (http_of c n r).cookies ≡ map (kept c.secure) (words_set (party_name c n) r) }
     ensures browser { (c : Configuration) (n : ℕ) (r : RpReply) → IsRegistry c → sets_cookie (browser_cookie (party_name c n)) (http_of c n r).cookies ≡ is_some (browser_given r) }
     ensures session { (c : Configuration) (n : ℕ) (r : RpReply) → IsRegistry c → sets_cookie (session_cookie (party_name c n)) (http_of c n r).cookies ≡ is_some (session_given r) }
 {}
 
-/// The begin of a login and the begin of a session redirect the user agent, with status 303: to the provider, and to the page
-/// that shows who is logged in. No other reply does.
+/// When a login or a session begins, the reply redirects the user agent with status 303: to the provider, or to the page that
+/// shows who is logged in. No other reply does.
 pub fn logins_send_the_user_agent_on()
     ensures ask { (c : Configuration) (n : ℕ) (to : Text) (browser : Word) → (http_of c n (reply.Ask to browser)).location ≡ Some to }
     ensures entered { (c : Configuration) (n : ℕ) (session : Word) (sub : Text) → (http_of c n (reply.Entered session sub)).location ≡ Some home_path }
@@ -46,7 +46,7 @@ pub fn refusals_are_their_lines()
     ensures others { (c : Configuration) (n : ℕ) (why : RpNo) → ¬ (is_full why ≡ true) → (http_of c n (reply.Refused why)).status ≡ 400 }
 {}
 
-/// A plain body is one line, and a reply without a kind has an empty body.
+/// A plain body ends with a line feed, and a reply without a kind has an empty body.
 pub fn plain_bodies_are_lines()
     ensures plain { (c : Configuration) (n : ℕ) (r : RpReply) → (http_of c n r).kind ≡ kind.Plain → (line : Text) × ((http_of c n r).body ≡ line ++ 10 ∷ []) }
     ensures empty { (c : Configuration) (n : ℕ) (r : RpReply) → (http_of c n r).kind ≡ kind.Empty → (http_of c n r).body ≡ [] }

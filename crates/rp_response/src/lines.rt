@@ -17,9 +17,11 @@ fn ended(alloc: Global, count: u32) -> Result<Text, NoMemory>
     phrase(alloc, "ended ", count.as_str())
 }
 
-/// The line of this reply in the text of a replay, without its index and its party. It is one of: `ask`, `fragment`,
-/// `exchange`, `fetch`, `session` with the subject, `user` with the subject, `nobody`, `left`, `left nothing`, `ended` with the
-/// number of sessions, `refused` with the names of the error, or `nothing`.
+/// The line of this reply in the text of a replay, without its index and its party:
+///
+/// - `ask`, `fragment`, `exchange`, `fetch`;
+/// - `session` with the subject, `user` with the subject, `nobody`, `left`, `left nothing`;
+/// - `ended` with the number of sessions; `refused` with the names of the error; `nothing`.
 ///
 /// The names of an error are written from the outermost to the innermost, as `refused Id Jws BadMac`. For the provider's error
 /// it is the code, as `refused Provider access_denied`. A line shows no word, token or claim except the subject.

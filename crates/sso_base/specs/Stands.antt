@@ -1,5 +1,5 @@
--- The literal meaning of "a row exists after a past": some pair made it, no later pair made a row of its name or ended it, and
--- its value is what the later pairs left of it, in their order.
+-- The literal meaning of "a row exists after a past": some pair made it, and no later pair made a row of its name or ended it.
+-- Its value is what the later pairs left of it, in their order.
 use Rattle.std.specs.Prelude.{◌≡◌, Bool, false, List, [], ◌∷◌, ◌++◌, Option, Some, None, option_and_then}
 use Rattle.std.specs.Str.{bytes_eq}
 use Rattle.sso_base.specs.Words.{Word}

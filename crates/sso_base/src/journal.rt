@@ -82,7 +82,8 @@ impl<A: Weighed + Drop, R: Drop> Journal<A, R> {
         Ok(())
     }
 
-    /// Returns the weight of a request if the history has room for it. `JournalFull` holds the weight of the history.
+    /// Returns the weight of a request if the history has room for it. Otherwise returns `JournalFull` with the weight of the
+    /// history.
     pub fn admit(&self, ask: &A) -> Result<u64, CoreNo>
         ensures weight { IfOk result (λ weight. weight ≡ A.weighs ask.now) }
         ensures room { OnOk result (spec.history_weight A.weighs self.now.pairs + A.weighs ask.now ≤ spec.most_weight) }

@@ -14,8 +14,8 @@ pub enum GrantNo {
     TwoAuths,
     /// There is neither a `Basic` header nor both of `client_id` and `client_secret`.
     NoAuth,
-    /// The request does not show the id and the secret of a client: a `Basic` header cannot be read, no client has the id, the
-    /// secret differs, or `client_id` names another client than the `Basic` header (RFC 6749, 2.3.1).
+    /// The shown id and secret are not those of a client (RFC 6749, 2.3.1). A `Basic` header cannot be read, no client has the
+    /// id, the secret differs, or `client_id` differs from the id in the `Basic` header.
     WrongClient,
     /// `grant_type` is present and is not `authorization_code` (RFC 6749, 4.1.3).
     OtherGrant,
@@ -41,8 +41,8 @@ impl From<NoMemory> for GrantNo {
 pub enum TokensNo {
     /// Its status, which is not 200 (RFC 6749, 5.1).
     Status(u16),
-    /// Its body is not, for this reason, the text in UTF-8 of a JSON object whose numbers are integers; or a member is not a
-    /// string: the first of `access_token`, `id_token` and `token_type`. The reason is never [`ClaimNo::NoMemory`].
+    /// Its body is not the text in UTF-8 of a JSON object whose numbers are integers, or a member is not a string: the first of
+    /// `access_token`, `id_token` and `token_type`. The reason is never [`ClaimNo::NoMemory`].
     Claims(ClaimNo),
     /// A member is absent: the first of `access_token`, `token_type` and `id_token` (OpenID Connect Core 1.0, 3.1.3.3).
     Missing(Text),

@@ -96,7 +96,7 @@ fn answered_tokens(alloc: Global, answer: &Answered) -> Result<Tokens, TokensNo>
 /// The tokens in a token response (RFC 6749, 5.1; OpenID Connect Core 1.0, 3.1.3.3).
 ///
 /// A response is accepted if and only if its status is 200 and its body is a JSON object whose numbers are integers, with the
-/// strings `access_token`, `id_token` and `token_type`, where the last is `Bearer` in any case. Other members are ignored. For
+/// strings `access_token`, `id_token` and `token_type`. The last must be `Bearer`, in any case. Other members are ignored. For
 /// any other response the first error that applies is returned, in the order of [`TokensNo`].
 pub fn read_tokens(alloc: Global, answer: &Answered) -> Result<Tokens, TokensNo>
     ensures answers { IfOk result (λ t. tokens_read answer.now ≡ Ok t) }

@@ -25,9 +25,9 @@ ghost use Rattle.request_object.specs.Reading.{request_read};
 ghost use Rattle.request_object.specs.Object.{IsRequestObject};
 ghost use Rattle.token_kinds.specs.Parameters.{parameter_names};
 
-/// A request object of a client is not a good ID Token of an issuer whose name differs from the client's id, for any keys,
-/// rules and moment: if it has an `iss`, that is the client. A text sealed as a request object is not even read as an ID Token,
-/// for any key, because it has no `sub`.
+/// A request object of a client is not a good ID Token of any issuer whose name differs from the client's id, for any keys,
+/// rules and moment. The reason is its `iss`, which is the client if it is present. A text sealed as a request object is not
+/// even read as an ID Token, for any key, because it has no `sub`.
 pub fn request_objects_are_no_id_tokens()
     ensures apart { (client : Client) (issuer l t : List ℕ) (p : Params) (x : IdClaims) (rules : IdRules) (at : ℕ) → ¬ (rules.issuer ≡ client.id) → IsRequestObject client issuer t p → IsIdToken l t x → IsGoodIdToken rules x at → ⊥ }
     ensures read { (client : Client) (issuer l t : List ℕ) (p : Params) (x : IdClaims) (rules : IdRules) (at : ℕ) → ¬ (rules.issuer ≡ client.id) → request_read client issuer t ≡ Ok p → id_read l t ≡ Ok x → IsGoodIdToken rules x at → ⊥ }
@@ -35,9 +35,9 @@ pub fn request_objects_are_no_id_tokens()
     ensures refused { (client : Client) (issuer : List ℕ) (p : Params) → request.IsSealable client issuer p → id_read client.secret (request_text client issuer p) ≡ Err (id_no.Missing (codes "sub")) }
 {}
 
-/// A request object of a client is not a good logout token of an issuer whose name differs from the client's id, for any keys,
-/// any recipient and any moment: if it has an `iss`, that is the client. A text sealed as a request object is not even read as
-/// a logout token, for any key, because it has neither `iat` nor `jti`.
+/// A request object of a client is not a good logout token of any issuer whose name differs from the client's id, for any keys,
+/// recipient and moment. The reason is its `iss`, which is the client if it is present. A text sealed as a request object is
+/// not even read as a logout token, for any key, because it has neither `iat` nor `jti`.
 pub fn request_objects_are_no_logout_tokens()
     ensures apart { (client : Client) (issuer l t : List ℕ) (p : Params) (y : LogoutClaims) (from whom : List ℕ) (at : ℕ) → ¬ (from ≡ client.id) → IsRequestObject client issuer t p → IsLogoutToken l t y → IsGoodLogoutToken from whom y at → ⊥ }
     ensures read { (client : Client) (issuer l t : List ℕ) (p : Params) (y : LogoutClaims) (from whom : List ℕ) (at : ℕ) → ¬ (from ≡ client.id) → request_read client issuer t ≡ Ok p → logout_read l t ≡ Ok y → IsGoodLogoutToken from whom y at → ⊥ }

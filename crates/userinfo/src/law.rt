@@ -51,8 +51,8 @@ pub fn info_is_the_subject_and_held_claims()
     ensures unwanted { (c : Configuration) (client n : ℕ) (s : Scopes) (asked : List (List ℕ)) (k : List ℕ) → k ≢ codes "sub" → is_wanted s asked k ≡ false → get_member k (info_members c client n s asked) ≡ None }
 {}
 
-/// The claims that are returned about a user of a registry fit. Their text is at most as long as that of all the user's claims,
-/// plus the subject.
+/// The claims that are returned about a user of a registry fit. Their text has at most 2,048 bytes, and with the subject, as
+/// UserInfo, at most 3,587 bytes.
 pub fn told_claims_fit()
     ensures held { (c : Configuration) (n : ℕ) (s : Scopes) (asked : List (List ℕ)) → IsRegistry c → ClaimsFit (held_members c n s asked) }
     ensures info { (c : Configuration) (client n : ℕ) (s : Scopes) (asked : List (List ℕ)) → IsRegistry c → ClaimsFit (info_members c client n s asked) }
