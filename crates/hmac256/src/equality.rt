@@ -2,7 +2,7 @@
 
 ghost use Rattle.std.specs.Prelude.{◌≡◌, ◌↔◌, IsTrue};
 
-/// Whether the two are equal. It reads all 32 bytes, wherever they differ.
+/// Whether the two are equal. All 32 bytes are looked at, wherever they differ.
 #[tactic(auto, using(crate::proofs::Differences::difference_zero))]
 pub fn same(left: &[u8; 32], right: &[u8; 32]) -> bool
     ensures { IsTrue result ↔ (left.now ≡ right.now) }

@@ -32,8 +32,8 @@ pub fn covering_scopes_ask_for_more()
     ensures standard { (s : Scopes) (k : List ℕ) → is_claim_of s k ≡ true → is_standard_claim k ≡ true }
 {}
 
-/// A set of scope values requests a standard claim if and only if it has the scope value of that claim. Each claim has one. The
-/// scope values of several claims contain a scope value if and only if it has one of those claims.
+/// A set of scope values requests a standard claim if and only if it has the scope value of that claim. Each claim has one. A
+/// scope value is among those of several claims if and only if one of these claims belongs to it.
 pub fn asked_claims_need_their_scopes()
     ensures asked { (s : Scopes) (k : List ℕ) → is_standard_claim k ≡ true → is_claim_of s k ≡ covers s (scopes_with k) }
     ensures openid { (ks : List (List ℕ)) → (scopes_with_any ks).openid ≡ false }

@@ -1,5 +1,5 @@
--- A relying party's replies in HTTP (RFC 9110; OpenID Connect Core 1.0, 3.1.2.1 and 3.2.2.5; OpenID Connect Back-Channel Logout 1.0,
--- 2.8).
+-- A relying party's replies in HTTP (RFC 9110; OpenID Connect Core 1.0, 3.1.2.1 and 3.2.2.5; OpenID Connect Back-Channel Logout
+-- 1.0, 2.8).
 use Rattle.std.specs.Prelude.{ℕ, Bool, [], ◌∷◌, ◌++◌, codes}
 use Rattle.sso_base.specs.Words.{Word, Text}
 use Rattle.sso_base.specs.declared.http.HttpReply.{HttpReply}

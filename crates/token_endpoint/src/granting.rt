@@ -68,7 +68,7 @@ fn granted(
     read_code(alloc, &parameters, client)
 }
 
-/// Reads a token request for a code (RFC 6749, 4.1.3; OpenID Connect Core 1.0, 3.1.3.1), from its `Authorization` header and its
+/// Reads a token request for a code (RFC 6749, 4.1.3; OpenID Connect Core 1.0, 3.1.3.1) from its `Authorization` header and its
 /// body, a form.
 ///
 /// The client shows its secret in one of two ways (RFC 6749, 2.3.1; OpenID Connect Core 1.0, 9).
