@@ -19,7 +19,7 @@ abbrev pub digits_from : ℕ → List ℕ → Option ℕ
 digits_from n [] = Some n
 digits_from n (b ∷ bs) = if is_ascii_digit b then digits_from (n * 10 + (b - 48)) bs else None
 
--- the number written as 1 to 9 decimal digits (the bound is our own choice)
+-- the number written as 1 to 9 decimal digits (the bound is our choice)
 abbrev pub age_in : List ℕ → Option ℕ
 age_in t = if nat_le 1 (length t) && nat_le (length t) 9 then digits_from 0 t else None
 

@@ -15,7 +15,7 @@ pub record IsWishValue (wish : Wish) : Type 0 where
   pub id_asked : AreTexts wish.id_asked
   pub info_asked : AreTexts wish.info_asked
 
--- a nonce, if there is one, has at most 255 bytes (own choice)
+-- a nonce, if there is one, has at most 255 bytes (our choice)
 abbrev pub is_short_nonce : Option Text → Bool
 is_short_nonce None = true
 is_short_nonce (Some nonce) = nat_le (length nonce) 255

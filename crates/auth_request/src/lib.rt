@@ -7,7 +7,7 @@
 //! | `wish` | [`Wish`], the contents of a granted request; [`Verdict`], the result of validation |
 //! | `claims_parameter` | what the parameter `claims` requests |
 //! | `parameters` | the contents of the parameters |
-//! | `judging` | [`judge`], the first row of its table that applies; [`is_short_nonce`] |
+//! | `judging` | [`judge`] validates a request; [`is_short_nonce`] tests a nonce |
 //! | `law` | laws about validation, for the crates above |
 #![tactic(auto)]
 

@@ -27,7 +27,7 @@ without_slash [] = []
 without_slash (x ∷ []) = if x == 47 || x == 92 then [] else x ∷ []
 without_slash (x ∷ y ∷ t) = x ∷ without_slash (y ∷ t)
 
--- the endpoint at a path below an issuer (own choice)
+-- the endpoint at a path below an issuer (our choice)
 abbrev pub endpoint : List ℕ → List ℕ → List ℕ
 endpoint issuer path = without_slash issuer ++ path
 

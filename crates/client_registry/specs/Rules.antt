@@ -106,7 +106,7 @@ records_refusals issuer users clients parties =
 -- ---- subjects (OpenID Connect Core 1.0, 8)
 
 -- the subject of a user at a pairwise client: base64url of the SHA-256 of the sector, the user's id and the salt, separated by
--- zero bytes (Core 8.1; the zero bytes are our own choice)
+-- zero bytes (Core 8.1; the zero bytes are our choice)
 unfoldable pub pairwise_subject : List ℕ → List ℕ → List ℕ → List ℕ
 pairwise_subject salt sector id = b64u (sha256 (sector ++ 0 ∷ (id ++ 0 ∷ salt)))
 

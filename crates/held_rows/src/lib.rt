@@ -11,8 +11,8 @@
 //! | `living` | the rows that pass a test and live at a moment |
 //! | `law` | what a purge and a change leave |
 //!
-//! A row stays in its slot. Only slot numbers are kept in order: in a queue by issue, and in one sorted index for each key,
-//! with binary search. So a purge reads one row more than it removes, and no other call reads rows that do not match its key.
+//! A row stays in its slot. Only slot numbers are kept in order: in a queue by issue, and in one sorted index for each key. So
+//! a purge reads one row more than it removes, and a row is found by its key with a binary search.
 #![tactic(auto)]
 
 mod held;

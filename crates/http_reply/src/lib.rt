@@ -1,5 +1,5 @@
-//! The shared parts of both roles' HTTP replies. Cookies hold words; a server sets them (RFC 6265, 4.1) and a user agent reads
-//! them (RFC 6265, 5.2). There are a few kinds of replies (RFC 9110).
+//! The shared parts of both roles' HTTP replies: cookies that hold words, and kinds of replies (RFC 9110). A server sets a
+//! cookie (RFC 6265, 4.1), and a user agent reads it (RFC 6265, 5.2).
 //!
 //! | Module | What it has |
 //! |---|---|

@@ -13,7 +13,7 @@ error_codes =
     ∷ TemporarilyUnavailable ∷ InteractionRequired ∷ LoginRequired ∷ AccountSelectionRequired ∷ ConsentRequired
     ∷ InvalidRequestUri ∷ InvalidRequestObject ∷ RequestNotSupported ∷ RequestUriNotSupported ∷ RegistrationNotSupported ∷ []
 
--- the text of a code; `other` is our own
+-- the text of a code; `other` is our choice
 unfoldable pub error_text : AuthError → Text
 error_text InvalidRequest = codes "invalid_request"
 error_text UnauthorizedClient = codes "unauthorized_client"

@@ -1,4 +1,4 @@
--- Lifetimes, in seconds, of what the provider and a relying party keep and issue (own choice, unless a standard is named).
+-- Lifetimes, in seconds, of what the provider and a relying party keep and issue (our choice, unless a standard is named).
 use Rattle.std.specs.Prelude.{ℕ, codes}
 use Rattle.sso_base.specs.Words.{Text}
 

@@ -25,7 +25,7 @@ prompt_words = none_word ∷ login_word ∷ consent_word ∷ account_word ∷ []
 abbrev pub is_prompt : Text → Bool
 is_prompt t = are_words prompt_words (words_of t)
 
--- the values of `prompt` among words. `select_account` counts as `login` (own choice); an unknown value counts only as
+-- the values of `prompt` among words. `select_account` counts as `login` (our choice); an unknown value counts only as
 -- `others`.
 abbrev pub prompt_among : List Text → Prompt
 prompt_among ws =

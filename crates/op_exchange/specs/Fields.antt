@@ -1,4 +1,4 @@
--- The names of the fields of the forms on the login page and the consent page, and the value that stands for consent (own).
+-- The names of the fields of the forms on the login page and the consent page, and the value for consent (our choice).
 use Rattle.std.specs.Prelude.{codes}
 use Rattle.sso_base.specs.Words.{Text}
 

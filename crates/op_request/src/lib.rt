@@ -1,5 +1,5 @@
 //! HTTP requests to the provider, read as values of `OpAsk` (OpenID Connect Core 1.0, 3.1.2.1, 3.1.3.1 and 5.3.1). Passwords,
-//! client secrets and request objects are verified here, so that the reply does not depend on them.
+//! client secrets and request objects are verified here. Later steps only get the results.
 //!
 //! | Module | What it has |
 //! |---|---|

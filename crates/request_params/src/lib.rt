@@ -12,7 +12,7 @@
 //! | `merging` | [`merge`] merges the parameters of a request object with those outside it |
 //! | `location` | [`with_query`] and [`with_fragment`] append pairs to a URL |
 //! | `printing` | [`print_request`] writes the location of a request |
-//! | `scheme` | [`scheme_of`] is the scheme of an `Authorization` header; [`cut`] splits at the first such byte |
+//! | `scheme` | [`scheme_of`] is the scheme of an `Authorization` header; [`cut`] splits bytes at the first given byte |
 //! | `law` | laws about requests, for the crates above |
 #![tactic(auto)]
 

@@ -1,6 +1,6 @@
 //! Requests to a relying party, and token responses and UserInfo responses of its provider, read as values of `RpAsk` (OpenID
 //! Connect Core 1.0, 3.1.2.5, 3.1.3.3, 3.2.2.5 and 5.3.2; OpenID Connect Back-Channel Logout 1.0, 2.5). The MACs of ID Tokens
-//! and logout tokens are verified here, so that the reply does not depend on the client's secret.
+//! and logout tokens are verified here. Later steps only get the claims, or why a token is rejected.
 //!
 //! | Module | What it has |
 //! |---|---|

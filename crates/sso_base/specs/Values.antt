@@ -16,6 +16,6 @@ AreTexts texts = AllByRecursion IsUtf8 texts
 abbrev pub AreWords : List Word → Type 0
 AreWords words = AllByRecursion IsWord words
 
--- the latest moment, in seconds since the epoch; a moment plus any lifetime fits into 40 bits (own choice)
+-- the latest moment, in seconds since the epoch; a moment plus any lifetime fits into 40 bits (our choice)
 abbrev pub latest_moment : ℕ
 latest_moment = 1099511000000

@@ -4,7 +4,7 @@ ghost use Rattle.sso_base.specs.Values.{latest_moment};
 
 use std::marker::Model;
 
-/// The latest moment, in seconds since the epoch. So a moment plus any lifetime fits into 40 bits (own choice).
+/// The latest moment, in seconds since the epoch. So a moment plus any lifetime fits into 40 bits (our choice).
 pub const LATEST_MOMENT: u64 = 1_099_511_000_000;
 
 /// A number of seconds since the epoch, at most 1,099,511,000,000.
