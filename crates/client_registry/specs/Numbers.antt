@@ -18,7 +18,7 @@ client_at c n = slice_get c.clients n
 abbrev pub party_at : Configuration → ℕ → Option Party
 party_at c n = slice_get c.parties n
 
--- a user, a client, has this number
+-- there is a user, or a client, with this number
 abbrev pub is_user : Configuration → ℕ → Bool
 is_user c n = nat_lt n (length c.users)
 

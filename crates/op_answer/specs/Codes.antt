@@ -36,7 +36,7 @@ code_made held past p =
     code_made_by (length past) p.entry.at (code_in p.reply) (wish_by past p.entry.ask)
     (session_of (p ∷ past) (session_used past p.entry.ask p.reply))
 
--- the code of a valid token request
+-- the code of an authenticated token request
 abbrev pub code_named : OpAsk → Option Word
 code_named (Token (Ok grant)) = word_of_text grant.code
 code_named ask = None

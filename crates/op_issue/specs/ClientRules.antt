@@ -13,7 +13,7 @@ abbrev pub bound_to : Option Word → Half
 bound_to None = Free
 bound_to (Some w) = Must (half_hash_of (word_text w))
 
--- the rules of the client with a number, for a login with this nonce, this begin and optionally a `max_age`, and for a token
+-- the rules of the client with a number, for a login with this nonce, this start and optionally a `max_age`, and for a token
 -- that optionally came with an access token and a code
 abbrev pub client_rules : Configuration → ℕ → Text → ℕ → Option ℕ → Option Word → Option Word → IdRules
 client_rules c client nonce begun max_age access code =

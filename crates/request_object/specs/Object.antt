@@ -23,7 +23,8 @@ StandsAs other None v = v ≡ None
 StandsAs other (Some d) None = ⊥
 StandsAs other (Some d) (Some s) = (d ≡ string s) ⊎ (other d ≡ Some s)
 
--- the claim set contains the parameters p, each under its name; if it has `iss` and `aud`, they are the client and the issuer
+-- the claim set contains the parameters p, each under its name; `iss`, if present, is the client, and `aud`, if present, has
+-- the issuer
 pub record HasRequest (client : Client) (issuer : List ℕ) (ms : Members) (p : Params) : Type 0 where
   pub from_client : IfSome (get_member (codes "iss") ms) (λ d. d ≡ string client.id)
   pub for_issuer : IfSome (get_member (codes "aud") ms) (λ d. IsFor issuer d)

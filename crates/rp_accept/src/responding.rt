@@ -69,7 +69,7 @@ fn part_missing(types: &Types, heard: &Heard) -> Option<Part>
 }
 
 impl Setup {
-    // The rules for an ID Token of a login with this nonce and this begin.
+    // The rules for an ID Token of a login with this nonce and this start.
     pub(crate) fn rules_for(
         &self,
         alloc: Global,

@@ -14,12 +14,12 @@ use Rattle.rp_exchange.specs.declared.reply.RpReply.TheVariants.{Ended}
 abbrev pub if_wanted : {X : Type 0} → Bool → Option X → Option X
 if_wanted wanted x = if wanted then x else None
 
--- the state of a valid authorization response
+-- the state of an authorization response that can be read
 abbrev pub state_named : RpAsk → Option Word
 state_named (Callback (Ok heard) id browser) = heard.state
 state_named asked = None
 
--- the code of one
+-- the code of an authorization response, if its type has one
 abbrev pub code_heard : Types → RpAsk → Option Text
 code_heard types (Callback (Ok heard) id browser) = if_wanted types.code heard.code
 code_heard types asked = None

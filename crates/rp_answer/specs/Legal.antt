@@ -101,7 +101,7 @@ pub record JudgedWith (s : PartySetup) (e : Entry RpAsk) (login : LoginRow) (cla
 -- ---- who sent the pending requests
 
 -- A pair exchanged the code of a login's response and drew the exchange's word. The pending exchange has the login's nonce,
--- begin and index, the response's code, and the subject and `sid` of its ID Token, if its type has one.
+-- start and index, the response's code, and the subject and `sid` of its ID Token, if its type has one.
 pub record ExchangedBy (s : PartySetup) (past : RpPast) (pending : PendingRow) : Type 0 where
   pub later : RpPast
   pub maker : RpPair
@@ -144,8 +144,8 @@ pub record AskedAfterExchange (s : PartySetup) (past : RpPast) (e : Entry RpAsk)
   pub sent : ExchangedBy s past exchange
   pub of_login : sent.login ≡ login
 
--- a pair requested UserInfo; the pending exchange has the nonce, begin and index of its login, and the subject and the `sid` of
--- the ID Token that was verified then
+-- A pair requested UserInfo. The pending exchange has the nonce, start and index of its login, and the subject and the `sid` of
+-- the ID Token that was verified then.
 pub record FetchedBy (s : PartySetup) (past : RpPast) (pending : PendingRow) : Type 0 where
   pub later : RpPast
   pub maker : RpPair

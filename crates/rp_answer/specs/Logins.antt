@@ -1,4 +1,4 @@
--- Logins: from the begin of a login to its callback (OpenID Connect Core 1.0, 3.1.2.1, `state` and `nonce`).
+-- Logins: from the start of a login to its callback (OpenID Connect Core 1.0, 3.1.2.1, `state` and `nonce`).
 use Rattle.std.specs.Prelude.{ℕ, Bool, true, false, not, ◌&&◌, List, length, Option, Some, None, option_and_then, if◌then◌else◌}
 use Rattle.std.specs.Str.{bytes_eq}
 use Rattle.std.specs.List.{list_any}

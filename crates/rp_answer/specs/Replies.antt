@@ -42,7 +42,7 @@ use Rattle.rp_answer.specs.Logins.{live_login, has_login_browser}
 use Rattle.rp_answer.specs.Visits.{live_visits}
 use Rattle.rp_answer.specs.Seens.{live_seen}
 
--- ---- the begin of a login (OpenID Connect Core 1.0, 3.1.2.1)
+-- ---- the start of a login (OpenID Connect Core 1.0, 3.1.2.1)
 
 -- the presented browser word is kept if a live login has it
 abbrev pub login_browser : RpPast → Entry RpAsk → Option Word → Word

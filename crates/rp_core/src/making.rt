@@ -33,7 +33,7 @@ pub(crate) struct Made {
     pub seen: Option<SeenRow>,
 }
 
-// The state of a valid authorization response.
+// The state of an authorization response that can be read.
 pub(crate) fn state_named(ask: &RpAsk) -> Option<Word>
     ensures { result ≡ asked.state_named ask.now }
 {

@@ -1,4 +1,4 @@
-// The replies to the begin of a login and to an authorization response, if no table were full.
+// The replies to the start of a login and to an authorization response, if no table were full.
 
 ghost use Rattle.std.specs.Prelude.{◌≡◌, ◌≤◌, IfOk};
 ghost use Rattle.sso_base.specs.Legal.{last_moment};
@@ -28,7 +28,7 @@ impl RpCore {
         }
     }
 
-    // The reply to the begin of a login.
+    // The reply to the start of a login.
     pub(crate) fn begin(
         &self,
         alloc: Global,
@@ -47,7 +47,7 @@ impl RpCore {
         })
     }
 
-    // The reply to a valid authorization response.
+    // The reply to an authorization response that can be read.
     fn response(
         &self,
         alloc: Global,

@@ -1,4 +1,4 @@
--- Sequences of calls that change the tables; and which calls add a row of a name, end one, or purge too late for it.
+-- Sequences of calls that change the tables; and which calls add a row of a name, end one, or keep an accepted logout token.
 use Rattle.std.specs.Prelude.{◌≡◌, ℕ, Bool, true, false, List, [], ◌∷◌, Option}
 use Rattle.std.specs.Str.{bytes_eq}
 use Rattle.std.specs.List.{AllByRecursion}

@@ -10,7 +10,7 @@ use Rattle.rp_response.specs.Cookies.{browser_cookie, session_cookie}
 
 -- ---- words that a reply sets
 
--- the browser word at the begin of a login
+-- the browser word at the start of a login
 abbrev pub browser_given : RpReply → Option Word
 browser_given (Ask to browser) = Some browser
 browser_given reply = None
