@@ -112,7 +112,7 @@ impl OpCore {
         self.grants.granted(user, client)
     }
 
-    /// Whether there is no room for one more turn with this word.
+    /// Whether no turn with this word can be added: the table is full, or has such a turn.
     pub(crate) fn lacks_turn(&self, at: Moment, word: Word) -> bool
         requires { last_moment (past_of self.now) ≤ at }
         ensures { result ≡ is_full most_rows turn_name word (turns.live_turns (past_of self.now) at) }
@@ -120,7 +120,7 @@ impl OpCore {
         !self.grants.room(Table::Turns, at) || self.live_turn(at, Some(word)).is_some()
     }
 
-    /// Whether there is no room for one more code with this word.
+    /// Whether no code with this word can be added: the table is full, or has such a code.
     pub(crate) fn lacks_code(&self, at: Moment, word: Word) -> bool
         requires { last_moment (past_of self.now) ≤ at }
         ensures { result ≡ is_full most_rows code_name word (codes.held_codes (past_of self.now) at) }
@@ -128,7 +128,7 @@ impl OpCore {
         !self.grants.room(Table::Codes, at) || self.held_code(at, Some(word)).is_some()
     }
 
-    /// Whether there is no room for one more access token with this word.
+    /// Whether no access token with this word can be added: the table is full, or has such a token.
     pub(crate) fn lacks_access(&self, at: Moment, word: Word) -> bool
         requires { last_moment (past_of self.now) ≤ at }
         ensures { result ≡ is_full most_rows access_name word (tokens.live_accesses (past_of self.now) at) }

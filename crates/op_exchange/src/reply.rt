@@ -139,7 +139,7 @@ impl OpReply {
         }
     }
 
-    /// The code in the reply, which is an authorization response.
+    /// The code in the reply, if it is an authorization response that has one.
     pub fn code(&self) -> Option<Word>
         ensures { result ≡ spec.code_in self.now }
     {
@@ -149,7 +149,7 @@ impl OpReply {
         }
     }
 
-    /// The access token in the reply, which is an authorization response or a token response.
+    /// The access token in the reply, if it is an authorization response or a token response that has one.
     pub fn access(&self) -> Option<Word>
         ensures { result ≡ spec.access_in self.now }
     {

@@ -130,7 +130,7 @@ impl RpCore {
         self.logins.has_browser(browser, at)
     }
 
-    /// Whether there is no room for one more login with this state.
+    /// Whether no login with this state can be added: the table is full, or has such a login.
     pub(crate) fn lacks_login(&self, at: Moment, state: Word) -> bool
         requires { last_moment (past_of self.now) ≤ at }
         ensures { result ≡ is_full most_rows login_name state (logins.live_logins (past_of self.now) at) }
@@ -138,7 +138,7 @@ impl RpCore {
         !self.logins.room(RpTable::Logins, at) || self.live_login(at, Some(state)).is_some()
     }
 
-    /// Whether there is no room for one more pending exchange with this word.
+    /// Whether no pending exchange with this word can be added: the table is full, or has such an exchange.
     pub(crate) fn lacks_pending(&self, at: Moment, word: Word) -> bool
         requires { last_moment (past_of self.now) ≤ at }
         ensures { result ≡ is_full most_rows pending_name word (pendings.live_pendings (party_of self.now.setup).types (past_of self.now) at) }
@@ -157,7 +157,7 @@ impl RpCore {
         self.any_live_pending(at, word).is_some()
     }
 
-    // Whether there is no room for one more with this word, when the answered one, which lives, ends.
+    // Whether no exchange with this word can be added when the answered one, which lives, ends.
     fn lacks_beside_live(&self, at: Moment, answered: Word, word: Word) -> bool
         requires order { last_moment (past_of self.now) ≤ at }
         requires there { is_some (row_of pending_name answered (pendings.live_pendings (party_of self.now.setup).types (past_of self.now) at)) ≡ true }
@@ -167,7 +167,7 @@ impl RpCore {
         answered != word && named
     }
 
-    /// Whether there is no room for one more pending exchange with this word, when the answered one ends.
+    /// Whether no pending exchange with this word can be added when the answered one ends.
     pub(crate) fn lacks_pending_beside(&self, at: Moment, answered: Word, word: Word) -> bool
         requires { last_moment (past_of self.now) ≤ at }
         ensures { result ≡ is_full most_rows pending_name word (without pending_name answered (pendings.live_pendings (party_of self.now.setup).types (past_of self.now) at)) }
@@ -179,7 +179,7 @@ impl RpCore {
         }
     }
 
-    /// Whether there is no room for one more session with this word.
+    /// Whether no session with this word can be added: the table is full, or has such a session.
     pub(crate) fn lacks_visit(&self, at: Moment, word: Word) -> bool
         requires { last_moment (past_of self.now) ≤ at }
         ensures { result ≡ is_full most_rows visit_name word (visits.live_visits (party_of self.now.setup).types (past_of self.now) at) }
@@ -187,7 +187,7 @@ impl RpCore {
         !self.logins.room(RpTable::Sessions, at) || self.live_visit(at, Some(word)).is_some()
     }
 
-    /// Whether there is no room for one more logout token with this `jti`.
+    /// Whether no logout token with this `jti` can be added: the table is full, or has such a token.
     pub(crate) fn lacks_seen(&self, at: Moment, jti: &[u8]) -> bool
         requires { last_moment (past_of self.now) ≤ at }
         ensures { result ≡ is_full most_rows seen_name jti.now (seens.live_seens (past_of self.now) at) }
