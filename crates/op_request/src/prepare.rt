@@ -131,7 +131,7 @@ fn signed_user(registry: &Registry, id: &str, password: &str) -> Option<u32>
     }
 }
 
-// What a login form asks.
+// The value for a login form.
 fn login(alloc: Global, registry: &Registry, ask: &Ask) -> Result<OpAsk, NoMemory>
     ensures { IfOk result (λ asked. asked ≡ spec.login_asked registry.now ask.now (fields_of ask.now.body)) }
 {
