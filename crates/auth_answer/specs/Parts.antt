@@ -1,4 +1,4 @@
--- The parts of a response as texts, taken from the pairs of a form one after another.
+-- The parameters of a response as texts, added from the pairs of a form one after another.
 use Rattle.std.specs.Prelude.{List, [], ◌∷◌, codes, find, Option, Some, None, is_some, option_map, option_and_then, Result, Ok, Err, if◌then◌else◌}
 use Rattle.std.specs.Str.{bytes_eq}
 use Rattle.sso_base.specs.Words.{Text, word_of_text}
@@ -13,7 +13,7 @@ use Rattle.auth_answer.specs.declared.no.AnswerNo.{AnswerNo}
 use Rattle.auth_answer.specs.declared.no.AnswerNo.TheVariants.{Twice}
 use Rattle.oidc_words.specs.Errors.{error_of}
 
--- how the name of a part is written
+-- the text of a parameter name
 abbrev pub part_text : PartName → Text
 part_text State = codes "state"
 part_text Error = codes "error"
@@ -24,11 +24,11 @@ part_text IdToken = codes "id_token"
 abbrev pub part_names : List PartName
 part_names = State ∷ Error ∷ Code ∷ AccessToken ∷ IdToken ∷ []
 
--- the name that is written so
+-- the name with this text
 abbrev pub part_name_of : Text → Option PartName
 part_name_of t = find (λ name. bytes_eq t (part_text name)) part_names
 
--- the part of a name, where it is there
+-- the parameter of a name, if it is present
 abbrev pub part_of : PartName → Parts → Option Text
 part_of State parts = parts.state
 part_of Error parts = parts.error
@@ -36,23 +36,23 @@ part_of Code parts = parts.code
 part_of AccessToken parts = parts.access
 part_of IdToken parts = parts.id
 
--- the parts that are, name by name, what f gives
+-- the parameters that f gives, name by name
 abbrev pub parts_by : (PartName → Option Text) → Parts
 parts_by f = record { state = f State; error = f Error; code = f Code; access = f AccessToken; id = f IdToken }
 
--- no part is there
+-- no parameter is present
 abbrev pub no_parts : Parts
 no_parts = parts_by (λ _. None)
 
--- the parts, but with this one under this name
+-- the parameters after the one with this name is replaced
 abbrev pub with_part : PartName → Option Text → Parts → Parts
 with_part name value parts = parts_by (λ other. if bytes_eq (part_text name) (part_text other) then value else part_of other parts)
 
--- the parts that stand in pairs
+-- the parameters in the pairs
 abbrev pub parts_in : List Pair → Parts
 parts_in pairs = parts_by (λ name. value_of (part_text name) pairs)
 
--- what the parts say
+-- the response that the parameters make up
 abbrev pub heard_of_parts : Parts → Heard
 heard_of_parts parts =
     record {

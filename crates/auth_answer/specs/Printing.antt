@@ -1,6 +1,6 @@
--- The location of an authorization response: the redirection URI with the response in its query or as its fragment
--- (OpenID Connect Core 1.0, 3.1.2.5, 3.1.2.6, 3.2.2.5, 3.2.2.6 and 3.3.2.5; RFC 6749, 4.1.2, 4.1.2.1, 4.2.2 and
--- 4.2.2.1; OAuth 2.0 Multiple Response Type Encoding Practices, 5).
+-- The location of an authorization response: the redirect URI with the response in its query or as its fragment (OpenID Connect
+-- Core 1.0, 3.1.2.5, 3.1.2.6, 3.2.2.5, 3.2.2.6 and 3.3.2.5; RFC 6749, 4.1.2, 4.1.2.1, 4.2.2 and 4.2.2.1; OAuth 2.0 Multiple
+-- Response Type Encoding Practices, 5).
 use Rattle.std.specs.Prelude.{Bool, List, [], ◌∷◌, codes, filter_map, Option, Some, option_map, if◌then◌else◌}
 use Rattle.sso_base.specs.Words.{Text, word_text}
 use Rattle.oidc_words.specs.Lives.{access_life_text}
@@ -11,7 +11,7 @@ use Rattle.oidc_words.specs.declared.errors.Refusal.{Refusal}
 use Rattle.auth_answer.specs.declared.answer.Answer.{Answer}
 use Rattle.oidc_words.specs.Errors.{error_text}
 
--- a parameter: a name, and a value where there is one
+-- a parameter: a name, and a value if there is one
 abbrev pub Param : Type 0
 Param = Text × Option Text
 
@@ -22,8 +22,7 @@ pair_if param = option_map (λ value. (param.0, value)) param.1
 abbrev pub pairs_of : List Param → List Pair
 pairs_of params = filter_map pair_if params
 
--- the parameters of an answer in which these texts stand, in order. An access token is a bearer token, and its
--- life is told.
+-- the parameters of a successful response with these texts, in order; an access token comes with the type `Bearer` and its life
 abbrev pub params_of : Option Text → Option Text → Option Text → Option Text → List Param
 params_of code access id state =
     (codes "code", code)
@@ -33,19 +32,19 @@ params_of code access id state =
     ∷ (codes "id_token", id)
     ∷ (codes "state", state) ∷ []
 
--- the parameters of an answer
+-- the parameters of a successful response
 abbrev pub answer_params : Answer → List Param
 answer_params answer = params_of (option_map word_text answer.code) (option_map word_text answer.access) answer.id answer.state
 
--- the parameters of a refusal
+-- the parameters of an error response
 abbrev pub refusal_params : Refusal → List Param
 refusal_params refusal = (codes "error", Some (error_text refusal.code)) ∷ (codes "state", refusal.state) ∷ []
 
--- the form of an answer
+-- the form of a successful response
 abbrev pub answer_form : Answer → Text
 answer_form answer = form_text (pairs_of (answer_params answer))
 
--- the form of a refusal
+-- the form of an error response
 abbrev pub refusal_form : Refusal → Text
 refusal_form refusal = form_text (pairs_of (refusal_params refusal))
 
@@ -53,14 +52,14 @@ refusal_form refusal = form_text (pairs_of (refusal_params refusal))
 abbrev pub located : Text → Bool → List Pair → Text
 located url fragment pairs = if fragment then with_fragment url pairs else with_query url pairs
 
--- the location of an answer
+-- the location of a successful response
 unfoldable pub answer_location : Answer → Text
 answer_location answer = located answer.redirect answer.fragment (pairs_of (answer_params answer))
 
--- the location of a refusal
+-- the location of an error response
 unfoldable pub refusal_location : Refusal → Text
 refusal_location refusal = located refusal.redirect refusal.fragment (pairs_of (refusal_params refusal))
 
--- what stands between the redirection URI and the form: `#`, or `?`, or `&` where the URI has a query already
+-- the mark between the redirect URI and the form: `#`, or `?`, or `&` if the URI already has a query
 abbrev pub answer_mark : Text → Bool → Text
 answer_mark url fragment = if fragment then codes "#" else query_mark url

@@ -1,6 +1,6 @@
--- Reading an authorization response: its parts are the pairs of a form (OpenID Connect Core 1.0, 3.1.2.5, 3.1.2.6, 3.2.2.5
--- and 3.3.2.5; RFC 6749, 4.1.2, 4.1.2.1, 4.2.2 and 4.2.2.1). Pairs with other names are as if they were not there, and no
--- name may stand twice. A part whose value is empty is there.
+-- Reading an authorization response: its parts are the pairs of a form (OpenID Connect Core 1.0, 3.1.2.5, 3.1.2.6, 3.2.2.5 and
+-- 3.3.2.5; RFC 6749, 4.1.2, 4.1.2.1, 4.2.2 and 4.2.2.1). Pairs with other names are ignored, and no name may occur twice. A
+-- part with an empty value is present.
 use Rattle.std.specs.Prelude.{◌≡◌, ℕ, Bool, List, codes, filter, Option, Some, None, option_map, option_and_then, Result, Ok, Err, IfSome}
 use Rattle.std.specs.Str.{IsUtf8}
 use Rattle.sso_base.specs.Words.{Word, Text, IsWord, word_text, word_of_text}
@@ -21,7 +21,7 @@ names_part pair = has_text pair.0 answer_names
 abbrev pub heard_pairs : List ℕ → List Pair
 heard_pairs form = filter names_part (form_pairs form)
 
--- the parts that stand in pairs. A state that is not the text of a word is absent.
+-- the parts in the pairs; a state that is not the text of a word is absent
 abbrev pub heard_in : List Pair → Heard
 heard_in pairs =
     record {
@@ -39,11 +39,11 @@ unless_repeated (Some name) heard = Err (Twice name)
 abbrev pub pairs_read : List Pair → Result Heard AnswerNo
 pairs_read pairs = unless_repeated (first_repeated pairs) (heard_in pairs)
 
--- the response in a form, or its refusal
+-- the response in a form, or its error
 unfoldable pub answer_read : List ℕ → Result Heard AnswerNo
 answer_read form = pairs_read (heard_pairs form)
 
--- ---- the same in literal words
+-- ---- the same, stated literally
 
 -- the text is that of this word
 abbrev pub SaysWord : Text → Word → Type 0
@@ -52,12 +52,12 @@ SaysWord t word = (t ≡ word_text word) × IsWord word
 abbrev pub SaysText : Text → Text → Type 0
 SaysText t text = t ≡ text
 
--- the part is there exactly where a pair with this name stands whose value says something, and is what that value says
+-- the part is present if and only if a pair with this name has a value that states something, and it is what the value states
 pub record IsPart {A : Type 0} (pairs : List Pair) (name : Text) (Says : Text → A → Type 0) (part : Option A) : Type 0 where
   pub stands : (a : A) → part ≡ Some a → (value : Text) × Has pairs (name, value) × Says value a
   pub all : (value : Text) (a : A) → Has pairs (name, value) → Says value a → part ≡ Some a
 
--- the form has these parts, and no name stands twice in it
+-- the form has these parts, and no name occurs twice in it
 pub record HasAnswer (form : List ℕ) (heard : Heard) : Type 0 where
   pub once : StandOnce (heard_pairs form)
   pub state : IsPart (heard_pairs form) (codes "state") SaysWord heard.state
@@ -66,12 +66,12 @@ pub record HasAnswer (form : List ℕ) (heard : Heard) : Type 0 where
   pub access : IsPart (heard_pairs form) (codes "access_token") SaysText heard.access
   pub id : IsPart (heard_pairs form) (codes "id_token") SaysText heard.id
 
--- the form is refused so: with the first name that stands again, and for no other reason
+-- the causes of each error of reading: the first repeated name, and no other
 abbrev pub RefusesAnswer : List ℕ → AnswerNo → Type 0
 RefusesAnswer form (Twice name) = RepeatsFirst (heard_pairs form) name
 RefusesAnswer form NoMemory = ⊥
 
--- a state that is there is a word, and the texts that are there are in UTF-8
+-- the state, if present, is a word, and the texts that are present are in UTF-8
 pub record IsHeard (heard : Heard) : Type 0 where
   pub state : IfSome heard.state IsWord
   pub code : IfSome heard.code IsUtf8

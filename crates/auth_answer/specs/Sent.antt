@@ -1,11 +1,11 @@
--- What is heard of an answer and of a refusal that were sent.
+-- Successful and error responses as they are received.
 use Rattle.std.specs.Prelude.{◌≡◌, Option, Some, None, option_map, IfSome}
 use Rattle.sso_base.specs.Words.{Word, Text, IsWord, word_text}
 use Rattle.oidc_words.specs.declared.errors.Refusal.{Refusal}
 use Rattle.auth_answer.specs.declared.answer.Answer.{Answer}
 use Rattle.auth_answer.specs.declared.heard.Heard.{Heard}
 
--- the parts of the answer, with this word as its state, and no error
+-- the parts of the response, with this word as its state, and no error
 abbrev pub answer_heard : Answer → Option Word → Heard
 answer_heard answer state =
     record {
@@ -16,7 +16,7 @@ answer_heard answer state =
       id = answer.id;
     }
 
--- the code of the refusal, with this word as its state, and nothing else
+-- the code of the error response, with this word as its state, and nothing else
 abbrev pub refusal_heard : Refusal → Option Word → Heard
 refusal_heard refusal state = record { state = state; error = Some refusal.code; code = None; access = None; id = None }
 

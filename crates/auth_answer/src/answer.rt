@@ -1,17 +1,17 @@
-// What a provider gives to a client.
+// A successful authorization response.
 
 ghost use Rattle.std.specs.Prelude.{◌≡◌, IfOk};
 
 use sso_base::{NoMemory, Text, Word, copied_text};
 use std::alloc::Global;
 
-/// A successful authorization response (OpenID Connect Core 1.0, 3.1.2.5, 3.2.2.5 and 3.3.2.5). Each part is there as the
-/// response type has it.
+/// A successful authorization response (OpenID Connect Core 1.0, 3.1.2.5, 3.2.2.5 and 3.3.2.5). The response type decides which
+/// parts are present.
 #[derive(Drop)]
 pub struct Answer {
-    /// The redirection URI that it is sent to: one that the client has.
+    /// The client's redirect URI that the response is sent to.
     pub redirect: Text,
-    /// Whether it stands in the fragment, else in the query.
+    /// Whether the response is in the fragment; otherwise it is in the query.
     pub fragment: bool,
     /// The code.
     pub code: Option<Word>,
@@ -24,7 +24,7 @@ pub struct Answer {
 }
 
 impl Answer {
-    /// An equal answer.
+    /// A copy of the response.
     pub fn copy(&self, alloc: Global) -> Result<Answer, NoMemory>
         ensures { IfOk result (λ a. a ≡ self.now) }
     {

@@ -1,15 +1,15 @@
-// What a relying party hears.
+// A response as a relying party receives it.
 
 use oidc_words::AuthError;
 use sso_base::{Text, Word};
 
-/// An authorization response, as far as its parts are there (OpenID Connect Core 1.0, 3.1.2.5, 3.1.2.6, 3.2.2.5 and
+/// A received authorization response. Each of its parts may be absent (OpenID Connect Core 1.0, 3.1.2.5, 3.1.2.6, 3.2.2.5 and
 /// 3.3.2.5).
 #[derive(Drop)]
 pub struct Heard {
-    /// The word whose text `state` is. A state that is not the text of a word is no answer to a login, and counts as absent.
+    /// The word whose text `state` is. A state that is not the text of a word belongs to no login, and counts as absent.
     pub state: Option<Word>,
-    /// The error code. A code that is not defined is [`AuthError::Other`].
+    /// The error code. An undefined code is [`AuthError::Other`].
     pub error: Option<AuthError>,
     /// The code.
     pub code: Option<Text>,

@@ -1,15 +1,15 @@
-//! Authorization responses: answers and refusals of a provider, written as the location to which a user agent is sent, and
-//! read by a relying party (OpenID Connect Core 1.0, 3.1.2.5 to 3.1.2.7, 3.2.2.5, 3.2.2.6 and 3.3.2.5).
+//! Authorization responses: successful and error responses of a provider, written as the location to which a user agent is
+//! sent, and read by a relying party (OpenID Connect Core 1.0, 3.1.2.5 to 3.1.2.7, 3.2.2.5, 3.2.2.6 and 3.3.2.5).
 //!
 //! | Module | What it has |
 //! |---|---|
-//! | `answer` | [`Answer`], what a provider gives to a client |
+//! | `answer` | [`Answer`], a successful response |
 //! | `printing` | [`print_answer`] and [`print_refusal`] write the location of a response |
-//! | `heard` | [`Heard`], what a relying party hears |
-//! | `no` | [`AnswerNo`], why a response is refused |
-//! | `parts` | the parts of a response, as texts |
+//! | `heard` | [`Heard`], a response as a relying party receives it |
+//! | `no` | [`AnswerNo`], why a response is rejected |
+//! | `parts` | the parameters of a response, as texts |
 //! | `reading` | [`read_answer`] reads a form |
-//! | `law` | what holds of responses, for the crates above |
+//! | `law` | laws about responses, for the crates above |
 #![tactic(auto)]
 
 mod answer;

@@ -1,13 +1,13 @@
-// Why an authorization response is refused.
+// Why an authorization response is rejected.
 
 use sso_base::{NoMemory, Text};
 use std::alloc::AllocError;
 
-/// Why an authorization response is refused, or memory ran out.
+/// Why an authorization response is rejected, or `NoMemory`.
 #[derive(Drop)]
 pub enum AnswerNo {
-    /// The part of this name stands twice in the form (RFC 6749, 3.1: parameters must not be included more than once). It is
-    /// the first name that stands again.
+    /// The parameter of this name occurs twice in the form (RFC 6749, 3.1: parameters must not be included more than once). It
+    /// is the first name that is repeated.
     Twice(Text),
     /// Memory ran out.
     NoMemory,

@@ -1,4 +1,4 @@
-// The parts of a response as texts, by their names.
+// The parameters of a response as texts, by their names.
 
 ghost use Rattle.std.specs.Prelude.{◌≡◌, find};
 ghost use Rattle.std.specs.Str.{bytes_eq};
@@ -6,7 +6,7 @@ ghost use Rattle.auth_answer.specs.Parts as spec;
 
 use sso_base::Text;
 
-// The name of a part.
+// The name of a parameter.
 #[derive(Clone, Copy, PartialEq, Eq)]
 pub(crate) enum PartName {
     State,
@@ -37,7 +37,7 @@ impl PartName {
         }
     }
 
-    // The name that is written so.
+    // The name with this text.
     pub(crate) fn read(text: &str) -> Option<PartName>
         ensures { result ≡ spec.part_name_of text.now }
     {
@@ -45,7 +45,7 @@ impl PartName {
     }
 }
 
-// The first of these names that is written so.
+// The first of these names with this text.
 fn find_name(names: &[PartName], text: &str) -> Option<PartName>
     ensures { result ≡ find (λ name. bytes_eq text.now (spec.part_text name)) names.now }
 {
@@ -57,7 +57,7 @@ fn find_name(names: &[PartName], text: &str) -> Option<PartName>
     None
 }
 
-// The parts that are there, as texts.
+// The parameters that are present, as texts.
 #[derive(Drop)]
 pub(crate) struct Parts {
     pub(crate) state: Option<Text>,
@@ -68,7 +68,7 @@ pub(crate) struct Parts {
 }
 
 impl Parts {
-    // No part.
+    // No parameters.
     pub(crate) fn new() -> Parts
         ensures { result ≡ spec.no_parts }
     {
@@ -81,7 +81,7 @@ impl Parts {
         }
     }
 
-    // The part of this name, where it is there.
+    // The parameter of this name, if it is present.
     pub(crate) fn get(&self, name: PartName) -> &Option<Text>
         ensures { result.now ≡ spec.part_of name self.now }
     {
@@ -94,7 +94,7 @@ impl Parts {
         }
     }
 
-    // Sets the part of this name.
+    // Sets the parameter of this name.
     pub(crate) fn set(&mut self, name: PartName, value: Option<Text>)
         ensures { self.new ≡ spec.with_part name value self.old }
     {

@@ -1,4 +1,4 @@
-// The locations of responses are written.
+// Writing the locations of responses.
 
 ghost use Rattle.std.specs.Prelude.{◌≡◌, map, option_map, IfOk};
 ghost use Rattle.form_urlencoded.specs.Form.{pair_text};
@@ -12,7 +12,7 @@ use request_params::{with_fragment, with_query};
 use sso_base::{NoMemory, Text, Word};
 use std::alloc::Global;
 
-// The text of a word, where there is one.
+// The text of the word, if there is one.
 fn word_text(alloc: Global, word: &Option<Word>) -> Result<Option<Text>, NoMemory>
     ensures { IfOk result (λ o. o ≡ option_map words.word_text word.now) }
 {
@@ -22,7 +22,7 @@ fn word_text(alloc: Global, word: &Option<Word>) -> Result<Option<Text>, NoMemor
     }
 }
 
-// The text itself, where there is one.
+// The text itself, if there is one.
 fn as_str(text: &Option<Text>) -> Option<&str>
     ensures { option_map (λ t. t.now) result ≡ text.now }
 {
@@ -32,7 +32,7 @@ fn as_str(text: &Option<Text>) -> Option<&str>
     }
 }
 
-// This text, where there is an access token.
+// This text, if there is an access token.
 fn beside(access: &Option<Text>, text: &'static str) -> Option<&'static str>
     ensures { option_map (λ t. t.now) result ≡ option_map (λ _. text.now) access.now }
 {
@@ -75,7 +75,7 @@ fn located(
     }
 }
 
-// The parameters of an answer that have a value, as pairs.
+// The parameters of a successful response that have a value, as pairs.
 fn answer_pairs<'a>(
     alloc: Global,
     code: &'a Option<Text>,
@@ -96,12 +96,13 @@ fn answer_pairs<'a>(
     pairs_of(alloc, &params)
 }
 
-/// The location to which a user agent is sent with an answer (OpenID Connect Core 1.0, 3.1.2.5, 3.2.2.5 and 3.3.2.5; OAuth
-/// 2.0 Multiple Response Type Encoding Practices, 5): the redirection URI and, behind `#`, or `?`, or `&` where the URI has
-/// a `?` already, a form of `code`, `access_token`, `token_type`, `expires_in`, `id_token` and `state`, in this order and as
-/// far as they are there.
+/// The location to which a user agent is sent with a successful response (OpenID Connect Core 1.0, 3.1.2.5, 3.2.2.5 and
+/// 3.3.2.5; OAuth 2.0 Multiple Response Type Encoding Practices, 5). It is the redirect URI, then `#`, or `?`, or `&` if the
+/// URI already has a `?`, and then a form. The form has those that are present of `code`, `access_token`, `token_type`,
+/// `expires_in`, `id_token` and `state`, in this order.
 ///
-/// Exactly beside an access token `token_type` is `Bearer` and `expires_in` is its life, in seconds (RFC 6749, 4.2.2).
+/// If and only if there is an access token, `token_type` is `Bearer` and `expires_in` is its life, in seconds (RFC 6749,
+/// 4.2.2).
 #[tactic(auto, unfolding(crate::specs::Printing::answer_location))]
 pub fn print_answer(alloc: Global, answer: &Answer) -> Result<Text, NoMemory>
     ensures { IfOk result (λ t. t ≡ spec.answer_location answer.now) }
@@ -112,9 +113,8 @@ pub fn print_answer(alloc: Global, answer: &Answer) -> Result<Text, NoMemory>
     located(alloc, &answer.redirect, answer.fragment, &pairs)
 }
 
-/// The location to which a user agent is sent with a refusal (OpenID Connect Core 1.0, 3.1.2.6 and 3.2.2.6; RFC 6749,
-/// 4.1.2.1 and 4.2.2.1): the redirection URI and, as for [`print_answer`], a form of `error` and of `state` where it is
-/// there.
+/// The location to which a user agent is sent with an error response (OpenID Connect Core 1.0, 3.1.2.6 and 3.2.2.6; RFC 6749,
+/// 4.1.2.1 and 4.2.2.1): as for [`print_answer`], with a form of `error` and, if it is present, `state`.
 #[tactic(auto, unfolding(crate::specs::Printing::refusal_location))]
 pub fn print_refusal(alloc: Global, refusal: &Refusal) -> Result<Text, NoMemory>
     ensures { IfOk result (λ t. t ≡ spec.refusal_location refusal.now) }

@@ -1,4 +1,4 @@
-// A form is read as an authorization response.
+// Reading a form as an authorization response.
 
 ghost use Rattle.std.specs.Prelude.{◌≡◌, ◌⊎◌, Ok, Err, IfOk, IfErr, IsErrAnd, OnOk, option_map, option_and_then};
 ghost use Rattle.sso_base.specs.Words.{word_of_text};
@@ -17,7 +17,7 @@ use oidc_words::{AuthError, read_error};
 use sso_base::{Text, Word};
 use std::alloc::Global;
 
-// Takes in one more pair of a form, unless its name stood before.
+// Adds one more pair of a form, unless its name occurred before.
 fn take(parts: &mut Parts, name: Text, value: Text) -> Result<(), AnswerNo>
     ensures ok { OnOk result (with_pair parts.old (name, value) ≡ Ok parts.new) }
     ensures err { IfErr result (λ e. with_pair parts.old (name, value) ≡ Err e) }
@@ -32,7 +32,7 @@ fn take(parts: &mut Parts, name: Text, value: Text) -> Result<(), AnswerNo>
     Ok(())
 }
 
-// Takes in the pairs of a form, one after another.
+// Adds the pairs of a form, one after another.
 #[tactic(auto, unfolding(request_params::specs::Form::form_pairs))]
 fn take_all(alloc: Global, parts: &mut Parts, form: &[u8]) -> Result<(), AnswerNo>
     ensures ok { OnOk result (with_pairs parts.old (form_pairs form.now) ≡ Ok parts.new) }
@@ -45,7 +45,7 @@ fn take_all(alloc: Global, parts: &mut Parts, form: &[u8]) -> Result<(), AnswerN
     Ok(())
 }
 
-// The word that a state says, where it says one.
+// The word whose text the state is, if there is one.
 fn state_of(state: &Option<Text>) -> Option<Word>
     ensures { result ≡ option_and_then word_of_text state.now }
 {
@@ -55,7 +55,7 @@ fn state_of(state: &Option<Text>) -> Option<Word>
     }
 }
 
-// The code of an error, where there is one.
+// The code of the error, if there is one.
 fn error_in(error: &Option<Text>) -> Option<AuthError>
     ensures { result ≡ option_map error_of error.now }
 {
@@ -65,7 +65,7 @@ fn error_in(error: &Option<Text>) -> Option<AuthError>
     }
 }
 
-// What the parts say.
+// The response that the parameters make up.
 fn heard_of(parts: Parts) -> Heard
     ensures { result ≡ heard_of_parts parts }
 {
@@ -85,7 +85,7 @@ fn heard_of(parts: Parts) -> Heard
     }
 }
 
-// The response in a form, or the refusal.
+// The response in a form, or the error.
 #[tactic(auto, using(crate::proofs::TakenInOrder::taken_ok, crate::proofs::TakenInOrder::taken_err))]
 fn read(alloc: Global, form: &[u8]) -> Result<Heard, AnswerNo>
     ensures answers { IfOk result (λ heard. answer_read form.now ≡ Ok heard) }
@@ -96,15 +96,14 @@ fn read(alloc: Global, form: &[u8]) -> Result<Heard, AnswerNo>
     Ok(heard_of(parts))
 }
 
-/// Reads an authorization response from a form, the query of the redirection or what a page posts of its fragment (OpenID
-/// Connect Core 1.0, 3.1.2.5 to 3.1.2.7 and 3.2.2.5; OAuth 2.0 Multiple Response Type Encoding Practices, 2.1; the URL
-/// Standard, 5.1).
+/// Reads an authorization response from a form: the query of the redirect, or the fragment as a page posts it (OpenID Connect
+/// Core 1.0, 3.1.2.5 to 3.1.2.7 and 3.2.2.5; OAuth 2.0 Multiple Response Type Encoding Practices, 2.1; the URL Standard, 5.1).
 ///
-/// The parts are the values of `state`, `error`, `code`, `access_token` and `id_token`; pairs with other names are ignored
-/// (RFC 6749, 4.1.2). [`AnswerNo::Twice`] has the first of these names that stands again, and is answered exactly where one
-/// does; there is no other refusal. A value that is empty is there: an empty `error` is [`AuthError::Other`], as is every
-/// text that is no defined code, while a `state` that is not the text of a word, as the empty one, counts as absent. In
-/// names and values `+` is a space and escapes are decoded, and what is then no UTF-8 becomes U+FFFD, so each text is UTF-8.
+/// The parts are the values of `state`, `error`, `code`, `access_token` and `id_token`; pairs with other names are ignored (RFC
+/// 6749, 4.1.2). Returns [`AnswerNo::Twice`] with the first repeated name among these, if and only if there is one; there is no
+/// other error. An empty value counts as present. An empty `error`, or any other undefined code, is [`AuthError::Other`]. A
+/// `state` that is not the text of a word counts as absent, also if it is empty. In names and values, `+` is a space, escapes
+/// are decoded, and invalid UTF-8 becomes U+FFFD. So each text is UTF-8.
 pub fn read_answer(alloc: Global, form: &[u8]) -> Result<Heard, AnswerNo>
     ensures answers { IfOk result (λ heard. answer_read form.now ≡ Ok heard) }
     ensures answer { IfOk result (λ heard. HasAnswer form.now heard) }

@@ -1,4 +1,4 @@
--- What every refusal that is sent back keeps, and what every granted wish does.
+-- The invariants of error responses and of granted wishes.
 use Rattle.std.specs.Prelude.{◌≡◌, ◌<◌, ◌≤◌, ◌^◌, ℕ, true, false, ◌||◌, List, length, map, codes, Some, is_some, slice_get, IfSome}
 use Rattle.oidc_words.specs.Prompts.{none_word, login_word, consent_word, account_word}
 use Rattle.sso_base.specs.Texts.{has_text}
@@ -13,12 +13,12 @@ use Rattle.auth_request.specs.declared.wish.Wish.{Wish}
 use Rattle.auth_request.specs.Parameters.{type_of, age_of}
 use Rattle.oidc_words.specs.Scopes.{scopes_among}
 
--- no two clients have one id, as in every registry
+-- no two clients have the same id, as in every registry
 abbrev pub ClientsAreApart : Configuration → Type 0
 ClientsAreApart c = AreApart (map (λ (k : Client). k.id) c.clients)
 
--- the client of this number has the request's `client_id`, and the request's `redirect_uri` is this one and is
--- registered for it (RFC 6749, 3.1.2.2 and 3.1.2.3)
+-- the client with this number has the request's `client_id`, and the request's `redirect_uri` is this one and is registered for
+-- the client (RFC 6749, 3.1.2.2 and 3.1.2.3)
 pub record IsRegistered (c : Configuration) (p : Params) (number : ℕ) (uri : List ℕ) : Type 0 where
   pub client : Client
   pub there : client_at c number ≡ Some client
@@ -26,7 +26,7 @@ pub record IsRegistered (c : Configuration) (p : Params) (number : ℕ) (uri : L
   pub asked : p.redirect_uri ≡ Some uri
   pub registered : has_text uri client.redirects ≡ true
 
--- the response type is one of the five that answer in the fragment: one of the six, and not `code` (OAuth 2.0 Multiple
+-- the response type is one of the five whose response is in the fragment: one of the six, except `code` (OAuth 2.0 Multiple
 -- Response Type Encoding Practices, 5)
 pub record AnswersInFragment (p : Params) : Type 0 where
   pub text : List ℕ
@@ -34,9 +34,9 @@ pub record AnswersInFragment (p : Params) : Type 0 where
   pub known : is_response_type text ≡ true
   pub other : text ≡ codes "code" → ⊥
 
--- what every granted wish keeps: its client is one of the registry's, its redirection URI and its response type are ones
--- that the client has, its scope has `openid`, a nonce is there where an ID Token comes from the authorization endpoint
--- and has at most 255 bytes, `none` stands alone, and the age has at most nine digits
+-- the invariant of granted wishes: the client is one of the registry's; the client has the redirect URI and the response type;
+-- the scope has `openid`; a nonce is present if the authorization endpoint issues an ID Token, and has at most 255 bytes;
+-- `none` has no other word next to it; and the age has at most nine digits
 pub record IsWish (c : Configuration) (w : Wish) : Type 0 where
   pub below : w.client < length c.clients
   pub client : Client
@@ -52,7 +52,7 @@ pub record IsWish (c : Configuration) (w : Wish) : Type 0 where
   pub no_consent : w.none ≡ true → w.consent ≡ false
   pub age : IfSome w.max_age (λ n. n < 10 ^ 9)
 
--- the wish is what the parameters say
+-- the wish has the contents of the parameters
 pub record IsWishOf (p : Params) (w : Wish) : Type 0 where
   pub redirect : p.redirect_uri ≡ Some w.redirect
   pub types : w.types ≡ types_of_number (type_of p.response_type)

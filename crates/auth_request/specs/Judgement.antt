@@ -1,5 +1,5 @@
--- The judgement of an authorization request: the first row that fits (OpenID Connect Core 1.0, 3.1.2.2, 3.1.2.6, 3.2.2.1
--- and 6; RFC 6749, 3.1.2.4 and 4.1.2.1).
+-- Validation of an authorization request: the first row that applies (OpenID Connect Core 1.0, 3.1.2.2, 3.1.2.6, 3.2.2.1 and 6;
+-- RFC 6749, 3.1.2.4 and 4.1.2.1).
 use Rattle.std.specs.Prelude.{ℕ, Bool, false, not, ◌&&◌, List, [], ◌∷◌, Option, Some, None, is_some, is_none, option_and_then, unwrap_or, slice_get, Result, Ok, Err, if◌then◌else◌}
 use Rattle.std.specs.Str.{bytes_eq}
 use Rattle.sso_base.specs.Refusals.{first_refusal}
@@ -25,37 +25,37 @@ use Rattle.auth_request.specs.Parameters.{asking_of}
 
 -- ---- conditions
 
--- the number of the client that has the request's `client_id`
+-- the number of the client with the request's `client_id`
 abbrev pub client_number : Configuration → Params → Option ℕ
 client_number c p = option_and_then (λ id. client_place id c.clients) p.client_id
 
--- the request's redirection URI, where it is exactly one of the client's (Core 3.1.2.1; RFC 6749, 3.1.2.4)
+-- the request's redirect URI, if it is exactly one of the client's (Core 3.1.2.1; RFC 6749, 3.1.2.4)
 abbrev pub redirect_of : Client → Option (List ℕ) → Option (List ℕ)
 redirect_of k None = None
 redirect_of k (Some uri) = if has_text uri k.redirects then Some uri else None
 
--- the client may ask for the response type of this number (RFC 6749, 4.1.2.1, unauthorized_client)
+-- the client may request the response type with this number (RFC 6749, 4.1.2.1, unauthorized_client)
 abbrev pub may_ask : Client → Option ℕ → Bool
 may_ask k None = false
 may_ask k (Some n) = unwrap_or (slice_get k.types n) false
 
--- where the type answers (OAuth 2.0 Multiple Response Type Encoding Practices, 2.1)
+-- the response mode of a type (OAuth 2.0 Multiple Response Type Encoding Practices, 2.1)
 abbrev pub mode_of : Option ℕ → List ℕ
 mode_of n = if is_in_fragment (types_of_number n) then fragment_mode else query_mode
 
--- a response mode is asked for that is not the type's own (OAuth 2.0 Multiple Response Type Encoding Practices, 2.1)
+-- the requested response mode is not the type's own (OAuth 2.0 Multiple Response Type Encoding Practices, 2.1)
 abbrev pub is_other_mode : Option ℕ → Option (List ℕ) → Bool
 is_other_mode n None = false
 is_other_mode n (Some mode) = not (bytes_eq mode (mode_of n))
 
--- an ID Token is asked for from the authorization endpoint without a nonce (Core 3.2.2.1), or the nonce is too long
+-- an ID Token is requested from the authorization endpoint without a nonce (Core 3.2.2.1), or the nonce is too long
 abbrev pub is_bad_nonce : Option ℕ → Option (List ℕ) → Bool
 is_bad_nonce n None = (types_of_number n).id_token
 is_bad_nonce n (Some nonce) = not (is_short_nonce (Some nonce))
 
 -- ---- the rows
 
--- the errors that are sent back, in order, each with its condition
+-- the errors of error responses, in order, each with its condition
 unfoldable pub errors : Client → Params → Asking → Bool → List (Bool × AuthError)
 errors k p a object_refused =
     (is_some p.request_uri, RequestUriNotSupported)  -- Core 3.1.2.6
@@ -72,7 +72,7 @@ errors k p a object_refused =
     ∷ (not a.claims.fits, InvalidRequest)  -- Core 5.5
     ∷ []
 
--- an error goes to the redirection URI, with `state`, in the fragment where the response type answers there
+-- an error goes to the redirect URI, with `state`; it is in the fragment if the response type's responses are
 abbrev pub refusal_of : List ℕ → Params → Asking → AuthError → Refusal
 refusal_of uri p a code = record { redirect = uri; fragment = is_in_fragment (types_of_number a.number); state = p.state; code = code }
 
@@ -99,12 +99,12 @@ abbrev pub answer : ℕ → List ℕ → Params → Asking → Result (Unit {0})
 answer n uri p a (Ok _) = Grant (wish_of n uri p a)
 answer n uri p a (Err code) = Refuse (refusal_of uri p a code)
 
--- what must be there, or else this page
+-- the value, or this error page if there is none
 abbrev pub page_or : {A : Type 0} → PageNo → Option A → (A → Verdict) → Verdict
 page_or why None f = Page why
 page_or why (Some a) f = f a
 
--- the judgement of a request, with whether its request object was refused
+-- the result of validating a request; `object_refused` is true if its request object was rejected
 unfoldable pub judgement : Configuration → Params → Bool → Verdict
 judgement c p object_refused =
     page_or NoClient (client_number c p) (λ n.

@@ -1,4 +1,4 @@
--- Wishes that hold values of their types: texts in UTF-8, numbers of their size; and nonces that a token has room for.
+-- Wishes that hold values of their types: texts in UTF-8, numbers of their size; and nonces that fit into a token.
 use Rattle.std.specs.Prelude.{◌<◌, ◌^◌, Bool, true, nat_le, length, Option, Some, None, IfSome}
 use Rattle.std.specs.Str.{IsUtf8}
 use Rattle.sso_base.specs.Words.{Text}
@@ -15,7 +15,7 @@ pub record IsWishValue (wish : Wish) : Type 0 where
   pub id_asked : AreTexts wish.id_asked
   pub info_asked : AreTexts wish.info_asked
 
--- a nonce has at most 255 bytes, where there is one (own)
+-- a nonce, if there is one, has at most 255 bytes (our choice)
 abbrev pub is_short_nonce : Option Text → Bool
 is_short_nonce None = true
 is_short_nonce (Some nonce) = nat_le (length nonce) 255

@@ -1,4 +1,4 @@
-// The judgement of an authorization request: the first row that fits (OpenID Connect Core 1.0, 3.1.2.2).
+// Validation of an authorization request: the first row that applies (OpenID Connect Core 1.0, 3.1.2.2).
 
 ghost use Rattle.std.specs.Prelude.{◌≡◌, IfOk, option_map};
 ghost use Rattle.std.specs.List.{list_any};
@@ -16,7 +16,7 @@ use request_params::Params;
 use sso_base::{NoMemory, Text, Texts, copied_text};
 use std::alloc::Global;
 
-// The most bytes that a nonce may have.
+// The greatest length of a nonce, in bytes.
 const LONGEST_NONCE: usize = 255;
 
 fn client_number(registry: &Registry, params: &Params) -> Option<u32>
@@ -28,7 +28,7 @@ fn client_number(registry: &Registry, params: &Params) -> Option<u32>
     }
 }
 
-// The redirection URI, where it is exactly one of the client's (RFC 6749, 3.1.2.4).
+// The redirect URI, if it is exactly one of the client's (RFC 6749, 3.1.2.4).
 fn redirect_of<'a>(client: &Client, uri: &'a Option<Text>) -> Option<&'a Text>
     ensures { option_map (λ t. t.now) result ≡ spec.redirect_of client.now uri.now }
 {
@@ -38,7 +38,7 @@ fn redirect_of<'a>(client: &Client, uri: &'a Option<Text>) -> Option<&'a Text>
     }
 }
 
-// Whether the client may ask for the response type.
+// Whether the client may request the response type.
 fn may_ask(client: &Client, number: Option<usize>) -> bool
     ensures { result ≡ spec.may_ask client.now number }
 {
@@ -58,7 +58,7 @@ fn mode_of(number: Option<usize>) -> &'static str
     }
 }
 
-// Whether a response mode is asked for that is not the type's own.
+// Whether the requested response mode is not the type's own.
 fn is_other_mode(number: Option<usize>, mode: &Option<Text>) -> bool
     ensures { result ≡ spec.is_other_mode number mode.now }
 {
@@ -68,7 +68,7 @@ fn is_other_mode(number: Option<usize>, mode: &Option<Text>) -> bool
     }
 }
 
-/// Whether a nonce has at most 255 bytes, where there is one.
+/// Whether a nonce, if there is one, has at most 255 bytes.
 pub fn is_short_nonce(nonce: &Option<Text>) -> bool
     ensures { result ≡ values.is_short_nonce nonce.now }
 {
@@ -88,7 +88,7 @@ fn is_bad_nonce(number: Option<usize>, nonce: &Option<Text>) -> bool
     }
 }
 
-// The first error whose condition holds.
+// The first error whose condition is true.
 #[tactic(auto, unfolding(crate::specs::Judgement::errors))]
 fn first_error(
     client: &Client,
@@ -137,7 +137,7 @@ fn first_error(
     Ok(())
 }
 
-// The error, sent to the redirection URI.
+// The error response at the redirect URI.
 fn refusal_of(
     alloc: Global,
     redirect: &Text,
@@ -205,29 +205,29 @@ fn answer(
     }
 }
 
-/// Judges an authorization request (OpenID Connect Core 1.0, 3.1.2.2), where `object_refused` says whether its request
-/// object was refused (6.1). The first of these rows that fits is answered.
+/// Validates an authorization request (OpenID Connect Core 1.0, 3.1.2.2). `object_refused` is true if its request object was
+/// rejected (6.1). Returns the verdict of the first row that applies.
 ///
 /// | Condition | Verdict |
 /// |---|---|
 /// | `client_id` is absent or unknown | [`PageNo::Client`] |
 /// | `redirect_uri` is absent, or not exactly one of the client's | [`PageNo::Redirect`] |
-/// | `request_uri` is there | [`AuthError::RequestUriNotSupported`] |
-/// | `registration` is there | [`AuthError::RegistrationNotSupported`] |
-/// | the request object was refused | [`AuthError::InvalidRequestObject`] |
+/// | `request_uri` is present | [`AuthError::RequestUriNotSupported`] |
+/// | `registration` is present | [`AuthError::RegistrationNotSupported`] |
+/// | the request object was rejected | [`AuthError::InvalidRequestObject`] |
 /// | `response_type` is absent | [`AuthError::InvalidRequest`] |
 /// | it is none of the six | [`AuthError::UnsupportedResponseType`] |
 /// | it is none of the client's | [`AuthError::UnauthorizedClient`] |
-/// | `response_mode` is there, and is not the type's own | [`AuthError::InvalidRequest`] |
+/// | `response_mode` is present, and is not the type's own | [`AuthError::InvalidRequest`] |
 /// | `scope` lacks the word `openid` | [`AuthError::InvalidScope`] |
-/// | `nonce` is absent where the type has `id_token`, or has over 255 bytes | [`AuthError::InvalidRequest`] |
+/// | `nonce` is absent and the type has `id_token`, or it has over 255 bytes | [`AuthError::InvalidRequest`] |
 /// | `prompt` has the word `none` and another word | [`AuthError::InvalidRequest`] |
-/// | `max_age` is there, and is not 1 to 9 decimal digits | [`AuthError::InvalidRequest`] |
-/// | `claims` is there, and has another form (5.5) | [`AuthError::InvalidRequest`] |
+/// | `max_age` is present, and is not 1 to 9 decimal digits | [`AuthError::InvalidRequest`] |
+/// | `claims` is present, and has another form (5.5) | [`AuthError::InvalidRequest`] |
 /// | none of these | [`Verdict::Grant`] |
 ///
-/// A refusal goes to the redirection URI with the request's state, in the fragment exactly where the response type is one
-/// of the five other than `code`.
+/// An error response goes to the redirect URI with the request's state. It is in the fragment if and only if the response type
+/// is one of the five other than `code`.
 #[tactic(auto, unfolding(crate::specs::Judgement::judgement), using(crate::proofs::Numbers::below))]
 pub fn judge(
     alloc: Global,

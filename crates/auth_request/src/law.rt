@@ -1,4 +1,4 @@
-// What holds of every judgement, for the crates above.
+// Laws about validation, for the crates above.
 
 ghost use Rattle.std.specs.Prelude.{◌≡◌, ◌⊎◌, ◌↔◌, ◌&&◌, ℕ, Bool, true, List, codes, Some, is_some, option_and_then};
 ghost use Rattle.serde_json.specs.Data.{Data};
@@ -21,8 +21,8 @@ ghost use Rattle.auth_request.specs.Parameters.{asking_of};
 ghost use Rattle.auth_request.specs.Judgement.{judgement, errors, wish_of};
 ghost use Rattle.auth_request.specs.Granted.{ClientsAreApart, IsRegistered, AnswersInFragment, IsWish, IsWishOf};
 
-/// An answer is sent only to a redirection URI that is registered for the request's client, and there is a page exactly
-/// where the request names none: its client is unknown, or the URI is none of that client's (RFC 6749, 3.1.2.4).
+/// A response is sent only to a redirect URI that is registered for the request's client. An error page is shown if and only if
+/// the request has no such URI: its client is unknown, or the URI is none of that client's (RFC 6749, 3.1.2.4).
 pub fn answers_go_to_registered_uris()
     ensures refused { (c : Configuration) (p : Params) (b : Bool) (x : Refusal) → judgement c p b ≡ verdict.Refuse x → (n : ℕ) × IsRegistered c p n x.redirect }
     ensures granted { (c : Configuration) (p : Params) (b : Bool) (w : Wish) → judgement c p b ≡ verdict.Grant w → IsRegistered c p w.client w.redirect }
@@ -30,26 +30,26 @@ pub fn answers_go_to_registered_uris()
     ensures pages { (c : Configuration) (p : Params) (b : Bool) (y : PageNo) → judgement c p b ≡ verdict.Page y → (y ≡ page.Client) ⊎ (y ≡ page.Redirect) }
 {}
 
-/// A refusal has the request's state, and stands in the fragment exactly where the response type is one of the five other
-/// than `code`, also where that type is none of the client's.
+/// An error response has the request's state. It is in the fragment if and only if the response type is one of the five other
+/// than `code`, even if that type is none of the client's.
 pub fn refusals_answer_as_the_type_does()
     ensures state { (c : Configuration) (p : Params) (b : Bool) (x : Refusal) → judgement c p b ≡ verdict.Refuse x → x.state ≡ p.state }
     ensures fragment { (c : Configuration) (p : Params) (b : Bool) (x : Refusal) → judgement c p b ≡ verdict.Refuse x → (x.fragment ≡ true) ↔ AnswersInFragment p }
 {}
 
-/// A granted wish is what the parameters say, and keeps what every wish does.
+/// A granted wish has the contents of the parameters, and satisfies the invariant of wishes.
 pub fn granted_wishes_are_the_requests()
     ensures of_request { (c : Configuration) (p : Params) (b : Bool) (w : Wish) → judgement c p b ≡ verdict.Grant w → IsWishOf p w }
     ensures keeps { (c : Configuration) (p : Params) (b : Bool) (w : Wish) → judgement c p b ≡ verdict.Grant w → IsWish c w }
 {}
 
-/// A request with a registered redirection URI, of which no error's condition holds, is granted.
+/// A request with a registered redirect URI is granted if no error's condition is true.
 pub fn requests_without_errors_are_granted()
     ensures { (c : Configuration) (p : Params) (b : Bool) (n : ℕ) (k : Client) (uri : List ℕ) → ClientsAreApart c → IsRegistered c p n uri → client_at c n ≡ Some k → NoneHolds (errors k p (asking_of p) b) → judgement c p b ≡ verdict.Grant (wish_of n uri p (asking_of p)) }
 {}
 
-/// The claims that a `claims` parameter of its form asks for, in the ID Token and from the UserInfo endpoint, are exactly
-/// the standard claims that are members there (OpenID Connect Core 1.0, 5.5).
+/// If a `claims` parameter has the right form, the claims that it requests, in the ID Token and from the UserInfo endpoint, are
+/// exactly the standard claims among its members (OpenID Connect Core 1.0, 5.5).
 pub fn asked_claims_are_standard_members()
     ensures id_asked { (t : List ℕ) (d : Data) (q : List ℕ) → read t ≡ Some d → is_claims_request d ≡ true → has_text q (claims_of (Some t)).id_asked ≡ (is_standard_claim q && is_some (option_and_then (get q) (get (codes "id_token") d))) }
     ensures info_asked { (t : List ℕ) (d : Data) (q : List ℕ) → read t ≡ Some d → is_claims_request d ≡ true → has_text q (claims_of (Some t)).info_asked ≡ (is_standard_claim q && is_some (option_and_then (get q) (get (codes "userinfo") d))) }

@@ -1,14 +1,14 @@
-//! The judgement of authorization requests (OpenID Connect Core 1.0, 3.1.2.2).
+//! Validation of authorization requests (OpenID Connect Core 1.0, 3.1.2.2).
 //!
-//! A request is shown as an error page, is answered by an error at the redirection URI, or is granted as a [`Wish`].
+//! A request leads to an error page, to an error response at the redirect URI, or is granted as a [`Wish`].
 //!
 //! | Module | What it has |
 //! |---|---|
-//! | `wish` | [`Wish`], what a request wishes; [`Verdict`], how it is judged |
-//! | `claims_parameter` | what the parameter `claims` asks |
-//! | `parameters` | what the parameters say |
-//! | `judging` | [`judge`], by the first row of its table that fits; [`is_short_nonce`] |
-//! | `law` | what holds of every judgement, for the crates above |
+//! | `wish` | [`Wish`], the contents of a granted request; [`Verdict`], the result of validation |
+//! | `claims_parameter` | what the parameter `claims` requests |
+//! | `parameters` | the contents of the parameters |
+//! | `judging` | [`judge`] validates a request; [`is_short_nonce`] tests a nonce |
+//! | `law` | laws about validation, for the crates above |
 #![tactic(auto)]
 
 mod claims_parameter;

@@ -1,4 +1,4 @@
-// What the parameters of an authorization request say (OpenID Connect Core 1.0, 3.1.2.1).
+// The contents of the parameters of an authorization request (OpenID Connect Core 1.0, 3.1.2.1).
 
 ghost use Rattle.std.specs.Prelude.{◌≡◌, IfOk};
 ghost use Rattle.auth_request.specs.Parameters as spec;
@@ -9,17 +9,17 @@ use request_params::Params;
 use sso_base::{NoMemory, Text};
 use std::alloc::Global;
 
-// The most digits that an age may have.
+// The greatest number of digits of an age.
 const MOST_DIGITS: usize = 9;
 
-// What the parameters say, each read once.
+// The contents of the parameters, each read once.
 #[derive(Drop)]
 pub(crate) struct Asking {
-    // The number of the response type among the six, from 0.
+    // The number of the response type among the six, counted from 0.
     pub(crate) number: Option<usize>,
     pub(crate) scopes: Scopes,
     pub(crate) prompt: Prompt,
-    // In seconds. None also where the parameter is no such number.
+    // In seconds. It is also `None` if the parameter is no such number.
     pub(crate) max_age: Option<u64>,
     pub(crate) claims: Asked,
 }
@@ -60,7 +60,7 @@ fn age_of(text: &Option<Text>) -> Option<u64>
     }
 }
 
-// What the parameters say.
+// The contents of the parameters.
 #[tactic(auto, unfolding(crate::specs::Parameters::asking_of))]
 pub(crate) fn asking_of(alloc: Global, params: &Params) -> Result<Asking, NoMemory>
     ensures { IfOk result (λ a. a ≡ spec.asking_of params.now) }

@@ -1,4 +1,4 @@
-// What an authorization request wishes, and how it is judged.
+// The contents of an authorization request, and the result of its validation.
 
 ghost use Rattle.std.specs.Prelude.{◌≡◌, IfOk};
 
@@ -6,20 +6,20 @@ use oidc_words::{Refusal, Scopes, Types};
 use sso_base::{NoMemory, Text, Texts, copied_text};
 use std::alloc::Global;
 
-/// What an authorization request wishes, where it may be answered (OpenID Connect Core 1.0, 3.1.2.1 and 5.5).
+/// The contents of a valid authorization request (OpenID Connect Core 1.0, 3.1.2.1 and 5.5).
 #[derive(Drop)]
 pub struct Wish {
-    /// The number of its client, from 0.
+    /// The number of its client, counted from 0.
     pub client: u32,
-    /// The redirection URI: one that the client has.
+    /// The redirect URI: one of the client's.
     pub redirect: Text,
     /// The response type (OpenID Connect Core 1.0, 3).
     pub types: Types,
-    /// The scope values that are known (OpenID Connect Core 1.0, 5.4).
+    /// The known scope values (OpenID Connect Core 1.0, 5.4).
     pub scopes: Scopes,
-    /// What the answer gives back (RFC 6749, 4.1.1).
+    /// The `state` that the response repeats (RFC 6749, 4.1.1).
     pub state: Option<Text>,
-    /// What the ID Token gives back (OpenID Connect Core 1.0, 3.1.2.1).
+    /// The `nonce` that the ID Token repeats (OpenID Connect Core 1.0, 3.1.2.1).
     pub nonce: Option<Text>,
     /// Whether `prompt` has the word `none`.
     pub none: bool,
@@ -27,13 +27,13 @@ pub struct Wish {
     pub login: bool,
     /// Whether `prompt` has the word `consent`.
     pub consent: bool,
-    /// In seconds.
+    /// The greatest age of the login, in seconds.
     pub max_age: Option<u64>,
-    /// The subjects, of which the user must be one (OpenID Connect Core 1.0, 5.5.1).
+    /// If present, the user's subject must be one of these (OpenID Connect Core 1.0, 5.5.1).
     pub subs: Option<Texts>,
-    /// The names of the claims that are asked for in the ID Token.
+    /// The names of the claims that are requested in the ID Token.
     pub id_asked: Texts,
-    /// The names of the claims that are asked for from the UserInfo endpoint.
+    /// The names of the claims that are requested from the UserInfo endpoint.
     pub info_asked: Texts,
 }
 
@@ -42,28 +42,28 @@ pub struct Wish {
 pub enum PageNo {
     /// The client is absent or unknown.
     Client,
-    /// The redirection URI is absent or none of the client's.
+    /// The redirect URI is absent or none of the client's.
     Redirect,
-    /// A name stands twice.
+    /// A parameter name occurs twice.
     Twice,
-    /// The login or consent form is of no live turn.
+    /// The login or consent form belongs to no live turn.
     Turn,
     /// The form was served to another browser.
     Browser,
 }
 
-/// The judgement of an authorization request.
+/// The result of validating an authorization request.
 #[derive(Drop)]
 pub enum Verdict {
     /// The user is shown an error page (RFC 6749, 4.1.2.1).
     Page(PageNo),
-    /// The client is told the error (OpenID Connect Core 1.0, 3.1.2.6).
+    /// The client gets the error response (OpenID Connect Core 1.0, 3.1.2.6).
     Refuse(Refusal),
     /// The request may be answered (OpenID Connect Core 1.0, 3.1.2.5).
     Grant(Wish),
 }
 
-// An equal list of texts, where there is one.
+// A copy of the list of texts, if there is one.
 fn copied_texts(alloc: Global, texts: &Option<Texts>) -> Result<Option<Texts>, NoMemory>
     ensures { IfOk result (λ o. o ≡ texts.now) }
 {
@@ -74,7 +74,7 @@ fn copied_texts(alloc: Global, texts: &Option<Texts>) -> Result<Option<Texts>, N
 }
 
 impl Wish {
-    /// An equal wish.
+    /// A copy of the wish.
     pub fn copy(&self, alloc: Global) -> Result<Wish, NoMemory>
         ensures { IfOk result (λ w. w ≡ self.now) }
     {

@@ -1,21 +1,21 @@
--- Claim sets that are made of others by setting names, and their parts.
+-- Claim sets that are built by setting names, and their parts.
 use Rattle.std.specs.Prelude.{◌≡◌, ℕ, List, [], ◌∷◌, Bool, true, not, ◌&&◌, Option, Some, None, if◌then◌else◌}
 use Rattle.std.specs.Str.{bytes_eq}
 use Rattle.serde_json.specs.Data.{Data, string, number, unsigned, array, Members, put}
 use Rattle.serde_json.specs.Find.{get_member}
 use Rattle.claim_set.specs.Claims.{without, text_items}
 
--- a whole number from 0
+-- a natural number
 abbrev pub number_value : ℕ → Data
 number_value n = number (unsigned n)
 
--- an audience: a lone text is a string, none or more are an array (RFC 7519, 4.1.3)
+-- an audience: one text is a string, none or several are an array (RFC 7519, 4.1.3)
 abbrev pub audience : List (List ℕ) → Data
 audience [] = array (text_items [])
 audience (a ∷ []) = string a
 audience (a ∷ b ∷ rest) = array (text_items (a ∷ b ∷ rest))
 
--- a name, and its value where there is one
+-- a name, and its value if there is one
 abbrev pub Entry : Type 0
 Entry = List ℕ × Option Data
 
@@ -32,7 +32,7 @@ abbrev pub without_all : List (List ℕ) → Members → Members
 without_all [] ms = ms
 without_all (k ∷ ks) ms = without k (without_all ks ms)
 
--- none of the names is there
+-- none of the names is present
 abbrev pub HasNone : List (List ℕ) → Members → Type 0
 HasNone [] ms = Unit {0}
 HasNone (k ∷ ks) ms = (get_member k ms ≡ None) × HasNone ks ms
@@ -41,7 +41,7 @@ abbrev pub or_else : Option Data → Option Data → Option Data
 or_else None o = o
 or_else (Some d) o = Some d
 
--- what the entries leave at a name, where o stood before
+-- the value of a name after the entries, if it was o before
 abbrev pub found : List ℕ → List Entry → Option Data → Option Data
 found q [] o = o
 found q (e ∷ es) o = found q es (if bytes_eq q e.0 then or_else e.1 o else o)
@@ -50,7 +50,7 @@ abbrev pub names : List Entry → List (List ℕ)
 names [] = []
 names (e ∷ es) = e.0 ∷ names es
 
--- no entry has the name; no name stands twice
+-- no entry has the name; no name occurs twice
 abbrev pub is_apart : List ℕ → List Entry → Bool
 is_apart k [] = true
 is_apart k (e ∷ es) = not (bytes_eq e.0 k) && is_apart k es

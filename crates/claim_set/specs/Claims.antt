@@ -13,22 +13,22 @@ members_in (string s) = no_members
 members_in (array ds) = no_members
 members_in (object ms) = ms
 
--- a value may stand for a claim set: an object, of whole numbers, nested at most 127 deep
+-- a value that is a claim set: an object with integers only, nested at most 127 deep
 pub record IsClaims (d : Data) : Type 0 where
   pub is_object : d ≡ object (members_in d)
   pub whole : has_float d ≡ false
   pub nests : depth d ≤ 127
 
--- how deep a claim set is: 1, and one more for each level of objects and arrays inside it
+-- how deep a claim set is: 1, plus 1 for each level of objects and arrays inside it
 abbrev pub claims_depth : Members → ℕ
 claims_depth ms = depth (object ms)
 
--- the names, in the order in which they stand
+-- the names, in order
 abbrev pub member_names : Members → List (List ℕ)
 member_names no_members = []
 member_names (member k d ms) = k ∷ member_names ms
 
--- the members less one name
+-- the members without one name
 abbrev pub without : List ℕ → Members → Members
 without k no_members = no_members
 without k (member l d ms) = if bytes_eq k l then ms else member l d (without k ms)

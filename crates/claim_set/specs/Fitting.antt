@@ -1,4 +1,4 @@
--- Values that JSON text gives back: whole numbers of 64 bits, texts in UTF-8, and each name once, in order.
+-- Values that are preserved by writing and reading JSON: integers of 64 bits, texts in UTF-8, and each name once, in order.
 use Rattle.std.specs.Prelude.{◌≡◌, ◌<◌, ◌≤◌, ◌^◌, ℕ, pos, negsuc, List, [], ◌∷◌, IfSome, ⊤}
 use Rattle.std.specs.Str.{IsUtf8}
 use Rattle.std.specs.Ordering.{nat_cmp}
@@ -8,19 +8,19 @@ use Rattle.claim_set.specs.Building.{Entry}
 use Rattle.claim_set.specs.Claims.{claims_depth}
 use Rattle.serde_json.specs.Data.{Num, unsigned, negative, float, Data, null, boolean, number, string, array, object, Items, no_items, item, Members, no_members, member, depth}
 
--- a whole number that has 64 bits
+-- an integer that has 64 bits
 abbrev pub NumFits : Num → Type 0
 NumFits (unsigned n) = n < 2 ^ 64
 NumFits (negative (pos n)) = ⊥
 NumFits (negative (negsuc n)) = n < 2 ^ 63
 NumFits (float x) = ⊥
 
--- the name stands before each of the members
+-- the name is before each of the members
 abbrev pub IsBefore : List ℕ → Members → Type 0
 IsBefore k no_members = ⊤
 IsBefore k (member l d ms) = (slice_cmp nat_cmp k l ≡ Less) × IsBefore k ms
 
--- each name stands once, in order
+-- each name occurs once, in order
 abbrev pub InOrder : Members → Type 0
 InOrder no_members = ⊤
 InOrder (member k d ms) = IsBefore k ms × InOrder ms

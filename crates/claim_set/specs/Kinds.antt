@@ -1,4 +1,4 @@
--- Claims by name, each of the kind that is asked for.
+-- Claims by name, each of the requested kind.
 use Rattle.std.specs.Prelude.{ℕ, ◌^◌, List, [], ◌∷◌, Bool, false, nat_lt, is_none, Option, Some, None, option_map, option_and_then, Result, Ok, Err, if◌then◌else◌}
 use Rattle.serde_json.specs.Data.{Data, null, boolean, number, string, array, object, Items, no_items, item, Members}
 use Rattle.serde_json.specs.Find.{get_member, as_object, as_str, as_bool, as_number, as_u64}
@@ -9,17 +9,17 @@ abbrev pub kind_found : {A : Type 0} → List ℕ → Option A → Result (Optio
 kind_found name None = Err (WrongKind name)
 kind_found name (Some a) = Ok (Some a)
 
--- a claim that is absent, of the kind asked for, or of another
+-- a claim that is absent, of the requested kind, or of another kind
 abbrev pub of_kind : {A : Type 0} → List ℕ → Option Data → (Data → Option A) → Result (Option A) ClaimNo
 of_kind name None kind = Ok None
 of_kind name (Some d) kind = kind_found name (kind d)
 
--- the claim is there, and is not of the kind
+-- the claim is present, and is not of the kind
 abbrev pub is_wrong : {A : Type 0} → (Data → Option A) → Option Data → Bool
 is_wrong kind None = false
 is_wrong kind (Some d) = is_none (kind d)
 
--- the refusals of a claim that is of another kind, and of one that is absent, each by its name
+-- the errors for a claim of another kind and for an absent claim, each with its name
 abbrev pub another_kind : {A N : Type 0} → (ClaimNo → N) → List ℕ → (Data → Option A) → Members → Bool × N
 another_kind refusal name kind ms = (is_wrong kind (get_member name ms), refusal (WrongKind name))
 
@@ -33,7 +33,7 @@ text_claim name ms = of_kind name (get_member name ms) as_str
 abbrev pub if_small : ℕ → Option ℕ
 if_small n = if nat_lt n (2 ^ 40) then Some n else None
 
--- a whole number from 0 to 2^40 - 1
+-- an integer from 0 to 2^40 - 1
 abbrev pub small_number : Data → Option ℕ
 small_number d = option_and_then if_small (option_and_then as_u64 (as_number d))
 

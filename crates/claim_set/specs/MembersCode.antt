@@ -1,4 +1,4 @@
--- JSON values as trees of numbers, one to one, so that a type may be seen as them.
+-- An injective encoding of JSON values as trees of numbers, so that JSON values can be the model of a type.
 use Rattle.std.specs.Prelude.{◌≡◌, ℕ, List}
 use Rattle.std.proofs.Common.{refl, ap, ap₂, arith}
 use Rattle.std.specs.Coded.{Coded, coded_ℕ, coded_ℤ, coded_bool, coded_list}

@@ -1,4 +1,4 @@
-// The claim set, and how names are set and taken out.
+// The claim set, setting names and removing them.
 
 ghost use Rattle.std.specs.Prelude.{◌≡◌, ◌≤◌, IfOk, OnOk, OnErr, is_some, false, option_map, codes};
 ghost use Rattle.serde_json.specs.Data.{no_members, put as with_member, object, string, number, unsigned, boolean, array, depth};
@@ -16,11 +16,11 @@ use std::marker::Model;
 
 /// A claim set: a finite map from names to JSON values (RFC 7519, 4).
 ///
-/// Its numbers are whole, from -2^63 to 2^64 - 1, and its depth is at most 127.
+/// Its numbers are integers from -2^63 to 2^64 - 1, and its depth is at most 127.
 #[derive(Drop)]
 pub struct ClaimSet {
     pub(crate) alloc: Global,
-    // An object, so that it can be lent to be written.
+    // An object, so that it can be passed to the writer by reference.
     pub(crate) value: Value,
 }
 
@@ -40,7 +40,7 @@ impl Model for ClaimSet {
 }
 
 impl ClaimSet {
-    /// The claim set with no names, which takes no memory.
+    /// The empty claim set. It allocates nothing.
     pub fn new(alloc: Global) -> ClaimSet
         ensures { result ≡ no_members }
     {
@@ -50,7 +50,7 @@ impl ClaimSet {
         }
     }
 
-    /// How deep the set nests, from 1 to 127: 1, and one more for each level of objects and arrays inside it.
+    /// How deep the set nests, from 1 to 127: 1, plus 1 for each level of objects and arrays inside it.
     pub fn depth(&self) -> u32
         ensures value { result ≡ claims_depth self.now }
         ensures most { result ≤ 127 }
@@ -58,14 +58,14 @@ impl ClaimSet {
         depth_of(&self.value)
     }
 
-    /// The same set, in memory of its own.
+    /// A copy of the set.
     pub fn copy(&self) -> Result<ClaimSet, NoMemory>
         ensures { IfOk result (λ c. c ≡ self.now) }
     {
         copied(self.alloc, &self.value)
     }
 
-    /// Whether the name is there, whatever its value.
+    /// Whether the set has a claim of this name, with any value.
     pub fn has(&self, name: &str) -> bool
         ensures { result ≡ is_some (get_member name.now self.now) }
     {
@@ -82,7 +82,7 @@ impl ClaimSet {
         names_in(self.alloc, map)
     }
 
-    /// Takes the name out. Where it is not there, nothing changes.
+    /// Removes the name. If it is absent, nothing changes.
     pub fn remove(&mut self, name: &str)
         ensures { self.new ≡ without name.now self.old }
     {
@@ -107,7 +107,7 @@ impl ClaimSet {
         Ok(())
     }
 
-    /// Sets the name to a text, in place of what it had. The other names keep their values.
+    /// Sets the name to a text and replaces its old value. The other names keep their values. On an error nothing changes.
     pub fn put_text(&mut self, name: &str, value: &str) -> Result<(), NoMemory>
         ensures ok { OnOk result (self.new ≡ with_member name.now (string value.now) self.old) }
         ensures err { OnErr result (self.new ≡ self.old) }
@@ -116,7 +116,8 @@ impl ClaimSet {
         self.put(name, text)
     }
 
-    /// Sets the name to a whole number, in place of what it had. The other names keep their values.
+    /// Sets the name to a whole number and replaces its old value. The other names keep their values. On an error nothing
+    /// changes.
     pub fn put_number(&mut self, name: &str, value: u64) -> Result<(), NoMemory>
         ensures ok { OnOk result (self.new ≡ with_member name.now (number (unsigned value)) self.old) }
         ensures err { OnErr result (self.new ≡ self.old) }
@@ -125,7 +126,8 @@ impl ClaimSet {
         self.put(name, number)
     }
 
-    /// Sets the name to true or false, in place of what it had. The other names keep their values.
+    /// Sets the name to true or false and replaces its old value. The other names keep their values. On an error nothing
+    /// changes.
     pub fn put_flag(&mut self, name: &str, value: bool) -> Result<(), NoMemory>
         ensures ok { OnOk result (self.new ≡ with_member name.now (boolean value) self.old) }
         ensures err { OnErr result (self.new ≡ self.old) }
@@ -134,8 +136,8 @@ impl ClaimSet {
         self.put(name, flag)
     }
 
-    /// Sets the name to an array of texts, also where there is one or none, in place of what it had. The other names
-    /// keep their values.
+    /// Sets the name to an array of texts, even if there is only one or none. It replaces the old value. The other names keep
+    /// their values. On an error nothing changes.
     pub fn put_texts(&mut self, name: &str, value: &Texts) -> Result<(), NoMemory>
         ensures ok { OnOk result (self.new ≡ with_member name.now (array (text_items value.now)) self.old) }
         ensures err { OnErr result (self.new ≡ self.old) }
@@ -144,7 +146,7 @@ impl ClaimSet {
         self.put(name, Value::Array(items))
     }
 
-    /// Sets the name to a text, where there is one. Where there is none, nothing changes.
+    /// Sets the name to a text, if there is one. Otherwise nothing changes.
     pub fn put_text_if(&mut self, name: &str, value: &Option<Text>) -> Result<(), NoMemory>
         ensures ok { OnOk result (self.new ≡ put_if name.now (option_map string value.now) self.old) }
         ensures err { OnErr result (self.new ≡ self.old) }
@@ -155,7 +157,7 @@ impl ClaimSet {
         }
     }
 
-    /// Sets the name to a whole number, where there is one. Where there is none, nothing changes.
+    /// Sets the name to a whole number, if there is one. Otherwise nothing changes.
     pub fn put_number_if(&mut self, name: &str, value: Option<u64>) -> Result<(), NoMemory>
         ensures ok { OnOk result (self.new ≡ put_if name.now (option_map number_value value) self.old) }
         ensures err { OnErr result (self.new ≡ self.old) }
@@ -166,7 +168,7 @@ impl ClaimSet {
         }
     }
 
-    /// Sets `aud`, the audience: a lone text is written as a string, none or more as an array (RFC 7519, 4.1.3).
+    /// Sets `aud`, the audience: one text is written as a string, none or several as an array (RFC 7519, 4.1.3).
     pub fn put_audience(&mut self, value: &Texts) -> Result<(), NoMemory>
         ensures ok { OnOk result (self.new ≡ with_member (codes "aud") (audience value.now) self.old) }
         ensures err { OnErr result (self.new ≡ self.old) }
@@ -178,8 +180,8 @@ impl ClaimSet {
         }
     }
 
-    /// Sets the name to a claim set, in place of what it had. The other names keep their values. [`ClaimSet::depth`]
-    /// is the test of the condition.
+    /// Sets the name to a claim set and replaces its old value. The other names keep their values. [`ClaimSet::depth`] tests
+    /// the precondition.
     pub fn put_set(&mut self, name: &str, value: ClaimSet) -> Result<(), NoMemory>
         requires { claims_depth value ≤ 126 }
         ensures ok { OnOk result (self.new ≡ with_member name.now (object value) self.old) }
@@ -189,7 +191,7 @@ impl ClaimSet {
     }
 }
 
-// A claim set in memory of its own, from a value that holds one.
+// A copy of the claim set that a JSON value is.
 pub(crate) fn copied(alloc: Global, value: &Value) -> Result<ClaimSet, NoMemory>
     requires { IsClaims (view value.now) }
     ensures { IfOk result (λ c. c ≡ members_in (view value.now)) }

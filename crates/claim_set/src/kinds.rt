@@ -1,4 +1,4 @@
-// Claims by name: each is absent, of the kind that is asked for, or of another.
+// Claims by name: each is absent, of the requested kind, or of another kind.
 
 ghost use Rattle.std.specs.Prelude.{◌≡◌, ◌⊎◌, Ok, Err, IfOk, IfErr, is_some};
 ghost use Rattle.serde_json.specs.Find.{get_member};
@@ -10,8 +10,8 @@ use crate::walks::texts_in;
 use sso_base::{Text, Texts};
 
 impl ClaimSet {
-    /// The text of this name. None exactly where the name is absent, [`ClaimNo::WrongKind`] exactly where its value is
-    /// not a string.
+    /// The text of this name. `None` if and only if the name is absent, [`ClaimNo::WrongKind`] if and only if its value is not
+    /// a string.
     pub fn text(&self, name: &str) -> Result<Option<Text>, ClaimNo>
         ensures answers { IfOk result (λ o. text_claim name.now self.now ≡ Ok o) }
         ensures there { IfOk result (λ o. is_some o ≡ is_some (get_member name.now self.now)) }
@@ -27,8 +27,8 @@ impl ClaimSet {
         }
     }
 
-    /// The number of this name, from 0 to 2^40 - 1. None exactly where the name is absent, [`ClaimNo::WrongKind`]
-    /// exactly where its value is not such a number.
+    /// The number of this name, from 0 to 2^40 - 1. `None` if and only if the name is absent, [`ClaimNo::WrongKind`] if and
+    /// only if its value is not such a number.
     pub fn number(&self, name: &str) -> Result<Option<u64>, ClaimNo>
         ensures answers { IfOk result (λ o. number_claim name.now self.now ≡ Ok o) }
         ensures there { IfOk result (λ o. is_some o ≡ is_some (get_member name.now self.now)) }
@@ -44,7 +44,7 @@ impl ClaimSet {
         }
     }
 
-    /// The flag of this name. None exactly where the name is absent, [`ClaimNo::WrongKind`] exactly where its value is
+    /// The flag of this name. `None` if and only if the name is absent, [`ClaimNo::WrongKind`] if and only if its value is
     /// neither true nor false.
     pub fn flag(&self, name: &str) -> Result<Option<bool>, ClaimNo>
         ensures answers { IfOk result (λ o. flag_claim name.now self.now ≡ Ok o) }
@@ -61,8 +61,8 @@ impl ClaimSet {
         }
     }
 
-    /// The texts of this name: those of an array of strings, in order, or the one of a string. None exactly where the
-    /// name is absent, [`ClaimNo::WrongKind`] exactly where its value is neither.
+    /// The texts of this name: those of an array of strings, in order, or the one text of a string. `None` if and only if the
+    /// name is absent, [`ClaimNo::WrongKind`] if and only if its value is neither.
     pub fn texts(&self, name: &str) -> Result<Option<Texts>, ClaimNo>
         ensures answers { IfOk result (λ o. texts_claim name.now self.now ≡ Ok o) }
         ensures there { IfOk result (λ o. is_some o ≡ is_some (get_member name.now self.now)) }
@@ -78,8 +78,8 @@ impl ClaimSet {
         }
     }
 
-    /// The claim set of this name, in memory of its own. None exactly where the name is absent,
-    /// [`ClaimNo::WrongKind`] exactly where its value is not an object.
+    /// A copy of the claim set of this name. `None` if and only if the name is absent, [`ClaimNo::WrongKind`] if and only if
+    /// its value is not an object.
     pub fn member(&self, name: &str) -> Result<Option<ClaimSet>, ClaimNo>
         ensures answers { IfOk result (λ o. member_claim name.now self.now ≡ Ok o) }
         ensures there { IfOk result (λ o. is_some o ≡ is_some (get_member name.now self.now)) }

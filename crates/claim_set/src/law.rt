@@ -1,4 +1,4 @@
-// What holds of claim sets, for the crates above.
+// Laws about claim sets, for the crates above.
 
 ghost use Rattle.std.specs.Prelude.{◌≡◌, ◌≤◌, ◌<◌, ◌+◌, ◌*◌, ◌^◌, ℕ, List, [], ◌∷◌, length, nat_lt, Bool, true, Some, None, Ok, Err};
 ghost use Rattle.std.specs.List.{list_all};
@@ -15,8 +15,8 @@ ghost use Rattle.claim_set.specs.Reading.{claims_text, claims_read, Reads, IsFir
 ghost use Rattle.claim_set.specs.Fitting.{Fits, InOrder, ClaimsFit, EntriesFit};
 ghost use Rattle.claim_set.specs.Building.{Entry, audience, put_all, without_all, names, found, is_distinct, HasNone};
 
-/// A text is read as claims exactly where they are what stands in it. Their names stand in order, each once, and they
-/// nest at most 127 deep.
+/// A text is read as certain claims if and only if it contains them. Their names are in order, each once, and they nest at most
+/// 127 deep.
 pub fn read_claims_have_their_text()
     ensures reads { (b : List ℕ) (ms : Members) → claims_read b ≡ Ok ms → Reads b ms }
     ensures read { (b : List ℕ) (ms : Members) → Reads b ms → claims_read b ≡ Ok ms }
@@ -24,28 +24,27 @@ pub fn read_claims_have_their_text()
     ensures nests { (b : List ℕ) (ms : Members) → Reads b ms → claims_depth ms ≤ 127 }
 {}
 
-/// A text that is refused with a name is that of an object, and the name is the first, in the order of the bytes,
-/// whose value holds a number that is not whole.
+/// If a text is rejected with a name, it is the text of an object. The name is the first, in the order of the bytes, whose
+/// value contains a number that is not an integer.
 pub fn refused_texts_name_the_first()
     ensures { (b k : List ℕ) → claims_read b ≡ Err (no.WrongKind k) → (ms : Members) × (read b ≡ Some (object ms)) × IsFirstWrong k ms }
 {}
 
-/// The text that is written for claims that fit is in UTF-8, so its bytes are below 256, and it is read as these
-/// claims.
+/// The text that is written for claims that fit is UTF-8, so its bytes are below 256. Reading it returns these claims.
 pub fn written_claims_are_read()
     ensures utf8 { (ms : Members) → ClaimsFit ms → IsUtf8 (claims_text ms) }
     ensures bytes { (ms : Members) → ClaimsFit ms → list_all (λ x. nat_lt x 256) (claims_text ms) ≡ true }
     ensures read { (ms : Members) → ClaimsFit ms → claims_read (claims_text ms) ≡ Ok ms }
 {}
 
-/// A name that is set makes the text longer by at most its own text, that of its value, and two bytes; a text has at
-/// most six bytes for each of its own, and two.
+/// Setting a name makes the text longer by at most the quoted name, the text of its value, and two bytes. A quoted text has at
+/// most six bytes for each of its own, plus two.
 pub fn written_claims_have_lengths()
     ensures put { (k : List ℕ) (d : Data) (ms : Members) → length (claims_text (put k d ms)) ≤ length (claims_text ms) + (length (quoted k) + (length (compact_text d) + 2)) }
     ensures text { (t : List ℕ) → length (quoted t) ≤ 6 * length t + 2 }
 {}
 
-/// Claims that fit still do when a name is set to a value that fits, when several are, and when a name is taken out.
+/// Claims that fit still fit after setting one name or several to values that fit, and after removing a name.
 pub fn fitting_claims_stay_fit()
     ensures none { ClaimsFit no_members }
     ensures put { (k : List ℕ) (d : Data) (ms : Members) → IsUtf8 k → Fits d → depth d ≤ 126 → ClaimsFit ms → ClaimsFit (put k d ms) }
@@ -53,26 +52,26 @@ pub fn fitting_claims_stay_fit()
     ensures taken_out { (k : List ℕ) (ms : Members) → ClaimsFit ms → ClaimsFit (without k ms) }
 {}
 
-/// A put sets one name, and leaves the others.
+/// A put sets one name and leaves the others unchanged.
 pub fn one_name_is_put()
     ensures set { (k : List ℕ) (d : Data) (ms : Members) → get_member k (put k d ms) ≡ Some d }
     ensures others { (q k : List ℕ) (d : Data) (ms : Members) → ¬ (q ≡ k) → get_member q (put k d ms) ≡ get_member q ms }
 {}
 
-/// A name that is taken out of claims that fit is absent, and the others stay.
+/// Removing a name from claims that fit makes it absent and leaves the others unchanged.
 pub fn one_name_is_taken_out()
     ensures absent { (k : List ℕ) (ms : Members) → ClaimsFit ms → get_member k (without k ms) ≡ None }
     ensures others { (q k : List ℕ) (ms : Members) → ¬ (q ≡ k) → get_member q (without k ms) ≡ get_member q ms }
 {}
 
-/// Several names set one after another are found, and can be taken out again.
+/// Names that are set one after another can be found, and removed again.
 pub fn names_are_put_and_taken_out()
     ensures found { (q : List ℕ) (es : List Entry) (ms : Members) → get_member q (put_all es ms) ≡ found q es (get_member q ms) }
     ensures taken_out { (es : List Entry) (ms : Members) → is_distinct es ≡ true → HasNone (names es) ms → without_all (names es) (put_all es ms) ≡ ms }
 {}
 
-/// A claim that was put is read by its name as what was put, a lone text also as a list of one, and an audience as the
-/// texts of it.
+/// A claim that was set is read by its name with the same value. One text is also read as a list of one, and an audience as its
+/// texts.
 pub fn put_claims_are_read()
     ensures text { (k t : List ℕ) (ms : Members) → text_claim k (put k (string t) ms) ≡ Ok (Some t) }
     ensures number { (k : List ℕ) (n : ℕ) (ms : Members) → n < 2 ^ 40 → number_claim k (put k (number (unsigned n)) ms) ≡ Ok (Some n) }

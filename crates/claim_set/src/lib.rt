@@ -1,18 +1,18 @@
-//! Claim sets: the JSON objects that JSON Web Tokens carry (RFC 7519, 4), read, looked up, changed and written.
+//! Claim sets: the JSON objects in JSON Web Tokens (RFC 7519, 4). They can be read, looked up, changed and written.
 //!
-//! A claim set is seen as a finite map from names to JSON values: `serde_json`'s `Members`, with the names in the order
-//! of their bytes. Its numbers are whole, from -2^63 to 2^64 - 1. Its depth is 1, and one more for each level of
-//! objects and arrays inside it; it is at most 127.
+//! The model of a claim set is a finite map from names to JSON values: `serde_json`'s `Members`, with the names in the order of
+//! their bytes. Its numbers are integers from -2^63 to 2^64 - 1. Its depth is 1, plus 1 for each level of objects and arrays
+//! inside it, and is at most 127.
 //!
 //! | Module | What it has |
 //! |---|---|
-//! | `claim_set` | [`ClaimSet`], and how names are set and taken out |
+//! | `claim_set` | [`ClaimSet`], setting names and removing them |
 //! | `kinds` | claims by name: a text, a number, a flag, texts, or a claim set inside another |
 //! | `reading` | [`read_claims`] reads the text of a claim set |
 //! | `writing` | [`write_claims`] and [`claims_text`] write it |
-//! | `no` | [`ClaimNo`], why a text or a claim is refused |
+//! | `no` | [`ClaimNo`], why a text or a claim is rejected |
 //! | `walks` | walks over JSON values |
-//! | `law` | what holds of claim sets, for the crates above |
+//! | `law` | laws about claim sets, for the crates above |
 #![tactic(auto)]
 
 mod claim_set;

@@ -1,9 +1,9 @@
-// Why a text or a claim is refused.
+// Why a text or a claim is rejected.
 
 use sso_base::{NoMemory, Text};
 
-/// Why a text is no claim set, why a claim is not what was asked for, or memory ran out. Where several fit, the first
-/// in this order is answered.
+/// Why a text is not a claim set, why a claim is not of the requested kind, or `NoMemory`. If several reasons apply, the first
+/// in this order is returned.
 #[derive(Drop)]
 pub enum ClaimNo {
     /// Memory ran out.
@@ -12,9 +12,9 @@ pub enum ClaimNo {
     NotJson,
     /// The value is not an object (RFC 7519, 7.2, step 10).
     NotObject,
-    /// The claim of this name is of another kind. Of a text that is read, it is the first name, in the order of the
-    /// bytes, whose value holds a number that is not held as a whole number from -2^63 to 2^64 - 1: any with a fraction
-    /// or an exponent, also `1.0`.
+    /// The claim of this name has another kind. When a text is read, this is the first name, in the order of the bytes, whose
+    /// value contains a number that is not an integer from -2^63 to 2^64 - 1. Numbers with a fraction or an exponent are such
+    /// numbers, even `1.0`.
     WrongKind(Text),
 }
 

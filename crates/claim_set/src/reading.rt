@@ -1,4 +1,4 @@
-// The text of a claim set is read, or refused for the first reason that fits.
+// Reading the text of a claim set, or rejecting it for the first reason that applies.
 
 ghost use Rattle.std.specs.Prelude.{◌≡◌, ◌≤◌, ◌⊎◌, Some, None, Ok, Err, IfOk, IfErr};
 ghost use Rattle.serde_json.specs.Data.{depth};
@@ -13,7 +13,7 @@ use serde_json::Value;
 use sso_base::Text;
 use std::alloc::Global;
 
-// The JSON value of which the bytes are the text.
+// The JSON value whose text these bytes are.
 #[tactic(auto, using(crate::proofs::Parsing::json_read, crate::proofs::Parsing::json_refused))]
 fn parsed(alloc: Global, bytes: &[u8]) -> Result<Value, ClaimNo>
     ensures ok { IfOk result (λ v. json_in bytes.now ≡ Some (view v)) }
@@ -49,9 +49,8 @@ fn claims_in(alloc: Global, value: Value) -> Result<ClaimSet, ClaimNo>
 
 /// Reads the text of a claim set: a JSON object in UTF-8 (RFC 7519, 7.2, step 10; RFC 8259).
 ///
-/// Where a name stands twice in an object, its last value counts (RFC 7519, 4). A text that nests deeper than 127 is
-/// [`ClaimNo::NotJson`]. Of any text that is refused the first refusal that fits is answered, in the order of
-/// [`ClaimNo`].
+/// If a name occurs twice in an object, its last value counts (RFC 7519, 4). A text that nests deeper than 127 gives
+/// [`ClaimNo::NotJson`]. For a text that is rejected, the first error that applies is returned, in the order of [`ClaimNo`].
 #[tactic(auto, using(crate::proofs::Parsing::read_reads))]
 pub fn read_claims(alloc: Global, bytes: &[u8]) -> Result<ClaimSet, ClaimNo>
     ensures answers { IfOk result (λ c. claims_read bytes.now ≡ Ok c) }

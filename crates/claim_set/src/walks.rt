@@ -12,7 +12,7 @@ use serde_json::{Map, Value};
 use sso_base::{NoMemory, Text, Texts};
 use std::alloc::Global;
 
-// Whether some number in the value is not whole.
+// Whether some number in the value is not an integer.
 #[cycle(floats)]
 fn holds_float(value: &Value) -> bool
     ensures { result ≡ has_float (view value.now) }
@@ -25,7 +25,7 @@ fn holds_float(value: &Value) -> bool
     }
 }
 
-// Whether one of the items does.
+// Whether some item contains such a number.
 #[cycle(floats)]
 fn items_hold_float(items: &Vec<Value>) -> bool
     ensures { result ≡ items_have_float (items_view items.now.items) }
@@ -38,7 +38,7 @@ fn items_hold_float(items: &Vec<Value>) -> bool
     false
 }
 
-// Whether the value of one of the members does.
+// Whether the value of some member contains such a number.
 #[cycle(floats)]
 fn members_hold_float(members: &Map<String, Value>) -> bool
     ensures { result ≡ members_have_float (members_view members.now.entries) }
@@ -51,7 +51,7 @@ fn members_hold_float(members: &Map<String, Value>) -> bool
     false
 }
 
-// The first name whose value holds a number that is not whole.
+// The first name whose value contains a number that is not an integer.
 pub(crate) fn first_with_float(members: &Map<String, Value>) -> Option<&str>
     ensures { option_map (λ s. s.now) result ≡ first_float (members_view members.now.entries) }
 {
@@ -63,7 +63,7 @@ pub(crate) fn first_with_float(members: &Map<String, Value>) -> Option<&str>
     None
 }
 
-// How deep arrays and objects nest: 0 for a value that is neither.
+// How deep arrays and objects nest: 0 for any other value.
 #[cycle(depths)]
 pub(crate) fn depth_of(value: &Value) -> u32
     requires { depth (view value.now) ≤ 127 }
@@ -128,7 +128,7 @@ pub(crate) fn texts_in(alloc: Global, value: &Value) -> Result<Option<Texts>, No
     }
 }
 
-// The texts in the items, where each is a string.
+// The texts in the items, if each is a string.
 fn texts_of(alloc: Global, items: &Vec<Value>) -> Result<Option<Texts>, NoMemory>
     ensures { IfOk result (λ o. o ≡ item_texts (items_view items.now.items)) }
 {

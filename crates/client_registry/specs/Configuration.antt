@@ -1,4 +1,4 @@
--- What a configuration says of the provider, its users, its clients and their relying parties.
+-- What a configuration states about the provider, its users, its clients and their relying parties.
 use Rattle.std.specs.Prelude.{ℕ, Bool, List, [], map, slice_index_or, codes}
 use Rattle.toml.specs.Data.{Data}
 use Rattle.client_registry.specs.declared.records.Provider.{Provider}
@@ -9,8 +9,8 @@ use Rattle.configuration_rows.specs.Values.{text_or, hex_at, table_at}
 use Rattle.client_registry.specs.Records.{provider_of, without_slash, url_or_none, users_of, clients_of, parties_of}
 use Rattle.client_registry.specs.Rules.{subjects_at}
 
--- What a registry holds. `prefix` is the path of the issuer without a last slash, `secure` says that the issuer is
--- https, and `subjects` has one list for each client, with one subject for each user (OpenID Connect Core 1.0, 8).
+-- The contents of a registry. `prefix` is the path of the issuer without a last slash, `secure` is true if the issuer is https,
+-- and `subjects` has one list for each client, with one subject for each user (OpenID Connect Core 1.0, 8).
 pub record Configuration : Type 0 where
   pub provider : Provider
   pub prefix : List ℕ
@@ -25,7 +25,7 @@ pub record Configuration : Type 0 where
 abbrev pub subject_at : Configuration → ℕ → ℕ → List ℕ
 subject_at c client user = slice_index_or (slice_index_or c.subjects client []) user []
 
--- ---- what stands at the paths of a configuration
+-- ---- the values at the paths of a configuration
 
 abbrev pub provider_table : Data → Data
 provider_table root = table_at (codes "provider") root

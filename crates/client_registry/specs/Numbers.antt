@@ -1,5 +1,5 @@
--- What stands at a number of the registry: users, clients and parties have numbers, from 0, in the order of the file. What
--- is asked of a number that none has is empty.
+-- Lookup by number: users, clients and parties are numbered from 0, in the order of the file. For an unknown number the result
+-- is empty.
 use Rattle.std.specs.Prelude.{ℕ, Bool, false, nat_lt, List, [], length, Option, Some, None, option_and_then, unwrap_or, slice_get}
 use Rattle.client_registry.specs.declared.records.User.{User}
 use Rattle.client_registry.specs.declared.records.Client.{Client}
@@ -8,7 +8,7 @@ use Rattle.client_registry.specs.Records.{no_url}
 use Rattle.oidc_words.specs.Types.{types_of_number}
 use Rattle.client_registry.specs.Configuration.{Configuration}
 
--- the user, the client and the party of a number
+-- the user, the client and the party with a number
 abbrev pub user_at : Configuration → ℕ → Option User
 user_at c n = slice_get c.users n
 
@@ -18,7 +18,7 @@ client_at c n = slice_get c.clients n
 abbrev pub party_at : Configuration → ℕ → Option Party
 party_at c n = slice_get c.parties n
 
--- the number is one of a user, of a client
+-- there is a user, or a client, with this number
 abbrev pub is_user : Configuration → ℕ → Bool
 is_user c n = nat_lt n (length c.users)
 
@@ -50,15 +50,15 @@ name_in (Some party) = party.name
 abbrev pub party_name : Configuration → ℕ → List ℕ
 party_name c n = name_in (party_at c n)
 
--- the client that a party is
+-- the client of a party
 abbrev pub client_of : Configuration → Party → Option Client
 client_of c party = client_at c party.client
 
--- the secret of the client that the party of a number is
+-- the secret of the client of the party with a number
 abbrev pub party_secret : Configuration → ℕ → List ℕ
 party_secret c n = secret_in (option_and_then (client_of c) (party_at c n))
 
--- ---- rows, with one that asks for nothing where there is none
+-- ---- rows, with an empty default for an unknown number
 
 abbrev pub no_client : Client
 no_client = record {
@@ -92,6 +92,6 @@ no_party = record {
 abbrev pub party_row : Configuration → ℕ → Party
 party_row c n = unwrap_or (party_at c n) no_party
 
--- the row of the client that the party of a number is
+-- the row of the client of the party with a number
 abbrev pub party_client : Configuration → ℕ → Client
 party_client c n = unwrap_or (client_of c (party_row c n)) no_client

@@ -1,4 +1,4 @@
--- The configuration that stands in a file, or the refusal that is answered.
+-- The configuration in a file, or the error that is reported.
 use Rattle.std.specs.Prelude.{◌≡◌, ◌≤◌, ℕ, List, [], ◌++◌, length, nat_lt, codes, Option, Some, None, option_map, Result, Ok, Err, if◌then◌else◌}
 use Rattle.std.specs.Str.{is_utf8}
 use Rattle.toml.specs.Data.{Data, table}
@@ -12,11 +12,11 @@ use Rattle.client_registry.specs.Records.{users_of, clients_of, parties_of}
 use Rattle.client_registry.specs.Rules.{records_refusals, subjects_refusals}
 use Rattle.client_registry.specs.Configuration.{Configuration, configuration_of, issuer_of, salt_of}
 
--- the table of which the bytes are the TOML text, in UTF-8
+-- the table whose TOML text, in UTF-8, these bytes are
 unfoldable pub document_in : List ℕ → Option Data
 document_in b = if is_utf8 b then option_map table (parse_document b) else None
 
--- a refusal, or else what follows
+-- an error, or the continuation
 abbrev pub unless_refused : {R : Type 0} → Option RegNo → Result R RegNo → Result R RegNo
 unless_refused None r = r
 unless_refused (Some e) r = Err e
@@ -27,7 +27,7 @@ subjects_read root = unless_refused (least (subjects_refusals (salt_of root) (us
 unfoldable pub records_read : Data → Result Configuration RegNo
 records_read root = unless_refused (least (records_refusals (issuer_of root) (users_of root) (clients_of root) (parties_of root))) (subjects_read root)
 
--- the configuration of the first version, or the refusal that is answered
+-- the configuration of the first version, or the error that is reported
 unfoldable pub version1_read : Data → Result Configuration RegNo
 version1_read root = unless_refused (least (rows_refusals root)) (records_read root)
 
@@ -35,13 +35,13 @@ abbrev pub document_read : Option Data → Result Configuration RegNo
 document_read None = Err NotToml
 document_read (Some root) = if is_number 1 (natural_at (codes "version") root) then version1_read root else Err Version
 
--- the configuration that stands in a file, or the refusal that is answered
+-- the configuration in a file, or the error that is reported
 abbrev pub registry_read : List ℕ → Result Configuration RegNo
 registry_read b = if nat_lt 1048576 (length b) then Err TooLong else document_read (document_in b)
 
--- ---- the same, by all refusals at once
+-- ---- the same, stated with all errors at once
 
--- the bytes are the TOML text of this table, and are not too many
+-- the bytes are the TOML text of this table, and within the length limit
 pub record IsDocument (b : List ℕ) (root : Data) : Type 0 where
   pub short : length b ≤ 1048576
   pub toml : document_in b ≡ Some root
@@ -49,14 +49,14 @@ pub record IsDocument (b : List ℕ) (root : Data) : Type 0 where
 abbrev pub HasVersion1 : Data → Type 0
 HasVersion1 root = natural_at (codes "version") root ≡ Some 1
 
--- all that a configuration of the first version is guilty of
+-- all errors of a configuration of the first version
 abbrev pub refusals_of : Data → List RegNo
 refusals_of root =
     rows_refusals root
     ++ records_refusals (issuer_of root) (users_of root) (clients_of root) (parties_of root)
     ++ subjects_refusals (salt_of root) (users_of root) (clients_of root)
 
--- the bytes are a configuration of the first version that is guilty of nothing, and this is what it says
+-- the bytes are a configuration of the first version without errors, and c is its contents
 pub record IsAccepted (b : List ℕ) (c : Configuration) : Type 0 where
   pub root : Data
   pub document : IsDocument b root
@@ -64,7 +64,7 @@ pub record IsAccepted (b : List ℕ) (c : Configuration) : Type 0 where
   pub guiltless : refusals_of root ≡ []
   pub says : c ≡ configuration_of root
 
--- the bytes are a text in TOML of another version
+-- the bytes are TOML text with another version
 pub record IsOtherVersion (b : List ℕ) : Type 0 where
   pub root : Data
   pub document : IsDocument b root

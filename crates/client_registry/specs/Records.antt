@@ -1,5 +1,5 @@
--- What stands at the paths of a configuration, as records. Where a path has no value that keeps its rule, an empty one
--- stands in its place; such a configuration is refused.
+-- The values at the paths of a configuration, as records. If a path has no value that satisfies its rule, the record has an
+-- empty one; such a configuration is rejected.
 use Rattle.std.specs.Prelude.{ℕ, ◌==◌, ◌||◌, Bool, false, not, List, [], ◌∷◌, ◌++◌, length, nat_le, codes, replicate, map, Option, Some, None, option_and_then, unwrap_or, if◌then◌else◌}
 use Rattle.std.specs.List.{position_from}
 use Rattle.std.specs.Str.{bytes_eq}
@@ -21,13 +21,13 @@ use Rattle.configuration_rows.specs.Version1.{response_texts, has_type}
 
 -- ---- the provider
 
--- a text without its last slash; a backslash is one, as the URL Standard reads it in URLs of http and https
+-- a text without its last slash; a backslash counts as one, as in the URL Standard for http and https URLs
 abbrev pub without_slash : List ℕ → List ℕ
 without_slash [] = []
 without_slash (x ∷ []) = if x == 47 || x == 92 then [] else x ∷ []
 without_slash (x ∷ y ∷ t) = x ∷ without_slash (y ∷ t)
 
--- the endpoint at a path below an issuer (own)
+-- the endpoint at a path below an issuer (our choice)
 abbrev pub endpoint : List ℕ → List ℕ → List ℕ
 endpoint issuer path = without_slash issuer ++ path
 
@@ -43,7 +43,7 @@ provider_of issuer = record {
 abbrev pub no_url : WebUrl
 no_url = record { secure = false; host = []; port = 0; path = []; query = None }
 
--- the URL at a key, or else an empty one
+-- the URL at a key, or an empty one
 abbrev pub url_or_none : List ℕ → Data → WebUrl
 url_or_none key d = unwrap_or (url_at key d) no_url
 
@@ -92,11 +92,11 @@ client_of_row d = record {
 
 -- ---- parties
 
--- the place of the client of this id, from 0
+-- the index of the client with this id, counted from 0
 abbrev pub client_place : List ℕ → List Client → Option ℕ
 client_place id clients = position_from (λ (k : Client). bytes_eq k.id id) 0 clients
 
--- the same, or else the number of clients
+-- the same; the number of clients if there is none
 abbrev pub client_number : List ℕ → List Client → ℕ
 client_number id clients = unwrap_or (client_place id clients) (length clients)
 

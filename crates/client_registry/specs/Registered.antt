@@ -1,4 +1,4 @@
--- What every registry keeps.
+-- The invariant of every registry.
 use Rattle.std.specs.Prelude.{◌≡◌, ◌≤◌, ◌<◌, ℕ, ◌==◌, ◌&&◌, Bool, true, false, List, [], ◌∷◌, length, map, codes, Option, Some, None, is_some, option_and_then, slice_get, IfSome}
 use Rattle.std.specs.List.{AllByRecursion, list_any}
 use Rattle.std.specs.Str.{bytes_eq, IsAscii}
@@ -25,9 +25,9 @@ use Rattle.client_registry.specs.Configuration.{Configuration}
 use Rattle.client_registry.specs.ClaimKinds.{AreKnown}
 use Rattle.client_registry.specs.Numbers.{client_at}
 
--- ---- things that differ
+-- ---- distinctness
 
--- no text stands twice
+-- no text occurs twice
 abbrev pub AreApart : List (List ℕ) → Type 0
 AreApart [] = Unit {0}
 AreApart (t ∷ ts) = (has_text t ts ≡ false) × AreApart ts
@@ -35,7 +35,7 @@ AreApart (t ∷ ts) = (has_text t ts ≡ false) × AreApart ts
 abbrev pub has_number : ℕ → List ℕ → Bool
 has_number n ns = list_any (λ m. n == m) ns
 
--- no number stands twice
+-- no number occurs twice
 abbrev pub NumbersAreApart : List ℕ → Type 0
 NumbersAreApart [] = Unit {0}
 NumbersAreApart (n ∷ ns) = (has_number n ns ≡ false) × NumbersAreApart ns
@@ -44,14 +44,14 @@ NumbersAreApart (n ∷ ns) = (has_number n ns ≡ false) × NumbersAreApart ns
 abbrev pub HasNoneOf : List (List ℕ) → List (List ℕ) → Type 0
 HasNoneOf us ts = AllByRecursion (λ u. has_text u ts ≡ false) us
 
--- no text stands in two of the lists
+-- no text occurs in two of the lists
 abbrev pub AreDisjoint : List (List (List ℕ)) → Type 0
 AreDisjoint [] = Unit {0}
 AreDisjoint (ts ∷ rest) = AllByRecursion (λ us. HasNoneOf us ts) rest × AreDisjoint rest
 
 -- ---- rows
 
--- a user keeps the rules of its row (its subject at a public client is its id: 1 to 64 characters of ASCII)
+-- a user satisfies the rules of its row (its subject at a public client is its id: 1 to 64 characters of ASCII)
 pub record IsUser (u : User) : Type 0 where
   pub id : is_name UserId 1 64 u.id ≡ true
   pub salt : is_within 1 64 (length u.salt) ≡ true
@@ -61,7 +61,7 @@ pub record IsUser (u : User) : Type 0 where
   pub proof_bytes : IsBytes u.proof
   pub claims : length u.claims ≤ 2048
 
--- the bytes are the JSON text of claims that fit, so they are read as these claims: standard claims, each of its kind
+-- the bytes are the JSON text of claims that fit, so reading them returns these claims: standard claims, each of its kind
 pub record HoldsClaims (b : List ℕ) : Type 0 where
   pub claims : Members
   pub fits : ClaimsFit claims
@@ -71,13 +71,13 @@ pub record HoldsClaims (b : List ℕ) : Type 0 where
 unfoldable pub AllHoldClaims : List User → Type 0
 AllHoldClaims users = AllByRecursion (λ (u : User). HoldsClaims u.claims) users
 
--- a text, where there is one, keeps the rule for URLs
+-- the text, if there is one, satisfies the rule for URLs
 abbrev pub is_url_or_none : Option (List ℕ) → Bool
 is_url_or_none None = true
 is_url_or_none (Some t) = is_some (url_of t)
 
--- a client keeps the rules of its row: its redirection URIs and its logout URI keep the rule for URLs, and what is kept
--- of them is of these URLs
+-- a client satisfies the rules of its row: its redirect URIs and its logout URI satisfy the rule for URLs, and their stored
+-- parts are those of these URLs
 pub record IsClient (k : Client) : Type 0 where
   pub id : is_name ClientId 1 64 k.id ≡ true
   pub secret : is_name Visible 0 128 k.secret ≡ true
@@ -90,7 +90,7 @@ pub record IsClient (k : Client) : Type 0 where
   pub logout_kept : k.logout_url ≡ option_and_then url_of k.logout
   pub one_host : (k.pairwise && has_two_hosts k.redirect_urls) ≡ false
 
--- a text, where there is one, has words of `prompt`; a number, where there is one, is that of an age in seconds
+-- a text, if there is one, has words of `prompt`; a number, if there is one, is an age in seconds
 abbrev pub is_prompt_or_none : Option (List ℕ) → Bool
 is_prompt_or_none None = true
 is_prompt_or_none (Some t) = is_prompt t
@@ -99,8 +99,8 @@ abbrev pub is_age_or_none : Option ℕ → Bool
 is_age_or_none None = true
 is_age_or_none (Some n) = is_within 0 999999999 n
 
--- a party keeps the rules of its row: the path of its redirection URI is none that it serves itself, its query has none
--- of the names of an answer, and its scope has the word `openid`
+-- a party satisfies the rules of its row: the path of its redirect URI is none that it serves itself, its query has no name of
+-- a response parameter, and its scope has the word `openid`
 pub record IsParty (p : Party) : Type 0 where
   pub name : is_name PartyName 1 16 p.name ≡ true
   pub listen : is_name Visible 1 64 p.listen ≡ true
@@ -111,13 +111,13 @@ pub record IsParty (p : Party) : Type 0 where
   pub prompt : is_prompt_or_none p.prompt ≡ true
   pub age : is_age_or_none p.max_age ≡ true
 
--- a logout URI is at the server of a party's redirection URI, at another path than that of the party's own sign-out
+-- a logout URI is at the server of a party's redirect URI, and its path is not the party's own sign-out path
 pub record IsLogoutOf (p : Party) (u : WebUrl) : Type 0 where
   pub server : is_same_server u p.redirect_url ≡ true
   pub path : bytes_eq u.path leave_path ≡ false
 
--- a party fits its client: its redirection URI is one of the client's, at another path than the client's logout URI; its
--- response type is one that the client has; and the client's logout URI is one for the party
+-- a party fits its client: its redirect URI is one of the client's, and its path is not that of the client's logout URI; the
+-- client has its response type; and the client's logout URI is one for the party
 pub record FitsClient (p : Party) (k : Client) : Type 0 where
   pub redirect : has_text p.redirect k.redirects ≡ true
   pub logout : has_path p.redirect_url.path k.logout_url ≡ false
@@ -133,14 +133,14 @@ pub record IsSubject (t : List ℕ) : Type 0 where
 
 -- ---- the provider
 
--- the issuer is this URL, which has no query (OpenID Connect Discovery 1.0, 3); its path without a last slash and whether
--- it is https are kept
+-- the issuer is this URL, which has no query (OpenID Connect Discovery 1.0, 3); the registry stores its path without a last
+-- slash and whether it is https
 pub record IsIssuerUrl (c : Configuration) (url : WebUrl) : Type 0 where
   pub query : url.query ≡ None
   pub prefix : c.prefix ≡ without_slash url.path
   pub secure : c.secure ≡ url.secure
 
--- the subjects of the users at each client, made with this salt (OpenID Connect Core 1.0, 8)
+-- the subjects of the users at each client, computed with this salt (OpenID Connect Core 1.0, 8)
 pub record AreSubjectsBy (c : Configuration) (salt : List ℕ) : Type 0 where
   pub within : is_within 16 64 (length salt) ≡ true
   pub bytes : IsBytes salt
@@ -148,7 +148,7 @@ pub record AreSubjectsBy (c : Configuration) (salt : List ℕ) : Type 0 where
 
 -- ---- the registry
 
--- a registry's sizes; what differs in it: names, secrets, redirection URIs, the clients of the parties, and the subjects
+-- the sizes of a registry; what is distinct in it: names, secrets, redirect URIs, the clients of the parties, and the subjects
 -- of the users at one client (OpenID Connect Core 1.0, 8); and the rules of its rows
 pub record IsRegistry (c : Configuration) : Type 0 where
   pub users : length c.users ≤ 512

@@ -1,4 +1,4 @@
--- Rules over the records of a configuration whose rows keep their own: names, secrets and redirection URIs that stand
+-- Rules about the records of a configuration whose rows satisfy their own rules: names, secrets and redirect URIs that occur
 -- twice, sizes, hosts, and subjects.
 use Rattle.std.specs.Prelude.{ℕ, ◌==◌, ◌&&◌, ◌||◌, Bool, true, not, List, [], ◌∷◌, ◌++◌, length, nat_lt, codes, map, Option, Some, None, slice_get, unwrap_or, if◌then◌else◌}
 use Rattle.std.specs.List.{list_any, position_from}
@@ -15,7 +15,7 @@ use Rattle.configuration_rows.specs.Refusals.{note_if, each}
 use Rattle.sso_base.specs.Texts.{has_text}
 use Rattle.client_registry.specs.Records.{client_place}
 
--- ---- places, from 0
+-- ---- indices, counted from 0
 
 abbrev pub user_place : List ℕ → List User → Option ℕ
 user_place id users = position_from (λ (u : User). bytes_eq u.id id) 0 users
@@ -23,26 +23,26 @@ user_place id users = position_from (λ (u : User). bytes_eq u.id id) 0 users
 abbrev pub secret_place : List ℕ → List Client → Option ℕ
 secret_place secret clients = position_from (λ (k : Client). bytes_eq k.secret secret) 0 clients
 
--- the first client that has the redirection URI
+-- the first client with this redirect URI
 abbrev pub redirect_place : List ℕ → List Client → Option ℕ
 redirect_place uri clients = position_from (λ (k : Client). has_text uri k.redirects) 0 clients
 
 abbrev pub party_place : List ℕ → List Party → Option ℕ
 party_place name parties = position_from (λ (p : Party). bytes_eq p.name name) 0 parties
 
--- the first party that uses the client of this number
+-- the first party that uses the client with this number
 abbrev pub use_place : ℕ → List Party → Option ℕ
 use_place client parties = position_from (λ (p : Party). p.client == client) 0 parties
 
 abbrev pub text_place : List ℕ → List (List ℕ) → Option ℕ
 text_place t ts = position_from (λ u. bytes_eq u t) 0 ts
 
--- what stands at the place n stands at an earlier one, the first
+-- the value at the index n also occurs earlier; `first` is its first index
 abbrev pub is_again : ℕ → Option ℕ → Bool
 is_again n None = true
 is_again n (Some first) = not (first == n)
 
--- ---- what stands twice
+-- ---- duplicates
 
 abbrev pub user_twice : List User → ℕ → User → List RegNo
 user_twice users n u = note_if (is_again n (user_place u.id users)) (no.Twice u.id)
@@ -57,7 +57,7 @@ client_twice issuer clients n k =
     ++ note_if (is_again n (secret_place k.secret clients)) (no.Twice k.id)
     ++ redirects_twice clients n k.redirects
 
--- the client of this number is used by an earlier party than that at the place n
+-- a party before the index n uses the client with this number
 abbrev pub use_twice : List Party → ℕ → ℕ → Option Client → List RegNo
 use_twice parties n client None = []
 use_twice parties n client (Some k) = note_if (is_again n (use_place client parties)) (no.Twice k.id)
@@ -76,7 +76,7 @@ short_secret n k = note_if (nat_lt (length k.secret) 32) (no.ShortSecret k.id)
 abbrev pub user_size : ℕ → User → List RegNo
 user_size n u = note_if (n == 512) (no.TooMany (codes "user")) ++ note_if (nat_lt 2048 (length u.claims)) (no.TooMany (codes "claims"))
 
--- the sector of a client: the host of its redirection URIs (OpenID Connect Core 1.0, 8.1)
+-- the sector of a client: the host of its redirect URIs (OpenID Connect Core 1.0, 8.1)
 abbrev pub sector_of : List WebUrl → List ℕ
 sector_of [] = []
 sector_of (u ∷ us) = u.host
@@ -90,7 +90,7 @@ mixed_hosts n k = note_if (k.pairwise && has_two_hosts k.redirect_urls) (no.Mixe
 abbrev pub unknown_client : ℕ → ℕ → Party → List RegNo
 unknown_client clients n p = note_if (p.client == clients) (no.UnknownClient p.name)
 
--- what the records are guilty of, number by number, and within a number in the order of the table
+-- the errors of the records by their numbers and, within a number, in the order of the table
 unfoldable pub records_refusals : List ℕ → List User → List Client → List Party → List RegNo
 records_refusals issuer users clients parties =
     each (user_twice users) users
@@ -105,8 +105,8 @@ records_refusals issuer users clients parties =
 
 -- ---- subjects (OpenID Connect Core 1.0, 8)
 
--- the subject of a user at a pairwise client: base64url of the SHA-256 of the sector, the user's id and the salt, with a
--- zero byte between (Core 8.1; the zero bytes are own)
+-- the subject of a user at a pairwise client: base64url of the SHA-256 of the sector, the user's id and the salt, separated by
+-- zero bytes (Core 8.1; the zero bytes are our choice)
 unfoldable pub pairwise_subject : List ℕ → List ℕ → List ℕ → List ℕ
 pairwise_subject salt sector id = b64u (sha256 (sector ++ 0 ∷ (id ++ 0 ∷ salt)))
 
@@ -122,13 +122,13 @@ abbrev pub id_of : Option User → List ℕ
 id_of None = []
 id_of (Some u) = u.id
 
--- the users at two places have one subject
+-- the users at two indices have the same subject
 abbrev pub clash_at : Client → List User → ℕ → Option ℕ → List RegNo
 clash_at k users n first = note_if (is_again n first) (no.SubjectClash k.id (id_of (slice_get users (unwrap_or first n))) (id_of (slice_get users n)))
 
 abbrev pub clashes : Client → List User → List (List ℕ) → List RegNo
 clashes k users subjects = each (λ n subject. clash_at k users n (text_place subject subjects)) subjects
 
--- what the clients are guilty of where two users have one subject
+-- the errors of clients at which two users have the same subject
 unfoldable pub subjects_refusals : List ℕ → List User → List Client → List RegNo
 subjects_refusals salt users clients = each (λ n k. clashes k users (subjects_at salt users k)) clients

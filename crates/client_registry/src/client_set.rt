@@ -5,10 +5,10 @@ ghost use Rattle.client_registry.specs.ClientSets as spec;
 
 use std::marker::Model;
 
-// How many clients there are at most.
+// The greatest number of clients.
 const CLIENTS: u32 = 128;
 
-/// A set of client numbers below 128. It takes no memory.
+/// A set of client numbers below 128. It allocates nothing.
 #[derive(Clone, Copy, PartialEq, Eq)]
 pub struct ClientSet {
     flags: [bool; 128],
@@ -35,7 +35,7 @@ impl ClientSet {
         }
     }
 
-    /// Whether the set has that number.
+    /// Whether the set contains this number.
     pub fn has(&self, client: u32) -> bool
         ensures { result ≡ spec.has_client client self.now }
     {

@@ -1,5 +1,4 @@
-// Which configurations are refused, and why, and what holds of those that are not, in the words of their table; and what holds
-// of sets of clients.
+// Laws: which configurations are rejected, and why; what is true of those that are accepted; and sets of clients.
 
 ghost use Rattle.std.specs.Prelude.{◌≡◌, ◌≢◌, ◌<◌, ◌≤◌, ℕ, Bool, true, false, List, [], ◌++◌, length, Some, None, is_some, IfSome, Ok, Err};
 ghost use Rattle.toml.specs.Data.{Data};
@@ -14,9 +13,8 @@ ghost use Rattle.client_registry.specs.Configuration.{Configuration};
 ghost use Rattle.client_registry.specs.Registered.{IsRegistry};
 ghost use Rattle.client_registry.specs.Reading.{document_in, registry_read, refusals_of, IsDocument, HasVersion1, IsAccepted, IsOtherVersion};
 
-/// A configuration that is not too long, is TOML and has version 1 is refused where it is guilty of anything. Of all that
-/// it is guilty of, no refusal has a smaller number than the one answered, and of those that have its number it is the
-/// first in the table's order.
+/// A configuration that is not too long, is TOML and has version 1 is rejected if it has any error. The reported error has the
+/// smallest number of all its errors, and is the first with that number in the table's order.
 pub fn refused_configurations_have_the_least()
     ensures too_long { (b : List ℕ) → 1048576 < length b → registry_read b ≡ Err no.TooLong }
     ensures not_toml { (b : List ℕ) → length b ≤ 1048576 → document_in b ≡ None → registry_read b ≡ Err no.NotToml }
@@ -25,7 +23,7 @@ pub fn refused_configurations_have_the_least()
     ensures accepted { (b : List ℕ) (c : Configuration) → IsAccepted b c → registry_read b ≡ Ok c }
 {}
 
-/// The other way round: what is answered has its cause, so each is answered there and nowhere else.
+/// The converse: each result has its cause.
 pub fn refusals_have_their_causes()
     ensures too_long { (b : List ℕ) → registry_read b ≡ Err no.TooLong → 1048576 < length b }
     ensures not_toml { (b : List ℕ) → registry_read b ≡ Err no.NotToml → (length b ≤ 1048576) × (document_in b ≡ None) }
@@ -34,7 +32,7 @@ pub fn refusals_have_their_causes()
     ensures accepted { (b : List ℕ) (c : Configuration) → registry_read b ≡ Ok c → IsAccepted b c }
 {}
 
-/// Each endpoint of a registry's provider keeps the rule for URLs, and so does that of its keys.
+/// Each endpoint of a registry's provider satisfies the rule for URLs, and so does the URL of its keys.
 pub fn endpoints_keep_the_rule_for_urls()
     ensures authorize { (c : Configuration) → IsRegistry c → is_some (url_of c.provider.authorize) ≡ true }
     ensures token { (c : Configuration) → IsRegistry c → is_some (url_of c.provider.token) ≡ true }
@@ -42,7 +40,8 @@ pub fn endpoints_keep_the_rule_for_urls()
     ensures keys { (c : Configuration) → IsRegistry c → is_some (url_of (endpoint c.provider.issuer keys_path)) ≡ true }
 {}
 
-/// The path of each of these URLs is the one that is served: it stands below the path of the issuer without its last slash.
+/// The path of each of these URLs is the path that is served: the issuer's path without its last slash, then the endpoint's
+/// path.
 pub fn advertised_paths_are_served()
     ensures authorize { (c : Configuration) → IsRegistry c → IfSome (url_of c.provider.authorize) (λ u. u.path ≡ c.prefix ++ authorize_path) }
     ensures token { (c : Configuration) → IsRegistry c → IfSome (url_of c.provider.token) (λ u. u.path ≡ c.prefix ++ token_path) }
@@ -50,7 +49,7 @@ pub fn advertised_paths_are_served()
     ensures keys { (c : Configuration) → IsRegistry c → IfSome (url_of (endpoint c.provider.issuer keys_path)) (λ u. u.path ≡ c.prefix ++ keys_path) }
 {}
 
-/// A set of clients has those that were added, and no others.
+/// A set of clients contains exactly those that were added.
 pub fn sets_have_what_was_added()
     ensures none { (client : ℕ) → has_client client no_clients ≡ false }
     ensures room { length no_clients ≡ 128 }

@@ -1,19 +1,19 @@
 //! The registry of an OpenID provider: its users, its clients and their relying parties, read from a configuration file.
 //!
-//! What every registry keeps is one definition, `IsRegistry`: a clause of [`read_registry`], of [`Registry::provider`], and
-//! of each call that counts rows.
+//! The invariant of every registry is one definition, `IsRegistry`. It is a postcondition of [`read_registry`], of
+//! [`Registry::provider`], and of each call that counts rows.
 //!
 //! | Module | What it has |
 //! |---|---|
 //! | `reading` | [`read_registry`] reads a configuration |
-//! | `registry` | [`Registry`], an accepted configuration, with its finds and subjects |
+//! | `registry` | [`Registry`], an accepted configuration, with its lookups and subjects |
 //! | `records` | [`Provider`], [`User`], [`Client`], [`Party`] |
 //! | `rows` | the records of a configuration's rows, and [`endpoint`], below an issuer |
-//! | `places` | the first places at which names and values stand |
-//! | `rules` | rules over the records |
+//! | `places` | the first index of a name or a value |
+//! | `rules` | rules about the records |
 //! | `subjects` | the subjects of users at clients |
 //! | `client_set` | [`ClientSet`], a set of clients |
-//! | `law` | which configurations are refused, and why, in the words of their table |
+//! | `law` | which configurations are rejected, and why, stated as laws |
 #![tactic(auto)]
 
 mod client_set;

@@ -1,4 +1,4 @@
-// The first places, from 0, at which names and values stand.
+// The first index, counted from 0, of a name or a value.
 
 ghost use Rattle.std.specs.Prelude.{◌≡◌, ◌<◌, length, IfSome};
 ghost use Rattle.sso_base.specs.Texts.{has_text};
@@ -29,7 +29,7 @@ pub(crate) fn secret_place(clients: &[Client], secret: &str) -> Option<usize>
     None
 }
 
-// The first client that has the redirection URI.
+// The first client with this redirect URI.
 pub(crate) fn redirect_place(clients: &[Client], uri: &str) -> Option<usize>
     ensures value { result ≡ spec.redirect_place uri.now clients.now }
     ensures within { IfSome result (λ place. place < length clients.now) }
@@ -54,7 +54,7 @@ pub(crate) fn party_place(parties: &[Party], name: &[u8]) -> Option<usize>
     None
 }
 
-// The first party that uses the client of this number.
+// The first party that uses the client with this number.
 pub(crate) fn use_place(parties: &[Party], client: u32) -> Option<usize>
     ensures { result ≡ spec.use_place client parties.now }
 {
@@ -66,7 +66,7 @@ pub(crate) fn use_place(parties: &[Party], client: u32) -> Option<usize>
     None
 }
 
-// Whether what stands at a place stands at an earlier one, the first.
+// Whether the value at an index also occurs earlier. `first` is its first index.
 pub(crate) fn is_again(place: usize, first: Option<usize>) -> bool
     ensures { result ≡ spec.is_again place first }
 {

@@ -1,4 +1,4 @@
-// What a configuration says of the provider, its users, its clients and their relying parties.
+// What a configuration states about the provider, its users, its clients and their relying parties.
 
 ghost use Rattle.std.specs.Prelude.{◌≡◌, IfOk};
 
@@ -20,7 +20,7 @@ pub struct Provider {
     pub userinfo: Option<Text>,
 }
 
-/// A user. A password is proved by PBKDF2 over the salt (RFC 8018).
+/// A user. A password is verified with PBKDF2 and the salt (RFC 8018).
 #[derive(Drop)]
 pub struct User {
     /// From 1 to 64 of `a-z 0-9 . _ @ -`.
@@ -29,7 +29,7 @@ pub struct User {
     pub salt: Blob,
     /// From 1 to 1,000,000.
     pub rounds: u32,
-    /// What PBKDF2 makes of the password.
+    /// The PBKDF2 output for the password.
     pub proof: [u8; 32],
     /// The JSON text of the user's claims, of at most 2,048 bytes (OpenID Connect Core 1.0, 5.1).
     pub claims: Blob,
@@ -42,7 +42,7 @@ pub struct Client {
     pub id: Text,
     /// From 32 to 128 characters of visible ASCII.
     pub secret: Text,
-    /// From 1 to 16 redirection URIs.
+    /// From 1 to 16 redirect URIs.
     pub redirects: Texts,
     /// Which response types it has, in the order `code`, `id_token`, `id_token token`, `code id_token`, `code token`,
     /// `code id_token token`.
@@ -55,9 +55,9 @@ pub struct Client {
     pub logout: Option<Text>,
     /// Whether logout tokens for it have a `sid`.
     pub logout_session: bool,
-    /// What is kept of the redirection URIs, in their order.
+    /// The stored parts of the redirect URIs, in their order.
     pub redirect_urls: WebUrls,
-    /// What is kept of the logout URI.
+    /// The stored parts of the logout URI.
     pub logout_url: Option<WebUrl>,
 }
 
@@ -66,29 +66,29 @@ pub struct Client {
 pub struct Party {
     /// From 1 to 16 of `a-z 0-9`.
     pub name: Text,
-    /// The number of the client that it is, from 0.
+    /// The number of its client, counted from 0.
     pub client: u32,
-    /// The redirection URI that it asks with: one of its client's.
+    /// The redirect URI of its requests: one of its client's.
     pub redirect: Text,
     /// Where it listens, as `HOST:PORT`.
     pub listen: Text,
-    /// The response type that it asks for.
+    /// The response type of its requests.
     pub types: Types,
-    /// The scope that it asks for.
+    /// The scope of its requests.
     pub scope: Text,
-    /// The prompts that it asks for, where it does (OpenID Connect Core 1.0, 3.1.2.1).
+    /// The `prompt` of its requests, if they have one (OpenID Connect Core 1.0, 3.1.2.1).
     pub prompt: Option<Text>,
-    /// In seconds.
+    /// The `max_age` of its requests, in seconds.
     pub max_age: Option<u64>,
-    /// Whether it asks for UserInfo.
+    /// Whether it requests UserInfo.
     pub userinfo: bool,
     /// Whether its requests are signed (OpenID Connect Core 1.0, 6.1).
     pub signed: bool,
-    /// What is kept of the redirection URI.
+    /// The stored parts of the redirect URI.
     pub redirect_url: WebUrl,
 }
 
-// An equal URL, where there is one.
+// A copy of the URL, if there is one.
 fn copied_url(alloc: Global, url: &Option<WebUrl>) -> Result<Option<WebUrl>, NoMemory>
     ensures { IfOk result (λ o. o ≡ url.now) }
 {
@@ -99,7 +99,7 @@ fn copied_url(alloc: Global, url: &Option<WebUrl>) -> Result<Option<WebUrl>, NoM
 }
 
 impl Provider {
-    /// An equal provider.
+    /// A copy of the provider.
     pub fn copy(&self, alloc: Global) -> Result<Provider, NoMemory>
         ensures { IfOk result (λ p. p ≡ self.now) }
     {
@@ -113,7 +113,7 @@ impl Provider {
 }
 
 impl User {
-    /// An equal user.
+    /// A copy of the user.
     pub fn copy(&self, alloc: Global) -> Result<User, NoMemory>
         ensures { IfOk result (λ u. u ≡ self.now) }
     {
@@ -128,7 +128,7 @@ impl User {
 }
 
 impl Client {
-    /// An equal client.
+    /// A copy of the client.
     pub fn copy(&self, alloc: Global) -> Result<Client, NoMemory>
         ensures { IfOk result (λ c. c ≡ self.now) }
     {
@@ -148,7 +148,7 @@ impl Client {
 }
 
 impl Party {
-    /// An equal party.
+    /// A copy of the party.
     pub fn copy(&self, alloc: Global) -> Result<Party, NoMemory>
         ensures { IfOk result (λ p. p ≡ self.now) }
     {

@@ -1,4 +1,4 @@
-// Rules over the records of a configuration whose rows keep their own.
+// Rules about the records of a configuration whose rows satisfy their own rules.
 
 ghost use Rattle.std.specs.Prelude.{◌≡◌, ◌++◌, OnOk, slice_get};
 ghost use Rattle.configuration_rows.specs.declared.no.RegNo.TheVariants as no;
@@ -13,7 +13,7 @@ use configuration_rows::refusals::Refusals;
 use registered_url::WebUrl;
 use sso_base::{NoMemory, Text, Texts};
 
-// Notes that the name stands twice, where it does.
+// Notes that the name occurs twice, if it does.
 fn note_twice(refusals: &mut Refusals, name: &Text, twice: bool) -> Result<(), NoMemory>
     ensures { OnOk result (refusals.new ≡ refusals.old ++ note_if twice (no.Twice name.now)) }
 {
@@ -24,7 +24,7 @@ fn note_twice(refusals: &mut Refusals, name: &Text, twice: bool) -> Result<(), N
     refusals.note(RegNo::Twice(name))
 }
 
-// Notes that there are too many of a kind, where there are.
+// Notes that there are too many of a kind, if there are.
 fn note_size(refusals: &mut Refusals, kind: &str, many: bool) -> Result<(), NoMemory>
     ensures { OnOk result (refusals.new ≡ refusals.old ++ note_if many (no.TooMany kind.now)) }
 {
@@ -88,7 +88,7 @@ fn clients_twice(refusals: &mut Refusals, issuer: &str, clients: &[Client]) -> R
     Ok(())
 }
 
-// Notes that the client of this number is used by an earlier party, where it is.
+// Notes that an earlier party uses the client with this number, if one does.
 fn use_twice(
     refusals: &mut Refusals,
     clients: &[Client],
@@ -151,7 +151,7 @@ fn short_secrets(refusals: &mut Refusals, clients: &[Client]) -> Result<(), NoMe
     Ok(())
 }
 
-// Notes that the user at this place is one too many, and that its claims are too long, where they are.
+// Notes that the user at this index is one too many, and that its claims are too long, if so.
 fn user_size(refusals: &mut Refusals, place: usize, user: &User) -> Result<(), NoMemory>
     ensures { OnOk result (refusals.new ≡ refusals.old ++ spec.user_size place user.now) }
 {
@@ -168,7 +168,7 @@ fn user_sizes(refusals: &mut Refusals, users: &[User]) -> Result<(), NoMemory>
     Ok(())
 }
 
-// The host of the redirection URIs (OpenID Connect Core 1.0, 8.1).
+// The sector of a client: the host of its redirect URIs (OpenID Connect Core 1.0, 8.1).
 pub(crate) fn sector_of(urls: &[WebUrl]) -> &str
     ensures { result.now ≡ spec.sector_of urls.now }
 {
@@ -218,7 +218,7 @@ fn unknown_clients(
     Ok(())
 }
 
-// What the records are guilty of, number by number, and within a number in the order of the table.
+// Appends the errors of the records by their numbers and, within a number, in the order of the table.
 #[tactic(auto, unfolding(crate::specs::Rules::records_refusals))]
 pub(crate) fn judge_records(
     refusals: &mut Refusals,

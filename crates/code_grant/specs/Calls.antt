@@ -1,4 +1,4 @@
--- The calls that change the tables, one after another; codes that are spent, and the access tokens of a code.
+-- Sequences of calls that change the tables; codes that are spent, and the access tokens of a code.
 use Rattle.std.specs.Prelude.{◌≡◌, ℕ, Bool, true, false, List, [], ◌∷◌}
 use Rattle.std.specs.Str.{bytes_eq}
 use Rattle.std.specs.List.{AllByRecursion}
@@ -41,7 +41,7 @@ after (visit w client) t = session_visited w client t
 after (redeem w client redirect at) t = after_answer (redemption w client redirect at t) w t
 after (grant user client scopes) t = with_consent user client scopes t
 
--- the tables after calls, the first of which comes first
+-- the tables after a sequence of calls
 abbrev pub after_all : List Call → Tables → Tables
 after_all [] t = t
 after_all (call ∷ calls) t = after_all calls (after call t)
@@ -51,14 +51,14 @@ abbrev pub issues : Word → Call → Bool
 issues w (issue_code row) = bytes_eq row.word w
 issues w call = false
 
--- none of the calls does
+-- none of the calls issues a code of this word
 abbrev pub NoneIssues : Word → List Call → Type 0
 NoneIssues w calls = AllByRecursion (λ call. issues w call ≡ false) calls
 
--- every held code of this word is spent
+-- every code of this word in the table is spent
 abbrev pub IsSpent : Word → Tables → Type 0
 IsSpent w t = AllByRecursion (λ (row : CodeRow). bytes_eq row.word w ≡ true → row.spent ≡ true) t.codes
 
--- none of the access tokens was given for this code
+-- none of the access tokens was issued for this code
 abbrev pub NoneIsOf : Word → List TokenRow → Type 0
 NoneIsOf w tokens = AllByRecursion (λ (token : TokenRow). is_word token.code w ≡ false) tokens

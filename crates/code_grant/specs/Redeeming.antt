@@ -7,7 +7,7 @@ use Rattle.code_grant.specs.declared.redeem.Redeem.{Redeem}
 use Rattle.code_grant.specs.declared.redeem.Redeem.TheVariants.{Redeemed, Unknown, OtherClient, Spent, Expired, OtherUri}
 use Rattle.oidc_words.specs.Lives.{code_usable}
 
--- what a client gets for a code with a redirection URI at a moment, where this is the code's row: the first that fits
+-- the result of redeeming a code with this row, for a client, a redirect URI and a moment: the first that applies
 abbrev pub redeem_of : ℕ → List ℕ → ℕ → Option CodeRow → Redeem
 redeem_of client redirect at None = Unknown
 redeem_of client redirect at (Some code) =
@@ -17,7 +17,7 @@ redeem_of client redirect at (Some code) =
     else if not (bytes_eq code.wish.redirect redirect) then OtherUri
     else Redeemed
 
--- the code may be redeemed by the client with the redirection URI at the moment
+-- the client may redeem the code with the redirect URI at the moment
 pub record IsRedeemable (client : ℕ) (redirect : List ℕ) (at : ℕ) (code : CodeRow) : Type 0 where
   pub own_client : code.wish.client ≡ client
   pub unspent : code.spent ≡ false

@@ -1,4 +1,4 @@
--- The view of the provider's tables, and what it means that room is reserved in them.
+-- The model of the provider's tables, and the meaning of reserved room.
 use Rattle.code_grant.specs.declared.grants.Grants.TheInside.{Inside}
 use Rattle.held_rows.specs.Held.{HasMemory}
 use Rattle.code_grant.specs.Tables.{Tables}
@@ -13,7 +13,7 @@ tables_of g = record {
   reserved = g.reserved;
 }
 
--- where room is reserved, there is memory for one more row
+-- if room is reserved in a table, there is memory for one more row
 pub record IsRoomReserved (g : Inside) : Type 0 where
   pub turns : HasMemory g.reserved.turns g.turns
   pub sessions : HasMemory g.reserved.sessions g.sessions

@@ -1,4 +1,4 @@
--- The rows of the provider's tables: which word names each, and when it begins.
+-- The rows of the provider's tables: the word that names each, and the moment it begins.
 use Rattle.std.specs.Prelude.{ℕ}
 use Rattle.sso_base.specs.Words.{Word}
 use Rattle.code_grant.specs.declared.rows.TurnRow.{TurnRow}

@@ -1,4 +1,4 @@
--- The provider's tables as their calls see them, and what each call makes of them.
+-- The provider's tables as their calls see them, and the effect of each call.
 use Rattle.std.specs.Prelude.{ℕ, ◌<◌, Bool, true, false, not, List, [], ◌∷◌, ◌++◌, filter, Some}
 use Rattle.sso_base.specs.Words.{Word, is_word}
 use Rattle.sso_base.specs.Rows.{without, row_of, live_rows}
@@ -19,8 +19,8 @@ use Rattle.client_registry.specs.ClientSets.{with_client}
 use Rattle.code_grant.specs.Consents.{no_consents, with_grant}
 use Rattle.code_grant.specs.Redeeming.{redeem_of}
 
--- the held rows of each table in order of issue, what users have granted to clients, and for which tables room for one
--- more row is reserved
+-- the rows of each table in the order of issue, what users have granted to clients, and the tables in which room for one more
+-- row is reserved
 pub record Tables : Type 0 where
   pub turns : List TurnRow
   pub sessions : List SessionRow
@@ -39,7 +39,7 @@ no_tables = record {
   reserved = record { turns = false; sessions = false; codes = false; tokens = false };
 }
 
--- ---- what each table keeps: at most 65,536 rows, no two of one word, in the order of the moments from which they live,
+-- ---- the invariant of each table: at most 65,536 rows, with distinct words, in the order of the moments from which they live,
 -- of users below 512 and clients below 128
 
 abbrev pub AreTurns : List TurnRow → Type 0
@@ -59,7 +59,7 @@ AreTokens rows = IsHeld access_name access_begun (λ row. (row.user < 512) × (r
 abbrev pub with_room : Tables → Tables
 with_room t = record t { reserved = record { turns = true; sessions = true; codes = true; tokens = true } }
 
--- the rows whose life has ended at the moment are gone
+-- the tables without the rows whose life has ended at the moment
 abbrev pub purged : ℕ → Tables → Tables
 purged at t = record t {
   turns = live_rows turn_life turn_begun at t.turns;
@@ -68,21 +68,21 @@ purged at t = record t {
   tokens = live_rows access_life access_begun at t.tokens;
 }
 
--- fewer rows of the table live at the moment than it may hold
+-- the number of rows of the table that live at the moment is below the limit
 abbrev pub has_room : Table → ℕ → Tables → Bool
 has_room Turns at t = has_room_for_one turn_life turn_begun at t.turns
 has_room Sessions at t = has_room_for_one session_life session_begun at t.sessions
 has_room Codes at t = has_room_for_one code_life code_begun at t.codes
 has_room Tokens at t = has_room_for_one access_life access_begun at t.tokens
 
--- 65,536 rows of the table are held, and a purge at the moment would take out none of them
+-- the table has 65,536 rows, and a purge at the moment would remove none of them
 abbrev pub IsFullTable : Table → ℕ → Tables → Type 0
 IsFullTable Turns at t = IsFull turn_life turn_begun at t.turns
 IsFullTable Sessions at t = IsFull session_life session_begun at t.sessions
 IsFullTable Codes at t = IsFull code_life code_begun at t.codes
 IsFullTable Tokens at t = IsFull access_life access_begun at t.tokens
 
--- ---- one row more; its room is used
+-- ---- one row more; it uses the reserved room
 
 abbrev pub with_turn : TurnRow → Tables → Tables
 with_turn row t = record t { turns = t.turns ++ row ∷ []; reserved = record t.reserved { turns = false } }
@@ -115,7 +115,7 @@ session_ended w t = record t { sessions = without session_name w t.sessions }
 abbrev pub session_at : ℕ → SessionRow → SessionRow
 session_at at row = record row { auth_time = at }
 
--- A renewed session counts as issued anew.
+-- a renewed session moves to the end, as if issued again
 abbrev pub session_renewed : Word → ℕ → Tables → Tables
 session_renewed w at t = record t { sessions = moved session_name w (session_at at) t.sessions }
 
@@ -127,18 +127,19 @@ session_visited w client t = record t { sessions = changed session_name w (sessi
 
 -- ---- codes
 
--- what a redemption answers: it is asked of the code's row alone
+-- the result of a redemption; it depends only on the code's row
 abbrev pub redemption : Word → ℕ → List ℕ → ℕ → Tables → Redeem
 redemption w client redirect at t = redeem_of client redirect at (row_of code_name w t.codes)
 
 abbrev pub code_spent : CodeRow → CodeRow
 code_spent row = record row { spent = true }
 
--- the access tokens that the code gave are gone
+-- the tables without the access tokens issued for the code
 abbrev pub tokens_of_ended : Word → Tables → Tables
 tokens_of_ended w t = record t { tokens = filter (λ token. not (is_word token.code w)) t.tokens }
 
--- A code that is redeemed is spent. One that was spent before loses the access tokens that it gave (RFC 6749, 4.1.2).
+-- a code that is redeemed is marked spent; if it was spent before, the access tokens issued for it are removed (RFC 6749,
+-- 4.1.2)
 abbrev pub after_answer : Redeem → Word → Tables → Tables
 after_answer redeem.Redeemed w t = record t { codes = changed code_name w code_spent t.codes }
 after_answer redeem.Spent w t = tokens_of_ended w t

@@ -13,7 +13,7 @@ use crate::rows::CodeRow;
 use held_rows::Change;
 use sso_base::{Moment, Word};
 
-// A code was redeemed.
+// The change of a code that was redeemed.
 #[derive(Clone, Copy)]
 struct Spent;
 
@@ -32,7 +32,7 @@ impl Change<CodeRow> for Spent {
 }
 
 impl Grants {
-    /// Adds a code.
+    /// Adds a code. Room was reserved, the table is not full, its word is new, and no other code was issued later.
     pub fn issue_code(&mut self, row: CodeRow)
         requires reserved { self.old.reserved.codes ≡ true }
         requires few { length self.old.codes < most_rows }
@@ -46,7 +46,7 @@ impl Grants {
         self.codes.add(row);
     }
 
-    /// The code of that word; None exactly where no held code has it. Its life may have ended.
+    /// The code with this word; `None` if and only if no code in the table has it. Its life may have ended.
     pub fn code(&self, word: Word) -> Option<&CodeRow>
         ensures row { option_copied result ≡ row_of code_name word self.now.codes }
         ensures in_range { IfSome (option_copied result) (λ row. (row.user < 512) × (row.wish.client < 128)) }
@@ -55,8 +55,8 @@ impl Grants {
         self.codes.find(&word.bytes())
     }
 
-    /// A client redeems a code with a redirection URI (RFC 6749, 4.1.3). `Redeemed` marks the code spent. `Spent` takes
-    /// out every access token that the code gave (RFC 6749, 4.1.2). The other answers change nothing.
+    /// Redeems a code for a client with a redirect URI (RFC 6749, 4.1.3). On `Redeemed` the code is marked spent. On `Spent`
+    /// every access token issued for the code is removed (RFC 6749, 4.1.2). The other results change nothing.
     pub fn redeem(&mut self, code: Word, client: u32, redirect: &[u8], at: Moment) -> Redeem
         requires { client < 128 }
         ensures answer { result ≡ spec.redemption code client redirect.now at self.old }

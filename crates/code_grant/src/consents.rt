@@ -8,7 +8,7 @@ use sso_base::NoMemory;
 use std::alloc::Global;
 use std::marker::Model;
 
-// There is an element for each of 512 users and 128 clients.
+// The number of pairs of 512 users and 128 clients.
 const PAIRS: usize = 65_536;
 
 /// The scopes that each user has granted to each client.
@@ -29,7 +29,7 @@ impl Model for Consents {
 }
 
 impl Consents {
-    /// Nothing is granted.
+    /// No grants.
     #[tactic(auto, unfolding(crate::specs::Consents::no_consents))]
     pub fn new(alloc: Global) -> Result<Consents, NoMemory>
         ensures { IfOk result (λ c. c ≡ spec.no_consents) }
@@ -39,7 +39,7 @@ impl Consents {
         })
     }
 
-    /// What the user has granted to the client.
+    /// The scopes that the user has granted to the client.
     #[tactic(auto, unfolding(crate::specs::Consents::granted_to))]
     pub fn granted(&self, user: u32, client: u32) -> Scopes
         requires user { user < 512 }
@@ -50,7 +50,7 @@ impl Consents {
         self.scopes[place_of(user, client)]
     }
 
-    /// The user grants these scopes to the client, besides those that were granted before.
+    /// Adds these scopes to those that the user has granted to the client.
     #[tactic(auto, unfolding(crate::specs::Consents::with_grant))]
     pub fn grant(&mut self, user: u32, client: u32, scopes: Scopes)
         requires user { user < 512 }

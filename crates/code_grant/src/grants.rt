@@ -13,8 +13,8 @@ use sso_base::{Moment, NoMemory};
 use std::alloc::Global;
 use std::marker::Model;
 
-/// The provider's tables, each seen as the list of its held rows in order of issue, and what users have granted to
-/// clients. A table holds at most 65,536 rows, no two of one word, in the order of the moments from which they live.
+/// The provider's tables, and what users have granted to clients. The model of each table is the list of its rows, in the order
+/// of issue. A table has at most 65,536 rows, with distinct words, in the order of the moments from which they live.
 #[derive(Drop)]
 pub struct Grants {
     pub(crate) turns: Held<TurnRow>,
@@ -39,7 +39,7 @@ impl Model for Grants {
 }
 
 impl Grants {
-    /// No rows, and nothing is granted.
+    /// Empty tables, and no grants.
     pub fn new(alloc: Global) -> Result<Grants, NoMemory>
         ensures { IfOk result (λ grants. grants ≡ spec.no_tables) }
     {
@@ -58,7 +58,7 @@ impl Grants {
         })
     }
 
-    /// Makes room for one row in each table.
+    /// Makes room for one row in each table. On `NoMemory` nothing changes.
     pub fn reserve(&mut self) -> Result<(), NoMemory>
         ensures ok { OnOk result (self.new ≡ spec.with_room self.old) }
         ensures err { OnErr result (self.new ≡ self.old) }
@@ -76,7 +76,7 @@ impl Grants {
         Ok(())
     }
 
-    /// Takes out exactly the rows whose life has ended at the moment. The life of a code counts here as 3,720 seconds.
+    /// Removes exactly the rows whose life has ended at the moment. The life of a code counts here as 3,720 seconds.
     pub fn purge(&mut self, at: Moment)
         ensures { self.new ≡ spec.purged at self.old }
     {
@@ -86,8 +86,8 @@ impl Grants {
         self.tokens.purge(at);
     }
 
-    /// Whether the table has room for one more row at the moment: false exactly where 65,536 rows of it are held and
-    /// `purge` at the moment would take out none of them.
+    /// Whether the table has room for one more row at the moment. It is false if and only if the table has 65,536 rows and
+    /// `purge` at the moment would remove none of them.
     pub fn room(&self, table: Table, at: Moment) -> bool
         ensures room { result ≡ spec.has_room table at self.now }
         ensures full { result ≡ false → spec.IsFullTable table at self.now }
@@ -101,7 +101,7 @@ impl Grants {
         }
     }
 
-    /// The user grants these scopes to the client, besides those that were granted before.
+    /// Adds these scopes to those that the user has granted to the client.
     pub fn grant(&mut self, user: u32, client: u32, scopes: Scopes)
         requires user { user < 512 }
         requires client { client < 128 }
@@ -110,7 +110,7 @@ impl Grants {
         self.consents.grant(user, client, scopes);
     }
 
-    /// What the user has granted to the client.
+    /// The scopes that the user has granted to the client.
     pub fn granted(&self, user: u32, client: u32) -> Scopes
         requires user { user < 512 }
         requires client { client < 128 }

@@ -1,4 +1,4 @@
-// What holds of the tables, for the crates above.
+// Laws about the tables, for the crates above.
 
 ghost use Rattle.std.specs.Prelude.{◌≡◌, ◌≢◌, ◌<◌, ℕ, Bool, true, false, List, length, Option, Some, None, option_and_then};
 ghost use Rattle.std.specs.Str.{bytes_eq};
@@ -17,15 +17,15 @@ ghost use Rattle.code_grant.specs.Redeeming.{redeem_of, IsRedeemable};
 ghost use Rattle.code_grant.specs.Tables.{Tables, redemption, with_code, purged};
 ghost use Rattle.code_grant.specs.Calls as calls;
 
-/// A code is redeemed exactly by its own client with its own redirection URI, unspent and within 120 seconds
-/// (RFC 6749, 4.1.2 and 4.1.3).
+/// A code is redeemed if and only if its own client redeems it with its own redirect URI, unspent and within 120 seconds (RFC
+/// 6749, 4.1.2 and 4.1.3).
 pub fn redeemed_codes_are_redeemable()
     ensures redeemable { (client : ℕ) (redirect : List ℕ) (at : ℕ) (row : CodeRow) → redeem_of client redirect at (Some row) ≡ answer.Redeemed → IsRedeemable client redirect at row }
     ensures redeemed { (client : ℕ) (redirect : List ℕ) (at : ℕ) (row : CodeRow) → IsRedeemable client redirect at row → redeem_of client redirect at (Some row) ≡ answer.Redeemed }
 {}
 
-/// A code is redeemed at most once (RFC 6749, 4.1.2): from its redemption on it is spent, through all calls that do not
-/// issue its word anew, and a spent code is never redeemed.
+/// A code is redeemed at most once (RFC 6749, 4.1.2). After its redemption it is spent, through all calls that do not issue its
+/// word again, and a spent code is never redeemed.
 pub fn codes_are_redeemed_once()
     ensures spent { (w : Word) (client : ℕ) (redirect : List ℕ) (at : ℕ) (t : Tables) → redemption w client redirect at t ≡ answer.Redeemed → calls.IsSpent w (calls.after (calls.redeem w client redirect at) t) }
     ensures stays { (w : Word) (steps : List calls.Call) (t : Tables) → calls.IsSpent w t → calls.NoneIssues w steps → calls.IsSpent w (calls.after_all steps t) }
@@ -33,17 +33,16 @@ pub fn codes_are_redeemed_once()
     ensures once { (w : Word) (client : ℕ) (redirect : List ℕ) (at : ℕ) (steps : List calls.Call) (again : ℕ) (elsewhere : List ℕ) (later : ℕ) (t : Tables) → redemption w client redirect at t ≡ answer.Redeemed → calls.NoneIssues w steps → redemption w again elsewhere later (calls.after_all steps (calls.after (calls.redeem w client redirect at) t)) ≢ answer.Redeemed }
 {}
 
-/// A second use of a code by its own client takes out every access token that the code gave, whatever the moment and the
-/// redirection URI. A use by another client changes nothing, and no use takes out an access token of another code or of
-/// none (RFC 6749, 4.1.2).
+/// A second use of a code by its own client removes every access token issued for the code, at any moment and with any redirect
+/// URI. A use by another client changes nothing. No use removes an access token of another code or of none (RFC 6749, 4.1.2).
 pub fn second_uses_end_the_tokens()
     ensures own { (w : Word) (client : ℕ) (redirect : List ℕ) (at : ℕ) (row : CodeRow) (t : Tables) → row_of code_name w t.codes ≡ Some row → row.wish.client ≡ client → row.spent ≡ true → calls.NoneIsOf w (calls.after (calls.redeem w client redirect at) t).tokens }
     ensures other { (w : Word) (client : ℕ) (redirect : List ℕ) (at : ℕ) (row : CodeRow) (t : Tables) → row_of code_name w t.codes ≡ Some row → row.wish.client ≢ client → calls.after (calls.redeem w client redirect at) t ≡ t }
     ensures rest { (w v : Word) (client : ℕ) (redirect : List ℕ) (at : ℕ) (token : TokenRow) (t : Tables) → IsDistinct access_name t.tokens → row_of access_name v t.tokens ≡ Some token → is_word token.code w ≡ false → row_of access_name v (calls.after (calls.redeem w client redirect at) t).tokens ≡ Some token }
 {}
 
-/// What a client gets for a code hangs on the row of that code alone: no code of another word changes it, whoever holds
-/// it, and neither does a purge while the code is held.
+/// The result of redeeming a code depends only on the row of that code. No code with another word changes it, whoever has it,
+/// and neither does a purge while the code is kept.
 pub fn other_codes_do_not_count()
     ensures row { (w : Word) (client : ℕ) (redirect : List ℕ) (at : ℕ) (t u : Tables) → row_of code_name w t.codes ≡ row_of code_name w u.codes → redemption w client redirect at t ≡ redemption w client redirect at u }
     ensures issued { (w : Word) (client : ℕ) (redirect : List ℕ) (at : ℕ) (row : CodeRow) (t : Tables) → bytes_eq row.word w ≡ false → redemption w client redirect at (with_code row t) ≡ redemption w client redirect at t }
@@ -51,7 +50,7 @@ pub fn other_codes_do_not_count()
     ensures purged { (w : Word) (client : ℕ) (redirect : List ℕ) (at : ℕ) (t : Tables) → IsDistinct code_name t.codes → redemption w client redirect at (purged at t) ≡ redeem_of client redirect at (option_and_then (if_lives code_life code_begun at) (row_of code_name w t.codes)) }
 {}
 
-/// What a user grants to a client is joined to what was granted before, and nothing else changes.
+/// A user's grant to a client is added to the earlier ones, and nothing else changes.
 pub fn grants_are_joined()
     ensures none { (user client : ℕ) → granted_to user client no_consents ≡ no_scopes }
     ensures room { length no_consents ≡ 65536 }

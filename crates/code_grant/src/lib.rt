@@ -1,18 +1,18 @@
 //! The provider's tables: its turns, sessions, codes and access tokens, and what users have granted to clients
 //! (OpenID Connect Core 1.0, 3.1.2; RFC 6749, 4.1).
 //!
-//! Each table is seen as the list of its held rows in order of issue. Only [`Grants::new`] and [`Grants::reserve`] take
-//! memory.
+//! The model of each table is the list of its rows, in the order of issue. Only [`Grants::new`] and [`Grants::reserve`]
+//! allocate.
 //!
 //! | Module | What it has |
 //! |---|---|
-//! | `grants` | [`Grants`], all tables: made, reserved, purged; what users have granted |
+//! | `grants` | [`Grants`], all tables: construction, reserving, purging; what users have granted |
 //! | `turns`, `sessions`, `codes`, `tokens` | the calls of `Grants` on one table each |
 //! | `rows` | [`TurnRow`], [`SessionRow`], [`CodeRow`], [`TokenRow`] |
-//! | `redeem` | [`judge_code`], what a client gets for a code |
+//! | `redeem` | [`judge_code`], the result of redeeming a code |
 //! | `table` | [`Table`] names a table |
 //! | `consents` | scopes for each user and client |
-//! | `law` | what holds of the tables, for the crates above |
+//! | `law` | laws about the tables, for the crates above |
 #![tactic(auto)]
 
 mod codes;

@@ -1,4 +1,4 @@
-// What a client gets for a code.
+// The result of redeeming a code.
 
 ghost use Rattle.std.specs.Prelude.{◌≡◌};
 ghost use Rattle.std.specs.Option.{option_copied};
@@ -8,13 +8,13 @@ use crate::rows::CodeRow;
 use oidc_words::CODE_USABLE;
 use sso_base::{Moment, is_live};
 
-/// What a client gets for a code with a redirection URI: the first that fits, in this order but for `Redeemed`, which is
-/// last (RFC 6749, 4.1.3; OpenID Connect Core 1.0, 3.1.3.2).
+/// The result of redeeming a code with a redirect URI: the first that applies in this order, except that `Redeemed` comes last
+/// (RFC 6749, 4.1.3; OpenID Connect Core 1.0, 3.1.3.2).
 #[derive(Clone, Copy, PartialEq, Eq)]
 pub enum Redeem {
-    /// The code is good.
+    /// The code is valid.
     Redeemed,
-    /// No held code has that word.
+    /// No code in the table has that word.
     Unknown,
     /// The code was issued to another client.
     OtherClient,
@@ -22,11 +22,11 @@ pub enum Redeem {
     Spent,
     /// The code was issued 120 seconds ago or longer.
     Expired,
-    /// The code was sent to another redirection URI.
+    /// The code was sent to another redirect URI.
     OtherUri,
 }
 
-/// What a client gets for the code of this row with a redirection URI at a moment. It spends nothing.
+/// The result of redeeming the code in this row with a redirect URI at a moment. It does not mark the code spent.
 pub fn judge_code(row: Option<&CodeRow>, client: u32, redirect: &[u8], at: Moment) -> Redeem
     ensures { result ≡ redeem_of client redirect.now at (option_copied row.entry) }
 {

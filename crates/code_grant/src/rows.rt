@@ -9,14 +9,14 @@ use held_rows::{By, Row};
 use oidc_words::{ACCESS_LIFE, CODE_LIFE, SESSION_LIFE, Scopes, TURN_LIFE};
 use sso_base::{Moment, Texts, Word};
 
-/// A turn: an authorization request that got a page, until it is answered or refused. It lives for 600 seconds.
+/// A turn: an authorization request that is waiting for the user, until it is answered or refused. It lives for 600 seconds.
 #[derive(Drop)]
 pub struct TurnRow {
     pub word: Word,
-    /// The cookie of the browser that the page was given to.
+    /// The cookie of the browser that the page was sent to.
     pub browser: Word,
     pub wish: Wish,
-    /// The session that it is about.
+    /// The session of the turn, if there is one.
     pub session: Option<Word>,
     /// Whether the user logged in during this turn.
     pub in_turn: bool,
@@ -28,29 +28,29 @@ pub struct TurnRow {
 pub struct SessionRow {
     /// The cookie of the browser.
     pub word: Word,
-    /// The session's name to clients (OpenID Connect Front-Channel Logout 1.0, 3).
+    /// The session's name for clients (OpenID Connect Front-Channel Logout 1.0, 3).
     pub sid: Word,
-    /// The number of the user, from 0.
+    /// The number of the user, counted from 0.
     pub user: u32,
     /// When the user last logged in.
     pub auth_time: Moment,
-    /// The clients that the session has answered.
+    /// The clients that the session has logged in to.
     pub clients: ClientSet,
 }
 
-/// A code (RFC 6749, 4.1.2). It may be used for 120 seconds and is held for 3,720.
+/// A code (RFC 6749, 4.1.2). It may be used for 120 seconds and is kept for 3,720.
 #[derive(Drop)]
 pub struct CodeRow {
     pub word: Word,
     pub wish: Wish,
-    /// The number of the user, from 0.
+    /// The number of the user, counted from 0.
     pub user: u32,
     pub sid: Word,
     pub auth_time: Moment,
     pub issued: Moment,
     /// Whether it was redeemed.
     pub spent: bool,
-    /// The place in the provider's history, counted from 0, of the pair that made it.
+    /// The index, counted from 0, of the pair in the provider's history that issued it.
     pub by: u64,
 }
 
@@ -58,17 +58,17 @@ pub struct CodeRow {
 #[derive(Drop)]
 pub struct TokenRow {
     pub word: Word,
-    /// The number of the client, from 0.
+    /// The number of the client, counted from 0.
     pub client: u32,
-    /// The number of the user, from 0.
+    /// The number of the user, counted from 0.
     pub user: u32,
     pub scopes: Scopes,
-    /// The names of the claims that are asked for from the UserInfo endpoint.
+    /// The names of the claims that are requested from the UserInfo endpoint.
     pub asked: Texts,
-    /// The code that it was given for at the token endpoint.
+    /// The code for which the token endpoint issued it, if there is one.
     pub code: Option<Word>,
     pub issued: Moment,
-    /// The place in the provider's history, counted from 0, of the pair that made it.
+    /// The index, counted from 0, of the pair in the provider's history that issued it.
     pub by: u64,
 }
 
@@ -190,7 +190,7 @@ impl Row for TokenRow {
     ghost named = { λ row. refl };
 }
 
-// The bytes of a word, where there is one.
+// The bytes of the word, if there is one.
 fn word_bytes_if(word: &Option<Word>) -> Option<&[u8]>
     ensures { option_map (λ b. b.now) result ≡ word.now }
 {

@@ -13,7 +13,7 @@ use held_rows::Change;
 use sso_base::{Moment, Word};
 use std::marker::Model;
 
-// A session has answered this client, seen as its number.
+// The change of a session that logs in to this client. Its model is the client's number.
 #[derive(Drop)]
 struct WithClient {
     client: u32,
@@ -44,7 +44,7 @@ impl Change<SessionRow> for WithClient {
 }
 
 impl Grants {
-    /// Adds a session.
+    /// Adds a session. Room was reserved, the table is not full, its word is new, and no other session began later.
     pub fn start_session(&mut self, row: SessionRow)
         requires reserved { self.old.reserved.sessions ≡ true }
         requires few { length self.old.sessions < most_rows }
@@ -57,7 +57,7 @@ impl Grants {
         self.sessions.add(row);
     }
 
-    /// The session of that word; None exactly where no held session has it. Its life may have ended.
+    /// The session with this word; `None` if and only if no session in the table has it. Its life may have ended.
     pub fn session(&self, word: Word) -> Option<&SessionRow>
         ensures row { option_copied result ≡ row_of session_name word self.now.sessions }
         ensures user { IfSome (option_copied result) (λ row. row.user < 512) }
@@ -66,8 +66,8 @@ impl Grants {
         self.sessions.find(&word.bytes())
     }
 
-    /// The user of the session of that word logged in again: its `auth_time` is the moment, and it counts as issued
-    /// anew, so it goes to the end. Where no held session has the word, nothing changes.
+    /// Renews the session with this word after a new login: its `auth_time` is the moment, and it moves to the end. If no
+    /// session in the table has the word, nothing changes.
     pub fn renew(&mut self, word: Word, at: Moment)
         requires { none_after session_begun at self.old.sessions ≡ true }
         ensures { self.new ≡ spec.session_renewed word at self.old }
@@ -82,8 +82,8 @@ impl Grants {
         }
     }
 
-    /// Adds a client to those that the session of that word has answered. Where no held session has the word, nothing
-    /// changes.
+    /// Adds a client to those that the session with this word has logged in to. If no session in the table has the word,
+    /// nothing changes.
     pub fn visit(&mut self, word: Word, client: u32)
         requires { client < 128 }
         ensures { self.new ≡ spec.session_visited word client self.old }
@@ -91,7 +91,7 @@ impl Grants {
         self.sessions.change(&word.bytes(), &WithClient { client });
     }
 
-    /// Takes out the session of that word. Where no held session has it, nothing changes.
+    /// Removes the session with this word. If no session in the table has it, nothing changes.
     pub fn end_session(&mut self, word: Word)
         ensures { self.new ≡ spec.session_ended word self.old }
     {

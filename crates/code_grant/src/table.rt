@@ -9,7 +9,7 @@ pub enum Table {
     Tokens,
 }
 
-/// For which tables room for one more row is reserved.
+/// The tables in which room for one more row is reserved.
 #[derive(Clone, Copy)]
 pub struct Reserved {
     pub turns: bool,

@@ -16,7 +16,7 @@ use crate::rows::TokenRow;
 use held_rows::{By, Test};
 use sso_base::Word;
 
-// The tokens that were given for one code.
+// The tokens that were issued for one code.
 #[derive(Clone, Copy)]
 struct OfCode {
     code: Word,
@@ -48,14 +48,14 @@ impl Test<TokenRow> for OfCode {
 }
 
 impl Grants {
-    // Takes out the tokens that were given for the code.
+    // Removes the tokens that were issued for the code.
     pub(crate) fn end_tokens_of(&mut self, code: Word)
         ensures { self.new ≡ spec.tokens_of_ended code self.old }
     {
         self.tokens.take_out(&OfCode { code });
     }
 
-    /// Adds an access token.
+    /// Adds an access token. Room was reserved, the table is not full, its word is new, and no other token was issued later.
     pub fn issue_token(&mut self, row: TokenRow)
         requires reserved { self.old.reserved.tokens ≡ true }
         requires few { length self.old.tokens < most_rows }
@@ -69,7 +69,7 @@ impl Grants {
         self.tokens.add(row);
     }
 
-    /// The access token of that word; None exactly where no held token has it. Its life may have ended.
+    /// The access token with this word; `None` if and only if no token in the table has it. Its life may have ended.
     pub fn live(&self, token: Word) -> Option<&TokenRow>
         ensures row { option_copied result ≡ row_of access_name token self.now.tokens }
         ensures in_range { IfSome (option_copied result) (λ row. (row.user < 512) × (row.client < 128)) }

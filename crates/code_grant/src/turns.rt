@@ -47,7 +47,7 @@ impl Test<TurnRow> for OfBrowser {
     ghost are_found = { λ t turn passes. ap Some (bytes_same turn.browser t.browser passes) };
 }
 
-// A turn gets this session.
+// The change of a turn that gets this session.
 #[derive(Clone, Copy)]
 struct WithSession {
     session: Word,
@@ -70,7 +70,7 @@ impl Change<TurnRow> for WithSession {
 }
 
 impl Grants {
-    /// Adds a turn.
+    /// Adds a turn. Room was reserved, the table is not full, its word is new, and no other turn began later.
     pub fn start_turn(&mut self, row: TurnRow)
         requires reserved { self.old.reserved.turns ≡ true }
         requires few { length self.old.turns < most_rows }
@@ -83,14 +83,14 @@ impl Grants {
         self.turns.add(row);
     }
 
-    /// Whether a held turn that lives at the moment has that browser word.
+    /// Whether a turn that lives at the moment has this browser word.
     pub fn has_browser(&self, browser: Word, at: Moment) -> bool
         ensures { result ≡ list_any (λ (turn : TurnRow). bytes_eq turn.browser browser) (live_rows turn_life turn_begun at self.now.turns) }
     {
         self.turns.any_live(&OfBrowser { browser }, at)
     }
 
-    /// The turn of that word; None exactly where no held turn has it. Its life may have ended.
+    /// The turn with this word; `None` if and only if no turn in the table has it. Its life may have ended.
     pub fn turn(&self, word: Word) -> Option<&TurnRow>
         ensures row { option_copied result ≡ row_of turn_name word self.now.turns }
         ensures client { IfSome (option_copied result) (λ row. row.wish.client < 128) }
@@ -99,8 +99,8 @@ impl Grants {
         self.turns.find(&word.bytes())
     }
 
-    /// Gives the turn of that word this session, and says whether the user logged in during it. Where no held turn has
-    /// the word, nothing changes.
+    /// Gives the turn with this word this session, and records whether the user logged in during the turn. If no turn in the
+    /// table has the word, nothing changes.
     pub fn set_turn(&mut self, word: Word, session: Word, in_turn: bool)
         ensures { self.new ≡ spec.turn_set word session in_turn self.old }
     {
@@ -108,7 +108,7 @@ impl Grants {
             .change(&word.bytes(), &WithSession { session, in_turn });
     }
 
-    /// Takes out the turn of that word. Where no held turn has it, nothing changes.
+    /// Removes the turn with this word. If no turn in the table has it, nothing changes.
     pub fn end_turn(&mut self, word: Word)
         ensures { self.new ≡ spec.turn_ended word self.old }
     {

@@ -1,4 +1,4 @@
--- A user's claims: what a table of the configuration says of them (OpenID Connect Core 1.0, 5.1 and 5.4).
+-- A user's claims, as a table of the configuration states them (OpenID Connect Core 1.0, 5.1 and 5.4).
 use Rattle.std.specs.Prelude.{ℕ, Bool, true, false, ◌≡◌, List, Option, Some, None, option_map, option_and_then}
 use Rattle.toml.specs.Data.{Data, Members, no_members, member, as_str, as_bool, as_table}
 use Rattle.serde_json.specs.Data as json
@@ -23,7 +23,7 @@ abbrev pub texts_onto : Members → json.Members → Option json.Members
 texts_onto no_members claims = Some claims
 texts_onto (member k d ms) claims = option_and_then (λ v. texts_onto ms (json.put k v claims)) (text_value d)
 
--- a table of texts, as an address is (OpenID Connect Core 1.0, 5.1.1)
+-- a table of texts, such as an address (OpenID Connect Core 1.0, 5.1.1)
 abbrev pub address_value : Data → Option json.Data
 address_value d = option_map json.object (option_and_then (λ ms. texts_onto ms json.no_members) (as_table d))
 
@@ -35,7 +35,7 @@ kind_value (Some Flag) d = flag_value d
 kind_value (Some Seconds) d = seconds_value d
 kind_value (Some Address) d = address_value d
 
--- the value of a claim, where the name is known and the value is of its kind
+-- the value of a claim, if the name is known and the value is of its kind
 abbrev pub claim_value : List ℕ → Data → Option json.Data
 claim_value k d = kind_value (kind_of k) d
 
@@ -44,11 +44,11 @@ abbrev pub claims_onto : Members → json.Members → Option json.Members
 claims_onto no_members claims = Some claims
 claims_onto (member k d ms) claims = option_and_then (λ v. claims_onto ms (json.put k v claims)) (claim_value k d)
 
--- the claims that a value holds, where it is a table of them
+-- the claims in a value, if it is a table of claims
 abbrev pub claims_in : Data → Option json.Members
 claims_in d = option_and_then (λ ms. claims_onto ms json.no_members) (as_table d)
 
--- how a claim set changes where a name is set to a value, and where there is no such value
+-- the claim set after a name is set to a value, if there is one
 abbrev pub Puts : List ℕ → Option json.Data → json.Members → json.Members → Bool → Type 0
 Puts k None old new taken = taken ≡ false
 Puts k (Some v) old new taken = (taken ≡ true) × (new ≡ json.put k v old)

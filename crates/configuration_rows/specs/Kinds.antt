@@ -1,4 +1,4 @@
--- What may stand at the keys of a configuration: the kinds of values, and the rules of each.
+-- The kinds of values at the keys of a configuration, and the rules of each.
 use Rattle.std.specs.Prelude.{ℕ, Bool, true, false, not, ◌&&◌, ◌||◌, ◌==◌, List, [], ◌∷◌, length, nat_le, codes, Option, Some, None, is_some, if◌then◌else◌}
 use Rattle.std.specs.List.{list_all}
 use Rattle.toml.specs.Data.{Data, as_str, as_bool}
@@ -46,7 +46,7 @@ is_name alphabet least most t = is_within least most (length t) && list_all (all
 
 -- ---- breaches
 
--- the value is there, and passes the test
+-- there is a value, and it passes the test
 abbrev pub passes : {A : Type 0} → (A → Bool) → Option A → Bool
 passes test None = false
 passes test (Some a) = test a
@@ -88,7 +88,7 @@ text_keeps Consent t = has_text t (codes "ask" ∷ codes "given" ∷ [])
 text_keeps Scope t = is_scope t
 text_keeps Prompt t = is_prompt t
 
--- how a value breaks the rule of its key, where it does
+-- how a value violates the rule of its key, if it does
 abbrev pub breach : Kind → Data → Option Breach
 breach (Text rule) d = unless (passes (text_keeps rule) (as_str d)) WrongKind
 breach (Number least most) d = unless (passes (is_within least most) (as_natural d)) WrongKind

@@ -3,7 +3,7 @@ use Rattle.std.specs.Prelude.{ℕ, List, [], ◌∷◌, ◌++◌, codes, decimal
 use Rattle.configuration_rows.specs.declared.row.Row.{Row}
 use Rattle.configuration_rows.specs.declared.row.Row.TheVariants.{Provider, User, Client, Party}
 
--- a table's name and a place, from 0
+-- a table's name and an index, counted from 0
 abbrev pub place_text : List ℕ → ℕ → List ℕ
 place_text name place = name ++ 91 ∷ (decimal place ++ 93 ∷ [])
 

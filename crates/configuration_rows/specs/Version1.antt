@@ -39,17 +39,17 @@ abbrev pub optional_value : List ℕ → Kind → Option Data → List RegNo
 optional_value path kind None = []
 optional_value path kind (Some d) = breached path (breach kind d)
 
--- what a row is guilty of at a key that is needed
+-- the errors of a row at a required key
 abbrev pub required : Row → Data → List ℕ → Kind → List RegNo
 required row d key kind = required_value (path_text row key) kind (get key d)
 
--- the same at a key that is optional or has a default
+-- the same for a key that is optional or has a default
 abbrev pub optional : Row → Data → List ℕ → Kind → List RegNo
 optional row d key kind = optional_value (path_text row key) kind (get key d)
 
--- ---- rules over several rows
+-- ---- rules about several rows
 
--- the party of this row uses the client of this id
+-- the party of this row uses the client with this id
 abbrev pub uses : List ℕ → Data → Bool
 uses id party = passes (bytes_eq id) (text_at (codes "client") party)
 
@@ -57,8 +57,8 @@ abbrev pub is_elsewhere : WebUrl → Option WebUrl → Bool
 is_elsewhere u None = false
 is_elsewhere u (Some v) = not (is_same_server u v)
 
--- the logout URI of a client does not fit the party, which uses the client: it has the path of the party's own sign-out,
--- or another scheme, host or port than the party's redirection URI
+-- the party uses the client, and the client's logout URI does not fit it: the URI has the path of the party's own sign-out, or
+-- a scheme, host or port other than the party's redirect URI
 abbrev pub is_apart : List ℕ → WebUrl → Data → Bool
 is_apart id u party = uses id party && (bytes_eq u.path leave_path || is_elsewhere u (url_at (codes "redirect_uri") party))
 
@@ -70,7 +70,7 @@ misplaced parties (Some id) (Some u) = list_any (is_apart id u) parties
 abbrev pub logout_rule : List Data → Row → Data → List RegNo
 logout_rule parties row client = note_if (misplaced parties (text_at (codes "id") client) (url_at (codes "logout_uri") client)) (no.WrongKind (path_text row (codes "logout_uri")))
 
--- the first client of this id
+-- the first client with this id
 abbrev pub client_with : List ℕ → List Data → Option Data
 client_with id [] = None
 client_with id (k ∷ ks) = if passes (bytes_eq id) (text_at (codes "id") k) then Some k else client_with id ks
@@ -79,11 +79,11 @@ abbrev pub client_named : List Data → Option (List ℕ) → Option Data
 client_named clients None = None
 client_named clients (Some id) = client_with id clients
 
--- the client of a party, where it is known
+-- the client of a party, if it is known
 abbrev pub client_of : List Data → Data → Option Data
 client_of clients party = client_named clients (text_at (codes "client") party)
 
--- the names by which a redirection URI is answered (OpenID Connect Core 1.0, 3.1.2.5, 3.1.2.6 and 3.2.2.5)
+-- the parameters of a response to a redirect URI (OpenID Connect Core 1.0, 3.1.2.5, 3.1.2.6 and 3.2.2.5)
 abbrev pub answer_names : List (List ℕ)
 answer_names = codes "state" ∷ codes "error" ∷ codes "code" ∷ codes "access_token" ∷ codes "id_token" ∷ []
 
@@ -97,7 +97,7 @@ has_answer_name u = list_any (λ name. has_text name answer_names) (query_names 
 abbrev pub has_path : List ℕ → Option WebUrl → Bool
 has_path path u = passes (λ (v : WebUrl). bytes_eq path v.path) u
 
--- the redirection URI t is not the client's, or has the path of its logout URI
+-- the redirect URI t is not one of the client's, or has the path of its logout URI
 abbrev pub is_not_of : Option Data → List ℕ → WebUrl → Bool
 is_not_of None t u = false
 is_not_of (Some client) t u = not (has_text t (texts_at (codes "redirect_uris") client)) || has_path u.path (url_at (codes "logout_uri") client)
@@ -110,7 +110,7 @@ misdirects client (Some t) (Some u) = has_answer_name u || (has_text u.path own_
 abbrev pub redirect_rule : List Data → Row → Data → List RegNo
 redirect_rule clients row party = note_if (misdirects (client_of clients party) (text_at (codes "redirect_uri") party) (url_at (codes "redirect_uri") party)) (no.BadUrl (path_text row (codes "redirect_uri")))
 
--- the response types of a client, or else `code`
+-- the response types of a client; `code` if it states none
 abbrev pub response_texts : Data → List (List ℕ)
 response_texts client = if is_some (get (codes "response_types") client) then texts_at (codes "response_types") client else code_word ∷ []
 
@@ -194,7 +194,7 @@ abbrev pub array_value : List ℕ → Option Data → List RegNo
 array_value key None = []
 array_value key (Some d) = note_if (not (is_some (as_array d))) (no.WrongKind key)
 
--- rows stand in an array, where there are any
+-- rows are in an array, if there are any
 abbrev pub array_rule : List ℕ → Data → List RegNo
 array_rule key root = array_value key (get key root)
 
@@ -207,8 +207,8 @@ clients_rows root = array_rule (codes "client") root ++ each (client_row (rows_a
 abbrev pub parties_rows : Data → List RegNo
 parties_rows root = array_rule (codes "party") root ++ each (party_row (rows_at (codes "client") root)) (rows_at (codes "party") root)
 
--- what the rows of a configuration are guilty of, in order: keys that are missing, values of another kind or outside
--- their rules, and URLs that break theirs
+-- the errors of the rows of a configuration, in order: missing keys, values of another kind or that violate their rules, and
+-- URLs that violate theirs
 unfoldable pub rows_refusals : Data → List RegNo
 rows_refusals root =
     provider_row (table_at (codes "provider") root)

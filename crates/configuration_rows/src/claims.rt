@@ -22,7 +22,7 @@ fn put_string(claims: &mut ClaimSet, name: &str, text: &str) -> Result<(), NoMem
     claims.put_text(name, text)
 }
 
-// Sets a claim to the text that stands there, where there is one. The answer is whether there is.
+// Sets a claim to the text value, if it is one. Returns whether it is.
 fn put_text(claims: &mut ClaimSet, name: &str, value: &Value) -> Result<bool, NoMemory>
     ensures puts { IfOk result (λ taken. Puts name.now (text_value (view value.now)) claims.old claims.new taken) }
     ensures fits { IfOk result (λ taken. ClaimsFit claims.old → ClaimsFit claims.new) }
@@ -63,7 +63,7 @@ fn put_seconds(claims: &mut ClaimSet, name: &str, value: &Value) -> Result<bool,
     }
 }
 
-// The claims that a table of texts holds.
+// The claims in a table of texts.
 #[tactic(auto, using(crate::proofs::FittingClaims::none_fits))]
 fn texts_of_table(alloc: Global, table: &Table) -> Result<Option<ClaimSet>, NoMemory>
     ensures value { IfOk result (λ o. o ≡ texts_onto (table_view table.now) no_members) }
@@ -101,7 +101,7 @@ fn put_address(
     }
 }
 
-// Sets a claim to what stands there, where the name is known and the value is of its kind.
+// Sets a claim to the value, if the name is known and the value is of its kind.
 fn put_claim(
     claims: &mut ClaimSet,
     alloc: Global,
@@ -134,8 +134,7 @@ fn claims_of_table(alloc: Global, table: &Table) -> Result<Option<ClaimSet>, NoM
     Ok(Some(claims))
 }
 
-/// The claims that a value holds, where it is a table of claims that are known, each of its kind
-/// (OpenID Connect Core 1.0, 5.1).
+/// The claims in a value, if it is a table of known claims, each of its kind (OpenID Connect Core 1.0, 5.1).
 pub fn claims_of(alloc: Global, value: &Value) -> Result<Option<ClaimSet>, NoMemory>
     ensures value { IfOk result (λ o. o ≡ claims_in (view value.now)) }
     ensures fits { IfOk result (λ o. IfSome o (λ c. ClaimsFit c)) }

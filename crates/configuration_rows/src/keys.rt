@@ -1,4 +1,4 @@
-// What a row is guilty of at one key.
+// The errors of a row at one key.
 
 ghost use Rattle.std.specs.Prelude.{◌≡◌, ◌++◌, OnOk};
 ghost use Rattle.toml.specs.View.{view};
@@ -40,7 +40,7 @@ fn note_value(
     note_breach(refusals, row.path(alloc, key)?, breach)
 }
 
-// Judges a key that is needed.
+// Checks a required key.
 pub(crate) fn required(
     refusals: &mut Refusals,
     row: Row,
@@ -59,7 +59,7 @@ pub(crate) fn required(
     }
 }
 
-// Judges a key that is optional or has a default.
+// Checks a key that is optional or has a default.
 pub(crate) fn optional(
     refusals: &mut Refusals,
     row: Row,
@@ -75,7 +75,7 @@ pub(crate) fn optional(
     }
 }
 
-// Judges whether rows stand in an array, where there are any.
+// Checks that rows are in an array, if there are any.
 pub(crate) fn array(refusals: &mut Refusals, root: &Value, key: &str) -> Result<(), NoMemory>
     ensures { OnOk result (refusals.new ≡ refusals.old ++ array_rule key.now (view root.now)) }
 {

@@ -1,4 +1,4 @@
-// The kinds of values that may stand at keys, and how a value breaks the rule of its key.
+// The kinds of values at keys, and how a value violates the rule of its key.
 
 ghost use Rattle.std.specs.Prelude.{◌≡◌, ◌≤◌, IfOk, is_some};
 ghost use Rattle.std.specs.List.{list_all};
@@ -28,12 +28,12 @@ pub enum Alphabet {
     Visible,
 }
 
-/// What a text has to be. Bounds are of characters, and for hexadecimal digits of the bytes that they spell.
+/// The rule for a text. Bounds count characters; for hexadecimal digits they count the encoded bytes.
 #[derive(Clone, Copy)]
 pub enum TextRule {
     /// Any text.
     Any,
-    /// Characters of an alphabet alone.
+    /// Only characters of an alphabet.
     Name {
         /// Its characters.
         alphabet: Alphabet,
@@ -49,26 +49,26 @@ pub enum TextRule {
         /// The most bytes.
         most: usize,
     },
-    /// A response type, its words in any order (OpenID Connect Core 1.0, 3).
+    /// A response type, with its words in any order (OpenID Connect Core 1.0, 3).
     ResponseType,
     /// `public` or `pairwise` (OpenID Connect Core 1.0, 8).
     Subject,
     /// `ask` or `given`.
     Consent,
-    /// Words of `scope`, `openid` among them.
+    /// Words of `scope`, with `openid` among them.
     Scope,
     /// Words of `prompt` (OpenID Connect Core 1.0, 3.1.2.1).
     Prompt,
 }
 
-/// What may stand at a key.
+/// The kind of value that a key accepts.
 #[derive(Clone, Copy)]
 pub enum Kind {
     /// A text.
     Text(TextRule),
     /// A whole number within these bounds.
     Number {
-        /// The least.
+        /// The smallest.
         least: u64,
         /// The greatest.
         most: u64,
@@ -87,12 +87,12 @@ pub enum Kind {
     Claims,
 }
 
-/// How a value breaks the rule of its key.
+/// How a value violates the rule of its key.
 #[derive(Clone, Copy)]
 pub enum Breach {
-    /// It is of another kind, or outside its rule.
+    /// It has another kind, or violates its rule.
     WrongKind,
-    /// It breaks the rule for URLs.
+    /// It violates the rule for URLs.
     BadUrl,
 }
 
@@ -128,7 +128,7 @@ fn are_allowed(alphabet: Alphabet, bytes: &[u8]) -> bool
     true
 }
 
-// Whether the text has these characters alone, within these bounds.
+// Whether the text has only characters of this alphabet, and its length is within these bounds.
 fn is_name_of(alphabet: Alphabet, least: usize, most: usize, text: &str) -> bool
     ensures { result ≡ is_name alphabet least most text.now }
 {
@@ -210,7 +210,7 @@ fn breach_of_urls(alloc: Global, value: &Value) -> Result<Option<Breach>, NoMemo
     }
 }
 
-// The breach of a text, or the wrong kind where there is none.
+// The breach of a text; the wrong kind if the value is not a text.
 fn breach_of_text(alloc: Global, rule: TextRule, value: &Value) -> Result<Option<Breach>, NoMemory>
     ensures { IfOk result (λ o. o ≡ breach_in (Kind.Text rule) (view value.now)) }
 {
@@ -238,7 +238,7 @@ fn is_number(least: u64, most: u64, value: &Value) -> bool
     }
 }
 
-// How the value breaks the rule of its key, where it does.
+// How the value violates the rule of its key, if it does.
 pub(crate) fn breach_of(
     alloc: Global,
     kind: Kind,

@@ -1,4 +1,4 @@
-// The rule of a client's logout URI, over the parties that use the client.
+// The rule for a client's logout URI and the parties that use the client.
 
 ghost use Rattle.std.specs.Prelude.{◌≡◌, ◌++◌, map, codes, IfOk, OnOk};
 ghost use Rattle.std.specs.List.{list_any};
@@ -16,7 +16,7 @@ use sso_base::NoMemory;
 use std::alloc::Global;
 use toml::Value;
 
-// Whether the party of this row uses the client of this id.
+// Whether the party of this row uses the client with this id.
 fn uses(id: &str, party: &Value) -> bool
     ensures { result ≡ uses_in id.now (view party.now) }
 {
@@ -26,7 +26,7 @@ fn uses(id: &str, party: &Value) -> bool
     }
 }
 
-// Whether the party's redirection URI has another scheme, host or port.
+// Whether the party's redirect URI has another scheme, host or port.
 fn is_elsewhere(alloc: Global, url: &WebUrl, party: &Value) -> Result<bool, NoMemory>
     ensures { IfOk result (λ b. b ≡ is_elsewhere_in url.now (url_in (codes "redirect_uri") (view party.now))) }
 {
@@ -36,7 +36,7 @@ fn is_elsewhere(alloc: Global, url: &WebUrl, party: &Value) -> Result<bool, NoMe
     }
 }
 
-// Whether the logout URI does not fit this party, which uses the client.
+// Whether the party uses the client and the logout URI does not fit it.
 fn is_apart(alloc: Global, id: &str, url: &WebUrl, party: &Value) -> Result<bool, NoMemory>
     ensures { IfOk result (λ b. b ≡ is_apart_in id.now url.now (view party.now)) }
 {
@@ -77,8 +77,8 @@ fn is_misplaced(alloc: Global, parties: &[Value], client: &Value) -> Result<bool
     }
 }
 
-// Judges the logout URI of a client: where a party uses the client, it has the scheme, host and port of that party's
-// redirection URI, and not the path of its sign-out.
+// Checks the logout URI of a client. If a party uses the client, the URI has the scheme, host and port of that party's redirect
+// URI, and its path is not the party's sign-out path.
 pub(crate) fn logout_rule(
     refusals: &mut Refusals,
     parties: &[Value],

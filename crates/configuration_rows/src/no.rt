@@ -1,14 +1,14 @@
-// Why a configuration is refused.
+// Why a configuration is rejected.
 
 ghost use Rattle.std.specs.Prelude.{◌≡◌};
 ghost use Rattle.configuration_rows.specs.Refusals.{number};
 
 use sso_base::{NoMemory, Text};
 
-/// Why a configuration is refused, or memory ran out. Where several fit, the first in this order is answered, and of
-/// one kind the first in the order of the file's table.
+/// Why a configuration is rejected, or `NoMemory`. If several reasons apply, the first in this order is returned; among errors
+/// of one kind, the first in the order of the file's table.
 ///
-/// A path is written as `client[0].secret`: a row's place counts from 0, and a value inside an array has no place.
+/// A path is written as `client[0].secret`: the index of a row counts from 0, and a value inside an array has no index.
 #[derive(Drop)]
 pub enum RegNo {
     /// Memory ran out.
@@ -21,23 +21,23 @@ pub enum RegNo {
     Version,
     /// The key at this path is absent, and it is neither optional nor has a default.
     Missing(Text),
-    /// The value at this path is of another kind, or outside its rule.
+    /// The value at this path has another kind, or violates its rule.
     WrongKind(Text),
-    /// The text at this path breaks the rule for URLs, or a party's redirection URI breaks its own.
+    /// The text at this path violates the rule for URLs, or a party's redirect URI violates its own.
     BadUrl(Text),
-    /// This user id, client id, party name or redirection URI stands twice; or a client's id is the issuer; or the client
-    /// of this id has the secret of an earlier one, or is used by two parties; or a party has the name `op`.
+    /// One of: this user id, client id, party name or redirect URI occurs twice; a client's id is the issuer; the client with
+    /// this id has the secret of an earlier one; two parties use the client with this id; a party has the name `op`.
     Twice(Text),
-    /// The secret of the client of this id has fewer than 32 characters.
+    /// The secret of the client with this id has fewer than 32 characters.
     ShortSecret(Text),
     /// There are more than 512 of `user`, 128 of `client` or 64 of `party`, or the `claims` of a user have more than
     /// 2,048 bytes as JSON.
     TooMany(Text),
-    /// The client of this id is pairwise, and its redirection URIs have two hosts (OpenID Connect Core 1.0, 8.1).
+    /// The client with this id is pairwise, and its redirect URIs have different hosts (OpenID Connect Core 1.0, 8.1).
     MixedHosts(Text),
-    /// The party of this name uses a client that is not there.
+    /// The party of this name uses an unknown client.
     UnknownClient(Text),
-    /// At the client of the first id the users of the other two have one subject.
+    /// At the client with the first id, the users with the other two ids have the same subject.
     SubjectClash(Text, Text, Text),
 }
 
@@ -53,7 +53,7 @@ impl From<NoMemory> for RegNo {
 }
 
 impl RegNo {
-    // The number of this kind of refusal, in the order in which they are answered.
+    // The position of this kind of error in the order in which errors are reported.
     pub(crate) fn number(&self) -> u8
         ensures { result ≡ number self.now }
     {

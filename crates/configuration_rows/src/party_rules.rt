@@ -1,4 +1,4 @@
-// The rules of a party's redirection URI and response type, over the client that it uses.
+// The rules for a party's redirect URI and response type, and the client that it uses.
 
 ghost use Rattle.std.specs.Prelude.{◌≡◌, ◌++◌, map, codes, Some, IfOk, OnOk, option_map};
 ghost use Rattle.std.specs.List.{list_any};
@@ -29,7 +29,7 @@ fn has_id(id: &str, client: &Value) -> bool
     }
 }
 
-// The first client of this id.
+// The first client with this id.
 fn client_with<'a>(id: &str, clients: &'a [Value]) -> Option<&'a Value>
     ensures { option_map (λ v. view v.now) result ≡ spec.client_with id.now (map view clients.now) }
 {
@@ -41,7 +41,7 @@ fn client_with<'a>(id: &str, clients: &'a [Value]) -> Option<&'a Value>
     None
 }
 
-// The client of a party, where it is known.
+// The client of a party, if it is known.
 fn client_of<'a>(clients: &'a [Value], party: &Value) -> Option<&'a Value>
     ensures { option_map (λ v. view v.now) result ≡ spec.client_of (map view clients.now) (view party.now) }
 {
@@ -99,7 +99,7 @@ fn has_path(path: &str, url: &Option<WebUrl>) -> bool
     }
 }
 
-// Whether the redirection URI is not the client's, or has the path of its logout URI.
+// Whether the redirect URI is not one of the client's, or has the path of its logout URI.
 fn is_not_of(alloc: Global, client: &Value, text: &str, url: &WebUrl) -> Result<bool, NoMemory>
     ensures { IfOk result (λ b. b ≡ spec.is_not_of (Some (view client.now)) text.now url.now) }
 {
@@ -141,8 +141,8 @@ fn misdirects(alloc: Global, clients: &[Value], party: &Value) -> Result<bool, N
     }
 }
 
-// Judges the redirection URI of a party: it is one of its client's, its query has no name by which it is answered, and
-// its path is neither one that the party serves itself nor that of the logout URI.
+// Checks the redirect URI of a party. It is one of its client's, and its query has no name of a response parameter. Its path is
+// neither one that the party serves itself nor the path of the logout URI.
 pub(crate) fn redirect_rule(
     refusals: &mut Refusals,
     clients: &[Value],
@@ -158,7 +158,7 @@ pub(crate) fn redirect_rule(
     refusals.note(RegNo::BadUrl(row.path(alloc, "redirect_uri")?))
 }
 
-/// The response types of a client, or else `code`.
+/// The response types of a client; `code` if it states none.
 pub fn response_texts(alloc: Global, client: &Value) -> Result<Vec<Text>, NoMemory>
     ensures { IfOk result (λ v. v.items ≡ spec.response_texts (view client.now)) }
 {
@@ -196,7 +196,7 @@ fn lacks_type(alloc: Global, clients: &[Value], party: &Value) -> Result<bool, N
     }
 }
 
-// Judges the response type of a party: it is one that its client has.
+// Checks the response type of a party: its client must have it.
 pub(crate) fn type_rule(
     refusals: &mut Refusals,
     clients: &[Value],

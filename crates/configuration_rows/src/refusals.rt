@@ -1,4 +1,4 @@
-// Refusals of a configuration, in the order of its table.
+// Errors of a configuration, in the order of its table.
 
 ghost use Rattle.std.specs.Prelude.{◌≡◌, ◌++◌, ◌∷◌, [], IfOk, OnOk, OnErr};
 ghost use Rattle.configuration_rows.specs.Refusals.{least, sooner};
@@ -8,7 +8,7 @@ use sso_base::{NoMemory, Text};
 use std::alloc::Global;
 use std::marker::Model;
 
-/// What a configuration is guilty of, in order, seen as the list of it.
+/// The errors of a configuration, in order. The model is their list.
 #[derive(Drop)]
 pub struct Refusals {
     alloc: Global,
@@ -25,7 +25,7 @@ impl Model for Refusals {
 }
 
 impl Refusals {
-    /// No refusal.
+    /// No errors.
     pub fn new(alloc: Global) -> Refusals
         ensures { result ≡ [] }
     {
@@ -35,12 +35,12 @@ impl Refusals {
         }
     }
 
-    /// The allocator that they grow by.
+    /// Their allocator.
     pub fn alloc(&self) -> Global {
         self.alloc
     }
 
-    /// Adds one at the end.
+    /// Adds an error at the end.
     pub fn note(&mut self, refusal: RegNo) -> Result<(), NoMemory>
         ensures { OnOk result (self.new ≡ self.old ++ refusal ∷ []) }
     {
@@ -48,7 +48,7 @@ impl Refusals {
         Ok(())
     }
 
-    /// The first of those that have the least number.
+    /// The first error with the smallest number.
     #[tactic(auto, using(crate::proofs::Order::least_of_one_more))]
     pub fn least(self) -> Option<RegNo>
         ensures { result ≡ least self }
@@ -62,7 +62,7 @@ impl Refusals {
     }
 }
 
-// Of a refusal and one that comes later, the one that is answered.
+// Of an error and a later one, the one that is reported.
 fn sooner_of(refusal: RegNo, later: Option<RegNo>) -> RegNo
     ensures { result ≡ sooner refusal later }
 {

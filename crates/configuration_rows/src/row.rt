@@ -6,20 +6,20 @@ ghost use Rattle.configuration_rows.specs.Paths.{row_text, path_text, place_text
 use sso_base::{NoMemory, Text};
 use std::alloc::Global;
 
-/// A row: the provider, or a user, client or party with its place, from 0.
+/// A row: the provider, or a user, client or party with its index, counted from 0.
 #[derive(Clone, Copy)]
 pub enum Row {
     /// The provider.
     Provider,
-    /// The user at this place.
+    /// The user at this index.
     User(usize),
-    /// The client at this place.
+    /// The client at this index.
     Client(usize),
-    /// The party at this place.
+    /// The party at this index.
     Party(usize),
 }
 
-// Adds a table's name and a place, as `client[0]`.
+// Appends a table's name and an index, as `client[0]`.
 fn push_place(alloc: Global, text: &mut String, name: &str, place: usize) -> Result<(), NoMemory>
     ensures { OnOk result (string_bytes text.new ≡ string_bytes text.old ++ place_text name.now place) }
 {

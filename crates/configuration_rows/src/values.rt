@@ -1,4 +1,4 @@
-// Values of a configuration, each of the kind that is asked for.
+// Values of a configuration, each of the requested kind.
 
 ghost use Rattle.std.specs.Prelude.{◌≡◌, [], map, IfOk, option_map, option_copied};
 ghost use Rattle.toml.specs.Data.{table, no_members};
@@ -13,7 +13,7 @@ use sso_base::{NoMemory, Text};
 use std::alloc::Global;
 use toml::Value;
 
-// A whole number from 0 on.
+// A natural number.
 pub(crate) fn natural_of(value: &Value) -> Option<u64>
     ensures { result ≡ as_natural (view value.now) }
 {
@@ -23,7 +23,7 @@ pub(crate) fn natural_of(value: &Value) -> Option<u64>
     }
 }
 
-// The bytes of a text in hexadecimal digits, two for each.
+// The bytes of a text of hexadecimal digits, two for each byte.
 pub(crate) fn hex_of(alloc: Global, text: &str) -> Result<Option<Vec<u8>>, NoMemory>
     ensures { IfOk result (λ o. option_map (λ v. v.items) o ≡ hex_bytes text.now) }
 {
@@ -47,7 +47,7 @@ fn texts_in(alloc: Global, items: &[Value]) -> Result<Option<Vec<Text>>, NoMemor
     Ok(Some(texts))
 }
 
-// The texts of an array that holds nothing else.
+// The texts of an array that contains only texts.
 pub(crate) fn texts_of(alloc: Global, value: &Value) -> Result<Option<Vec<Text>>, NoMemory>
     ensures { IfOk result (λ o. option_map (λ v. v.items) o ≡ as_texts (view value.now)) }
 {
@@ -67,7 +67,7 @@ pub fn text_at<'a>(row: &'a Value, key: &str) -> Option<&'a str>
     }
 }
 
-/// The text at a key, or else this one.
+/// The text at a key, or this default.
 pub fn text_or<'a>(row: &'a Value, key: &str, other: &'a str) -> &'a str
     ensures { result.now ≡ spec.text_or key.now other.now (view row.now) }
 {
@@ -77,7 +77,7 @@ pub fn text_or<'a>(row: &'a Value, key: &str, other: &'a str) -> &'a str
     }
 }
 
-/// The whole number at a key, from 0 on.
+/// The natural number at a key.
 pub fn natural_at(row: &Value, key: &str) -> Option<u64>
     ensures { result ≡ spec.natural_at key.now (view row.now) }
 {
@@ -87,7 +87,7 @@ pub fn natural_at(row: &Value, key: &str) -> Option<u64>
     }
 }
 
-/// The flag at a key, or else false.
+/// The flag at a key; false if there is none.
 pub fn flag_at(row: &Value, key: &str) -> bool
     ensures { result ≡ spec.flag_at key.now (view row.now) }
 {
@@ -100,7 +100,7 @@ pub fn flag_at(row: &Value, key: &str) -> bool
     }
 }
 
-/// The bytes that the text at a key spells, or else none.
+/// The bytes of the hexadecimal text at a key; empty if there is none.
 pub fn hex_at(alloc: Global, row: &Value, key: &str) -> Result<Vec<u8>, NoMemory>
     ensures { IfOk result (λ v. v.items ≡ spec.hex_at key.now (view row.now)) }
 {
@@ -113,7 +113,7 @@ pub fn hex_at(alloc: Global, row: &Value, key: &str) -> Result<Vec<u8>, NoMemory
     }
 }
 
-/// The texts of the array at a key, or else none.
+/// The texts of the array at a key; empty if there is none.
 pub fn texts_at(alloc: Global, row: &Value, key: &str) -> Result<Vec<Text>, NoMemory>
     ensures { IfOk result (λ v. v.items ≡ spec.texts_at key.now (view row.now)) }
 {
@@ -126,7 +126,7 @@ pub fn texts_at(alloc: Global, row: &Value, key: &str) -> Result<Vec<Text>, NoMe
     }
 }
 
-/// The URL of a text, where it keeps the rule for URLs.
+/// The URL in a text, if it satisfies the rule for URLs.
 pub fn url_of(alloc: Global, text: &str) -> Result<Option<WebUrl>, NoMemory>
     ensures { IfOk result (λ o. o ≡ url_in text.now) }
 {
@@ -137,7 +137,7 @@ pub fn url_of(alloc: Global, text: &str) -> Result<Option<WebUrl>, NoMemory>
     }
 }
 
-/// The URL at a key, where there is one that keeps the rule for URLs.
+/// The URL at a key, if there is one that satisfies the rule for URLs.
 pub fn url_at(alloc: Global, row: &Value, key: &str) -> Result<Option<WebUrl>, NoMemory>
     ensures { IfOk result (λ o. o ≡ spec.url_at key.now (view row.now)) }
 {
@@ -147,7 +147,7 @@ pub fn url_at(alloc: Global, row: &Value, key: &str) -> Result<Option<WebUrl>, N
     }
 }
 
-/// The rows of the array at a key, or else none.
+/// The rows of the array at a key; empty if there is none.
 #[tactic(auto, using(crate::proofs::ArrayRows::rows_of_items))]
 pub fn rows_at<'a>(root: &'a Value, key: &str) -> &'a [Value]
     ensures { map view result.now ≡ spec.rows_at key.now (view root.now) }
@@ -161,7 +161,7 @@ pub fn rows_at<'a>(root: &'a Value, key: &str) -> &'a [Value]
     }
 }
 
-/// What stands at a key, or else a table that holds nothing.
+/// The value at a key; the empty table if there is none.
 pub fn table_at<'a>(root: &'a Value, key: &str, empty: &'a Value) -> &'a Value
     requires { view empty.now ≡ table no_members }
     ensures { view result.now ≡ spec.table_at key.now (view root.now) }

@@ -18,7 +18,7 @@ use crate::values::{rows_at, table_at};
 use sso_base::NoMemory;
 use toml::Value;
 
-// A text of these characters alone, within these bounds.
+// A text with only characters of this alphabet, of a length within these bounds.
 fn name_of(alphabet: Alphabet, least: usize, most: usize) -> Kind
     ensures { result ≡ kind.Text (rule.Name alphabet least most) }
 {
@@ -29,7 +29,7 @@ fn name_of(alphabet: Alphabet, least: usize, most: usize) -> Kind
     })
 }
 
-// A text of hexadecimal digits that spells so many bytes.
+// A text of hexadecimal digits that encodes a number of bytes within these bounds.
 fn hex_of(least: usize, most: usize) -> Kind
     ensures { result ≡ kind.Text (rule.Hex least most) }
 {
@@ -241,7 +241,7 @@ fn party_rows(refusals: &mut Refusals, clients: &[Value], parties: &[Value]) -> 
     Ok(())
 }
 
-/// What the rows of a configuration are guilty of, in order. The other value is a table that holds nothing.
+/// Appends the errors of the rows of a configuration, in order. `empty` is an empty table.
 #[tactic(auto, unfolding(crate::specs::Version1::rows_refusals))]
 pub fn judge_rows(refusals: &mut Refusals, root: &Value, empty: &Value) -> Result<(), NoMemory>
     requires { view empty.now ≡ table no_members }

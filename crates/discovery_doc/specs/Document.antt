@@ -1,5 +1,5 @@
--- What a discovery document is, in the standard's words: the text of an object in which the metadata of the provider
--- stand that was asked for (OpenID Connect Discovery 1.0, 3 and 4.3).
+-- What a discovery document is, in the standard's words: the text of an object that contains the metadata of the requested
+-- provider (OpenID Connect Discovery 1.0, 3 and 4.3).
 use Rattle.std.specs.Prelude.{◌≡◌, ℕ, List, Some, is_some, option_map, codes, IsTrue, IfSome}
 use Rattle.serde_json.specs.Data.{string, Members}
 use Rattle.serde_json.specs.Find.{get_member}
@@ -9,11 +9,11 @@ use Rattle.client_registry.specs.declared.records.Provider.{Provider}
 use Rattle.discovery_doc.specs.Metadata.{texts}
 use Rattle.sso_base.specs.Texts.{has_text}
 
--- the text keeps the rule for URLs
+-- the text satisfies the rule for URLs
 abbrev pub IsUrl : List ℕ → Type 0
 IsUrl t = IsTrue (is_some (url_of t))
 
--- the members ms are metadata of the provider p, whose issuer is the one that was asked for
+-- the members ms are metadata of the provider p, whose issuer is the requested one
 pub record IsMetadata (asked : List ℕ) (ms : Members) (p : Provider) : Type 0 where
   pub issuer : get_member (codes "issuer") ms ≡ Some (string p.issuer)
   pub is_asked : p.issuer ≡ asked
@@ -33,7 +33,7 @@ pub record IsMetadata (asked : List ℕ) (ms : Members) (p : Provider) : Type 0 
   pub algorithms_supported : get_member (codes "id_token_signing_alg_values_supported") ms ≡ Some (texts algorithms)
   pub hs256 : IsTrue (has_text (codes "HS256") algorithms)
 
--- the bytes b are a discovery document of the provider p, whose issuer is the one that was asked for
+-- the bytes b are a discovery document of the provider p, whose issuer is the requested one
 pub record IsDocument (asked b : List ℕ) (p : Provider) : Type 0 where
   pub members : Members
   pub reads : Reads b members

@@ -22,7 +22,7 @@ algorithms = codes "HS256" ∷ []
 abbrev pub subject_types : List (List ℕ)
 subject_types = codes "public" ∷ codes "pairwise" ∷ []
 
--- how a client may show its secret at the token endpoint (OpenID Connect Core 1.0, 9)
+-- how a client may authenticate at the token endpoint (OpenID Connect Core 1.0, 9)
 abbrev pub auth_methods : List (List ℕ)
 auth_methods = codes "client_secret_basic" ∷ codes "client_secret_post" ∷ []
 

@@ -1,4 +1,4 @@
--- The provider whose document the bytes are, or why they are refused (OpenID Connect Discovery 1.0, 3 and 4.3).
+-- The provider whose document the bytes are, or why they are rejected (OpenID Connect Discovery 1.0, 3 and 4.3).
 use Rattle.std.specs.Prelude.{ℕ, Bool, false, not, List, [], ◌∷◌, codes, is_none, Option, Some, None, option_and_then, unwrap_or, Result, Ok, Err}
 use Rattle.std.specs.Str.{bytes_eq}
 use Rattle.sso_base.specs.Texts.{has_text}
@@ -13,7 +13,7 @@ use Rattle.client_registry.specs.declared.records.Provider.{Provider}
 use Rattle.discovery_doc.specs.declared.no.DiscNo.{DiscNo}
 use Rattle.discovery_doc.specs.declared.no.DiscNo.TheVariants.{NotObject, Missing, IssuerDiffers, NoHs256, BadUrl}
 
--- an array of strings, and not a lone string
+-- an array of strings, but not a single string
 abbrev pub as_texts : Data → Option (List (List ℕ))
 as_texts null = None
 as_texts (boolean b) = None
@@ -22,7 +22,7 @@ as_texts (string s) = None
 as_texts (array ds) = item_texts ds
 as_texts (object ms) = None
 
--- what stands at a name, of this kind
+-- the value at a name, if it is of this kind
 abbrev pub member_as : {A : Type 0} → (Data → Option A) → List ℕ → Members → Option A
 member_as kind name ms = option_and_then kind (get_member name ms)
 
@@ -32,11 +32,11 @@ text_in name ms = unwrap_or (member_as as_str name ms) []
 abbrev pub texts_in : List ℕ → Members → List (List ℕ)
 texts_in name ms = unwrap_or (member_as as_texts name ms) []
 
--- the text breaks the rule for URLs
+-- the text violates the rule for URLs
 abbrev pub is_bad_url : List ℕ → Bool
 is_bad_url t = is_none (url_of t)
 
--- it is there, and breaks the rule for URLs
+-- the member is present, and violates the rule for URLs
 abbrev pub is_bad_member : Option Data → Bool
 is_bad_member None = false
 is_bad_member (Some d) = is_none (option_and_then url_of (as_str d))
@@ -44,7 +44,7 @@ is_bad_member (Some d) = is_none (option_and_then url_of (as_str d))
 abbrev pub missing : {A : Type 0} → (Data → Option A) → List ℕ → Members → Bool × DiscNo
 missing kind name ms = (is_none (member_as kind name ms), Missing name)
 
--- the members that must be there, in the order in which they are looked for
+-- the required members, in the order in which they are checked
 abbrev pub absences : Members → List (Bool × DiscNo)
 absences ms =
     missing as_str (codes "issuer") ms
@@ -55,7 +55,7 @@ absences ms =
     ∷ missing as_texts (codes "subject_types_supported") ms
     ∷ missing as_texts (codes "id_token_signing_alg_values_supported") ms ∷ []
 
--- what members that are there must not be, in a document that was asked for at this issuer
+-- the errors of members that are present, in a document requested for this issuer
 abbrev pub faults : List ℕ → Members → List (Bool × DiscNo)
 faults issuer ms =
     (not (bytes_eq (text_in (codes "issuer") ms) issuer), IssuerDiffers)
@@ -64,7 +64,7 @@ faults issuer ms =
     ∷ (is_bad_url (text_in (codes "token_endpoint") ms), BadUrl (codes "token_endpoint"))
     ∷ (is_bad_member (get_member (codes "userinfo_endpoint") ms), BadUrl (codes "userinfo_endpoint")) ∷ []
 
--- the endpoints that stand in a document
+-- the endpoints in a document
 abbrev pub provider_in : Members → Provider
 provider_in ms = record {
   issuer = text_in (codes "issuer") ms;
@@ -80,6 +80,6 @@ abbrev pub if_object : List ℕ → Result Members ClaimNo → Result Provider D
 if_object issuer (Ok ms) = members_read issuer ms
 if_object issuer (Err e) = Err NotObject
 
--- the provider of this issuer whose document the bytes are, or the first refusal that fits
+-- the provider of this issuer whose document the bytes are, or the first error that applies
 unfoldable pub discovery_read : List ℕ → List ℕ → Result Provider DiscNo
 discovery_read issuer b = if_object issuer (claims_read b)

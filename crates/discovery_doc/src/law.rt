@@ -1,4 +1,4 @@
-// What holds of discovery documents, for the crates above.
+// Laws about discovery documents, for the crates above.
 
 ghost use Rattle.std.specs.Prelude.{◌≡◌, ◌++◌, ℕ, List, Ok, Err};
 ghost use Rattle.serde_json.specs.Data.{Members};
@@ -15,27 +15,27 @@ ghost use Rattle.discovery_doc.specs.Reading.{absences, faults, provider_in, dis
 ghost use Rattle.discovery_doc.specs.Document.{IsDocument};
 ghost use Rattle.discovery_doc.specs.Printed.{IsPrintable};
 
-/// A text is read exactly where it is a discovery document of the provider that was asked for, and as this provider.
+/// A text is accepted if and only if it is a discovery document of the requested provider, and the result is this provider.
 pub fn read_documents_have_the_metadata()
     ensures document { (issuer b : List ℕ) (p : Provider) → discovery_read issuer b ≡ Ok p → IsDocument issuer b p }
     ensures read { (issuer b : List ℕ) (p : Provider) → IsDocument issuer b p → discovery_read issuer b ≡ Ok p }
 {}
 
-/// A text that is no such document is refused for the first reason: it is no claim set, or its members meet a condition
-/// of `absences`, or then one of `faults`, of which the first counts.
+/// A text that is no such document is rejected for the first reason: it is no claim set, or a condition of `absences` or then
+/// of `faults` is true. Of these conditions, the first counts.
 pub fn refused_documents_have_the_first_reason()
     ensures unread { (issuer b : List ℕ) (e : ClaimNo) → claims_read b ≡ Err e → discovery_read issuer b ≡ Err no.NotObject }
     ensures refused { (issuer b : List ℕ) (ms : Members) (e : DiscNo) → Reads b ms → first_refusal (absences ms ++ faults issuer ms) ≡ Err e → discovery_read issuer b ≡ Err e }
     ensures accepted { (issuer b : List ℕ) (ms : Members) → Reads b ms → first_refusal (absences ms ++ faults issuer ms) ≡ Ok tt → discovery_read issuer b ≡ Ok (provider_in ms) }
 {}
 
-/// A document is read for the issuer that it names alone.
+/// A document is only accepted for the issuer that it names.
 pub fn read_documents_name_the_provider()
     ensures { (issuer b : List ℕ) (p : Provider) → discovery_read issuer b ≡ Ok p → p.issuer ≡ issuer }
 {}
 
-/// The document that is written of a registry's provider is read, for its issuer, as this provider; so is that of any
-/// provider whose endpoints keep the rule for URLs.
+/// The document that is written for a registry's provider is accepted for its issuer, and the result is this provider. The same
+/// is true for any provider whose endpoints satisfy the rule for URLs.
 pub fn printed_metadata_is_read()
     ensures registry { (c : Configuration) → IsRegistry c → discovery_read c.provider.issuer (claims_text (metadata c.provider)) ≡ Ok c.provider }
     ensures printable { (p : Provider) → IsPrintable p → discovery_read p.issuer (claims_text (metadata p)) ≡ Ok p }

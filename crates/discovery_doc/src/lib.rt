@@ -1,14 +1,14 @@
 //! The metadata of an OpenID provider, written and read (OpenID Connect Discovery 1.0, 3 and 4).
 //!
-//! The document is a JSON object. It stands at the issuer without a last `/`, then
-//! `/.well-known/openid-configuration`. URLs in it are absolute.
+//! The document is a JSON object. Its URL is the issuer without a last `/`, followed by `/.well-known/openid-configuration`.
+//! URLs in it are absolute.
 //!
 //! | Module | What it has |
 //! |---|---|
 //! | `printing` | [`print_discovery`] writes the document of a registry's provider |
-//! | `reading` | [`read_discovery`] reads a document as a provider's endpoints |
-//! | `no` | [`DiscNo`], why a document is refused |
-//! | `law` | what holds of documents, for the crates above |
+//! | `reading` | [`read_discovery`] reads a provider's endpoints from a document |
+//! | `no` | [`DiscNo`], why a document is rejected |
+//! | `law` | laws about documents, for the crates above |
 #![tactic(auto)]
 
 mod law;

@@ -1,4 +1,4 @@
-// The document of a provider is written.
+// Writing the document of a provider.
 
 ghost use Rattle.std.specs.Prelude.{◌≡◌, ◌++◌, [], ◌∷◌, Ok, IfOk, OnOk};
 ghost use Rattle.claim_set.specs.Building.{put_all};
@@ -106,8 +106,8 @@ fn document(alloc: Global, provider: &Provider) -> Result<Text, NoMemory>
     claims_text(&set)
 }
 
-/// The discovery document of the registry's provider: a JSON object on one line, with its members in the order of their
-/// names (OpenID Connect Discovery 1.0, 3). It is read, for its issuer, as the registry's provider.
+/// The discovery document of the registry's provider: a JSON object on one line, with its members in the order of their names
+/// (OpenID Connect Discovery 1.0, 3). Reading it for its issuer returns the registry's provider.
 #[tactic(auto, using(crate::proofs::Printed::registry_document, crate::proofs::Printed::registry_read))]
 pub fn print_discovery(alloc: Global, registry: &Registry) -> Result<Text, NoMemory>
     ensures text { IfOk result (λ t. t ≡ text_of_claims (spec.metadata registry.now.provider)) }

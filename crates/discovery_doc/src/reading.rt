@@ -1,4 +1,4 @@
-// A discovery document is read, or refused for the first reason that fits.
+// Reading a discovery document, or rejecting it for the first reason that applies.
 
 ghost use Rattle.std.specs.Prelude.{true, false, ◌≡◌, ◌⊎◌, Some, None, Ok, Err, IfOk, IfErr, codes};
 ghost use Rattle.serde_json.specs.Find.{get_member, as_str};
@@ -16,7 +16,7 @@ use registered_url::{UrlNo, read_url};
 use sso_base::{NoMemory, Text, Texts};
 use std::alloc::Global;
 
-// The string at a name. Want of memory alone is an error.
+// The string at a name. The only error is `NoMemory`.
 fn text_at(claims: &ClaimSet, name: &str) -> Result<Option<Text>, NoMemory>
     ensures { IfOk result (λ o. o ≡ member_as as_str name.now claims.now) }
 {
@@ -27,7 +27,7 @@ fn text_at(claims: &ClaimSet, name: &str) -> Result<Option<Text>, NoMemory>
     }
 }
 
-// The array of strings at a name. Want of memory alone is an error.
+// The array of strings at a name. The only error is `NoMemory`.
 fn texts_at(claims: &ClaimSet, name: &str) -> Result<Option<Texts>, NoMemory>
     ensures { IfOk result (λ o. o ≡ member_as as_texts name.now claims.now) }
 {
@@ -41,7 +41,7 @@ fn texts_at(claims: &ClaimSet, name: &str) -> Result<Option<Texts>, NoMemory>
     }
 }
 
-// Whether the text breaks the rule for URLs.
+// Whether the text violates the rule for URLs.
 fn breaks_rule(alloc: Global, text: &Text) -> Result<bool, NoMemory>
     ensures { IfOk result (λ b. b ≡ is_bad_url text.now) }
 {
@@ -52,7 +52,7 @@ fn breaks_rule(alloc: Global, text: &Text) -> Result<bool, NoMemory>
     }
 }
 
-// The URL at a name, where the name is there, or the refusal.
+// The URL at a name, if the name is present, or the error.
 fn url_if_there(alloc: Global, claims: &ClaimSet, name: &str) -> Result<Option<Text>, DiscNo>
     ensures value { IfOk result (λ o. o ≡ member_as as_str name.now claims.now) }
     ensures ok { IfOk result (λ _. is_bad_member (get_member name.now claims.now) ≡ false) }
@@ -74,7 +74,7 @@ fn url_if_there(alloc: Global, claims: &ClaimSet, name: &str) -> Result<Option<T
     }
 }
 
-// The members that must be there.
+// The required members.
 #[derive(Drop)]
 struct Required {
     issuer: Text,
@@ -83,7 +83,7 @@ struct Required {
     algorithms: Texts,
 }
 
-// The members that must be there, or the refusal for the first that is not.
+// The required members, or the error for the first that is absent.
 fn required_members(alloc: Global, claims: &ClaimSet) -> Result<Required, DiscNo>
     ensures ok { IfOk result (λ u. first_refusal (absences claims.now) ≡ Ok tt) }
     ensures issuer { IfOk result (λ r. r.issuer ≡ text_in (codes "issuer") claims.now) }
@@ -121,7 +121,7 @@ fn required_members(alloc: Global, claims: &ClaimSet) -> Result<Required, DiscNo
     })
 }
 
-// The endpoints in a document, or the first refusal that fits.
+// The endpoints in a document, or the first error that applies.
 fn provider(alloc: Global, issuer: &Text, claims: &ClaimSet) -> Result<Provider, DiscNo>
     ensures ok { IfOk result (λ p. members_read issuer.now claims.now ≡ Ok p) }
     ensures err { IfErr result (λ e. (e ≡ DiscNo.NoMemory) ⊎ (members_read issuer.now claims.now ≡ Err e)) }
@@ -154,7 +154,7 @@ fn provider(alloc: Global, issuer: &Text, claims: &ClaimSet) -> Result<Provider,
     })
 }
 
-// The endpoints in the document that the bytes are, or the first refusal that fits.
+// The endpoints in the document that the bytes are, or the first error that applies.
 #[tactic(auto, unfolding(crate::specs::Reading::discovery_read))]
 fn judged(alloc: Global, issuer: &Text, bytes: &[u8]) -> Result<Provider, DiscNo>
     ensures ok { IfOk result (λ p. discovery_read issuer.now bytes.now ≡ Ok p) }
@@ -167,10 +167,10 @@ fn judged(alloc: Global, issuer: &Text, bytes: &[u8]) -> Result<Provider, DiscNo
     }
 }
 
-/// The endpoints of the provider that has this issuer, from its discovery document (OpenID Connect Discovery 1.0, 4.3).
+/// The endpoints of the provider with this issuer, from its discovery document (OpenID Connect Discovery 1.0, 4.3).
 ///
-/// Exactly the documents of this issuer's provider are read. Of any other bytes the first refusal that fits is answered,
-/// in the order of [`DiscNo`]. Where `userinfo_endpoint` is absent, the provider has none. Other members are ignored.
+/// Accepts exactly the documents of this issuer's provider. For any other bytes it returns the first error that applies, in the
+/// order of [`DiscNo`]. If `userinfo_endpoint` is absent, the provider has none. Other members are ignored.
 pub fn read_discovery(alloc: Global, issuer: &Text, bytes: &[u8]) -> Result<Provider, DiscNo>
     ensures answers { IfOk result (λ p. discovery_read issuer.now bytes.now ≡ Ok p) }
     ensures document { IfOk result (λ p. IsDocument issuer.now bytes.now p) }

@@ -1,5 +1,4 @@
--- The held rows of one table: what they keep, how they change, and when there is room for one more. A word or a text names a
--- row.
+-- The rows of one table: their invariant, how they change, and when there is room for one more. A word or a text names a row.
 use Rattle.std.specs.Prelude.{◌≡◌, ◌<◌, ◌≤◌, ℕ, Bool, true, not, ◌||◌, nat_le, nat_lt, List, [], ◌∷◌, map, length, Option, None, option_map, is_some, if◌then◌else◌}
 use Rattle.std.specs.Str.{bytes_eq}
 use Rattle.std.specs.List.{list_all, AllByRecursion}
@@ -9,27 +8,27 @@ use Rattle.sso_base.specs.Stands.{IsDistinct}
 use Rattle.held_rows.specs.declared.row.By.{By}
 use Rattle.held_rows.specs.declared.row.By.TheVariants.{Name, First, Second}
 
--- what a row is found by: its name, and two other things, where it has them
+-- the keys of a row: its name, and two other keys, if it has them
 abbrev pub one_of : Option (List ℕ) → Option (List ℕ) → Option (List ℕ) → By → Option (List ℕ)
 one_of name first second Name = name
 one_of name first second First = first
 one_of name first second Second = second
 
--- how many rows a table holds at most
+-- the greatest number of rows in a table
 abbrev pub most_rows : ℕ
 most_rows = 65536
 
--- the rows that a table holds, and for how many it has memory
+-- the rows of a table, and the number of rows that there is memory for
 pub record Rows (R : Type 0) : Type 0 where
   pub rows : List R
   pub capacity : ℕ
 
--- each begins no later than those behind it
+-- each row begins no later than those after it
 abbrev pub IsInOrder : {R : Type 0} → (R → ℕ) → List R → Type 0
 IsInOrder begun [] = Unit {0}
 IsInOrder begun (row ∷ rows) = AllByRecursion (λ later. begun row ≤ begun later) rows × IsInOrder begun rows
 
--- what every table keeps of its rows
+-- the invariant of every table
 pub record IsHeld {R : Type 0} (name : R → Word) (begun : R → ℕ) (IsSound : R → Type 0) (rows : List R) : Type 0 where
   pub distinct : IsDistinct name rows
   pub ordered : IsInOrder begun rows
@@ -40,36 +39,36 @@ pub record IsHeld {R : Type 0} (name : R → Word) (begun : R → ℕ) (IsSound 
 abbrev pub none_after : {R : Type 0} → (R → ℕ) → ℕ → List R → Bool
 none_after begun at rows = list_all (λ row. nat_le (begun row) at) rows
 
--- the row of a name, changed where it stands
+-- the rows after a change of the row of a name, in its place
 abbrev pub changed : {R : Type 0} → (R → Word) → Word → (R → R) → List R → List R
 changed name w change rows = map (λ row. if bytes_eq (name row) w then change row else row) rows
 
--- the row of a name, changed and put at the end
+-- the rows after the row of a name is changed and moved to the end
 abbrev pub moved : {R : Type 0} → (R → Word) → Word → (R → R) → List R → List R
 moved name w change rows = put name (option_map change (row_of name w rows)) rows
 
--- fewer rows live at the moment than a table may hold
+-- the number of rows that live at the moment is below the limit
 abbrev pub has_room_for_one : {R : Type 0} → ℕ → (R → ℕ) → ℕ → List R → Bool
 has_room_for_one life begun at rows = nat_lt (length (live_rows life begun at rows)) most_rows
 
--- as many rows are held as a table may hold, and all of them live at the moment
+-- the number of rows is the limit, and all of them live at the moment
 pub record IsFull {R : Type 0} (life : ℕ) (begun : R → ℕ) (at : ℕ) (rows : List R) : Type 0 where
   pub most : length rows ≡ most_rows
   pub live : live_rows life begun at rows ≡ rows
 
--- the rows are as many as may be held, or one of them has the name
+-- the number of rows has reached the limit, or one of them has the name
 abbrev pub is_full : {R : Type 0} → ℕ → (R → Word) → Word → List R → Bool
 is_full most name w rows = not (nat_lt (length rows) most) || is_some (row_of name w rows)
 
--- where room is reserved, there is memory for one more row
+-- if room is reserved, there is memory for one more row
 abbrev pub HasMemory : {R : Type 0} → Bool → Rows R → Type 0
 HasMemory reserved held = reserved ≡ true → length held.rows < held.capacity
 
--- a table whose rows keep nothing besides
+-- the trivial invariant of a row
 abbrev pub AnyRow : {R : Type 0} → R → Type 0
 AnyRow row = Unit {0}
 
--- a row may be added: there is room for it, no row has its name, and none begins later
+-- a row may be added: there is room for it, no row has its name, and no row begins later
 pub record MayAddRow {R : Type 0} (name : R → Word) (begun : R → ℕ) (reserved : Bool) (rows : List R) (row : R) : Type 0 where
   pub room : reserved ≡ true
   pub few : length rows < most_rows

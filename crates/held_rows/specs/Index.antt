@@ -1,5 +1,5 @@
--- Rows in slots, and deques of slot numbers over them: one in order of issue, and for each thing that rows are found by one in the
--- order of its bytes.
+-- Rows in slots, and deques of slot numbers over them: one in the order of issue, and one for each key, in the order of the
+-- key's bytes.
 use Rattle.std.specs.Prelude.{◌≡◌, ◌<◌, ◌≤◌, ◌==◌, ℕ, suc, List, [], ◌∷◌, ◌++◌, map, length, slice_index, slice_index_or, Option, Some, None, option_map, option_and_then, unwrap_or, if◌then◌else◌}
 use Rattle.std.specs.List.{AllByRecursion, filter_map}
 use Rattle.std.specs.Cmp.Lexicographic.{slice_cmp}
@@ -14,12 +14,12 @@ use Rattle.held_rows.specs.Counts.{Lists}
 use Rattle.held_rows.specs.Held.{IsHeld}
 use Rattle.held_rows.specs.SlotList.{SlotList, get, value_count}
 
--- ---- what stands in slots: rows with serial numbers
+-- ---- the contents of slots: rows with serial numbers
 
 abbrev pub issued_row : {R : Type 0} → Option (Issued R) → Option R
 issued_row issued = option_map (λ i. i.row) issued
 
--- 0 where nothing stands
+-- 0 for a free slot
 abbrev pub issued_serial : {R : Type 0} → Option (Issued R) → ℕ
 issued_serial None = 0
 issued_serial (Some issued) = issued.serial
@@ -35,17 +35,17 @@ module _ {R : Type 0} (slots : SlotList (Issued R)) where
   abbrev pub rows_at : List ℕ → List R
   rows_at numbers = filter_map row_at numbers
 
--- the rows in slots, but for one slot
+-- the rows in slots, without one slot
 abbrev pub all_but : {R : Type 0} → ℕ → (ℕ → Option R) → ℕ → Option R
 all_but slot row other = if other == slot then None else row other
 
--- ---- an index: `row` gives the row in each slot, and `key` the bytes that a row is found by
+-- ---- an index: `row` gives the row in each slot, and `key` a key of a row
 
--- a rank rises with the bytes, and for the same bytes with the slot; no byte is 0 there, which ends them
+-- Ranks are ordered by the bytes and then by the slot. Bytes are raised by one, so 0 marks their end.
 abbrev pub rank : List ℕ → ℕ → List ℕ
 rank bytes slot = map suc bytes ++ 0 ∷ slot ∷ []
 
--- each is below those behind it
+-- each rank is below those after it
 abbrev pub IsAscending : List (List ℕ) → Type 0
 IsAscending [] = Unit {0}
 IsAscending (r ∷ rs) = AllByRecursion (λ later. slice_cmp nat_cmp r later ≡ Less) rs × IsAscending rs
@@ -57,18 +57,18 @@ module _ {R : Type 0} (key : R → Option (List ℕ)) (row : ℕ → Option R) w
   abbrev pub rank_in : ℕ → List ℕ
   rank_in slot = rank (unwrap_or (key_in slot) []) slot
 
-  -- the slots of the rows that have such bytes, each once, in the order of their ranks
+  -- the slots of the rows that have such a key, each once, in the order of their ranks
   pub record IsIndex (index : List ℕ) : Type 0 where
     pub listed : Lists key_in index
     pub ascending : IsAscending (map rank_in index)
 
-  -- the slots of the rows with these bytes, where there are any, stand from this place on
+  -- the slots of the rows with these bytes begin at this position, if there are any
   pub record IsStart (index bytes : List ℕ) (place : ℕ) : Type 0 where
     pub in_range : place ≤ length index
     pub before : (k d : ℕ) → k < place → key_in (slice_index_or index k d) ≡ Some bytes → ⊥
     pub run : (j k d : ℕ) → place ≤ j → j ≤ k → k < length index → key_in (slice_index_or index k d) ≡ Some bytes → key_in (slice_index_or index j d) ≡ Some bytes
 
-  -- a rank stands at this place, or would go there
+  -- a rank is at this position, or would be inserted there
   pub record IsPlace (index wanted : List ℕ) (place : ℕ) : Type 0 where
     pub in_range : place < length index
     pub same : rank_in (slice_index index place) ≡ wanted
@@ -80,7 +80,7 @@ module _ {R : Type 0} (key : R → Option (List ℕ)) (row : ℕ → Option R) w
 
 -- ---- order of issue
 
--- no number is below one in front of it
+-- no number is below an earlier one
 abbrev pub IsRising : List ℕ → Type 0
 IsRising [] = Unit {0}
 IsRising (n ∷ ns) = AllByRecursion (λ later. n ≤ later) ns × IsRising ns
@@ -89,16 +89,16 @@ IsRising (n ∷ ns) = AllByRecursion (λ later. n ≤ later) ns × IsRising ns
 abbrev pub IsBounded : (ℕ → ℕ) → List ℕ → ℕ → Type 0
 IsBounded serial by_issue next = AllByRecursion (λ n. n ≤ next) (map serial by_issue)
 
--- ---- all together
+-- ---- the invariant
 
 abbrev pub stored_rows : {R : Type 0} → Stored R → List R
 stored_rows s = rows_at s.slots s.by_issue.items
 
--- for how many rows there is memory
+-- the number of rows that there is memory for
 abbrev pub stored_capacity : {R : Type 0} → Stored R → ℕ
 stored_capacity s = s.room
 
--- there is memory for as many rows in each of its parts
+-- there is memory for as many rows in each part
 pub record HasMemoryFor {R : Type 0} (most : ℕ) (s : Stored R) : Type 0 where
   pub slots : most ≤ s.slots.capacity
   pub issue : most ≤ deque_capacity s.by_issue
@@ -120,14 +120,14 @@ pub record IsStored {R : Type 0} (name : R → List ℕ) (key : By → R → Opt
 
 -- ---- one row among others
 
--- the row was taken out
+-- the row was removed
 pub record IsRemoved {R : Type 0} (old new : List R) (row : R) : Type 0 where
   pub before : List R
   pub behind : List R
   pub was : old ≡ before ++ row ∷ behind
   pub is : new ≡ before ++ behind
 
--- another took its place
+-- another row took its place
 pub record IsReplaced {R : Type 0} (old new : List R) (row other : R) : Type 0 where
   pub before : List R
   pub behind : List R

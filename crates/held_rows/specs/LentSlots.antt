@@ -1,4 +1,4 @@
--- What holds of the slots, once a reference to a value in one has ended.
+-- The slots after a reference to one of their values has ended.
 use Rattle.std.specs.Prelude.{ℕ}
 use Rattle.std.specs.Borrow.{Lends, Fml, RattleType, MutBor}
 use Rattle.held_rows.specs.SlotList.{SlotList, with_value}

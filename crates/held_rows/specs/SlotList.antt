@@ -2,12 +2,12 @@
 use Rattle.std.specs.Prelude.{◌≡◌, ◌≢◌, ◌<◌, ◌≤◌, ◌+◌, ◌^◌, ℕ, List, length, Option, Some, None, is_some, IsSome, count_by, slice_index_or, slice_set}
 use Rattle.held_rows.specs.Counts.{count}
 
--- the value or nothing in each slot from 0 on, and how many values fit with no more memory
+-- the value or nothing in each slot from 0 on, and how many values fit without allocation
 pub record SlotList (T : Type 0) : Type 0 where
   pub slots : List (Option T)
   pub capacity : ℕ
 
--- how many slots have a number
+-- the greatest number of slots
 abbrev pub most_slots : ℕ
 most_slots = 2 ^ 16
 
@@ -23,7 +23,7 @@ module _ {T : Type 0} where
   abbrev pub value_count : SlotList T → ℕ
   value_count s = count_by is_some s.slots
 
-  -- another value in a slot that has one
+  -- the slots after the value in an occupied slot is replaced
   abbrev pub with_value : SlotList T → ℕ → T → SlotList T
   with_value s slot value = record s { slots = slice_set s.slots slot (Some value) }
 
@@ -33,13 +33,13 @@ module _ {T : Type 0} where
     pub in_range : slot < length slots
     pub vacant : slice_index_or slots slot None ≡ None
 
-  -- the listed slots are free, no other is, and the list has room for all slots
+  -- exactly the listed slots are free, and the list has room for all slots
   pub record IsSound (slots : List (Option T)) (frees : List ℕ) (room : ℕ) : Type 0 where
     pub listed : (slot : ℕ) → 0 < count slot frees → IsFree slots frees slot
     pub counted : count_by is_some slots + length frees ≡ length slots
     pub fits : length slots ≤ room
 
--- what stands in this slot now, and in each other what stood there
+-- this slot now has the value, and every other slot has what it had
 pub record Changes {E : Type 0} (old new : ℕ → Option E) (slot : ℕ) (value : Option E) : Type 0 where
   pub changed : new slot ≡ value
   pub others : (other : ℕ) → other ≢ slot → new other ≡ old other

@@ -1,4 +1,4 @@
-// The held rows of one table.
+// The rows of one table.
 
 ghost use Rattle.std.specs.Prelude.{◌≡◌, ℕ, ◌<◌, ◌≤◌, true, false, not, List, [], ◌∷◌, ◌++◌, length, filter, None, Some, Option, IsSome, IfSome, OnOk};
 ghost use Rattle.std.specs.List.{list_any};
@@ -13,10 +13,10 @@ use sso_base::{Moment, NoMemory};
 use std::alloc::Global;
 use std::marker::Model;
 
-// How many rows a table holds at most.
+// The greatest number of rows in a table.
 const MOST_ROWS: usize = 65_536;
 
-/// The held rows of a table: at most 65,536, no two of one name, in the order of the moments from which they live.
+/// The rows of a table: at most 65,536, with distinct names, in the order of the moments from which they live.
 #[derive(Drop)]
 pub struct Held<R: Row> {
     stored: Stored<R>,
@@ -34,7 +34,7 @@ impl<R: Row> Model for Held<R> {
 }
 
 impl<R: Row + Drop> Held<R> {
-    /// No rows.
+    /// An empty table.
     pub fn new(alloc: Global) -> Held<R>
         ensures { result.rows ≡ [] }
     {
@@ -43,7 +43,7 @@ impl<R: Row + Drop> Held<R> {
         }
     }
 
-    /// Makes room for one more row. No other call takes memory.
+    /// Makes room for one more row. No other call allocates.
     pub fn reserve(&mut self) -> Result<(), NoMemory>
         ensures rows { self.new.rows ≡ self.old.rows }
         ensures room { OnOk result (length self.new.rows < self.new.capacity) }
@@ -52,7 +52,7 @@ impl<R: Row + Drop> Held<R> {
         self.stored.reserve()
     }
 
-    /// The row of a name; None exactly where no row has it. Its life may have ended.
+    /// The row of a name; `None` if and only if no row has it. The life of the row may have ended.
     pub fn find(&self, name: &[u8]) -> Option<&R>
         ensures row { option_copied result ≡ row_of R.name name.now self.now.rows }
         ensures sound { IfSome (option_copied result) R.IsSound }
@@ -64,7 +64,7 @@ impl<R: Row + Drop> Held<R> {
         }
     }
 
-    /// Adds a row of a new name at the end.
+    /// Adds a row with a new name at the end.
     pub fn add(&mut self, row: R)
         requires reserved { length self.old.rows < self.old.capacity }
         requires few { length self.old.rows < spec.most_rows }
@@ -76,7 +76,7 @@ impl<R: Row + Drop> Held<R> {
         self.stored.add(row);
     }
 
-    /// Changes the row of a name where it stands. Where no row has it, nothing changes.
+    /// Changes the row of a name in its place. If no row has the name, nothing changes.
     pub fn change<C: Change<R>>(&mut self, name: &[u8], change: &C)
         ensures rows { self.new ≡ record self.old { rows = spec.changed R.name name.now (C.changed change.now) self.old.rows } }
         ensures bound { length self.new.rows ≤ length self.old.rows }
@@ -86,7 +86,7 @@ impl<R: Row + Drop> Held<R> {
         }
     }
 
-    /// Puts a row at the end, in place of the one of its name, which is held. So it takes no memory.
+    /// Replaces the row of this name and moves it to the end. A row of this name must exist, so no memory is allocated.
     pub fn put(&mut self, name: &[u8], row: R)
         requires there { IsSome (row_of R.name name.now self.old.rows) }
         requires named { R.name row ≡ name.now }
@@ -102,7 +102,7 @@ impl<R: Row + Drop> Held<R> {
         self.add(row);
     }
 
-    /// Takes out the row of a name, if there is one.
+    /// Removes the row of a name, if there is one.
     pub fn remove(&mut self, name: &[u8])
         ensures rows { self.new ≡ record self.old { rows = without R.name name.now self.old.rows } }
         ensures bound { length self.new.rows ≤ length self.old.rows }
@@ -112,7 +112,7 @@ impl<R: Row + Drop> Held<R> {
         }
     }
 
-    /// Takes out the rows that pass the test, and answers their number.
+    /// Removes the rows that pass the test and returns their number.
     pub fn take_out<T: Test<R>>(&mut self, test: &T) -> u32
         ensures rows { self.new ≡ record self.old { rows = filter (λ row. not (T.passes test.now row)) self.old.rows } }
         ensures bound { length self.new.rows ≤ length self.old.rows }
@@ -121,7 +121,7 @@ impl<R: Row + Drop> Held<R> {
         self.stored.take_out(test)
     }
 
-    /// Takes out the rows that do not live at the moment.
+    /// Removes the rows that do not live at the moment.
     pub fn purge(&mut self, at: Moment)
         ensures rows { self.new ≡ record self.old { rows = live_rows R.LIFE R.begun at self.old.rows } }
         ensures bound { length self.new.rows ≤ length self.old.rows }
@@ -129,14 +129,14 @@ impl<R: Row + Drop> Held<R> {
         self.stored.purge(at);
     }
 
-    /// Whether a row that lives at the moment passes the test.
+    /// Whether some row passes the test and lives at the moment.
     pub fn any_live<T: Test<R>>(&self, test: &T, at: Moment) -> bool
         ensures { result ≡ list_any (T.passes test.now) (live_rows R.LIFE R.begun at self.now.rows) }
     {
         self.stored.passing(&Living { test, at }).is_some()
     }
 
-    /// How many rows live at the moment and pass the test.
+    /// How many rows pass the test and live at the moment.
     pub fn count_live<T: Test<R>>(&self, test: &T, at: Moment) -> u32
         ensures { result ≡ length (filter (T.passes test.now) (live_rows R.LIFE R.begun at self.now.rows)) }
     {
@@ -150,8 +150,7 @@ impl<R: Row + Drop> Held<R> {
         self.stored.count_all_live(at)
     }
 
-    /// Whether fewer rows live at the moment than a table may hold: false exactly where 65,536 rows are held and all of them
-    /// live.
+    /// Whether fewer than 65,536 rows live at the moment. It is false if and only if 65,536 rows are held and all of them live.
     pub fn has_room(&self, at: Moment) -> bool
         ensures room { result ≡ spec.has_room_for_one R.LIFE R.begun at self.now.rows }
         ensures full { result ≡ false → spec.IsFull R.LIFE R.begun at self.now.rows }

@@ -1,4 +1,4 @@
-// The slots of the rows that are found by something, each once, in the order of its bytes.
+// The slots of the rows that have a key, each once, in the order of the key's bytes.
 
 ghost use Rattle.std.specs.Prelude.{◌≡◌, ◌<◌, ◌≤◌, length, map, true, Some, None, unwrap_or, option_and_then, option_map, IfOk, IfErr, IsSome};
 ghost use Rattle.std.specs.VecDeque.{deque_capacity};
@@ -13,7 +13,7 @@ use crate::stored::Issued;
 use std::cmp::Ordering;
 use std::collections::VecDeque;
 
-// The bytes by which the row in a slot is found; None where there is no row, or none of that kind.
+// The key of the row in a slot; `None` if the slot has no row, or the row has no such key.
 pub(crate) fn key_at<R: Row>(slots: &SlotVec<Issued<R>>, by: By, slot: u16) -> Option<&[u8]>
     ensures { option_map (λ k. k.now) result ≡ key_in (R.key by) (row_at slots.now) slot }
 {
@@ -23,7 +23,7 @@ pub(crate) fn key_at<R: Row>(slots: &SlotVec<Issued<R>>, by: By, slot: u16) -> O
     }
 }
 
-// Whether the row in a slot is found by these bytes.
+// Whether the row in a slot has this key.
 pub(crate) fn is_at<R: Row>(slots: &SlotVec<Issued<R>>, by: By, slot: u16, key: &[u8]) -> bool
     ensures yes { result ≡ true → key_in (R.key by) (row_at slots.now) slot ≡ Some key.now }
     ensures no { key_in (R.key by) (row_at slots.now) slot ≡ Some key.now → result ≡ true }
@@ -34,7 +34,7 @@ pub(crate) fn is_at<R: Row>(slots: &SlotVec<Issued<R>>, by: By, slot: u16, key: 
     }
 }
 
-// How the rank of a slot stands to another rank.
+// Compares the rank of a slot with another rank.
 fn compare<R: Row>(
     slots: &SlotVec<Issued<R>>,
     by: By,
@@ -54,7 +54,7 @@ fn compare<R: Row>(
     }
 }
 
-// Where the rank of these bytes and this slot stands, or would go.
+// The position of the rank of these bytes and this slot, or the position to insert it.
 fn search<R: Row>(
     slots: &SlotVec<Issued<R>>,
     index: &VecDeque<u16>,
@@ -69,7 +69,7 @@ fn search<R: Row>(
     index.binary_search_by(|&other| compare(slots, by, other, key, slot))
 }
 
-// Where the slots of the rows with these bytes begin.
+// The first position of the slots of the rows with these bytes.
 pub(crate) fn start<R: Row>(
     slots: &SlotVec<Issued<R>>,
     index: &VecDeque<u16>,
@@ -85,7 +85,7 @@ pub(crate) fn start<R: Row>(
     }
 }
 
-// Puts a slot in, where its row has such bytes.
+// Inserts a slot, if its row has such a key.
 pub(crate) fn put_in<R: Row>(
     slots: &SlotVec<Issued<R>>,
     index: &mut VecDeque<u16>,
@@ -106,7 +106,7 @@ pub(crate) fn put_in<R: Row>(
     let _ = index.insert(place, slot);
 }
 
-// Takes a slot out, where its row has such bytes.
+// Removes a slot, if its row has such a key.
 pub(crate) fn take_from<R: Row>(
     slots: &SlotVec<Issued<R>>,
     index: &mut VecDeque<u16>,

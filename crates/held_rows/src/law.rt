@@ -1,4 +1,4 @@
-// What holds of every table, for the crates above.
+// Laws about every table, for the crates above.
 
 ghost use Rattle.std.specs.Prelude.{◌≡◌, ℕ, false, List, length, None, option_map, option_and_then};
 ghost use Rattle.std.specs.Str.{bytes_eq};
@@ -9,12 +9,12 @@ ghost use Rattle.held_rows.specs.Held.{changed};
 
 use crate::row::Row;
 
-/// A purge leaves of each name the row that lives.
+/// For each name, a purge leaves the row that lives.
 pub fn purges_leave_what_lives<R: Row>()
     ensures { (life : ℕ) (begun : R → ℕ) (at : ℕ) (w : Word) (rows : List R) → IsDistinct R.name rows → row_of R.name w (live_rows life begun at rows) ≡ option_and_then (if_lives life begun at) (row_of R.name w rows) }
 {}
 
-/// A change of the row of a name leaves the rows of other names, and where they stand.
+/// A change of the row of a name leaves the rows of other names and the order of all rows unchanged.
 pub fn changes_are_of_one_row<R: Row>()
     ensures row { (w : Word) (change : R → R) (rows : List R) → ((r : R) → R.name (change r) ≡ R.name r) → row_of R.name w (changed R.name w change rows) ≡ option_map change (row_of R.name w rows) }
     ensures others { (w v : Word) (change : R → R) (rows : List R) → ((r : R) → R.name (change r) ≡ R.name r) → bytes_eq w v ≡ false → row_of R.name v (changed R.name w change rows) ≡ row_of R.name v rows }

@@ -1,19 +1,18 @@
-//! The table of named rows, under the tables of both roles, and the laws of tables that are kept beside a history: what
-//! lives in a table is what lives after the history, also after one more pair.
+//! The table of named rows, used by the tables of both roles. Its laws relate a table to a history: if the live rows of both
+//! are the same, they are still the same after one more pair.
 //!
 //! | Module | What it has |
 //! |---|---|
-//! | `row` | [`Row`], a row of a table; [`By`], what rows are found by; [`Change`], a change of a row; [`Test`] of rows |
-//! | `held` | [`Held`], the held rows of one table, in the order of the moments from which they live |
+//! | `row` | [`Row`], a row of a table; [`By`], the keys of a row; [`Change`], a change of a row; [`Test`], a test of rows |
+//! | `held` | [`Held`], the rows of one table, in the order of the moments from which they live |
 //! | `stored` | the rows in slots, and the order of issue |
-//! | `index` | the slots of the rows that are found by something, in the order of its bytes |
+//! | `index` | the slots of the rows that have a key, in the order of its bytes |
 //! | `slot_vec` | values in numbered slots, and which slots are free |
-//! | `living` | those rows of a test that live at a moment |
+//! | `living` | the rows that pass a test and live at a moment |
 //! | `law` | what a purge and a change leave |
 //!
-//! A row stays in its slot. Only the numbers of slots are kept in order: in a queue by issue, and in one more for each thing that
-//! rows are found by, which is searched by halves. So a purge looks at one row more than it takes out, and no other call at
-//! rows that it is not asked for.
+//! A row stays in its slot. Only slot numbers are kept in order: in a queue by issue, and in one sorted index for each key. So
+//! a purge reads one row more than it removes, and a row is found by its key with a binary search.
 #![tactic(auto)]
 
 mod held;

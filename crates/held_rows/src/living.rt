@@ -7,7 +7,7 @@ ghost use Rattle.sso_base.specs.Rows.{lives};
 use crate::row::{By, Row, Test};
 use sso_base::{Moment, is_live};
 
-// A test that only those rows pass which pass another and live at the moment.
+// A test that a row passes if it passes another test and lives at the moment.
 #[derive(Clone, Copy)]
 pub(crate) struct Living<'a, T> {
     pub(crate) test: &'a T,

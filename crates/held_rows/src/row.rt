@@ -1,4 +1,4 @@
-// What the rows of a table have in common.
+// The common interface of the rows of a table.
 
 ghost use Rattle.std.specs.Prelude.{◌≡◌, ℕ, List, Bool, Option, Some, option_map, true};
 ghost use Rattle.held_rows.specs.declared.row.By.{By};
@@ -6,29 +6,29 @@ ghost use Rattle.held_rows.specs.declared.row.By.TheVariants.{Name};
 
 use sso_base::Moment;
 
-/// What the rows of a table are found by.
+/// The keys by which a table finds rows.
 #[derive(Clone, Copy, PartialEq, Eq)]
 pub enum By {
-    /// The name of a row, which no other has.
+    /// The name of a row. No other row has it.
     Name,
-    /// What a row has in common with others, or nothing.
+    /// A key that several rows may share and a row may lack.
     First,
-    /// Another such thing.
+    /// Another such key.
     Second,
 }
 
-/// A row of a table: a word or a text names it, and it lives for a while from a moment on.
+/// A row of a table: a word or a text names it, and it lives for a number of seconds from a moment on.
 pub trait Row {
     /// The bytes of its name.
     ghost name: { Self → List ℕ };
 
-    /// The bytes that it is found by, if there are any.
+    /// The bytes of this key, if the row has it.
     ghost key: { By → Self → Option (List ℕ) };
 
-    /// The moment.
+    /// The moment from which it lives.
     ghost begun: { Self → ℕ };
 
-    /// What each row of its table keeps besides.
+    /// A further invariant of each row of its table.
     ghost IsSound: { Self → Type 0 };
 
     /// How many seconds it lives.
@@ -37,19 +37,19 @@ pub trait Row {
     /// How many seconds it lives.
     const LIFE: u32;
 
-    /// The bytes that it is found by, if there are any.
+    /// The bytes of this key, if the row has it.
     fn key(&self, by: By) -> Option<&[u8]>
         ensures { option_map (λ k. k.now) result ≡ key by self.now };
 
-    /// The moment.
+    /// The moment from which it lives.
     fn begun(&self) -> Moment
         ensures { result ≡ begun self.now };
 
-    /// It is found by its name.
+    /// The name is one of the keys.
     ghost named: { (row : Self) → key Name row ≡ Some (name row) };
 }
 
-/// A change of a row that leaves what it is found by, and its moment.
+/// A change of a row that preserves its keys and its moment.
 pub trait Change<R: Row> {
     /// The changed row.
     ghost changed: { Self → R → R };
@@ -58,7 +58,7 @@ pub trait Change<R: Row> {
     fn change(&self, row: &mut R)
         ensures { row.new ≡ changed self.now row.old };
 
-    /// What it is found by stays, and the moment, and what each row of its table keeps.
+    /// The keys, the moment and the invariant of the row are preserved.
     ghost keys_stay: { (c : Self) (row : R) (by : By) → R.key by (changed c row) ≡ R.key by row };
 
     ghost moments_stay: { (c : Self) (row : R) → R.begun (changed c row) ≡ R.begun row };
@@ -66,12 +66,12 @@ pub trait Change<R: Row> {
     ghost rows_stay_sound: { (c : Self) (row : R) → R.IsSound row → R.IsSound (changed c row) };
 }
 
-/// A test that only rows pass which are found by certain bytes.
+/// A test that only rows with a certain key pass.
 pub trait Test<R: Row> {
     /// The rows that pass.
     ghost passes: { Self → R → Bool };
 
-    /// What they are found by, and the bytes.
+    /// The kind of this key, and its bytes.
     ghost by: { Self → By };
 
     ghost key: { Self → List ℕ };
@@ -80,11 +80,11 @@ pub trait Test<R: Row> {
     fn passes(&self, row: &R) -> bool
         ensures { result ≡ passes self.now row.now };
 
-    /// What the rows that pass are found by.
+    /// The kind of the key that passing rows have.
     fn by(&self) -> By
         ensures { result ≡ by self.now };
 
-    /// Its bytes.
+    /// The bytes of that key.
     fn key(&self) -> &[u8]
         ensures { result.now ≡ key self.now };
 

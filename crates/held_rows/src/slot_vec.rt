@@ -8,13 +8,12 @@ use sso_base::NoMemory;
 use std::alloc::Global;
 use std::marker::Model;
 
-/// Values in numbered slots, seen as the list of the slots from 0 on, each with a value or free. A value that is put
-/// in gets a free slot, and a new one only where there is none: so 16 bits number the slots of 65,536 values. Only
-/// `reserve` takes memory.
+/// Values in numbered slots. The model is the list of the slots from 0 on, each with a value or free. A new value goes to a
+/// free slot, or to a new slot if none is free. So 16 bits number the slots of 65,536 values. Only `reserve` allocates.
 #[derive(Drop)]
 pub struct SlotVec<T> {
     slots: Vec<Option<T>>,
-    // The free slots. There is room in it for all slots.
+    // The free slots. It has room for all slots.
     free: Vec<u16>,
 }
 
@@ -33,7 +32,7 @@ impl<T> Model for SlotVec<T> {
 impl<T> SlotVec<T> {
     ghost use Rattle.held_rows.specs.LentSlots.{lends_value};
 
-    /// No slots.
+    /// An empty list of slots.
     pub fn new(alloc: Global) -> SlotVec<T>
         ensures { result.slots ≡ [] }
     {
@@ -57,7 +56,7 @@ impl<T> SlotVec<T> {
         Ok(())
     }
 
-    /// The value in a slot; None where the slot is free, and where there is no such slot.
+    /// The value in a slot; `None` if the slot is free or does not exist.
     pub fn get(&self, slot: u16) -> Option<&T>
         ensures { option_copied result ≡ get self.now slot }
     {
@@ -67,7 +66,7 @@ impl<T> SlotVec<T> {
         }
     }
 
-    /// The value in a slot, to be written.
+    /// A mutable reference to the value in a slot.
     pub fn value_mut(&mut self, slot: u16) -> &mut T
         requires { HasValue self.old slot }
         ensures* writes_back { sem 𝓛 (lends_value T.row self.entry slot result) }
@@ -79,7 +78,7 @@ impl<T> SlotVec<T> {
         }
     }
 
-    /// Puts a value into a slot that was free or is new, and answers its number.
+    /// Puts a value into a free or new slot and returns the slot's number.
     pub fn insert_reserved(&mut self, value: T) -> u16
     where
         T: Drop,
@@ -99,7 +98,7 @@ impl<T> SlotVec<T> {
         slot
     }
 
-    /// Takes out the value in a slot, which is free from then on.
+    /// Removes the value in a slot. The slot is free afterwards.
     pub fn remove(&mut self, slot: u16) -> T
         requires { HasValue self.old slot }
         ensures value { get self.old slot ≡ Some result }

@@ -1,5 +1,5 @@
-// Rows in slots, and deques of slot numbers over them: one in order of issue, and for each thing that rows are found by one in the
-// order of its bytes.
+// Rows in slots, and deques of slot numbers over them: one in the order of issue, and one for each key, in the order of the
+// key's bytes.
 
 ghost use Rattle.std.specs.Prelude.{◌≡◌, ◌<◌, ◌≤◌, ℕ, List, [], ◌∷◌, ◌++◌, length, map, filter, not, slice_get, slice_index, Some, None, true, false, option_copied, OnOk, IfSome, IfNone, IsSome, is_some};
 ghost use Rattle.std.specs.List.{list_any};
@@ -19,25 +19,26 @@ use std::collections::VecDeque;
 // A row and its place in the order of issue.
 #[derive(Drop)]
 pub(crate) struct Issued<R> {
-    // Of two rows the one with the lower number was added first. It stands still at its type's end.
+    // Of two rows, the one with the lower number was added first. At the end of its type the number stays constant.
     pub(crate) serial: u64,
     pub(crate) row: R,
 }
 
-// Rows in slots, and what stands over them.
+// Rows in slots, with their indices.
 #[derive(Drop)]
 pub(crate) struct Stored<R> {
     pub(crate) slots: SlotVec<Issued<R>>,
-    // The slots of the rows, in order of issue. Rows mostly leave from its front.
+    // The slots of the rows, in the order of issue. Rows mostly leave at its front.
     pub(crate) by_issue: VecDeque<u16>,
-    // The slots of the rows, in the order of their names. A row that is put in or leaves moves the shorter side.
+    // The slots of the rows, in the order of their names. Inserting or removing a row moves the shorter side.
     pub(crate) by_name: VecDeque<u16>,
-    // The slots of those that are found by another thing, in the order of its bytes.
+    // The slots of the rows that have another key, in the order of its bytes.
     pub(crate) by_first: VecDeque<u16>,
     pub(crate) by_second: VecDeque<u16>,
     // The serial number of the next row.
     pub(crate) next: u64,
-    // For how many rows there is memory. That of a deque is promised not to shrink where a slot is put in, and no more.
+    // The number of rows that there is memory for. A deque's contract only says that its capacity does not shrink when a slot
+    // is inserted.
     pub(crate) room: usize,
 }
 
@@ -61,8 +62,8 @@ fn serial_in<R>(slots: &SlotVec<Issued<R>>, slot: u16) -> u64
     }
 }
 
-// Where a slot stands in order of issue, which is the order of serial numbers. Rows have one number only at the end
-// of its type, so the loop ends at its first step.
+// The position of a slot in the order of issue, which is the order of serial numbers. Rows share a number only at the end of
+// its type, so otherwise the loop ends at its first step.
 fn place_of<R>(slots: &SlotVec<Issued<R>>, by_issue: &VecDeque<u16>, slot: u16) -> usize
     requires issued { Lists (row_at slots.now) by_issue.now.items }
     requires numbered { IsRising (map (serial_at slots.now) by_issue.now.items) }
@@ -81,7 +82,7 @@ fn place_of<R>(slots: &SlotVec<Issued<R>>, by_issue: &VecDeque<u16>, slot: u16) 
 }
 
 impl<R: Row + Drop> Stored<R> {
-    // No rows.
+    // An empty table.
     pub(crate) fn new(alloc: Global) -> Stored<R>
         ensures stored { IsStored R.name R.key R.begun R.IsSound result }
         ensures rows { stored_rows result ≡ [] }
@@ -118,7 +119,7 @@ impl<R: Row + Drop> Stored<R> {
         Ok(())
     }
 
-    // Adds a row of a new name at the end.
+    // Adds a row with a new name at the end.
     pub(crate) fn add(&mut self, row: R)
         requires stored { IsStored R.name R.key R.begun R.IsSound self.old }
         requires reserved { length (stored_rows self.old) < stored_capacity self.old }
@@ -139,7 +140,7 @@ impl<R: Row + Drop> Stored<R> {
         put_in(&self.slots, &mut self.by_second, By::Second, slot);
     }
 
-    // Takes out the row in a slot.
+    // Removes the row in a slot.
     pub(crate) fn remove(&mut self, slot: u16)
         requires stored { IsStored R.name R.key R.begun R.IsSound self.old }
         requires there { IsSome (row_at self.old.slots slot) }
@@ -182,7 +183,7 @@ impl<R: Row + Drop> Stored<R> {
         }
     }
 
-    // The slots of the rows that are found by something, in the order of its bytes.
+    // The slots of the rows that have this key, in the order of its bytes.
     fn index(&self, by: By) -> &VecDeque<u16>
         requires { IsStored R.name R.key R.begun R.IsSound self.now }
         ensures { IsIndex (R.key by) (row_at self.now.slots) result.now.items }
@@ -258,7 +259,7 @@ impl<R: Row + Drop> Stored<R> {
         count
     }
 
-    // The slot of a row whose life has ended at the moment, if one's has: that of the first row.
+    // The slot of a row whose life has ended at the moment, if there is one. It is the slot of the first row.
     pub(crate) fn ended(&self, at: Moment) -> Option<u16>
         requires { IsStored R.name R.key R.begun R.IsSound self.now }
         ensures some { IfSome result (λ slot. IsSome (row_at self.now.slots slot) × IfSome (row_at self.now.slots slot) (λ row. lives R.LIFE (R.begun row) at ≡ false)) }
@@ -272,7 +273,7 @@ impl<R: Row + Drop> Stored<R> {
         }
     }
 
-    // Takes out the rows that pass the test, and answers their number.
+    // Removes the rows that pass the test and returns their number.
     pub(crate) fn take_out<T: Test<R>>(&mut self, test: &T) -> u32
         requires { IsStored R.name R.key R.begun R.IsSound self.old }
         ensures stored { IsStored R.name R.key R.begun R.IsSound self.new }
@@ -288,7 +289,7 @@ impl<R: Row + Drop> Stored<R> {
         count
     }
 
-    // Takes out the rows that do not live at the moment.
+    // Removes the rows that do not live at the moment.
     pub(crate) fn purge(&mut self, at: Moment)
         requires { IsStored R.name R.key R.begun R.IsSound self.old }
         ensures stored { IsStored R.name R.key R.begun R.IsSound self.new }

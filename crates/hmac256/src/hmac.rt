@@ -48,8 +48,7 @@ fn copy_of(hasher: &Sha256) -> Sha256
     copy
 }
 
-// HMAC under one key: the two hashers, each with its block of the key taken in, so that a MAC
-// hashes neither block again.
+// HMAC under one key: two hashers that have already hashed their key blocks, so no MAC hashes these again.
 #[derive(Drop)]
 pub(crate) struct Keyed {
     inner: Sha256,
@@ -69,7 +68,7 @@ impl Keyed {
         }
     }
 
-    // The MAC of two pieces taken as one text.
+    // The MAC of the concatenation of two pieces.
     #[tactic(auto, using(crate::proofs::Keys::hmac_at, std::proofs::lemmas::List::append_assoc))]
     pub(crate) fn mac_of_parts(&self, first: &[u8], second: &[u8]) -> [u8; 32]
         ensures { (key : List ℕ) → IsKeyed self.now key
@@ -93,7 +92,7 @@ impl Keyed {
 
 /// The MAC of `text` under `key`, 32 bytes: HMAC with SHA-256 (RFC 2104, 2).
 ///
-/// The key has any length. One of more than 64 bytes, SHA-256's block, counts as its digest.
+/// The key has any length. A key of more than 64 bytes, the block size of SHA-256, is replaced by its digest.
 pub fn mac(key: &[u8], text: &[u8]) -> [u8; 32]
     ensures { result ≡ hmac_of key.now text.now }
 {

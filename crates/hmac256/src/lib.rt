@@ -1,10 +1,10 @@
-//! HMAC with SHA-256, and the password proofs that are made of it.
+//! HMAC with SHA-256, and password proofs that use it.
 //!
 //! - [`mac`]: the MAC of a text under a key (RFC 2104).
-//! - [`proof`]: the proof of a password, PBKDF2's first block (RFC 8018, 5.2).
-//! - [`same`]: whether two of these are equal. It looks at all bytes, wherever they differ.
+//! - [`proof`]: the proof of a password, the first block of PBKDF2 (RFC 8018, 5.2).
+//! - [`same`]: whether two of these are equal. It reads all bytes, wherever they differ.
 //!
-//! A MAC and a proof are 32 bytes each. Nothing here refuses, and nothing takes memory.
+//! A MAC and a proof have 32 bytes each. No call here can fail or allocate.
 #![tactic(auto)]
 
 mod equality;

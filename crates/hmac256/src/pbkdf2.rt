@@ -21,8 +21,8 @@ fn xor_of(left: &[u8; 32], right: &[u8; 32]) -> [u8; 32]
 
 /// The proof of `password`, 32 bytes: the first block of PBKDF2 with HMAC-SHA-256 (RFC 8018, 5.2).
 ///
-/// There is at least one round, and the salt has at most 64 bytes. A round is two compressions of
-/// SHA-256, whatever the length of the password.
+/// Needs at least one round, and a salt of at most 64 bytes. A round takes two compressions of SHA-256, independent of the
+/// length of the password.
 #[tactic(auto, using(crate::proofs::Rounds::rounds))]
 pub fn proof(password: &[u8], salt: &[u8], rounds: u32) -> [u8; 32]
     requires positive { 1 ≤ rounds }

@@ -3,12 +3,12 @@ use Rattle.std.specs.Prelude.{Bool, true, false, [], ◌∷◌, codes}
 use Rattle.std.specs.List.{concat}
 use Rattle.sso_base.specs.Words.{Word, Text, word_text}
 
--- a secure cookie is sent back over https alone
+-- a secure cookie is returned over https only
 abbrev pub secure_mark : Bool → Text
 secure_mark true = codes "; Secure"
 secure_mark false = []
 
--- it is sent back with every path, no script reads it, and no POST of another site sends it along
+-- the user agent returns it for every path, hides it from scripts, and omits it from cross-site POSTs
 abbrev pub cookie_text : Text → Text → Text → Text
 cookie_text name value mark = concat (name ∷ codes "=" ∷ value ∷ codes "; Path=/; HttpOnly; SameSite=Lax" ∷ mark ∷ [])
 

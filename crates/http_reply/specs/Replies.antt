@@ -14,11 +14,11 @@ abbrev pub plain : ℕ → Text → HttpReply
 plain status line =
     record { status = status; pragma = false; location = None; cookies = []; challenge = None; kind = Plain; body = line ++ 10 ∷ [] }
 
--- nothing
+-- an empty reply
 abbrev pub empty : HttpReply
 empty = record { status = 200; pragma = false; location = None; cookies = []; challenge = None; kind = Empty; body = [] }
 
--- the user agent is sent to a location (RFC 9110, 15.4.4)
+-- a redirect of the user agent to a location (RFC 9110, 15.4.4)
 abbrev pub sent_to : Text → List Text → HttpReply
 sent_to location cookies =
     record { status = 303; pragma = false; location = Some location; cookies = cookies; challenge = None; kind = Empty; body = [] }

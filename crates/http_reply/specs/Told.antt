@@ -13,7 +13,7 @@ abbrev pub words_named : Text → Option Word → List Named
 words_named name None = []
 words_named name (Some w) = (name, w) ∷ []
 
--- a word that a cookie holds, as it is read
+-- a cookie that holds a word, as it is read
 abbrev pub kept : Bool → Named → Option SetCookie
 kept secure word = Some (set_cookie secure word.0 word.1)
 
@@ -21,6 +21,6 @@ abbrev pub is_under : Text → Option SetCookie → Bool
 is_under name None = false
 is_under name (Some cookie) = bytes_eq cookie.name name
 
--- some cookie is read under this name
+-- some cookie has this name
 abbrev pub sets_cookie : Text → List Text → Bool
 sets_cookie name cookies = list_any (λ t. is_under name (cookie_read t)) cookies

@@ -15,7 +15,7 @@ abbrev pub is_cookie_name : Text → Bool
 is_cookie_name [] = false
 is_cookie_name (b ∷ t) = list_all is_token_byte (b ∷ t)
 
--- ---- where a text is cut
+-- ---- splitting a text
 
 abbrev pub is_semicolon : ℕ → Bool
 is_semicolon b = b == 59
@@ -23,17 +23,17 @@ is_semicolon b = b == 59
 abbrev pub is_equals : ℕ → Bool
 is_equals b = b == 61
 
--- what stands before the first `=`, or all where there is none
+-- the text before the first `=`, or the whole text if there is none
 abbrev pub before_equals : Text → Text
 before_equals [] = []
 before_equals (b ∷ t) = if is_equals b then [] else b ∷ before_equals t
 
--- what stands after it, or nothing where there is none
+-- the text after it; empty if there is none
 abbrev pub after_equals : Text → Text
 after_equals [] = []
 after_equals (b ∷ t) = if is_equals b then t else after_equals t
 
--- ---- blanks at the start and at the end are dropped
+-- ---- removal of blanks at the start and at the end
 
 abbrev pub is_blank : ℕ → Bool
 is_blank b = b == 32 || b == 9
@@ -53,9 +53,9 @@ without_trailing (b ∷ t) = onto_kept b (without_trailing t)
 abbrev pub trimmed : Text → Text
 trimmed t = without_trailing (without_leading t)
 
--- ---- what is read
+-- ---- parsing
 
--- the name of an attribute, and its value, which is empty where it has none
+-- the name of an attribute, and its value; the value is empty if it has none
 abbrev pub Attribute : Type 0
 Attribute = Text × Text
 
@@ -72,7 +72,7 @@ abbrev pub named : Text → Text → List Attribute → Option SetCookie
 named [] value attributes = None
 named (b ∷ t) value attributes = Some (record { name = b ∷ t; value = value; attributes = attributes })
 
--- the first part has a name and a value, else all is ignored; each other one has an attribute
+-- the first part has a name and a value, otherwise the whole is ignored; each other part is an attribute
 abbrev pub parts_read : List Text → Option SetCookie
 parts_read [] = None
 parts_read (pair ∷ attributes) =

@@ -1,4 +1,4 @@
-// Cookies are written.
+// Writing cookies.
 
 ghost use Rattle.std.specs.Prelude.{◌≡◌, IfOk};
 ghost use Rattle.http_reply.specs.Cookies as spec;
@@ -21,11 +21,10 @@ fn cookie_text(alloc: Global, name: &str, value: &str, mark: &str) -> Result<Tex
 }
 
 /// The value of a `Set-Cookie` field (RFC 6265, 4.1.1) that sets a cookie of this name to the word's text, 43 characters of
-/// base64url: `NAME=WORD; Path=/; HttpOnly; SameSite=Lax`, and `; Secure` where `secure`. The user agent sends the cookie
-/// back with every path, shows it to no script, sends it with no POST that another site makes and, where `secure`, over https
-/// alone.
+/// base64url: `NAME=WORD; Path=/; HttpOnly; SameSite=Lax`, and `; Secure` if `secure`. The user agent returns the cookie for
+/// every path, hides it from scripts, and omits it from cross-site POSTs. If `secure`, it is sent over https only.
 ///
-/// The name is written as it is; a user agent reads it back where it is a token (RFC 6265, 4.1.1).
+/// The name is written unchanged. A user agent reads the same name if it is a token (RFC 6265, 4.1.1).
 pub fn cookie(alloc: Global, secure: bool, name: &str, word: &Word) -> Result<Text, NoMemory>
     ensures { IfOk result (λ t. t ≡ spec.cookie secure name.now word.now) }
 {

@@ -1,4 +1,4 @@
-// Texts are joined.
+// Concatenation of texts.
 
 ghost use Rattle.std.specs.Prelude.{◌≡◌, ◌++◌, map, IfOk, string_bytes};
 ghost use Rattle.std.specs.List.{concat};
@@ -6,7 +6,7 @@ ghost use Rattle.std.specs.List.{concat};
 use sso_base::{NoMemory, Text};
 use std::alloc::Global;
 
-/// These pieces, one behind another.
+/// The concatenation of these pieces.
 #[tactic(auto, using(crate::proofs::Pieces::pieces_joined))]
 pub fn joined(alloc: Global, pieces: &[&str]) -> Result<String, NoMemory>
     ensures { IfOk result (λ t. string_bytes t ≡ concat (map (λ p. p.now) pieces.now)) }
@@ -14,7 +14,7 @@ pub fn joined(alloc: Global, pieces: &[&str]) -> Result<String, NoMemory>
     Ok(pieces.concat(alloc)?)
 }
 
-/// Two texts, one behind the other.
+/// The concatenation of two texts.
 pub fn phrase(alloc: Global, first: &str, second: &str) -> Result<Text, NoMemory>
     ensures { IfOk result (λ t. t ≡ first.now ++ second.now) }
 {

@@ -1,12 +1,12 @@
-//! What the replies of both roles share in HTTP: cookies that hold words, as a server sets them (RFC 6265, 4.1) and as a user
-//! agent reads them (RFC 6265, 5.2), and the kinds of replies (RFC 9110).
+//! The shared parts of both roles' HTTP replies: cookies that hold words, and kinds of replies (RFC 9110). A server sets a
+//! cookie (RFC 6265, 4.1), and a user agent reads it (RFC 6265, 5.2).
 //!
 //! | Module | What it has |
 //! |---|---|
-//! | `cookies` | [`cookie`]: the text of a cookie that holds a word under a name |
+//! | `cookies` | [`cookie`]: the text of a cookie with a name and a word |
 //! | `replies` | [`html`], [`plain`], [`empty`] and [`sent_to`], kinds of replies |
-//! | `joining` | texts that are joined of pieces |
-//! | `law` | [`cookies_are_read_as_they_were_written`]: what a user agent has of a cookie |
+//! | `joining` | concatenation of texts |
+//! | `law` | [`cookies_are_read_as_they_were_written`]: what a user agent reads from a cookie |
 #![tactic(auto)]
 
 mod cookies;

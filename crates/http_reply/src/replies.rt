@@ -22,7 +22,7 @@ pub fn html(cookies: Texts, page: Blob) -> HttpReply
     }
 }
 
-/// A line of text, and its line feed, with this status.
+/// A line of text with a line feed, and this status.
 pub fn plain(alloc: Global, status: u16, line: &str) -> Result<HttpReply, NoMemory>
     ensures { IfOk result (λ h. h ≡ spec.plain status line.now) }
 {
@@ -37,7 +37,7 @@ pub fn plain(alloc: Global, status: u16, line: &str) -> Result<HttpReply, NoMemo
     })
 }
 
-/// A reply with nothing in it; the status is 200 (RFC 9110, 15.3.1).
+/// An empty reply; the status is 200 (RFC 9110, 15.3.1).
 pub fn empty(alloc: Global) -> HttpReply
     ensures { result ≡ spec.empty }
 {
@@ -52,7 +52,7 @@ pub fn empty(alloc: Global) -> HttpReply
     }
 }
 
-/// The user agent is sent to this location, with these cookies; the status is 303 (RFC 9110, 15.4.4).
+/// A redirect of the user agent to this location, with these cookies; the status is 303 (RFC 9110, 15.4.4).
 pub fn sent_to(alloc: Global, location: Text, cookies: Texts) -> HttpReply
     ensures { result ≡ spec.sent_to location cookies }
 {

@@ -31,6 +31,6 @@ id_names = codes "at_hash" ∷ codes "aud" ∷ codes "auth_time" ∷ codes "azp"
 unfoldable pub id_members : IdClaims → Members
 id_members x = put_all (id_entries x) x.more
 
--- a subject has 1 to 255 bytes and is ASCII
+-- a valid subject has 1 to 255 bytes and is ASCII
 abbrev pub is_subject : List ℕ → Bool
 is_subject s = nat_le 1 (length s) && nat_le (length s) 255 && is_ascii s

@@ -1,4 +1,4 @@
--- The judgement of an ID Token (OpenID Connect Core 1.0, 3.1.3.7, 3.2.2.9, 3.3.2.10). Sums have no bound.
+-- Verification of an ID Token (OpenID Connect Core 1.0, 3.1.3.7, 3.2.2.9, 3.3.2.10). Sums have no bound.
 use Rattle.std.specs.Prelude.{◌≡◌, ◌<◌, ◌≤◌, ℕ, ◌+◌, List, [], ◌∷◌, Bool, true, false, not, nat_lt, nat_le, Option, Some, None, Result, IfSome, IsTrue, ⊤}
 use Rattle.std.specs.Str.{bytes_eq}
 use Rattle.sso_base.specs.Texts.{is_only}
@@ -13,13 +13,13 @@ use Rattle.id_token.specs.declared.no.IdNo.TheVariants.{Issuer, Audience, Azp, E
 
 -- ---- a good ID Token
 
--- what is asked of a half digest holds (3.1.3.8, 3.2.2.9, 3.3.2.10)
+-- the requirement on a half digest is satisfied (3.1.3.8, 3.2.2.9, 3.3.2.10)
 abbrev pub Meets : Half → Option (List ℕ) → Type 0
 Meets Free claim = ⊤
 Meets (IfThere h) claim = IfSome claim (λ s. s ≡ h)
 Meets (Must h) claim = claim ≡ Some h
 
--- where an age is asked for, the user logged in no longer than that before the login was begun, give or take 60 seconds
+-- if `max_age` was requested, the user logged in at most that long before the login began, with 60 seconds of leeway
 abbrev pub IsInAge : Option ℕ → Option ℕ → ℕ → Type 0
 IsInAge None auth_time begun = ⊤
 IsInAge (Some age) None begun = ⊥
@@ -38,31 +38,31 @@ pub record IsGoodIdToken (rules : IdRules) (x : IdClaims) (at : ℕ) : Type 0 wh
   pub token : Meets rules.token x.at_hash
   pub code : Meets rules.code x.c_hash
 
--- ---- the refusals, in order
+-- ---- the errors, in order
 
--- the claim is there, and is the text
+-- the claim is present, and equal to the text
 abbrev pub is_given : List ℕ → Option (List ℕ) → Bool
 is_given t None = false
 is_given t (Some s) = bytes_eq s t
 
--- the claim is there, and is another text
+-- the claim is present, and differs from the text
 abbrev pub is_other : List ℕ → Option (List ℕ) → Bool
 is_other t None = false
 is_other t (Some s) = not (bytes_eq s t)
 
--- what is asked of a half digest does not hold
+-- the requirement on a half digest is violated
 abbrev pub breaks : Half → Option (List ℕ) → Bool
 breaks Free claim = false
 breaks (IfThere h) claim = is_other h claim
 breaks (Must h) claim = not (is_given h claim)
 
--- an age was asked for, and the user is not known to have logged in within it, give or take 60 seconds (3.1.3.7, 13)
+-- `max_age` was requested, and the user is not known to have logged in within it, with 60 seconds of leeway (3.1.3.7, 13)
 abbrev pub is_late : Option ℕ → Option ℕ → ℕ → Bool
 is_late None auth_time begun = false
 is_late (Some age) None begun = true
 is_late (Some age) (Some auth_time) begun = nat_lt (auth_time + age + leeway) begun
 
--- the conditions in order, each with its refusal
+-- the conditions in order, each with its error
 abbrev pub conditions : IdRules → IdClaims → ℕ → List (Bool × IdNo)
 conditions rules x at =
     (not (bytes_eq x.iss rules.issuer), Issuer)
@@ -76,6 +76,6 @@ conditions rules x at =
     ∷ (breaks rules.token x.at_hash, TokenHash)
     ∷ (breaks rules.code x.c_hash, CodeHash) ∷ []
 
--- what a relying party answers to the claims of an ID Token at a moment
+-- the result of verifying the claims of an ID Token at a moment
 abbrev pub id_judged : IdRules → IdClaims → ℕ → Result (Unit {0}) IdNo
 id_judged rules x at = first_refusal (conditions rules x at)

@@ -1,4 +1,4 @@
--- The ID Token that a sealed text is, or why it is refused (OpenID Connect Core 1.0, 2; RFC 7519, 7.2).
+-- The ID Token in a sealed text, or why the text is rejected (OpenID Connect Core 1.0, 2; RFC 7519, 7.2).
 use Rattle.std.specs.Prelude.{ℕ, Bool, true, false, List, Option, Some, None, Result, Ok, Err, codes, if◌then◌else◌}
 use Rattle.serde_json.specs.Data.{Members}
 use Rattle.sso_base.specs.Refusals.{and_then, demand}
@@ -22,7 +22,7 @@ abbrev pub if_subject : Option (List ℕ) → Result (Option (List ℕ)) ClaimNo
 if_subject None = Ok None
 if_subject (Some s) = if is_subject s then Ok (Some s) else Err (WrongKind (codes "sub"))
 
--- the claims, as far as they are there; the first of a wrong kind, by name, is refused
+-- the claims, each of which may be absent; the first of another kind, by name, is an error
 unfoldable pub raw_in : Members → Result RawClaims ClaimNo
 raw_in ms =
     and_then (text_claim (codes "at_hash") ms) (λ at_hash.
@@ -39,7 +39,7 @@ raw_in ms =
     and_then (if_subject given) (λ sub.
     Ok (record { at_hash = at_hash; aud = aud; auth_time = auth_time; azp = azp; c_hash = c_hash; exp = exp; iat = iat; iss = iss; nonce = nonce; sid = sid; sub = sub })))))))))))))
 
--- the claims that must be there
+-- the required claims
 unfoldable pub whole : RawClaims → Members → Result IdClaims IdNo
 whole r more =
     demand (Missing (codes "iss")) r.iss (λ iss.
@@ -53,7 +53,7 @@ abbrev pub if_raw : Members → Result RawClaims ClaimNo → Result IdClaims IdN
 if_raw ms (Ok r) = whole r (without_all id_names ms)
 if_raw ms (Err e) = Err (Claims e)
 
--- the ID Token that a claim set is
+-- the ID Token in a claim set
 unfoldable pub id_of : Members → Result IdClaims IdNo
 id_of ms = if_raw ms (raw_in ms)
 
@@ -65,17 +65,17 @@ abbrev pub if_opened : Result Unsealed JwsNo → Result IdClaims IdNo
 if_opened (Ok o) = if_claims (claims_read o.payload)
 if_opened (Err e) = Err (Jws e)
 
--- the ID Token that a sealed text is, or the first refusal that fits
+-- the ID Token in a sealed text, or the first error that applies
 unfoldable pub id_read : List ℕ → List ℕ → Result IdClaims IdNo
 id_read k t = if_opened (verdict k t)
 
--- want of memory stands inside another refusal
+-- `NoMemory` is wrapped in another error
 abbrev pub hides_memory : IdNo → Bool
 hides_memory (Jws jws.NoMemory) = true
 hides_memory (Claims claims.NoMemory) = true
 hides_memory e = false
 
--- a refusal of a sealed text or of claims, as that of a token; want of memory is the token's own
+-- an error of a sealed text or of claims, as an error of the token; `NoMemory` stays `NoMemory`
 abbrev pub as_jws : JwsNo → IdNo
 as_jws jws.NoMemory = NoMemory
 as_jws e = Jws e

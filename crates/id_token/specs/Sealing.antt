@@ -14,7 +14,7 @@ use Rattle.id_token.specs.Claims.{id_members, id_names, is_subject}
 unfoldable pub id_text : List ℕ → IdClaims → List ℕ
 id_text k x = seal_text k Jwt (claims_text (id_members x))
 
--- claims that can be written: each fits its place, and the whole is short
+-- claims that can be written: each is within its limits, and the whole is short
 pub record IsSealable (x : IdClaims) : Type 0 where
   pub others : HasNone id_names x.more
   pub subject : IsTrue (is_subject x.sub)

@@ -1,5 +1,5 @@
--- What an ID Token is, in the standard's words: a sealed claim set in which its claims stand (OpenID Connect Core 1.0, 2),
--- and the refusals of one that is none, in order.
+-- What an ID Token is, in the standard's words: a sealed claim set that contains its claims (OpenID Connect Core 1.0, 2). Then
+-- the errors for other texts, in order.
 use Rattle.std.specs.Prelude.{◌≡◌, ◌<◌, ◌^◌, ℕ, List, [], ◌∷◌, Bool, Option, Some, None, option_map, option_and_then, codes, IsTrue, IfSome, if◌then◌else◌}
 use Rattle.serde_json.specs.Data.{Data, string, Members}
 use Rattle.serde_json.specs.Find.{get_member, as_str}
@@ -12,7 +12,7 @@ use Rattle.id_token.specs.declared.no.IdNo.{IdNo}
 use Rattle.id_token.specs.declared.no.IdNo.TheVariants.{Claims, Missing}
 use Rattle.id_token.specs.Claims.{id_names, is_subject}
 
--- the claims x stand in the claim set, each under its name; an audience is one string or an array of strings
+-- the claim set contains the claims x, each under its name; an audience is one string or an array of strings
 pub record HasClaims (ms : Members) (x : IdClaims) : Type 0 where
   pub iss : get_member (codes "iss") ms ≡ Some (string x.iss)
   pub sub : get_member (codes "sub") ms ≡ Some (string x.sub)
@@ -40,7 +40,7 @@ pub record IsIdToken (k t : List ℕ) (x : IdClaims) : Type 0 where
   pub reads : Reads payload claims
   pub has : HasClaims claims x
 
--- ---- the refusals of a claim set: first the claims of another kind, in the order of their names, then what is absent
+-- ---- the errors of a claim set: first the claims of another kind, in the order of their names, then the absent ones
 
 abbrev pub as_subject : Data → Option (List ℕ)
 as_subject d = option_and_then (λ s. if is_subject s then Some s else None) (as_str d)

@@ -10,9 +10,9 @@ pub struct IdClaims {
     pub iss: Text,
     /// `sub`, the user, of 1 to 255 ASCII characters.
     pub sub: Text,
-    /// `aud`, the clients for which it is. A lone one is written as a string, none or more as an array.
+    /// `aud`, the clients that it is intended for. One client is written as a string, none or several as an array.
     pub aud: Texts,
-    /// `azp`, the client to which it was issued.
+    /// `azp`, the client that it was issued to.
     pub azp: Option<Text>,
     /// `exp`, the moment from which it is no longer valid, in seconds.
     pub exp: u64,
@@ -20,19 +20,19 @@ pub struct IdClaims {
     pub iat: u64,
     /// `auth_time`, the moment at which the user logged in, in seconds.
     pub auth_time: Option<u64>,
-    /// `nonce`, that of the authorization request.
+    /// `nonce`, copied from the authorization request.
     pub nonce: Option<Text>,
     /// `sid`, the session at the provider (OpenID Connect Back-Channel Logout 1.0, 2.1).
     pub sid: Option<Text>,
-    /// `at_hash`, the [`crate::half_hash`] of the access token beside it.
+    /// `at_hash`, the [`crate::half_hash`] of the access token issued with it.
     pub at_hash: Option<Text>,
-    /// `c_hash`, the [`crate::half_hash`] of the code beside it.
+    /// `c_hash`, the [`crate::half_hash`] of the code issued with it.
     pub c_hash: Option<Text>,
     /// All other claims.
     pub more: ClaimSet,
 }
 
-// The claims that are fields, as far as they are there.
+// The claims that are fields; each may be absent.
 #[derive(Drop)]
 pub(crate) struct RawClaims {
     pub at_hash: Option<Text>,

@@ -1,4 +1,4 @@
-// Half digests, by which an ID Token is bound to what is beside it.
+// Half digests, which bind an ID Token to the access token and the code issued with it.
 
 ghost use Rattle.std.specs.Prelude.{◌≡◌};
 ghost use Rattle.id_token.specs.HalfHash.{half_hash_of};
@@ -6,8 +6,8 @@ ghost use Rattle.id_token.specs.HalfHash.{half_hash_of};
 use base64::engine::general_purpose::URL_SAFE_NO_PAD;
 use sha2::{Digest, Sha256};
 
-/// The base64url spelling, without padding, of the first 16 bytes of the text's SHA-256 digest: the value of `at_hash`
-/// for an access token, and of `c_hash` for a code (OpenID Connect Core 1.0, 3.1.3.6 and 3.3.2.11).
+/// The first 16 bytes of the text's SHA-256 digest in base64url without padding. It is the value of `at_hash` for an access
+/// token, and of `c_hash` for a code (OpenID Connect Core 1.0, 3.1.3.6 and 3.3.2.11).
 #[tactic(auto, unfolding(sso_base::specs::Base64Url::b64u))]
 pub fn half_hash(text: &[u8]) -> [u8; 22]
     ensures { result ≡ half_hash_of text.now }

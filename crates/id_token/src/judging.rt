@@ -1,4 +1,4 @@
-// Judging: the claims of an ID Token are held against what the relying party asks (OpenID Connect Core 1.0, 3.1.3.7).
+// Verification of an ID Token's claims by the rules of a relying party (OpenID Connect Core 1.0, 3.1.3.7).
 
 ghost use Rattle.std.specs.Prelude.{◌≡◌, IfOk, IfErr, IsFalse, Ok};
 ghost use Rattle.id_token.specs.Reading.{hides_memory};
@@ -10,7 +10,7 @@ use crate::rules::{Half, IdRules};
 use oidc_words::{LEEWAY, OLDEST};
 use sso_base::{Moment, Text};
 
-// Whether the claim is there and is this text.
+// Whether the claim is present and equal to this text.
 fn is_the_given(text: &Text, claim: &Option<Text>) -> bool
     ensures { result ≡ is_given text.now claim.now }
 {
@@ -20,7 +20,7 @@ fn is_the_given(text: &Text, claim: &Option<Text>) -> bool
     }
 }
 
-// Whether the claim is there and is another text.
+// Whether the claim is present and differs from this text.
 fn is_another(text: &Text, claim: &Option<Text>) -> bool
     ensures { result ≡ is_other text.now claim.now }
 {
@@ -30,7 +30,7 @@ fn is_another(text: &Text, claim: &Option<Text>) -> bool
     }
 }
 
-// Whether the claim is not what is asked of it.
+// Whether the claim violates the requirement.
 fn breaks_half(half: &Half, claim: &Option<Text>) -> bool
     ensures { result ≡ breaks half.now claim.now }
 {
@@ -43,8 +43,8 @@ fn breaks_half(half: &Half, claim: &Option<Text>) -> bool
     }
 }
 
-// Whether an age was asked for, and the user did not log in within it, give or take the clocks' difference. Where a sum
-// does not fit, the greatest number stands for it, which no moment exceeds; and so in what follows.
+// Whether `max_age` was requested and the login is older than that, with the clocks' leeway. A sum that does not fit is
+// replaced by the greatest number, which no moment exceeds. The same is true below.
 fn is_too_late(max_age: Option<u64>, auth_time: Option<u64>, begun: Moment) -> bool
     ensures { result ≡ is_late max_age auth_time begun }
 {
@@ -56,7 +56,7 @@ fn is_too_late(max_age: Option<u64>, auth_time: Option<u64>, begun: Moment) -> b
     }
 }
 
-// The first refusal whose condition holds.
+// The error of the first condition that is true.
 fn first_refused(rules: &IdRules, claims: &IdClaims, at: Moment) -> Result<(), IdNo>
     ensures answers { result ≡ id_judged rules.now claims.now at }
     ensures memory_is_outermost { IfErr result (λ e. IsFalse (hides_memory e)) }
@@ -95,10 +95,10 @@ fn first_refused(rules: &IdRules, claims: &IdClaims, at: Moment) -> Result<(), I
     Ok(())
 }
 
-/// Judges the claims of an ID Token at a moment (OpenID Connect Core 1.0, 3.1.3.7, 3.2.2.9 and 3.3.2.10).
+/// Verifies the claims of an ID Token at a moment (OpenID Connect Core 1.0, 3.1.3.7, 3.2.2.9 and 3.3.2.10).
 ///
-/// The refusals are those of [`IdNo`] from `Issuer` on, the first that fits. Nothing here takes memory. Sums of moments
-/// and ages are those of numbers without a bound.
+/// Returns the first error of [`IdNo`] from `Issuer` on that applies. It allocates nothing. Sums of moments and ages are exact;
+/// they do not overflow.
 pub fn judge_id(rules: &IdRules, claims: &IdClaims, at: Moment) -> Result<(), IdNo>
     ensures answers { result ≡ id_judged rules.now claims.now at }
     ensures good { IfOk result (λ _. IsGoodIdToken rules.now claims.now at) }

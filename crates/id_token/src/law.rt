@@ -1,4 +1,4 @@
-// What holds of ID Tokens, for the crates above.
+// Laws about ID Tokens, for the crates above.
 
 ghost use Rattle.std.specs.Prelude.{◌≡◌, ◌↔◌, ◌<◌, ◌^◌, ℕ, List, Ok, Err, IsOk, IfSome, IsTrue};
 ghost use Rattle.serde_json.specs.Data.{Members};
@@ -19,14 +19,14 @@ ghost use Rattle.id_token.specs.Sealing.{id_text, HasTexts, IsSealable};
 ghost use Rattle.id_token.specs.Token.{IsIdToken, id_refusals};
 ghost use Rattle.id_token.specs.Judging.{IsGoodIdToken, id_judged};
 
-/// A text is read exactly where it is an ID Token under the key: a sealed claim set in which the claims stand.
+/// A text is accepted if and only if it is an ID Token under the key: a sealed claim set that contains the claims.
 pub fn read_tokens_are_sealed_claims()
     ensures token { (k t : List ℕ) (x : IdClaims) → id_read k t ≡ Ok x → IsIdToken k t x }
     ensures read { (k t : List ℕ) (x : IdClaims) → IsIdToken k t x → id_read k t ≡ Ok x }
 {}
 
-/// A text that is no ID Token is refused for the first reason: it is not sealed under the key, its payload is no claim
-/// set, or its claims meet a condition of `id_refusals`, of which the first counts.
+/// A text that is no ID Token is rejected for the first of these reasons. It is not sealed under the key; its payload is no
+/// claim set; or a condition of `id_refusals` is true, the first of which counts.
 pub fn refused_tokens_have_the_first_reason()
     ensures unopened { (k t : List ℕ) (e : JwsNo) → verdict k t ≡ Err e → id_read k t ≡ Err (no.Jws e) }
     ensures unread { (k h p t : List ℕ) (e : ClaimNo) → Sealed k h p t → claims_read p ≡ Err e → id_read k t ≡ Err (no.Claims e) }
@@ -34,25 +34,25 @@ pub fn refused_tokens_have_the_first_reason()
     ensures accepted { (k h p t : List ℕ) (ms : Members) → Sealed k h p t → Reads p ms → first_refusal (id_refusals ms) ≡ Ok tt → IsOk (id_read k t) }
 {}
 
-/// A text is refused as unsealed exactly where it is not sealed under the key, for the reason that it is not (RFC 7515,
-/// 5.2). So a text that is read is sealed under the key.
+/// A text is rejected with `Jws` if and only if it is not sealed under the key, and the reason is the one for which it is not
+/// (RFC 7515, 5.2). So a text that is accepted is sealed under the key.
 pub fn unsealed_texts_are_refused()
     ensures unsealed { (k t : List ℕ) → ((e : JwsNo) × (id_read k t ≡ Err (no.Jws e))) ↔ ((u : Unsealed) → ¬ Opens k t u) }
     ensures reason { (k t : List ℕ) (e : JwsNo) → (id_read k t ≡ Err (no.Jws e)) ↔ (verdict k t ≡ Err e) }
     ensures sealed { (k t : List ℕ) (x : IdClaims) → id_read k t ≡ Ok x → (u : Unsealed) × Opens k t u }
 {}
 
-/// The claim set of an ID Token fits where the claims are values of their types.
+/// The claim set of an ID Token fits if the claims are values of their types.
 pub fn claims_of_their_types_fit()
     ensures { (x : IdClaims) → HasTexts x → IsTrue (is_subject x.sub) → x.exp < 2 ^ 40 → x.iat < 2 ^ 40 → IfSome x.auth_time (λ n. n < 2 ^ 40) → ClaimsFit (id_members x) }
 {}
 
-/// The sealed text of an ID Token's claims is read, under the same key, as these claims.
+/// Reading the sealed text of an ID Token's claims, under the same key, returns these claims.
 pub fn sealed_claims_are_read()
     ensures { (k : List ℕ) (x : IdClaims) → IsSealable x → id_read k (id_text k x) ≡ Ok x }
 {}
 
-/// The claims that are not refused are exactly those of a good ID Token.
+/// Verification accepts exactly the claims of a good ID Token.
 pub fn good_tokens_pass()
     ensures passes { (rules : IdRules) (x : IdClaims) (at : ℕ) → IsGoodIdToken rules x at → id_judged rules x at ≡ Ok tt }
     ensures good { (rules : IdRules) (x : IdClaims) (at : ℕ) → id_judged rules x at ≡ Ok tt → IsGoodIdToken rules x at }

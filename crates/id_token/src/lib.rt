@@ -1,17 +1,17 @@
-//! ID Tokens: the sealed claims by which a provider tells a relying party who logged in (OpenID Connect Core 1.0, 2).
+//! ID Tokens: the signed claims by which a provider tells a relying party who logged in (OpenID Connect Core 1.0, 2).
 //!
 //! The claims are a JSON object, sealed as in RFC 7515, 3.1. Moments and ages are whole seconds.
 //!
 //! | Module | What it has |
 //! |---|---|
 //! | `claims` | [`IdClaims`], the claims of an ID Token |
-//! | `hashing` | [`half_hash`], by which a token is bound to an access token and to a code |
-//! | `sealing` | [`seal_id`] writes and seals them; [`written_len`] is the test of one condition of it |
-//! | `reading` | [`read_id`] opens them again; [`check_id`] opens and judges them; [`is_subject`] tells what a subject is |
-//! | `rules` | [`IdRules`], what a relying party asks of an ID Token |
-//! | `judging` | [`judge_id`] judges the claims by the rules |
-//! | `no` | [`IdNo`], why an ID Token is refused |
-//! | `law` | what holds of ID Tokens, for the crates above |
+//! | `hashing` | [`half_hash`], which binds an ID Token to an access token and to a code |
+//! | `sealing` | [`seal_id`] writes and seals the claims; [`written_len`] tests one of its preconditions |
+//! | `reading` | [`read_id`] opens an ID Token; [`check_id`] opens and verifies it; [`is_subject`] tests a subject |
+//! | `rules` | [`IdRules`], what a relying party requires of an ID Token |
+//! | `judging` | [`judge_id`] verifies the claims by these rules |
+//! | `no` | [`IdNo`], why an ID Token is rejected |
+//! | `law` | laws about ID Tokens, for the crates above |
 #![tactic(auto)]
 
 mod claims;

@@ -1,4 +1,4 @@
-// Reading: a sealed text is opened as an ID Token, or refused for the first reason that fits.
+// Opening a sealed text as an ID Token, or rejecting it for the first reason that applies.
 
 ghost use Rattle.std.specs.Prelude.{◌≡◌, ◌⊎◌, Some, None, Ok, Err, IfOk, IfErr, IsFalse};
 ghost use Rattle.sso_base.specs.Refusals.{and_then};
@@ -18,8 +18,8 @@ use jws_compact::unseal;
 use sso_base::{Moment, NoMemory, Text};
 use std::alloc::Global;
 
-/// Whether a text may be a subject: it has 1 to 255 bytes and is ASCII (OpenID Connect Core 1.0, 2). It is the test of a
-/// condition of [`crate::seal_id`].
+/// Whether a text is a valid subject: it has 1 to 255 bytes and is ASCII (OpenID Connect Core 1.0, 2). This tests a
+/// precondition of [`crate::seal_id`].
 pub fn is_subject(text: &Text) -> bool
     ensures { result ≡ is_subject_text text.now }
 {
@@ -34,7 +34,7 @@ fn is_ascii(text: &Text) -> bool
     text.as_str().as_bytes().iter().all(|byte| *byte < 128)
 }
 
-// A subject where it is there, refused as of another kind where no subject is like it.
+// The subject, if it is present. A text that is not a valid subject is rejected as a claim of another kind.
 fn subject_in(alloc: Global, given: Option<Text>) -> Result<Option<Text>, ClaimNo>
     ensures ok { IfOk result (λ o. if_subject given ≡ Ok o) }
     ensures err { IfErr result (λ e. (e ≡ ClaimNo.NoMemory) ⊎ (if_subject given ≡ Err e)) }
@@ -51,8 +51,8 @@ fn subject_in(alloc: Global, given: Option<Text>) -> Result<Option<Text>, ClaimN
     }
 }
 
-// The claims that are fields, as far as they are there. They are asked for in the order of their names, so that the
-// first of another kind is the one that is refused.
+// The claims that are fields; each may be absent. They are read in the order of their names, so the first one of another kind
+// decides.
 #[tactic(auto, unfolding(crate::specs::Reading::raw_in))]
 fn raw_claims(alloc: Global, claims: &ClaimSet) -> Result<RawClaims, ClaimNo>
     ensures ok { IfOk result (λ r. raw_in claims.now ≡ Ok r) }
@@ -85,7 +85,7 @@ fn raw_claims(alloc: Global, claims: &ClaimSet) -> Result<RawClaims, ClaimNo>
     })
 }
 
-// The claims that are no fields. The names are taken out in the order in which `without_all` does, from the last.
+// The claims that are not fields. The names are removed in the order of `without_all`, from the last.
 fn others(claims: ClaimSet) -> ClaimSet
     ensures { result ≡ without_all id_names claims }
 {
@@ -104,7 +104,7 @@ fn others(claims: ClaimSet) -> ClaimSet
     others
 }
 
-// The refusal for want of a claim.
+// The error for an absent claim.
 fn missing(alloc: Global, name: &str) -> IdNo
     ensures missing { (result ≡ IdNo.NoMemory) ⊎ (result ≡ IdNo.Missing name.now) }
     ensures memory_is_outermost { IsFalse (hides_memory result) }
@@ -115,7 +115,7 @@ fn missing(alloc: Global, name: &str) -> IdNo
     }
 }
 
-// A claim that has to be there.
+// A required claim.
 fn present<T: Drop>(alloc: Global, claim: Option<T>, name: &str) -> Result<T, IdNo>
     ensures ok { IfOk result (λ found. claim ≡ Some found) }
     ensures absent { IfErr result (λ e. claim ≡ None) }
@@ -128,7 +128,7 @@ fn present<T: Drop>(alloc: Global, claim: Option<T>, name: &str) -> Result<T, Id
     }
 }
 
-// The claims, where those that must be there are.
+// The claims, if all required ones are present.
 #[tactic(auto, unfolding(crate::specs::Reading::whole))]
 fn whole_claims(alloc: Global, raw: RawClaims, more: ClaimSet) -> Result<IdClaims, IdNo>
     ensures ok { IfOk result (λ x. whole raw more ≡ Ok x) }
@@ -151,7 +151,7 @@ fn whole_claims(alloc: Global, raw: RawClaims, more: ClaimSet) -> Result<IdClaim
     })
 }
 
-// The ID Token that a claim set is.
+// The ID Token in a claim set.
 #[tactic(auto, unfolding(crate::specs::Reading::id_of))]
 fn id_in(alloc: Global, claims: ClaimSet) -> Result<IdClaims, IdNo>
     ensures ok { IfOk result (λ x. id_of claims ≡ Ok x) }
@@ -162,7 +162,7 @@ fn id_in(alloc: Global, claims: ClaimSet) -> Result<IdClaims, IdNo>
     whole_claims(alloc, raw, others(claims))
 }
 
-// The claims of the ID Token that a text is under a key, or the first refusal that fits.
+// The claims of the ID Token that a text is under a key, or the first error that applies.
 #[tactic(auto, unfolding(crate::specs::Reading::id_read))]
 fn opened(alloc: Global, key: &[u8], text: &[u8]) -> Result<IdClaims, IdNo>
     ensures answers { IfOk result (λ x. id_read key.now text.now ≡ Ok x) }
@@ -176,7 +176,7 @@ fn opened(alloc: Global, key: &[u8], text: &[u8]) -> Result<IdClaims, IdNo>
 
 /// The claims of the ID Token that `text` is under `key`, which has any length (OpenID Connect Core 1.0, 2).
 ///
-/// The refusals are `Jws`, `Claims` and `Missing`, the first that fits. A refusal has no want of memory inside.
+/// Returns the first that applies of the errors `Jws`, `Claims` and `Missing`. `NoMemory` is never wrapped in another error.
 pub fn read_id(alloc: Global, key: &[u8], text: &[u8]) -> Result<IdClaims, IdNo>
     ensures token { IfOk result (λ x. IsIdToken key.now text.now x) }
     ensures accepts { (x : IdClaims) → IsIdToken key.now text.now x → IfErr result (λ e. e ≡ IdNo.NoMemory) }
@@ -187,7 +187,7 @@ pub fn read_id(alloc: Global, key: &[u8], text: &[u8]) -> Result<IdClaims, IdNo>
     opened(alloc, key, text)
 }
 
-// Opens an ID Token, and judges it.
+// Opens an ID Token and verifies it.
 fn checked(
     alloc: Global,
     rules: &IdRules,
@@ -205,7 +205,7 @@ fn checked(
     Ok(claims)
 }
 
-/// Opens an ID Token as [`read_id`] does, and judges it as [`judge_id`] does (OpenID Connect Core 1.0, 3.1.3.7).
+/// Opens an ID Token as [`read_id`] does, and verifies it as [`judge_id`] does (OpenID Connect Core 1.0, 3.1.3.7).
 pub fn check_id(
     alloc: Global,
     rules: &IdRules,

@@ -1,4 +1,4 @@
-// Sealing: the claims are written as a claim set and sealed.
+// Writing the claims as a claim set, and sealing it.
 
 ghost use Rattle.std.specs.Prelude.{◌≡◌, ◌≤◌, ◌<◌, ◌^◌, IfOk, IfSome, IsTrue, Ok, length};
 ghost use Rattle.claim_set.specs.Reading.{claims_text};
@@ -33,7 +33,7 @@ fn id_set(claims: &IdClaims) -> Result<ClaimSet, NoMemory>
     Ok(set)
 }
 
-/// How many bytes the written claims have: the test of the first condition of [`seal_id`].
+/// How many bytes the written claims have. This tests the first precondition of [`seal_id`].
 pub fn written_len(claims: &IdClaims) -> Result<usize, NoMemory>
     ensures { IfOk result (λ n. n ≡ length (claims_text (id_members claims.now))) }
 {
@@ -43,9 +43,9 @@ pub fn written_len(claims: &IdClaims) -> Result<usize, NoMemory>
 
 /// The ID Token of these claims, sealed under `key`, which has any length (OpenID Connect Core 1.0, 2).
 ///
-/// The written claims have at most 6,000 bytes, of which [`written_len`] is the test. The subject has 1 to 255 ASCII
-/// characters, `exp`, `iat` and `auth_time` are below 2^40, and `more` has none of the names of the other fields. Under
-/// the same key the text is read as the same claims.
+/// The written claims have at most 6,000 bytes; [`written_len`] tests this. The subject has 1 to 255 ASCII characters, and
+/// `exp`, `iat` and `auth_time` are below 2^40. `more` has none of the names of the other fields. Reading the text under the
+/// same key returns the same claims.
 pub fn seal_id(alloc: Global, key: &[u8], claims: &IdClaims) -> Result<Text, NoMemory>
     requires short { length (claims_text (id_members claims.now)) ≤ 6000 }
     requires subject { IsTrue (is_subject claims.now.sub) }

@@ -1,5 +1,5 @@
--- Sealed texts: the compact form of a JSON Web Signature (RFC 7515, 3.1 and 7.1) with HMAC-SHA-256 and no other
--- algorithm (RFC 7518, 3.2). Keys, headers, payloads and texts are lists of bytes.
+-- Sealed texts: the compact serialization of a JSON Web Signature (RFC 7515, 3.1 and 7.1). HMAC-SHA-256 is the only algorithm
+-- (RFC 7518, 3.2). Keys, headers, payloads and texts are lists of bytes.
 use Rattle.std.specs.Prelude.{◌≡◌, ◌≤◌, ℕ, ◌+◌, ◌==◌, Bool, false, not, List, [], ◌∷◌, ◌++◌, length, nat_lt, Option, Some, None, option_map, option_and_then, is_some, unwrap_or, Result, Ok, codes, if◌then◌else◌}
 use Rattle.std.specs.Str.{is_utf8, bytes_eq}
 use Rattle.base64.specs.GeneralPurpose.{IsBytes}
@@ -20,23 +20,23 @@ use Rattle.jws_compact.specs.declared.no.JwsNo.TheVariants.{TooLong, NotThreePar
 abbrev pub if_object : Data → Option Data
 if_object d = if is_some (as_object d) then Some d else None
 
--- the JSON object of which the bytes are the text
+-- the JSON object whose text these bytes are
 unfoldable pub read_object : List ℕ → Option Data
 read_object h = if is_utf8 h then option_and_then if_object (read h) else None
 
--- a member of an object, where it is a string
+-- a member of an object, if it is a string
 abbrev pub text_member : List ℕ → Data → Option (List ℕ)
 text_member name d = option_and_then as_str (get name d)
 
--- a header that accepts HMAC-SHA-256: its `alg` is HS256 (RFC 7515, 4.1.1), and it has no `crit`, which would name
--- members that have to be understood (RFC 7515, 4.1.11)
+-- a header for HMAC-SHA-256: its `alg` is HS256 (RFC 7515, 4.1.1), and it has no `crit`, which would list members that must be
+-- understood (RFC 7515, 4.1.11)
 pub record IsHeader (h : List ℕ) : Type 0 where
   pub value : Data
   pub is : read_object h ≡ Some value
   pub alg : text_member (codes "alg") value ≡ Some (codes "HS256")
   pub no_crit : get (codes "crit") value ≡ None
 
--- a header's `typ` (RFC 7515, 4.1.9), where it is a string
+-- a header's `typ` (RFC 7515, 4.1.9), if it is a string
 unfoldable pub typ_of : List ℕ → Option (List ℕ)
 typ_of h = option_and_then (text_member (codes "typ")) (read_object h)
 
@@ -52,11 +52,11 @@ typ_text LogoutJwt = codes "logout+jwt"
 
 -- ---- sealed texts
 
--- what is signed: the header and the payload, spelled, with a dot between (RFC 7515, 5.1, step 5)
+-- the signing input: the header and the payload, encoded, with a dot between them (RFC 7515, 5.1, step 5)
 abbrev pub signing_input : List ℕ → List ℕ → List ℕ
 signing_input h p = b64u h ++ 46 ∷ b64u p
 
--- the compact form: what is signed, a dot, and its MAC under the key, spelled (RFC 7515, 7.1)
+-- the compact serialization: the signing input, a dot, and its encoded MAC under the key (RFC 7515, 7.1)
 abbrev pub compact_form : List ℕ → List ℕ → List ℕ → List ℕ
 compact_form k h p = signing_input h p ++ 46 ∷ b64u (hmac_of k (signing_input h p))
 
@@ -72,26 +72,26 @@ pub record Sealed (k h p t : List ℕ) : Type 0 where
 unfoldable pub seal_text : List ℕ → Typ → List ℕ → List ℕ
 seal_text k typ p = compact_form k (header_bytes typ) p
 
--- what stands in a sealed text with this header and payload
+-- the contents of a sealed text with this header and payload
 abbrev pub opened : List ℕ → List ℕ → Unsealed
 opened h p = record { typ = typ_of h; payload = p }
 
--- what stands in the text that is written for a payload of a kind
+-- the contents of the text that is written for a payload of a kind
 abbrev pub written : Typ → List ℕ → Unsealed
 written typ p = record { typ = Some (typ_text typ); payload = p }
 
--- u stands in the text t, which is sealed under the key k
+-- the text t is sealed under the key k, and u is its contents
 abbrev pub Opens : List ℕ → List ℕ → Unsealed → Type 0
 Opens k t u = (h : List ℕ) × Sealed k h u.payload t × (u.typ ≡ typ_of h)
 
--- ---- the refusals, in order: the first that fits is answered
+-- ---- the errors, in order: the first that applies is returned
 
 -- the number of dots
 abbrev pub dots : List ℕ → ℕ
 dots [] = 0
 dots (x ∷ xs) = if x == 46 then 1 + dots xs else dots xs
 
--- what stands before and after the first dot
+-- the parts before and after the first dot
 abbrev pub cut : List ℕ → Option (List ℕ × List ℕ)
 cut [] = None
 cut (x ∷ xs) = if x == 46 then Some ([], xs) else option_map (λ p. (x ∷ p.0, p.1)) (cut xs)
@@ -112,7 +112,7 @@ is_hs256 d = unwrap_or (option_map (λ s. bytes_eq s (codes "HS256")) (text_memb
 unfoldable pub has_crit : Data → Bool
 has_crit d = is_some (get (codes "crit") d)
 
--- what a text holds under a key, or why it is refused
+-- the contents of a text under a key, or why it is rejected
 unfoldable pub verdict : List ℕ → List ℕ → Result Unsealed JwsNo
 verdict k t =
     forbid TooLong (nat_lt 8192 (length t))

@@ -1,10 +1,10 @@
--- How refusals of sealed texts are named where they are printed.
+-- The printed names of the errors of sealed texts.
 use Rattle.std.specs.Prelude.{codes}
 use Rattle.sso_base.specs.Words.{Text}
 use Rattle.jws_compact.specs.declared.no.JwsNo.{JwsNo}
 use Rattle.jws_compact.specs.declared.no.JwsNo.TheVariants.{NoMemory, TooLong, NotThreeParts, HeaderSpelling, PayloadSpelling, MacSpelling, HeaderNotObject, AlgNotHs256, Crit, BadMac}
 
--- the name of a refusal
+-- the name of an error
 unfoldable pub jws_name : JwsNo → Text
 jws_name NoMemory = codes "NoMemory"
 jws_name TooLong = codes "TooLong"

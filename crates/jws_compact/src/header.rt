@@ -1,4 +1,4 @@
-// What a header's object says.
+// Reading a header's object.
 
 ghost use Rattle.std.specs.Prelude.{◌≡◌, List, ℕ, Some, None, IfOk, MatchOption, option_map, codes};
 ghost use Rattle.serde_json.specs.View.{view};
@@ -9,7 +9,7 @@ use serde_json::Value;
 use sso_base::{NoMemory, Text};
 use std::alloc::Global;
 
-// The JSON object of which the bytes are the text.
+// The JSON object whose text these bytes are.
 #[tactic(auto, unfolding(crate::specs::Jws::read_object))]
 fn object_of(alloc: Global, bytes: &[u8]) -> Result<Option<Value>, NoMemory>
     ensures { IfOk result (λ o. option_map view o ≡ read_object bytes.now) }
@@ -50,7 +50,7 @@ fn is_critical(header: &Value) -> bool
     header.get("crit").is_some()
 }
 
-// The header's `typ`, where that is a string.
+// The header's `typ`, if it is a string.
 fn type_of(alloc: Global, header: &Value) -> Result<Option<Text>, NoMemory>
     ensures { IfOk result (λ o. o ≡ text_member (codes "typ") (view header.now)) }
 {
@@ -60,7 +60,7 @@ fn type_of(alloc: Global, header: &Value) -> Result<Option<Text>, NoMemory>
     }
 }
 
-// What a header says.
+// The facts about a header that decide whether it is accepted.
 #[derive(Drop)]
 pub(crate) struct Header {
     pub(crate) hs256: bool,
@@ -68,7 +68,7 @@ pub(crate) struct Header {
     pub(crate) typ: Option<Text>,
 }
 
-// Reads a header. None where the bytes are not the text of a JSON object.
+// Reads a header. `None` if the bytes are not the text of a JSON object.
 #[tactic(auto, unfolding(crate::specs::Jws::typ_of))]
 pub(crate) fn header_of(alloc: Global, bytes: &[u8]) -> Result<Option<Header>, NoMemory>
     ensures { IfOk result (λ o. MatchOption o (read_object bytes.now ≡ None) (λ h. IsHeaderOf bytes.now h)) }

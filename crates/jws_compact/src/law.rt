@@ -1,4 +1,4 @@
-// What holds of sealed texts, for the crates above.
+// Laws about sealed texts, for the crates above.
 
 ghost use Rattle.std.specs.Prelude.{◌≡◌, ◌≤◌, ◌==◌, ℕ, List, length, is_some, Ok};
 ghost use Rattle.base64.specs.GeneralPurpose.{IsBytes};
@@ -6,12 +6,12 @@ ghost use Rattle.jws_compact.specs.declared.sealing.Typ.{Typ};
 ghost use Rattle.jws_compact.specs.declared.unsealing.Unsealed.{Unsealed};
 ghost use Rattle.jws_compact.specs.Jws.{dots, three_parts, header_bytes, Sealed, seal_text, opened, written, Opens, verdict};
 
-/// A text has three parts exactly where it has two dots.
+/// A text has three parts if and only if it has two dots.
 pub fn texts_have_two_dots()
     ensures { (t : List ℕ) → is_some (three_parts t) ≡ (dots t == 2) }
 {}
 
-/// A text is read exactly where it is sealed, and it has one header and one payload.
+/// A text is accepted if and only if it is sealed. Its header and payload are unique.
 pub fn sealed_texts_open()
     ensures opens { (k h p t : List ℕ) → Sealed k h p t → verdict k t ≡ Ok (opened h p) }
     ensures sealed { (k t : List ℕ) (u : Unsealed) → verdict k t ≡ Ok u → Opens k t u }
@@ -19,7 +19,7 @@ pub fn sealed_texts_open()
     ensures payload_is_determined { (k l h g p q t : List ℕ) → Sealed k h p t → Sealed l g q t → p ≡ q }
 {}
 
-/// What is written is sealed, and reading it gives the payload and the kind's `typ`.
+/// Each text that is written is sealed. Reading it returns the payload and the `typ` of the kind.
 pub fn written_texts_open()
     ensures sealed { (k p : List ℕ) (typ : Typ) → IsBytes p → length p ≤ 6000 → Sealed k (header_bytes typ) p (seal_text k typ p) }
     ensures opens { (k p : List ℕ) (typ : Typ) → IsBytes p → length p ≤ 6000 → verdict k (seal_text k typ p) ≡ Ok (written typ p) }

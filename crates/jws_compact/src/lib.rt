@@ -1,5 +1,5 @@
-//! Sealed texts: the compact form of a JSON Web Signature (RFC 7515, 3.1 and 7.1) with HMAC-SHA-256 and no other
-//! algorithm (RFC 7518, 3.2).
+//! Sealed texts: the compact serialization of a JSON Web Signature (RFC 7515, 3.1 and 7.1). HMAC-SHA-256 is the only algorithm
+//! (RFC 7518, 3.2).
 //!
 //! A sealed text is `HEADER.PAYLOAD.MAC`, each part in base64url without padding. The header is a JSON object with
 //! `"alg":"HS256"` and no `crit`. The MAC is over the first two parts and the dot between them. A text has at most
@@ -8,11 +8,11 @@
 //! | Module | What it has |
 //! |---|---|
 //! | `sealing` | [`seal`] writes a sealed text of a kind, [`Typ`] |
-//! | `unsealing` | [`unseal`] reads one: exactly the sealed texts are read, [`Unsealed`] |
-//! | `no` | [`JwsNo`], why a text is refused |
-//! | `parts` | a text cut at its dots, and what the parts spell |
-//! | `header` | what a header's object says |
-//! | `law` | what holds of sealed texts, for the crates above |
+//! | `unsealing` | [`unseal`] accepts exactly the sealed texts, and returns an [`Unsealed`] |
+//! | `no` | [`JwsNo`], why a text is rejected |
+//! | `parts` | splitting a text at its dots, and decoding the parts |
+//! | `header` | reading a header's object |
+//! | `law` | laws about sealed texts, for the crates above |
 #![tactic(auto)]
 
 mod header;

@@ -1,12 +1,11 @@
-// Why a text is refused.
+// Why a text is rejected.
 
 ghost use Rattle.std.specs.Prelude.{◌≡◌};
 ghost use Rattle.jws_compact.specs.Names.{jws_name};
 
 use sso_base::NoMemory;
 
-/// Why a text is no sealed text under the key, or memory ran out. Where several of the former fit, the first in this
-/// order is answered.
+/// Why a text is not a sealed text under the key, or `NoMemory`. If several reasons apply, the first in this order is returned.
 #[derive(Clone, Copy, Debug, PartialEq, Eq)]
 pub enum JwsNo {
     /// Memory ran out.
@@ -17,22 +16,22 @@ pub enum JwsNo {
     NotThreeParts,
     /// The first part is not strict base64url without padding (RFC 7515, 2).
     HeaderSpelling,
-    /// The second part is not.
+    /// The second part is not strict base64url without padding.
     PayloadSpelling,
-    /// The third part is not, or it spells another number of bytes than 32.
+    /// The third part is not strict base64url without padding, or it does not decode to 32 bytes.
     MacSpelling,
     /// The header is not the text of a JSON object in UTF-8 (RFC 7515, 4).
     HeaderNotObject,
     /// The header's `alg` is absent, or not the string `HS256` (RFC 7515, 4.1.1).
     AlgNotHs256,
-    /// The header has `crit`, whatever it is: no extension is understood here (RFC 7515, 4.1.11).
+    /// The header has `crit`, with any value: we support no extension (RFC 7515, 4.1.11).
     Crit,
-    /// The MAC is not that of the first two parts under the key (RFC 7515, 5.2).
+    /// The third part is not the MAC of the first two parts under the key (RFC 7515, 5.2).
     BadMac,
 }
 
 impl JwsNo {
-    /// The name of the refusal, as it is printed.
+    /// The name of the error, as it is printed.
     #[tactic(auto, unfolding(crate::specs::Names::jws_name))]
     pub fn name(self) -> &'static str
         ensures { result.now ≡ jws_name self }

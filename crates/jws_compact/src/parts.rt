@@ -1,4 +1,4 @@
-// A text cut at its dots, and what the parts spell.
+// Splitting a text at its dots, and decoding the parts.
 
 ghost use Rattle.std.specs.Prelude.{◌≡◌, ◌++◌, ◌∷◌, Some, IfOk, option_map};
 ghost use Rattle.sso_base.specs.Base64Url.{unb64u, unb64u_32};
@@ -9,7 +9,7 @@ use base64::engine::general_purpose::URL_SAFE_NO_PAD;
 use sso_base::NoMemory;
 use std::alloc::Global;
 
-// What stands before and after the first dot.
+// The parts before and after the first dot.
 fn cut_at_dot(text: &[u8]) -> Option<(&[u8], &[u8])>
     ensures { option_map (λ p. (p.0.now, p.1.now)) result ≡ cut text.now }
 {
@@ -42,7 +42,7 @@ pub(crate) fn signed_part<'a>(text: &'a [u8], header: &[u8], payload: &[u8], mac
     &text[..header.len() + 1 + payload.len()]
 }
 
-// The bytes that a text spells.
+// The bytes that a text encodes.
 pub(crate) fn spelled(alloc: Global, text: &[u8]) -> Result<Option<Vec<u8>>, NoMemory>
     ensures { IfOk result (λ o. option_map (λ v. v.items) o ≡ unb64u text.now) }
 {
@@ -53,7 +53,7 @@ pub(crate) fn spelled(alloc: Global, text: &[u8]) -> Result<Option<Vec<u8>>, NoM
     }
 }
 
-// The 32 bytes that a text spells.
+// The 32 bytes that a text encodes.
 #[tactic(auto, unfolding(sso_base::specs::Base64Url::unb64u_32))]
 pub(crate) fn spelled_mac(alloc: Global, text: &[u8]) -> Result<Option<[u8; 32]>, NoMemory>
     ensures { IfOk result (λ o. o ≡ unb64u_32 text.now) }

@@ -1,4 +1,4 @@
-// Sealing: the compact form (RFC 7515, 7.1) is written.
+// Sealing: writing the compact serialization (RFC 7515, 7.1).
 
 ghost use Rattle.std.specs.Prelude.{◌≡◌, ◌++◌, ◌∷◌, ◌≤◌, [], length, IfOk, OnOk, string_bytes};
 ghost use Rattle.sso_base.specs.Base64Url.{b64u};
@@ -8,7 +8,7 @@ use base64::engine::general_purpose::URL_SAFE_NO_PAD;
 use sso_base::{NoMemory, Text};
 use std::alloc::Global;
 
-/// The kind of a sealed text, which its header's `typ` names (RFC 7515, 4.1.9).
+/// The kind of a sealed text, named by its header's `typ` (RFC 7515, 4.1.9).
 #[derive(Clone, Copy, PartialEq, Eq)]
 pub enum Typ {
     /// A JSON Web Token, `JWT` (RFC 7519, 5.1).
@@ -28,7 +28,7 @@ fn header_text(typ: Typ) -> &'static [u8]
     }
 }
 
-// Adds the spelling of bytes to a text.
+// Appends the base64url encoding of bytes to a text.
 #[tactic(auto, unfolding(sso_base::specs::Base64Url::b64u))]
 fn push_spelled(text: &mut String, bytes: &[u8]) -> Result<(), NoMemory>
     ensures { OnOk result (string_bytes text.new ≡ string_bytes text.old ++ b64u bytes.now) }
@@ -37,7 +37,7 @@ fn push_spelled(text: &mut String, bytes: &[u8]) -> Result<(), NoMemory>
     Ok(())
 }
 
-// Adds a dot to a text.
+// Appends a dot to a text.
 fn push_dot(text: &mut String) -> Result<(), NoMemory>
     ensures { OnOk result (string_bytes text.new ≡ string_bytes text.old ++ 46 ∷ []) }
 {
@@ -45,7 +45,7 @@ fn push_dot(text: &mut String) -> Result<(), NoMemory>
     Ok(())
 }
 
-// What is signed: the header and the payload, spelled, with a dot between.
+// The signing input: the header and the payload, encoded, with a dot between them.
 fn signed_text(alloc: Global, header: &[u8], payload: &[u8]) -> Result<String, NoMemory>
     ensures { IfOk result (λ s. string_bytes s ≡ signing_input header.now payload.now) }
 {
@@ -56,7 +56,7 @@ fn signed_text(alloc: Global, header: &[u8], payload: &[u8]) -> Result<String, N
     Ok(signed)
 }
 
-// The compact form of a header and a payload.
+// The compact serialization of a header and a payload.
 fn compact_text(
     alloc: Global,
     key: &[u8],
@@ -72,8 +72,8 @@ fn compact_text(
     Ok(text)
 }
 
-/// The sealed text of `payload` under `key`, for texts of this kind: the compact form with the header
-/// `{"alg":"HS256","typ":"JWT"}` or `{"alg":"HS256","typ":"logout+jwt"}` (RFC 7515, 7.1; RFC 7518, 3.2).
+/// The sealed text of `payload` under `key`. Its header is `{"alg":"HS256","typ":"JWT"}` or
+/// `{"alg":"HS256","typ":"logout+jwt"}` (RFC 7515, 7.1; RFC 7518, 3.2).
 ///
 /// The key has any length. The payload is any bytes, at most 6,000 of them.
 pub fn seal(alloc: Global, key: &[u8], typ: Typ, payload: &[u8]) -> Result<Text, NoMemory>

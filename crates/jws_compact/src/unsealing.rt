@@ -1,4 +1,4 @@
-// Unsealing: a text is read, or refused for the first reason that fits.
+// Unsealing: reading a text, or rejecting it for the first reason that applies.
 
 ghost use Rattle.std.specs.Prelude.{◌≡◌, ◌⊎◌, ℕ, List, Ok, Err, IfOk, IfErr};
 ghost use Rattle.jws_compact.specs.Jws.{Sealed, Opens, opened, verdict};
@@ -12,16 +12,16 @@ use std::alloc::Global;
 // The greatest length of a sealed text, in bytes.
 const MOST: usize = 8192;
 
-/// What a sealed text holds.
+/// The contents of a sealed text.
 #[derive(Drop)]
 pub struct Unsealed {
-    /// The header's `typ`, where that is a string (RFC 7515, 4.1.9).
+    /// The header's `typ`, if it is a string (RFC 7515, 4.1.9).
     pub typ: Option<Text>,
     /// The payload's bytes.
     pub payload: Blob,
 }
 
-// What the text holds, or the first refusal that fits.
+// The contents of the text, or the first error that applies.
 #[tactic(auto, unfolding(crate::specs::Jws::verdict))]
 fn judged(alloc: Global, key: &[u8], text: &[u8]) -> Result<Unsealed, JwsNo>
     ensures ok { IfOk result (λ u. verdict key.now text.now ≡ Ok u) }
@@ -63,8 +63,8 @@ fn judged(alloc: Global, key: &[u8], text: &[u8]) -> Result<Unsealed, JwsNo>
 
 /// Reads a sealed text under `key` (RFC 7515, 5.2; RFC 7518, 3.2).
 ///
-/// Exactly the sealed texts under this key are read. Of any other text the first refusal that fits is answered, in the
-/// order of [`JwsNo`]. The two MACs are compared without regard to where they differ.
+/// Accepts exactly the sealed texts under this key. For any other text it returns the first error that applies, in the order of
+/// [`JwsNo`]. Comparing the two MACs reads all their bytes, wherever they differ.
 pub fn unseal(alloc: Global, key: &[u8], text: &[u8]) -> Result<Unsealed, JwsNo>
     ensures answers { IfOk result (λ u. verdict key.now text.now ≡ Ok u) }
     ensures opens { IfOk result (λ u. Opens key.now text.now u) }

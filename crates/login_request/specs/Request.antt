@@ -1,4 +1,4 @@
--- The authorization request by which a relying party begins a login (OpenID Connect Core 1.0, 3.1.2.1, 3.2.2.1, 3.3.2.1 and
+-- The authorization request with which a relying party begins a login (OpenID Connect Core 1.0, 3.1.2.1, 3.2.2.1, 3.3.2.1 and
 -- 6.1).
 use Rattle.std.specs.Prelude.{Some, None, option_map, decimal, if◌then◌else◌}
 use Rattle.sso_base.specs.Words.{Word, Text, word_text}
@@ -13,7 +13,7 @@ use Rattle.request_object.specs.Request.{request_text}
 
 -- ---- the parameters
 
--- those of a login with this state and nonce
+-- the parameters of a login with this state and nonce
 abbrev pub login_params : Client → Party → Word → Word → Params
 login_params client party state nonce =
     record {
@@ -32,7 +32,7 @@ login_params client party state nonce =
       registration = None;
     }
 
--- those that stand beside a request object, since OAuth 2.0 and OpenID Connect need them outside (Core 6.1)
+-- the parameters outside a request object, where OAuth 2.0 and OpenID Connect require them (Core 6.1)
 abbrev pub outer_params : Client → Party → Text → Params
 outer_params client party request =
     record {
@@ -55,13 +55,13 @@ outer_params client party request =
 abbrev pub login_object : Client → Party → Text → Word → Word → Text
 login_object client party issuer state nonce = request_text client issuer (login_params client party state nonce)
 
--- a party whose requests are signed sends them in a request object
+-- a party whose requests are signed sends a request object
 abbrev pub sent_params : Client → Party → Provider → Word → Word → Params
 sent_params client party provider state nonce =
     if party.signed
     then outer_params client party (login_object client party provider.issuer state nonce)
     else login_params client party state nonce
 
--- where the browser is sent
+-- the location to which the browser is sent
 unfoldable pub login_location : Client → Party → Provider → Word → Word → Text
 login_location client party provider state nonce = request_location provider.authorize (sent_params client party provider state nonce)

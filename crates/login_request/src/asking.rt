@@ -1,4 +1,4 @@
-// Where the browser is sent to begin a login.
+// The location to which a browser is sent to begin a login.
 
 ghost use Rattle.std.specs.Prelude.{◌≡◌, ◌≤◌, ◌<◌, length, IfOk};
 ghost use Rattle.claim_set.specs.Reading.{claims_text};
@@ -22,7 +22,7 @@ fn party_row(registry: &Registry, party: u32) -> &Party
     registry.party(party)
 }
 
-// The row of the client that a party is. That the registry keeps its rules is known of its count.
+// The client of a party. The contract of `parties` states the invariant of the registry.
 fn client_row(registry: &Registry, party: u32) -> &Client
     requires { party < length registry.now.parties }
     ensures { result.now ≡ client_of registry.now party }
@@ -32,8 +32,8 @@ fn client_row(registry: &Registry, party: u32) -> &Client
     registry.client(number)
 }
 
-// What the size of the claims rests on, said for the proof of `login_object`: each registry keeps its rules, and words have
-// bounds.
+// A lemma for the proof of `login_object` about the size of the claims. It uses the invariant of the registry and the bounds of
+// words.
 fn bounds_of(registry: &Registry, party: u32, issuer: &Text, state: &Word, nonce: &Word)
     requires party { party < length registry.now.parties }
     requires issuer { length issuer.now ≤ 200 }
@@ -61,10 +61,10 @@ fn request_for(
     seal_request(alloc, client, issuer, &params)
 }
 
-/// The request object of a login of a party of the registry: its parameters, sealed under its client's secret for this issuer
+/// The request object for a login of a party of the registry: its parameters, sealed under its client's secret for this issuer
 /// (OpenID Connect Core 1.0, 6.1).
 ///
-/// The issuer has at most 200 bytes: then the claims are never too long.
+/// The issuer has at most 200 bytes. So the claims are never too long.
 pub fn login_object(
     alloc: Global,
     registry: &Registry,
@@ -83,7 +83,7 @@ pub fn login_object(
     request_for(alloc, client, row, issuer, state, nonce)
 }
 
-// The parameters that stand in the location.
+// The parameters in the location.
 fn sent_params(
     alloc: Global,
     registry: &Registry,
@@ -105,16 +105,16 @@ fn sent_params(
     outer_params(alloc, client, row, object)
 }
 
-/// The location to which a browser is sent to begin a login of a party of the registry: the authorization endpoint of the
+/// The location to which a browser is sent to begin a login of a party of the registry. It is the authorization endpoint of the
 /// provider, with the authorization request in its query (OpenID Connect Core 1.0, 3.1.2.1, 3.2.2.1 and 3.3.2.1; RFC 6749,
 /// 4.1.1).
 ///
-/// The request has the party's response type, client, redirection URI, scope, `prompt` and `max_age`, and the texts of the
-/// two words as `state` and `nonce`. A party whose requests are signed sends all of them in a request object, sealed under
-/// its client's secret for the provider, and beside it `response_type`, `client_id`, `redirect_uri` and the scope `openid`
-/// (OpenID Connect Core 1.0, 6.1).
+/// The request has the party's response type, client, redirect URI, scope, `prompt` and `max_age`, and the texts of the two
+/// words as `state` and `nonce`. If the party's requests are signed, all of these are in a request object, sealed under its
+/// client's secret for the provider. Outside it are `response_type`, `client_id`, `redirect_uri` and the scope `openid` (OpenID
+/// Connect Core 1.0, 6.1).
 ///
-/// The issuer of the provider has at most 200 bytes: then the claims of a request object are never too long.
+/// The issuer of the provider has at most 200 bytes. So the claims of a request object are never too long.
 #[tactic(auto, unfolding(crate::specs::Request::login_location))]
 pub fn login_request(
     alloc: Global,

@@ -1,10 +1,10 @@
-//! The authorization request by which a relying party begins a login (OpenID Connect Core 1.0, 3.1.2.1 and 6.1).
+//! The authorization request with which a relying party begins a login (OpenID Connect Core 1.0, 3.1.2.1 and 6.1).
 //!
 //! | Module | What it has |
 //! |---|---|
-//! | `asking` | [`login_request`] is the location at which a browser begins a login, [`login_object`] its request object |
+//! | `asking` | [`login_request`] is the location that begins a login, [`login_object`] its request object |
 //! | `params` | the parameters of the request |
-//! | `law` | what holds of these requests, for the crates above |
+//! | `law` | laws about these requests, for the crates above |
 #![tactic(auto)]
 
 mod asking;

@@ -9,7 +9,7 @@ use request_params::Params;
 use sso_base::{NoMemory, Text, Word, copied_text};
 use std::alloc::Global;
 
-// A number of seconds in decimal, where there is one.
+// A number of seconds in decimal, if there is one.
 fn age_text(alloc: Global, age: &Option<u64>) -> Result<Option<Text>, NoMemory>
     ensures { IfOk result (λ o. o ≡ option_map decimal age.now) }
 {
@@ -46,7 +46,7 @@ pub(crate) fn login_params(
     })
 }
 
-// Those that stand beside a request object.
+// The parameters outside a request object.
 pub(crate) fn outer_params(
     alloc: Global,
     client: &Client,

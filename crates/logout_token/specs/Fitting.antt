@@ -1,4 +1,4 @@
--- The claims of which a logout token is written.
+-- The claims from which a logout token can be written.
 use Rattle.std.specs.Prelude.{◌≡◌, ◌≤◌, ◌<◌, ◌^◌, ◌||◌, true, length, is_some, IfSome}
 use Rattle.std.specs.Str.{IsUtf8}
 use Rattle.sso_base.specs.Values.{AreTexts}
@@ -15,7 +15,7 @@ pub record HasTexts (x : LogoutClaims) : Type 0 where
   pub sub : IfSome x.sub IsUtf8
   pub sid : IfSome x.sid IsUtf8
 
--- the claims can be sealed: they are values of their types, somebody is named, and the text is short
+-- the claims can be sealed: they are values of their types, a user or a session is named, and the text is short
 pub record IsSealable (x : LogoutClaims) : Type 0 where
   pub fits : ClaimsFit (logout_members x)
   pub short : length (claims_text (logout_members x)) ≤ 6000

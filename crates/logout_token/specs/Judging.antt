@@ -1,4 +1,4 @@
--- The judgement of a logout token (OpenID Connect Back-Channel Logout 1.0, 2.6, which sends to OpenID Connect Core 1.0,
+-- Verification of a logout token (OpenID Connect Back-Channel Logout 1.0, 2.6, which refers to OpenID Connect Core 1.0,
 -- 3.1.3.7, for `iss`, `aud`, `iat` and `exp`). Moments are seconds since the epoch; the sums have no bound.
 use Rattle.std.specs.Prelude.{◌≡◌, ◌≤◌, ◌<◌, ◌+◌, ℕ, List, [], ◌∷◌, Bool, not, nat_lt, nat_le, Result, IsTrue}
 use Rattle.std.specs.Str.{bytes_eq}
@@ -9,7 +9,7 @@ use Rattle.logout_token.specs.declared.claims.LogoutClaims.{LogoutClaims}
 use Rattle.logout_token.specs.declared.no.LogoutNo.{LogoutNo}
 use Rattle.logout_token.specs.declared.no.LogoutNo.TheVariants.{Issuer, Audience, Expired, TooOld, FromFuture}
 
--- the conditions for a refusal, in order
+-- the conditions in order, each with its error
 abbrev pub conditions : List ℕ → List ℕ → LogoutClaims → ℕ → List (Bool × LogoutNo)
 conditions issuer client claims at =
     (not (bytes_eq claims.iss issuer), Issuer)
@@ -18,7 +18,7 @@ conditions issuer client claims at =
     ∷ (nat_lt (claims.iat + oldest) at, TooOld claims.iat)
     ∷ (nat_lt (at + leeway) claims.iat, FromFuture claims.iat) ∷ []
 
--- what a client answers to the claims of a logout token at a moment
+-- the result of verifying the claims of a logout token for a client at a moment
 abbrev pub logout_judged : List ℕ → List ℕ → LogoutClaims → ℕ → Result (Unit {0}) LogoutNo
 logout_judged issuer client claims at = first_refusal (conditions issuer client claims at)
 

@@ -25,7 +25,7 @@ use Rattle.logout_token.specs.declared.no.LogoutNo.TheVariants.{NoMemory, Jws, C
 abbrev pub event_name : List ℕ
 event_name = codes "http://schemas.openid.net/event/backchannel-logout"
 
--- the claim that says what the token is for: the logout event, with nothing more to say of it (2.4)
+-- the claim that states the purpose of the token: the logout event, with an empty object as its value (2.4)
 abbrev pub events : Data
 events = object (member event_name (object no_members) no_members)
 
@@ -49,9 +49,9 @@ logout_members x = put_all (logout_entries x) no_members
 unfoldable pub logout_text : List ℕ → LogoutClaims → List ℕ
 logout_text k x = seal_text k LogoutJwt (claims_text (logout_members x))
 
--- ---- reading: the first refusal that fits is answered
+-- ---- reading: the first error that applies is returned
 
--- the claims, as far as they are there, each of its kind
+-- the claims, each of its kind or absent
 unfoldable pub raw_in : Members → Result RawLogout ClaimNo
 raw_in ms =
     and_then (texts_claim (codes "aud") ms) (λ aud.
@@ -63,7 +63,7 @@ raw_in ms =
     and_then (text_claim (codes "sub") ms) (λ sub.
     Ok (record { aud = aud; exp = exp; iat = iat; iss = iss; jti = jti; sid = sid; sub = sub }))))))))
 
--- the kind of token is left open, or is one of the two, without regard to case (2.4)
+-- `typ` is absent, or is one of the two, ignoring case (2.4)
 abbrev pub typ_fits : Option (List ℕ) → Bool
 typ_fits None = true
 typ_fits (Some t) = bytes_eq (str_to_ascii_lowercase t) (codes "jwt") || bytes_eq (str_to_ascii_lowercase t) (codes "logout+jwt")
@@ -72,7 +72,7 @@ typ_fits (Some t) = bytes_eq (str_to_ascii_lowercase t) (codes "jwt") || bytes_e
 abbrev pub has_event : Members → Bool
 has_event ms = is_some (option_and_then as_object (option_and_then (get_member event_name) (option_and_then as_object (get_member (codes "events") ms))))
 
--- the claims that have to be there, and those that must not (2.4)
+-- the required claims, and those that are forbidden (2.4)
 unfoldable pub whole : RawLogout → Members → Result LogoutClaims LogoutNo
 whole r ms =
     demand (Missing (codes "iss")) r.iss (λ iss.
@@ -89,7 +89,7 @@ abbrev pub if_raw : Option (List ℕ) → Members → Result RawLogout ClaimNo �
 if_raw typ ms (Ok r) = forbid WrongTyp (not (typ_fits typ)) (whole r ms)
 if_raw typ ms (Err e) = Err (Claims e)
 
--- the logout token that a claim set is, beside a header's `typ`
+-- the logout token in a claim set, with the header's `typ`
 unfoldable pub logout_of : Option (List ℕ) → Members → Result LogoutClaims LogoutNo
 logout_of typ ms = if_raw typ ms (raw_in ms)
 
@@ -105,13 +105,13 @@ if_opened (Err e) = Err (Jws e)
 unfoldable pub logout_read : List ℕ → List ℕ → Result LogoutClaims LogoutNo
 logout_read k t = if_opened (verdict k t)
 
--- want of memory stands inside another refusal
+-- `NoMemory` is wrapped in another error
 abbrev pub hides_memory : LogoutNo → Bool
 hides_memory (Jws jws.NoMemory) = true
 hides_memory (Claims claims.NoMemory) = true
 hides_memory e = false
 
--- a refusal of a sealed text or of claims, as that of a token; want of memory is the token's own
+-- an error of a sealed text or of claims, as an error of the token; `NoMemory` stays `NoMemory`
 abbrev pub as_jws : JwsNo → LogoutNo
 as_jws jws.NoMemory = NoMemory
 as_jws e = Jws e

@@ -1,5 +1,5 @@
--- What a logout token is, in the standard's words: a sealed claim set in which its claims stand, the logout event among
--- them and no nonce (OpenID Connect Back-Channel Logout 1.0, 2.4), and the refusals of one that is none, in order (2.6).
+-- What a logout token is, in the standard's words: a sealed claim set that contains its claims and the logout event, and no
+-- nonce (OpenID Connect Back-Channel Logout 1.0, 2.4). Then the errors for other texts, in order (2.6).
 use Rattle.std.specs.Prelude.{◌≡◌, ◌<◌, ◌^◌, ◌⊎◌, ℕ, List, [], ◌∷◌, Bool, not, ◌&&◌, ◌||◌, Option, Some, None, option_map, option_and_then, is_some, is_none, codes, IsTrue, IfSome}
 use Rattle.std.specs.Str.{str_to_ascii_lowercase}
 use Rattle.serde_json.specs.Data.{string, object, Members}
@@ -20,7 +20,7 @@ pub record HasEvent (ms : Members) : Type 0 where
   pub events_are : get_member (codes "events") ms ≡ Some (object inside)
   pub event_is : get_member event_name inside ≡ Some (object event)
 
--- the claims x stand in the claim set, each under its name; an audience is one string or an array of strings
+-- the claim set contains the claims x, each under its name; an audience is one string or an array of strings
 pub record HasLogoutClaims (ms : Members) (x : LogoutClaims) : Type 0 where
   pub iss : get_member (codes "iss") ms ≡ Some (string x.iss)
   pub aud : option_and_then data_texts (get_member (codes "aud") ms) ≡ Some x.aud
@@ -35,7 +35,7 @@ pub record HasLogoutClaims (ms : Members) (x : LogoutClaims) : Type 0 where
   pub iat_fits : x.iat < 2 ^ 40
   pub exp_fits : x.exp < 2 ^ 40
 
--- the kind of token is left open, or is one of the two, without regard to ASCII case
+-- `typ` is absent, or is one of the two, ignoring ASCII case
 abbrev pub IsLogoutTyp : Option (List ℕ) → Type 0
 IsLogoutTyp typ = IfSome typ (λ t. (str_to_ascii_lowercase t ≡ codes "jwt") ⊎ (str_to_ascii_lowercase t ≡ codes "logout+jwt"))
 
@@ -49,8 +49,8 @@ pub record IsLogoutToken (k t : List ℕ) (x : LogoutClaims) : Type 0 where
   pub reads : Reads payload claims
   pub has : HasLogoutClaims claims x
 
--- ---- the refusals of a claim set beside a header's `typ`: first the claims of another kind, in the order of their
--- names, then the kind of token, then what is absent, and then what must not be
+-- ---- the errors of a claim set with a header's `typ`: first the claims of another kind, in the order of their names, then
+-- `typ`, then absent claims, then forbidden ones
 
 abbrev pub logout_refusals : Option (List ℕ) → Members → List (Bool × LogoutNo)
 logout_refusals typ ms =

@@ -2,13 +2,13 @@
 
 use sso_base::{Text, Texts};
 
-/// The claims of a logout token (OpenID Connect Back-Channel Logout 1.0, 2.4). `events` has no field: the logout event
-/// is always in it, and what else stands there is not kept.
+/// The claims of a logout token (OpenID Connect Back-Channel Logout 1.0, 2.4). `events` has no field: it always contains the
+/// logout event, and its other members are not kept.
 #[derive(Drop)]
 pub struct LogoutClaims {
     /// The issuer.
     pub iss: Text,
-    /// The audience: the clients that the token is for.
+    /// The audience: the clients that the token is intended for.
     pub aud: Texts,
     /// When the token was issued, in seconds since the epoch.
     pub iat: u64,
@@ -22,7 +22,7 @@ pub struct LogoutClaims {
     pub sid: Option<Text>,
 }
 
-// The claims as far as they are there, each of its kind.
+// The claims that are fields; each may be absent.
 #[derive(Drop)]
 pub(crate) struct RawLogout {
     pub(crate) aud: Option<Texts>,

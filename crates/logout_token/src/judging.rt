@@ -1,4 +1,4 @@
-// The judgement of a logout token's claims.
+// Verification of a logout token's claims.
 
 ghost use Rattle.std.specs.Prelude.{◌≡◌, Ok};
 ghost use Rattle.logout_token.specs.Judging.{logout_judged, IsGoodLogoutToken};
@@ -8,7 +8,7 @@ use crate::no::LogoutNo;
 use oidc_words::{LEEWAY, OLDEST};
 use sso_base::{Moment, Text};
 
-// The first refusal that fits.
+// The first error that applies.
 fn judged(issuer: &Text, client: &Text, claims: &LogoutClaims, at: Moment) -> Result<(), LogoutNo>
     ensures { result ≡ logout_judged issuer.now client.now claims.now at }
 {
@@ -19,7 +19,7 @@ fn judged(issuer: &Text, client: &Text, claims: &LogoutClaims, at: Moment) -> Re
     if !claims.aud.is_only(client.as_str()) {
         return Err(LogoutNo::Audience);
     }
-    // Where a sum does not fit, the greatest number stands for it, which no moment exceeds.
+    // A sum that does not fit is replaced by the greatest number, which no moment exceeds.
     if claims.exp.saturating_add(LEEWAY) <= now {
         return Err(LogoutNo::Expired(claims.exp));
     }
@@ -32,11 +32,11 @@ fn judged(issuer: &Text, client: &Text, claims: &LogoutClaims, at: Moment) -> Re
     Ok(())
 }
 
-/// Judges the claims of a logout token, which the client of this issuer received, at a moment (OpenID Connect
-/// Back-Channel Logout 1.0, 2.6, which sends to OpenID Connect Core 1.0, 3.1.3.7).
+/// Verifies the claims of a logout token at a moment, for a client of this issuer (OpenID Connect Back-Channel Logout 1.0, 2.6,
+/// which refers to OpenID Connect Core 1.0, 3.1.3.7).
 ///
-/// The refusals are [`LogoutNo::Issuer`], [`LogoutNo::Audience`], [`LogoutNo::Expired`], [`LogoutNo::TooOld`] and
-/// [`LogoutNo::FromFuture`]; the first that fits is answered. It takes no memory. The numbers of the claims may be any.
+/// Returns the first that applies of the errors [`LogoutNo::Issuer`], [`LogoutNo::Audience`], [`LogoutNo::Expired`],
+/// [`LogoutNo::TooOld`] and [`LogoutNo::FromFuture`]. It allocates nothing. The numbers of the claims may be any.
 pub fn judge_logout(
     issuer: &Text,
     client: &Text,

@@ -1,4 +1,4 @@
-// What holds of logout tokens, for the crates above.
+// Laws about logout tokens, for the crates above.
 
 ghost use Rattle.std.specs.Prelude.{◌≡◌, ◌↔◌, ◌<◌, ◌+◌, ◌^◌, ℕ, List, Ok, Err, IsOk};
 ghost use Rattle.serde_json.specs.Data.{Members};
@@ -18,15 +18,15 @@ ghost use Rattle.logout_token.specs.Judging.{logout_judged, IsGoodLogoutToken};
 ghost use Rattle.logout_token.specs.Token.{IsLogoutToken, logout_refusals};
 ghost use Rattle.logout_token.specs.Fitting.{HasTexts, IsSealable};
 
-/// A text is read exactly where it is a logout token under the key: a sealed claim set in which the claims stand, the
-/// logout event among them and no nonce (OpenID Connect Back-Channel Logout 1.0, 2.4).
+/// A text is accepted if and only if it is a logout token under the key: a sealed claim set with the claims and the logout
+/// event, and without a nonce (OpenID Connect Back-Channel Logout 1.0, 2.4).
 pub fn read_tokens_are_sealed_claims()
     ensures token { (k t : List ℕ) (x : LogoutClaims) → logout_read k t ≡ Ok x → IsLogoutToken k t x }
     ensures read { (k t : List ℕ) (x : LogoutClaims) → IsLogoutToken k t x → logout_read k t ≡ Ok x }
 {}
 
-/// A text that is no logout token is refused for the first reason: it is not sealed under the key, its payload is no
-/// claim set, or its claims and its `typ` meet a condition of [`logout_refusals`], of which the first counts.
+/// A text that is no logout token is rejected for the first of these reasons. It is not sealed under the key; its payload is no
+/// claim set; or a condition of [`logout_refusals`] is true for its claims and its `typ`, the first of which counts.
 pub fn refused_tokens_have_the_first_reason()
     ensures unopened { (k t : List ℕ) (e : JwsNo) → verdict k t ≡ Err e → logout_read k t ≡ Err (no.Jws e) }
     ensures unread { (k h p t : List ℕ) (e : ClaimNo) → Sealed k h p t → claims_read p ≡ Err e → logout_read k t ≡ Err (no.Claims e) }
@@ -34,32 +34,32 @@ pub fn refused_tokens_have_the_first_reason()
     ensures accepted { (k h p t : List ℕ) (ms : Members) → Sealed k h p t → Reads p ms → first_refusal (logout_refusals (typ_of h) ms) ≡ Ok tt → IsOk (logout_read k t) }
 {}
 
-/// A text is refused as unsealed exactly where it is not sealed under the key, for the reason that it is not (RFC 7515,
-/// 5.2). So a text that is read is sealed under the key.
+/// A text is rejected with `Jws` if and only if it is not sealed under the key, and the reason is the one for which it is not
+/// (RFC 7515, 5.2). So a text that is accepted is sealed under the key.
 pub fn unsealed_texts_are_refused()
     ensures unsealed { (k t : List ℕ) → ((e : JwsNo) × (logout_read k t ≡ Err (no.Jws e))) ↔ ((u : Unsealed) → ¬ Opens k t u) }
     ensures reason { (k t : List ℕ) (e : JwsNo) → (logout_read k t ≡ Err (no.Jws e)) ↔ (verdict k t ≡ Err e) }
     ensures sealed { (k t : List ℕ) (x : LogoutClaims) → logout_read k t ≡ Ok x → (u : Unsealed) × Opens k t u }
 {}
 
-/// The claim set of a logout token fits where the claims are values of their types.
+/// The claim set of a logout token fits if the claims are values of their types.
 pub fn claims_of_their_types_fit()
     ensures { (x : LogoutClaims) → HasTexts x → x.exp < 2 ^ 40 → x.iat < 2 ^ 40 → ClaimsFit (logout_members x) }
 {}
 
-/// The text that is written for the claims of a logout token is read, under the same key, as these claims.
+/// Reading the text that is written for the claims of a logout token, under the same key, returns these claims.
 pub fn sealed_claims_are_read()
     ensures { (k : List ℕ) (x : LogoutClaims) → IsSealable x → logout_read k (logout_text k x) ≡ Ok x }
 {}
 
-/// The claims that are not refused are exactly those of a good logout token.
+/// Verification accepts exactly the claims of a good logout token.
 pub fn good_tokens_pass()
     ensures passes { (issuer client : List ℕ) (x : LogoutClaims) (at : ℕ) → IsGoodLogoutToken issuer client x at → logout_judged issuer client x at ≡ Ok tt }
     ensures good { (issuer client : List ℕ) (x : LogoutClaims) (at : ℕ) → logout_judged issuer client x at ≡ Ok tt → IsGoodLogoutToken issuer client x at }
 {}
 
-/// A logout token that is good at a moment is good at none that is 661 seconds or more later. So a relying party that
-/// remembers it for that long takes it once only (OpenID Connect Back-Channel Logout 1.0, 2.6, step 8).
+/// A logout token that is good at a moment is not good 661 seconds later or at any time after that. So a relying party that
+/// remembers it for that long accepts it only once (OpenID Connect Back-Channel Logout 1.0, 2.6, step 8).
 pub fn good_tokens_are_remembered()
     ensures { (issuer client : List ℕ) (x : LogoutClaims) (at later : ℕ) → IsGoodLogoutToken issuer client x at → IsGoodLogoutToken issuer client x later → later < at + seen_life }
 {}

@@ -1,17 +1,16 @@
-//! Logout tokens: what a provider tells a relying party so that it ends a session (OpenID Connect Back-Channel Logout
-//! 1.0, 2.4 and 2.6).
+//! Logout tokens: what a provider sends a relying party to end a session (OpenID Connect Back-Channel Logout 1.0, 2.4 and 2.6).
 //!
-//! A logout token is a sealed text whose payload is a claim set with `iss`, `aud`, `iat`, `exp`, `jti`, the logout event
-//! in `events`, `sub` or `sid` or both, and no `nonce`. Moments are in seconds since the epoch.
+//! A logout token is a sealed claim set with `iss`, `aud`, `iat`, `exp`, `jti` and the logout event in `events`. It has `sub`
+//! or `sid` or both, and no `nonce`. Moments are in seconds since the epoch.
 //!
 //! | Module | What it has |
 //! |---|---|
 //! | `claims` | [`LogoutClaims`], the claims of a logout token |
-//! | `sealing` | [`seal_logout`] writes a logout token, [`written_len`] tells how long its claims are |
+//! | `sealing` | [`seal_logout`] writes a logout token, [`written_len`] returns the length of its claims |
 //! | `reading` | [`read_logout`] reads one |
-//! | `judging` | [`judge_logout`] judges whether it is good for a client at a moment |
-//! | `no` | [`LogoutNo`], why a text or its claims are refused |
-//! | `law` | what holds of logout tokens, for the crates above |
+//! | `judging` | [`judge_logout`] verifies it for a client at a moment |
+//! | `no` | [`LogoutNo`], why a text or its claims are rejected |
+//! | `law` | laws about logout tokens, for the crates above |
 #![tactic(auto)]
 
 mod claims;

@@ -1,4 +1,4 @@
-// A logout token is read, or refused for the first reason that fits.
+// Reading a logout token, or rejecting a text for the first reason that applies.
 
 ghost use Rattle.std.specs.Prelude.{◌≡◌, ◌⊎◌, Some, None, Ok, Err, IfOk, IfErr, IsFalse, option_and_then};
 ghost use Rattle.serde_json.specs.Find.{as_object, get_member};
@@ -15,7 +15,7 @@ use std::alloc::Global;
 // The name of the logout event.
 pub(crate) const EVENT: &str = "http://schemas.openid.net/event/backchannel-logout";
 
-// The claims, as far as they are there, each of its kind.
+// The claims, each of its kind or absent.
 #[tactic(auto, unfolding(crate::specs::LogoutToken::raw_in))]
 fn raw_claims(claims: &ClaimSet) -> Result<RawLogout, ClaimNo>
     ensures ok { IfOk result (λ r. raw_in claims.now ≡ Ok r) }
@@ -39,7 +39,7 @@ fn raw_claims(claims: &ClaimSet) -> Result<RawLogout, ClaimNo>
     })
 }
 
-// Whether the kind of token is left open, or is one of the two, without regard to ASCII case.
+// Whether `typ` is absent, or is one of the two, ignoring ASCII case.
 fn is_logout_typ(typ: &Option<Text>) -> bool
     ensures { result ≡ typ_fits typ.now }
 {
@@ -52,7 +52,7 @@ fn is_logout_typ(typ: &Option<Text>) -> bool
     }
 }
 
-// A member that is an object. Want of memory alone is an error.
+// A member that is an object. The only error is `NoMemory`.
 fn object_at(claims: &ClaimSet, name: &str) -> Result<Option<ClaimSet>, NoMemory>
     ensures { IfOk result (λ o. o ≡ option_and_then as_object (get_member name.now claims.now)) }
 {
@@ -73,7 +73,7 @@ fn names_logout(claims: &ClaimSet) -> Result<bool, NoMemory>
     Ok(object_at(&events, EVENT)?.is_some())
 }
 
-// The refusal for an absent claim.
+// The error for an absent claim.
 fn missing(alloc: Global, name: &str) -> LogoutNo
     ensures missing { (result ≡ LogoutNo.NoMemory) ⊎ (result ≡ LogoutNo.Missing name.now) }
     ensures memory_is_outermost { IsFalse (hides_memory result) }
@@ -84,7 +84,7 @@ fn missing(alloc: Global, name: &str) -> LogoutNo
     }
 }
 
-// A claim that has to be there.
+// A required claim.
 fn present<T: Drop>(alloc: Global, claim: Option<T>, name: &str) -> Result<T, LogoutNo>
     ensures ok { IfOk result (λ found. claim ≡ Some found) }
     ensures absent { IfErr result (λ e. claim ≡ None) }
@@ -97,7 +97,7 @@ fn present<T: Drop>(alloc: Global, claim: Option<T>, name: &str) -> Result<T, Lo
     }
 }
 
-// The claims that have to be there, and none that must not.
+// Checks that the required claims are present and the forbidden ones absent.
 #[tactic(auto, unfolding(crate::specs::LogoutToken::whole))]
 fn whole_claims(alloc: Global, raw: RawLogout, claims: &ClaimSet) -> Result<LogoutClaims, LogoutNo>
     ensures ok { IfOk result (λ x. whole raw claims.now ≡ Ok x) }
@@ -129,7 +129,7 @@ fn whole_claims(alloc: Global, raw: RawLogout, claims: &ClaimSet) -> Result<Logo
     })
 }
 
-// The logout token that a claim set is, beside a header's `typ`.
+// The logout token in a claim set, with the header's `typ`.
 #[tactic(auto, unfolding(crate::specs::LogoutToken::logout_of))]
 fn logout_in(alloc: Global, typ: &Option<Text>, claims: &ClaimSet) -> Result<LogoutClaims, LogoutNo>
     ensures ok { IfOk result (λ x. logout_of typ.now claims.now ≡ Ok x) }
@@ -143,7 +143,7 @@ fn logout_in(alloc: Global, typ: &Option<Text>, claims: &ClaimSet) -> Result<Log
     whole_claims(alloc, raw, claims)
 }
 
-// The claims of the logout token that a text is under a key, or the first refusal that fits.
+// The claims of the logout token that a text is under a key, or the first error that applies.
 #[tactic(auto, unfolding(crate::specs::LogoutToken::logout_read))]
 fn opened(alloc: Global, key: &[u8], text: &[u8]) -> Result<LogoutClaims, LogoutNo>
     ensures answers { IfOk result (λ x. logout_read key.now text.now ≡ Ok x) }
@@ -157,9 +157,8 @@ fn opened(alloc: Global, key: &[u8], text: &[u8]) -> Result<LogoutClaims, Logout
 
 /// Reads a logout token under `key`, which has any length (OpenID Connect Back-Channel Logout 1.0, 2.4 and 2.6).
 ///
-/// Of a text that is none, the first refusal that fits is answered, in the order of [`LogoutNo`] up to
-/// [`LogoutNo::NamesNobody`]. A refusal has no want of memory inside. Whether the token is for this client at this
-/// moment is for `judge_logout`.
+/// For any other text it returns the first error that applies, in the order of [`LogoutNo`] up to [`LogoutNo::NamesNobody`].
+/// `NoMemory` is never wrapped in another error. `judge_logout` verifies whether the token is for this client at this moment.
 pub fn read_logout(alloc: Global, key: &[u8], text: &[u8]) -> Result<LogoutClaims, LogoutNo>
     ensures token { IfOk result (λ x. IsLogoutToken key.now text.now x) }
     ensures accepts { (x : LogoutClaims) → IsLogoutToken key.now text.now x → IfErr result (λ e. e ≡ LogoutNo.NoMemory) }

@@ -1,4 +1,4 @@
-// A logout token is written.
+// Writing a logout token.
 
 ghost use Rattle.std.specs.Prelude.{◌≡◌, ◌≤◌, ◌<◌, ◌^◌, ◌||◌, IfOk, OnOk, Ok, Some, length, codes, is_some, true};
 ghost use Rattle.claim_set.specs.Reading.{claims_text};
@@ -38,7 +38,7 @@ fn logout_set(alloc: Global, claims: &LogoutClaims) -> Result<ClaimSet, NoMemory
     Ok(set)
 }
 
-/// How many bytes the written claims have. It is the test of the first condition of [`seal_logout`].
+/// How many bytes the written claims have. This tests the first precondition of [`seal_logout`].
 pub fn written_len(alloc: Global, claims: &LogoutClaims) -> Result<usize, NoMemory>
     ensures { IfOk result (λ n. n ≡ length (claims_text (logout_members claims.now))) }
 {
@@ -46,10 +46,10 @@ pub fn written_len(alloc: Global, claims: &LogoutClaims) -> Result<usize, NoMemo
     Ok(written.as_bytes().len())
 }
 
-/// The logout token with these claims, sealed under `key` with the header's `typ` `logout+jwt` (OpenID Connect
-/// Back-Channel Logout 1.0, 2.4). It is read as the same claims.
+/// The logout token with these claims, sealed under `key` with the header's `typ` `logout+jwt` (OpenID Connect Back-Channel
+/// Logout 1.0, 2.4). Reading it returns the same claims.
 ///
-/// The written claims have at most 6,000 bytes ([`written_len`]), `sub` or `sid` is there, and `iat` and `exp` are below
+/// The written claims have at most 6,000 bytes ([`written_len`]), `sub` or `sid` is present, and `iat` and `exp` are below
 /// 2^40.
 pub fn seal_logout(alloc: Global, key: &[u8], claims: &LogoutClaims) -> Result<Text, NoMemory>
     requires short { length (claims_text (logout_members claims.now)) ≤ 6000 }

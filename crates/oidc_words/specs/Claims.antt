@@ -1,4 +1,4 @@
--- Standard claims: which scope values ask for them, and the kinds of their values (OpenID Connect Core 1.0, 5.1 and 5.4).
+-- Standard claims: which scope values request them, and the kinds of their values (OpenID Connect Core 1.0, 5.1 and 5.4).
 use Rattle.std.specs.Prelude.{Bool, false, ◌&&◌, ◌||◌, List, [], ◌∷◌, codes, Option, Some, None, if◌then◌else◌}
 use Rattle.sso_base.specs.Words.{Text}
 use Rattle.oidc_words.specs.declared.claims.ClaimKind.{ClaimKind}
@@ -24,19 +24,19 @@ address_claims = codes "address" ∷ []
 unfoldable pub phone_claims : List Text
 phone_claims = codes "phone_number" ∷ codes "phone_number_verified" ∷ []
 
--- the name is one that these scope values ask for
+-- these scope values request the claim of this name
 unfoldable pub is_claim_of : Scopes → Text → Bool
 is_claim_of s name =
     (s.profile && is_one_of profile_claims name) || (s.email && is_one_of email_claims name)
     || (s.address && is_one_of address_claims name) || (s.phone && is_one_of phone_claims name)
 
--- the name is a standard claim: some scope value asks for it
+-- the name is a standard claim: some scope value requests it
 abbrev pub is_standard_claim : Text → Bool
 is_standard_claim name = is_claim_of all_scopes name
 
 -- ---- the scope values of claims
 
--- the scope values that hold a claim of this name
+-- the scope values that request the claim of this name
 unfoldable pub scopes_with : Text → Scopes
 scopes_with name =
     record {
@@ -47,12 +47,12 @@ scopes_with name =
       phone = is_one_of phone_claims name;
     }
 
--- these scope values, and those that hold one of these claims
+-- these scope values, and those that request one of these claims
 abbrev pub with_scopes : Scopes → List Text → Scopes
 with_scopes s [] = s
 with_scopes s (name ∷ names) = with_scopes (joined s (scopes_with name)) names
 
--- the scope values that hold one of these claims
+-- the scope values that request one of these claims
 unfoldable pub scopes_with_any : List Text → Scopes
 scopes_with_any names = with_scopes no_scopes names
 
@@ -66,7 +66,7 @@ flag_claims = codes "email_verified" ∷ codes "phone_number_verified" ∷ []
 unfoldable pub seconds_claims : List Text
 seconds_claims = codes "updated_at" ∷ []
 
--- the kind of the value of a standard claim: a text, but for those above and for an address (Core 5.1.1)
+-- the kind of the value of a standard claim: a text, except for those above and for an address (Core 5.1.1)
 abbrev pub kind_of : Text → Option ClaimKind
 kind_of name =
     if is_one_of flag_claims name then Some Flag

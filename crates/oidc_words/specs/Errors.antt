@@ -1,5 +1,5 @@
--- The error codes of authorization responses, and their texts (RFC 6749, 4.1.2.1; OpenID Connect Core 1.0, 3.1.2.6), and that of
--- a bearer token (RFC 6750, 3.1).
+-- The error codes of authorization responses and their texts (RFC 6749, 4.1.2.1; OpenID Connect Core 1.0, 3.1.2.6), and the
+-- error code of a bearer token (RFC 6750, 3.1).
 use Rattle.std.specs.Prelude.{◌≡◌, ◌⊎◌, List, [], ◌∷◌, codes, find, unwrap_or}
 use Rattle.std.specs.Str.{bytes_eq}
 use Rattle.sso_base.specs.Words.{Text}
@@ -13,7 +13,7 @@ error_codes =
     ∷ TemporarilyUnavailable ∷ InteractionRequired ∷ LoginRequired ∷ AccountSelectionRequired ∷ ConsentRequired
     ∷ InvalidRequestUri ∷ InvalidRequestObject ∷ RequestNotSupported ∷ RequestUriNotSupported ∷ RegistrationNotSupported ∷ []
 
--- how a code is written; `other` is own
+-- the text of a code; `other` is our choice
 unfoldable pub error_text : AuthError → Text
 error_text InvalidRequest = codes "invalid_request"
 error_text UnauthorizedClient = codes "unauthorized_client"
@@ -33,16 +33,16 @@ error_text RequestUriNotSupported = codes "request_uri_not_supported"
 error_text RegistrationNotSupported = codes "registration_not_supported"
 error_text Other = codes "other"
 
--- the code of the sixteen that is written so; any other text is that of another code
+-- the code with this text among the sixteen; `Other` for any other text
 unfoldable pub error_of : Text → AuthError
 error_of t = unwrap_or (find (λ code. bytes_eq (error_text code) t) error_codes) Other
 
--- the error code of a request with an access token that is not good (RFC 6750, 3.1)
+-- the error code for a request whose access token is not valid (RFC 6750, 3.1)
 abbrev pub invalid_token : Text
 invalid_token = codes "invalid_token"
 
--- ---- the same in literal words
+-- ---- the same, stated literally
 
--- the text is how this code is written, or this is another code and the text is how none is written
+-- the text is that of this code, or this is `Other` and the text is that of no code
 abbrev pub SaysError : Text → AuthError → Type 0
 SaysError t code = (error_text code ≡ t) ⊎ ((code ≡ Other) × ((any : AuthError) → ¬ (error_text any ≡ t)))

@@ -1,10 +1,10 @@
--- How many seconds what the provider and a relying party keep, and what they issue, lives (own, where no standard is named).
+-- Lifetimes, in seconds, of what the provider and a relying party keep and issue (our choice, unless a standard is named).
 use Rattle.std.specs.Prelude.{ℕ, codes}
 use Rattle.sso_base.specs.Words.{Text}
 
 -- ---- at the provider
 
--- a turn: an authorization request that waits for the user
+-- a turn: an authorization request that is waiting for the user
 abbrev pub turn_life : ℕ
 turn_life = 600
 
@@ -16,7 +16,7 @@ session_life = 43200
 abbrev pub code_usable : ℕ
 code_usable = 120
 
--- how long a code is held: as long as what it gave may live
+-- how long a code is kept: as long as what it gave may live
 abbrev pub code_life : ℕ
 code_life = 3720
 
@@ -42,7 +42,7 @@ logout_token_life = 120
 abbrev pub login_life : ℕ
 login_life = 600
 
--- a pending exchange, from its question on
+-- a pending exchange, from the token request on
 abbrev pub pending_life : ℕ
 pending_life = 120
 
@@ -54,7 +54,7 @@ visit_life = 28800
 abbrev pub seen_life : ℕ
 seen_life = 661
 
--- ---- tokens that are judged
+-- ---- verification of tokens
 
 -- how far clocks may differ (OpenID Connect Core 1.0, 2 and 3.1.3.7)
 abbrev pub leeway : ℕ

@@ -1,4 +1,4 @@
--- Response modes: where an answer stands in a redirection URI (OAuth 2.0 Multiple Response Type Encoding Practices, 2.1).
+-- Response modes: which part of a redirect URI carries a response (OAuth 2.0 Multiple Response Type Encoding Practices, 2.1).
 use Rattle.std.specs.Prelude.{List, [], ◌∷◌, codes}
 use Rattle.sso_base.specs.Words.{Text}
 

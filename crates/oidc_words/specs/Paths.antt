@@ -1,5 +1,5 @@
--- The paths that the provider and a relying party serve (own, but for that of the metadata). The provider's stand below the path
--- of its issuer.
+-- The paths that the provider and a relying party serve (our choice, except that of the metadata). The provider's paths are
+-- below the path of its issuer.
 use Rattle.std.specs.Prelude.{codes}
 use Rattle.sso_base.specs.Words.{Text}
 

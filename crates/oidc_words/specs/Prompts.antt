@@ -21,11 +21,12 @@ account_word = codes "select_account"
 abbrev pub prompt_words : List Text
 prompt_words = none_word ∷ login_word ∷ consent_word ∷ account_word ∷ []
 
--- the text is of values of `prompt`, each at most once
+-- the text consists of values of `prompt`, each at most once
 abbrev pub is_prompt : Text → Bool
 is_prompt t = are_words prompt_words (words_of t)
 
--- the values of `prompt` among words. To select an account is to log in (own); unknown values count as `others` alone.
+-- the values of `prompt` among words. `select_account` counts as `login` (our choice); an unknown value counts only as
+-- `others`.
 abbrev pub prompt_among : List Text → Prompt
 prompt_among ws =
     record {

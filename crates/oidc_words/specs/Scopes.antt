@@ -37,15 +37,15 @@ scopes_among ws =
       phone = has_text phone_word ws;
     }
 
--- the words of scope values, each with whether it is there
+-- the words of scope values, each with whether it is in the set
 abbrev pub scope_choices : Scopes → List Choice
 scope_choices s = (s.openid, openid_word) ∷ (s.profile, profile_word) ∷ (s.email, email_word) ∷ (s.address, address_word) ∷ (s.phone, phone_word) ∷ []
 
--- scope values as a text, in order, with one space between
+-- the text of scope values, in order, separated by one space each
 abbrev pub scope_text : Scopes → Text
 scope_text s = spaced (scope_choices s)
 
--- the text is a scope of scope values that are known, each at most once, `openid` among them
+-- the text consists of known scope values, each at most once, with `openid` among them
 abbrev pub is_scope : Text → Bool
 is_scope t = are_words scope_words (words_of t) && has_word openid_word t
 
@@ -57,7 +57,7 @@ no_scopes = record { openid = false; profile = false; email = false; address = f
 abbrev pub all_scopes : Scopes
 all_scopes = record { openid = true; profile = true; email = true; address = true; phone = true }
 
--- the scope values of either
+-- the union of both sets
 unfoldable pub joined : Scopes → Scopes → Scopes
 joined s t =
     record {
@@ -68,7 +68,7 @@ joined s t =
       phone = s.phone || t.phone;
     }
 
--- each scope value of the second is one of the first
+-- each scope value of the second set is in the first
 abbrev pub covers : Scopes → Scopes → Bool
 covers s t =
     (s.openid || not t.openid) && (s.profile || not t.profile) && (s.email || not t.email)

@@ -2,6 +2,6 @@
 use Rattle.std.specs.Prelude.{codes}
 use Rattle.sso_base.specs.Words.{Text}
 
--- that of a bearer token (RFC 6750, 4)
+-- the type of a bearer token (RFC 6750, 4)
 abbrev pub bearer_word : Text
 bearer_word = codes "Bearer"

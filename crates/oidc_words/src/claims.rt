@@ -1,4 +1,4 @@
-// Standard claims: which scope values ask for them, and the kinds of their values.
+// Standard claims: which scope values request them, and the kinds of their values.
 
 ghost use Rattle.std.specs.Prelude.{◌≡◌};
 ghost use Rattle.oidc_words.specs.Words.{is_one_of as is_one_of_texts};
@@ -67,7 +67,7 @@ fn is_phone_claim(name: &str) -> bool
 }
 
 impl Scopes {
-    /// Whether these scope values ask for the claim of this name (OpenID Connect Core 1.0, 5.4).
+    /// Whether these scope values request the claim of this name (OpenID Connect Core 1.0, 5.4).
     #[tactic(auto, unfolding(crate::specs::Claims::is_claim_of))]
     pub fn ask_for(self, name: &str) -> bool
         ensures { result ≡ spec.is_claim_of self name.now }
@@ -78,7 +78,7 @@ impl Scopes {
             || (self.phone && is_phone_claim(name))
     }
 
-    /// The scope values that hold a claim of this name.
+    /// The scope values that request the claim of this name.
     #[tactic(auto, unfolding(crate::specs::Claims::scopes_with))]
     pub fn with_claim(name: &str) -> Scopes
         ensures { result ≡ spec.scopes_with name.now }
@@ -92,7 +92,7 @@ impl Scopes {
         }
     }
 
-    /// The scope values that hold one of these claims.
+    /// The scope values that request at least one of these claims.
     #[tactic(auto, using(crate::proofs::Joining::one_more), unfolding(crate::specs::Claims::scopes_with_any))]
     pub fn with_claims(names: &Texts) -> Scopes
         ensures { result ≡ spec.scopes_with_any names.now }
@@ -105,7 +105,7 @@ impl Scopes {
     }
 }
 
-/// Whether the name is a standard claim: one that some scope value asks for (OpenID Connect Core 1.0, 5.1 and 5.4).
+/// Whether the name is a standard claim: some scope value requests it (OpenID Connect Core 1.0, 5.1 and 5.4).
 pub fn is_standard_claim(name: &str) -> bool
     ensures { result ≡ spec.is_standard_claim name.now }
 {
@@ -126,8 +126,8 @@ fn is_seconds_claim(name: &str) -> bool
     is_one_of(name, &["updated_at"])
 }
 
-/// The kind of the value of a standard claim (OpenID Connect Core 1.0, 5.1); None exactly where no scope value asks for a
-/// claim of this name.
+/// The kind of the value of a standard claim (OpenID Connect Core 1.0, 5.1). `None` if and only if no scope value requests the
+/// claim.
 pub fn kind_of_claim(name: &str) -> Option<ClaimKind>
     ensures { result ≡ spec.kind_of name.now }
 {

@@ -1,4 +1,4 @@
-// Error codes of authorization responses, their texts, and the refusals that have them; the error code of a bearer token.
+// Error codes of authorization responses and their texts, error responses, and the error code of a bearer token.
 
 ghost use Rattle.std.specs.Prelude.{◌≡◌, find, IfOk};
 ghost use Rattle.std.specs.Str.{bytes_eq};
@@ -26,11 +26,11 @@ pub enum AuthError {
     RequestNotSupported,
     RequestUriNotSupported,
     RegistrationNotSupported,
-    /// A code that none of these texts define.
+    /// A code that neither standard defines.
     Other,
 }
 
-/// The sixteen error codes that are defined (RFC 6749, 4.1.2.1; OpenID Connect Core 1.0, 3.1.2.6).
+/// The sixteen error codes that the standards define (RFC 6749, 4.1.2.1; OpenID Connect Core 1.0, 3.1.2.6).
 pub const ERROR_CODES: [AuthError; 16] = [
     AuthError::InvalidRequest,
     AuthError::UnauthorizedClient,
@@ -50,11 +50,11 @@ pub const ERROR_CODES: [AuthError; 16] = [
     AuthError::RegistrationNotSupported,
 ];
 
-/// The error code of a request with an access token that is not good (RFC 6750, 3.1).
+/// The error code for a request whose access token is not valid (RFC 6750, 3.1).
 pub const INVALID_TOKEN: &str = "invalid_token";
 
-/// How a code is written in the parameter `error` (RFC 6749, 4.1.2.1; OpenID Connect Core 1.0, 3.1.2.6).
-/// [`AuthError::Other`] is written `other`.
+/// The text of a code in the parameter `error` (RFC 6749, 4.1.2.1; OpenID Connect Core 1.0, 3.1.2.6). The text of
+/// [`AuthError::Other`] is `other`.
 #[tactic(auto, unfolding(crate::specs::Errors::error_text))]
 pub fn error_text(code: AuthError) -> &'static str
     ensures { result.now ≡ spec.error_text code }
@@ -80,7 +80,7 @@ pub fn error_text(code: AuthError) -> &'static str
     }
 }
 
-// The first of these codes that is written so.
+// The first of these codes with this text.
 fn find_error(codes: &[AuthError], text: &str) -> Option<AuthError>
     ensures { result ≡ find (λ code. bytes_eq (spec.error_text code) text.now) codes.now }
 {
@@ -92,7 +92,7 @@ fn find_error(codes: &[AuthError], text: &str) -> Option<AuthError>
     None
 }
 
-/// The code that is written so. It is [`AuthError::Other`] exactly where the text is none of [`ERROR_CODES`]; case counts.
+/// The code with this text; [`AuthError::Other`] if and only if the text belongs to none of [`ERROR_CODES`]. Case matters.
 #[tactic(auto, unfolding(crate::specs::Errors::error_of))]
 pub fn read_error(text: &str) -> AuthError
     ensures { result ≡ spec.error_of text.now }
@@ -103,16 +103,16 @@ pub fn read_error(text: &str) -> AuthError
 /// An authorization error response (OpenID Connect Core 1.0, 3.1.2.6 and 3.2.2.6).
 #[derive(Drop)]
 pub struct Refusal {
-    /// The redirection URI that it is sent to: one that the client has.
+    /// The client's redirect URI that the response is sent to.
     pub redirect: Text,
-    /// Whether it stands in the fragment, else in the query.
+    /// Whether the response is in the fragment; otherwise it is in the query.
     pub fragment: bool,
     pub state: Option<Text>,
     pub code: AuthError,
 }
 
 impl Refusal {
-    /// An equal refusal.
+    /// A copy of the response.
     pub fn copy(&self, alloc: Global) -> Result<Refusal, NoMemory>
         ensures { IfOk result (λ r. r ≡ self.now) }
     {

@@ -1,17 +1,17 @@
-//! The words of OpenID Connect and OAuth 2.0 of which a provider and a relying party both speak, each in one place.
+//! The words of OpenID Connect and OAuth 2.0 that both a provider and a relying party use, each defined once.
 //!
 //! | Module | What it has |
 //! |---|---|
-//! | `words` | texts among others, and words with spaces between |
-//! | `scopes` | [`Scopes`], which scope values there are |
-//! | `claims` | the claims of the scope values, the scope values of asked claims, and [`ClaimKind`] |
-//! | `prompts` | [`Prompt`], which values `prompt` has |
-//! | `response_types` | [`Types`], the words of a response type, and the six types |
+//! | `words` | membership of a text in a list, and texts as words separated by spaces |
+//! | `scopes` | [`Scopes`], a set of scope values |
+//! | `claims` | the claims of each scope value, the scope values of requested claims, and [`ClaimKind`] |
+//! | `prompts` | [`Prompt`], the values of `prompt` |
+//! | `response_types` | [`Types`], the words of a response type, and the six response types |
 //! | `token_types` | [`BEARER`], the type of an access token |
 //! | `errors` | [`AuthError`] with its texts, [`INVALID_TOKEN`], and [`Refusal`] |
 //! | `lives` | how many seconds rows and tokens live |
 //! | `paths` | the paths that the provider and a relying party serve |
-//! | `law` | what holds of these words, for the crates above |
+//! | `law` | laws about these words, for the crates above |
 #![tactic(auto)]
 
 mod claims;

@@ -1,6 +1,6 @@
-// How many seconds what the provider and a relying party keep, and what they issue, lives.
+// Lifetimes, in seconds, of what the provider and a relying party keep and issue.
 
-/// How many seconds a turn lives: an authorization request that waits for the user.
+/// How many seconds a turn lives: an authorization request that is waiting for the user.
 pub const TURN_LIFE: u32 = 600;
 
 /// How many seconds a session of the provider lives from its last login.
@@ -9,7 +9,7 @@ pub const SESSION_LIFE: u32 = 43_200;
 /// How many seconds a code may be used (RFC 6749, 4.1.2: ten minutes at most).
 pub const CODE_USABLE: u32 = 120;
 
-/// How many seconds a code is held: as long as what it gave may live.
+/// How many seconds a code is kept: as long as what it gave may live.
 pub const CODE_LIFE: u32 = 3720;
 
 /// How many seconds an access token lives (RFC 6749, 4.2.2 and 5.1).
@@ -18,16 +18,16 @@ pub const ACCESS_LIFE: u32 = 3600;
 /// `expires_in` of an access token: its life in decimal (RFC 6749, 4.2.2).
 pub const EXPIRES_IN: &str = "3600";
 
-/// How many seconds an ID Token is good from its `iat` on (OpenID Connect Core 1.0, 2).
+/// How many seconds an ID Token is valid, from its `iat` on (OpenID Connect Core 1.0, 2).
 pub const ID_TOKEN_LIFE: u64 = 300;
 
-/// How many seconds a logout token is good from its `iat` on (OpenID Connect Back-Channel Logout 1.0, 2.4).
+/// How many seconds a logout token is valid, from its `iat` on (OpenID Connect Back-Channel Logout 1.0, 2.4).
 pub const LOGOUT_TOKEN_LIFE: u64 = 120;
 
 /// How many seconds a login lives at a relying party, until its callback.
 pub const LOGIN_LIFE: u32 = 600;
 
-/// How many seconds a pending exchange of a relying party lives from its question on.
+/// How many seconds a pending exchange of a relying party lives, from the token request on.
 pub const PENDING_LIFE: u32 = 120;
 
 /// How many seconds a session of a relying party lives.

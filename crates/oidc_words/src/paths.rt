@@ -1,4 +1,4 @@
-// The paths that the provider and a relying party serve. The provider's stand below the path of its issuer.
+// The paths that the provider and a relying party serve. The provider's paths are below the path of its issuer.
 
 /// The path of the metadata (OpenID Connect Discovery 1.0, 4).
 pub const METADATA_PATH: &str = "/.well-known/openid-configuration";

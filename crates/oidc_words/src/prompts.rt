@@ -20,7 +20,7 @@ const ACCOUNT: &str = "select_account";
 pub struct Prompt {
     /// `none`.
     pub none: bool,
-    /// Another value than `none`, known or not.
+    /// A value other than `none`, known or not.
     pub others: bool,
     /// `login` or `select_account`.
     pub login: bool,
@@ -42,7 +42,8 @@ impl Prompt {
     }
 }
 
-/// Whether the text is of values of `prompt`, each at most once, with one space between (OpenID Connect Core 1.0, 3.1.2.1).
+/// Whether the text consists of known values of `prompt`, each at most once, separated by one space each (OpenID Connect Core
+/// 1.0, 3.1.2.1).
 pub fn is_prompt(alloc: Global, text: &str) -> Result<bool, NoMemory>
     ensures { IfOk result (λ b. b ≡ spec.is_prompt text.now) }
 {

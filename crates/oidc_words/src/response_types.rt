@@ -16,8 +16,8 @@ pub struct Types {
 }
 
 impl Types {
-    /// The words of the response type of this number, from 0, in the order `code`, `id_token`, `id_token token`,
-    /// `code id_token`, `code token`, `code id_token token`. None, and any number above five, gives no words.
+    /// The words of the response type with this number, counted from 0 in the order `code`, `id_token`, `id_token token`, `code
+    /// id_token`, `code token`, `code id_token token`. `None`, and any number above five, gives no words.
     pub fn of_number(number: Option<usize>) -> Types
         ensures { result ≡ spec.types_of_number number }
     {
@@ -35,8 +35,8 @@ impl Types {
         }
     }
 
-    /// The response type as a request writes it: its words in the order `code`, `id_token`, `token`, with one space
-    /// between. No words are the empty text.
+    /// The text of the response type: its words in the order `code`, `id_token`, `token`, separated by one space each. It is
+    /// empty if there are no words.
     pub fn text(self) -> &'static str
         ensures { result.now ≡ spec.types_text self }
     {
@@ -52,9 +52,8 @@ impl Types {
         }
     }
 
-    /// Whether the response stands in the fragment of the redirection URI, and not in its query (OAuth 2.0 Multiple
-    /// Response Type Encoding Practices, 3 and 5): that of every type but `code`. What has no type is answered in the
-    /// query.
+    /// Whether the response is in the fragment of the redirect URI instead of its query (OAuth 2.0 Multiple Response Type
+    /// Encoding Practices, 3 and 5). This is true for every type except `code`. Without a type the response is in the query.
     pub fn is_in_fragment(self) -> bool
         ensures { result ≡ spec.is_in_fragment self }
     {
@@ -76,8 +75,8 @@ pub fn type_texts(alloc: Global) -> Result<Texts, NoMemory>
     Ok(texts)
 }
 
-/// The number of a response type among the six, from 0; None exactly where the text is none of them. Its words may stand in
-/// any order.
+/// The number of a response type among the six, counted from 0. `None` if and only if the text is none of them. Its words may
+/// be in any order.
 #[tactic(auto, unfolding(crate::specs::Types::spellings))]
 pub fn number_of_type(text: &str) -> Option<usize>
     ensures { result ≡ spec.type_number text.now }

@@ -21,7 +21,7 @@ const PHONE: &str = "phone";
 /// The scope values, in order (OpenID Connect Core 1.0, 3.1.2.1 and 5.4).
 pub const SCOPE_WORDS: [&str; 5] = [OPENID, PROFILE, EMAIL, ADDRESS, PHONE];
 
-/// Which scope values there are (OpenID Connect Core 1.0, 3.1.2.1 and 5.4).
+/// A set of scope values (OpenID Connect Core 1.0, 3.1.2.1 and 5.4).
 #[derive(Clone, Copy, PartialEq, Eq)]
 pub struct Scopes {
     pub openid: bool,
@@ -71,7 +71,7 @@ impl Scopes {
         }
     }
 
-    /// These scope values as a text, in order, with one space between.
+    /// The text of these scope values, in order, separated by one space each.
     pub fn to_text(self, alloc: Global) -> Result<Text, NoMemory>
         ensures { IfOk result (λ t. t ≡ spec.scope_text self) }
     {
@@ -85,7 +85,7 @@ impl Scopes {
         spaced(alloc, &words)
     }
 
-    /// The scope values of either.
+    /// The union of both sets.
     #[tactic(auto, unfolding(crate::specs::Scopes::joined))]
     pub fn joined(self, other: Scopes) -> Scopes
         ensures { result ≡ spec.joined self other }
@@ -99,7 +99,7 @@ impl Scopes {
         }
     }
 
-    /// Whether each scope value of the other is one of these.
+    /// Whether this set contains each scope value of the other.
     pub fn covers(self, other: Scopes) -> bool
         ensures { result ≡ spec.covers self other }
     {
@@ -111,7 +111,7 @@ impl Scopes {
     }
 }
 
-/// Whether the text is of scope values that are known, each at most once, with one space between, `openid` among them
+/// Whether the text consists of known scope values, each at most once, separated by one space each, with `openid` among them
 /// (OpenID Connect Core 1.0, 5.4).
 pub fn is_scope(alloc: Global, text: &str) -> Result<bool, NoMemory>
     ensures { IfOk result (λ b. b ≡ spec.is_scope text.now) }

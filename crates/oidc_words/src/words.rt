@@ -1,4 +1,4 @@
-// Texts among others, and words with spaces between (RFC 6749, 3.3).
+// Membership of a text in a list, and texts as words separated by spaces (RFC 6749, 3.3).
 
 ghost use Rattle.std.specs.Prelude.{◌≡◌, map, IfOk};
 ghost use Rattle.std.specs.List.{list_all};
@@ -20,7 +20,7 @@ pub fn is_one_of(text: &str, texts: &[&str]) -> bool
     false
 }
 
-// Whether another text than this is among the texts.
+// Whether some text of the list differs from this one.
 pub(crate) fn has_other(text: &str, texts: &[&str]) -> bool
     ensures { result ≡ spec.has_other text.now (map (λ t. t.now) texts.now) }
 {
@@ -32,7 +32,7 @@ pub(crate) fn has_other(text: &str, texts: &[&str]) -> bool
     false
 }
 
-// Whether no word stands twice.
+// Whether no word occurs twice.
 fn are_distinct(words: &[&str]) -> bool
     ensures { result ≡ spec.is_distinct (map (λ w. w.now) words.now) }
 {
@@ -44,7 +44,7 @@ fn are_distinct(words: &[&str]) -> bool
     true
 }
 
-// Whether each word is one of those that are known.
+// Whether each word is a known one.
 fn are_known(known: &[&str], words: &[&str]) -> bool
     ensures { result ≡ list_all (λ w. has_text w (map (λ k. k.now) known.now)) (map (λ w. w.now) words.now) }
 {
@@ -56,14 +56,14 @@ fn are_known(known: &[&str], words: &[&str]) -> bool
     true
 }
 
-// Whether each word is one of those that are known, and none stands twice.
+// Whether each word is a known one and none occurs twice.
 pub(crate) fn are_words(known: &[&str], words: &[&str]) -> bool
     ensures { result ≡ spec.are_words (map (λ k. k.now) known.now) (map (λ w. w.now) words.now) }
 {
     are_known(known, words) && are_distinct(words)
 }
 
-/// The words of a text, with one space between. Between two spaces stands an empty word.
+/// The words of a text, which are separated by one space each. Two spaces in a row enclose an empty word.
 pub fn words_of(alloc: Global, text: &str) -> Result<Vec<&str>, AllocError>
     ensures { IfOk result (λ v. map (λ w. w.now) v.items ≡ spec.words_of text.now) }
 {
@@ -77,7 +77,7 @@ pub fn has_word(text: &str, word: &str) -> bool
     text.split(' ').any(|piece| word == piece)
 }
 
-/// The words of a parameter, as far as it is there. What is empty between spaces is no word.
+/// The words of a parameter; none if it is absent. Empty words are left out.
 #[tactic(auto, unfolding(crate::specs::Words::parameter_words))]
 pub fn parameter_words(alloc: Global, text: &Option<Text>) -> Result<Vec<&str>, NoMemory>
     ensures { IfOk result (λ v. map (λ w. w.now) v.items ≡ spec.parameter_words text.now) }
@@ -109,7 +109,7 @@ fn chosen<'a>(alloc: Global, words: &[(bool, &'a str)]) -> Result<Vec<&'a str>, 
     Ok(kept)
 }
 
-/// The chosen words, in order, with one space between.
+/// The chosen words, in order, separated by one space each.
 #[tactic(auto, using(crate::proofs::Spacing::words_joined))]
 pub fn spaced(alloc: Global, words: &[(bool, &str)]) -> Result<Text, NoMemory>
     ensures { IfOk result (λ t. t ≡ spec.spaced (map spec.choice_of words.now)) }

@@ -20,7 +20,7 @@ abbrev pub access_issued : ℕ → ℕ → Word → Option Word → Wish → ℕ
 access_issued by at w code wish user =
     record { word = w; client = wish.client; user = user; scopes = wish.scopes; asked = wish.info_asked; code = code; issued = at; by = by }
 
--- An access token is made by an answer that has it, of no code, and by the tokens for a code.
+-- An access token is made by an authorization response that has it, without a code, and by a token response, for its code.
 abbrev pub access_answered : ℕ → ℕ → Option Word → Option Wish → Option SessionRow → Option TokenRow
 access_answered by at (Some w) (Some wish) (Some session) = Some (access_issued by at w None wish session.user)
 access_answered by at w wish session = None
@@ -38,12 +38,13 @@ access_given past p asked reply = None
 abbrev pub access_made : List TokenRow → OpPast → OpPair → Option TokenRow
 access_made held past p = access_given past p p.entry.ask p.reply
 
--- the access token came for this code
+-- the access token was issued for this code
 abbrev pub is_for_code : Option Word → Option Word → Bool
 is_for_code code None = false
 is_for_code code (Some w) = is_word code w
 
--- One that came for a code is ended by a later request of the code's client for it when it was spent (RFC 6749, 4.1.2).
+-- A token issued for a code ends when the code's client requests tokens for the code again and the code is spent (RFC 6749,
+-- 4.1.2).
 abbrev pub access_kept : OpPast → OpPair → TokenRow → Option TokenRow
 access_kept past p row =
     if is_for_code row.code (code_named p.entry.ask) && found_spent past p.entry.at p.entry.ask then None else Some row

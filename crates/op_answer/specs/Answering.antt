@@ -1,4 +1,4 @@
--- The provider's answer to an entry, by its past alone.
+-- The provider's answer to an entry, as a function of its past.
 use Rattle.std.specs.Prelude.{if◌then◌else◌}
 use Rattle.sso_base.specs.declared.history.Entry.{Entry}
 use Rattle.client_registry.specs.Configuration.{Configuration}
@@ -15,7 +15,7 @@ use Rattle.op_answer.specs.Turns.{live_turn}
 use Rattle.op_answer.specs.Replies.{authorize, login, consent, token, info, sign_out}
 use Rattle.op_answer.specs.Room.{unless_full}
 
--- the reply, were there always room
+-- the reply, if no table were full
 abbrev pub op_reply : Configuration → OpPast → Entry OpAsk → OpAsk → OpReply
 op_reply c past e (ask.Authorize verdict browser session) = authorize c past e verdict browser session
 op_reply c past e (ask.Login turn signed browser session) = login c past e (live_turn past e.at turn) signed browser session
@@ -28,6 +28,6 @@ op_reply c past e ask.Keys = Keys
 op_reply c past e ask.Twice = ErrorPage page.Twice
 op_reply c past e ask.NotHere = NotHere
 
--- the provider's answer: an ask that no request gives finds nothing here
+-- the provider's answer; a value that no request produces gets `NotHere`
 unfoldable pub op_answer : Configuration → OpPast → Entry OpAsk → OpReply
 op_answer c past e = if is_prepared c e.ask then unless_full past e (op_reply c past e e.ask) else NotHere

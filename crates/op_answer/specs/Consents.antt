@@ -13,7 +13,7 @@ use Rattle.op_answer.specs.Past.{OpPast}
 use Rattle.op_answer.specs.Turns.{turn_of}
 use Rattle.op_answer.specs.Sessions.{session_of}
 
--- the turn that an agreeing consent closed
+-- the turn that a consent ended
 abbrev pub turn_agreed : OpPast → OpAsk → OpReply → Option TurnRow
 turn_agreed past (Consent turn true b session) reply = if ends_turn reply then turn_of past turn else None
 turn_agreed past ask reply = None
@@ -27,7 +27,7 @@ granted_by past user client None = no_scopes
 granted_by past user client (Some turn) =
     if is_grant_of user client turn (session_of past turn.session) then needed_scopes turn.wish else no_scopes
 
--- the union of the scope values that the user's consents were about
+-- the union of the scope values of the user's consents
 abbrev pub grant_of : OpPast → ℕ → ℕ → Scopes
 grant_of [] user client = no_scopes
 grant_of (p ∷ past) user client = joined (grant_of past user client) (granted_by past user client (turn_agreed past p.entry.ask p.reply))

@@ -1,5 +1,5 @@
--- What it means literally that a user has granted a scope value to a client: some consent form with a yes was answered or
--- refused, for a turn of that client and a session of that user, and the consent was about the scope value.
+-- The literal meaning of "a user has granted a scope value to a client": some consent form with a yes got an authorization
+-- response. It was for a turn of that client and a session of that user, and the consent covers the scope value.
 use Rattle.std.specs.Prelude.{◌≡◌, ℕ, Bool, true, ◌∷◌, ◌++◌, Option, Some}
 use Rattle.sso_base.specs.Words.{Word}
 use Rattle.oidc_words.specs.declared.scopes.Scopes.{Scopes}
@@ -12,7 +12,7 @@ use Rattle.op_answer.specs.Past.{OpPair, OpPast}
 use Rattle.op_answer.specs.Turns.{turn_of}
 use Rattle.op_answer.specs.Sessions.{session_of}
 
--- a scope value is told by whether scope values have it
+-- `has` selects one scope value
 pub record SaysYes (earlier : OpPast) (p : OpPair) (user client : ℕ) (has : Scopes → Bool) : Type 0 where
   pub turn : Option Word
   pub browser : Option Word

@@ -1,5 +1,5 @@
--- Legal pasts of the provider, and what holds in them: a code is answered by tokens once, and a session word only to a login
--- form with a right password.
+-- Legal pasts of the provider, and what is true in them: a code gets tokens at most once, and a session word is only set for a
+-- login form with a correct password.
 use Rattle.std.specs.Prelude.{◌≡◌, ℕ, List, Option, Some, None}
 use Rattle.sso_base.specs.Words.{Word}
 use Rattle.sso_base.specs.Legal.{IsLegalBy}
@@ -24,7 +24,7 @@ use Rattle.op_answer.specs.Causes.{OwnTurn}
 abbrev pub IsLegalOp : Configuration → OpPast → Type 0
 IsLegalOp c past = IsLegalBy IsOpAsk (op_answer c) past
 
--- a history, oldest first, whose past is legal, and that weighs no more than a history may
+-- a history, oldest first, whose past is legal, and that weighs no more than the limit
 abbrev pub IsLegalHistory : Configuration → List OpPair → Type 0
 IsLegalHistory c history = IsLegalHistoryBy IsOpAsk (op_answer c) ask_weight history
 
@@ -34,13 +34,13 @@ abbrev pub place_redeemed : OpReply → Option CodeRow → Option ℕ
 place_redeemed (Tokens access id) (Some code) = Some code.by
 place_redeemed reply code = None
 
--- the code that a pair was answered tokens for, by the place of the pair that made it, from 0
+-- the code for which a pair got tokens, given by the index of the pair that made it, counted from 0
 abbrev pub code_redeemed : OpPast → OpPair → Option ℕ
 code_redeemed past p = place_redeemed p.reply (held_code past p.entry.at (code_named p.entry.ask))
 
 -- ---- session words
 
--- a login form with the right password of a user, for a live turn and from its browser, leaves this session
+-- a login form with the correct password of a user, for a live turn and from its browser, gives this session
 pub record PassedPassword (past : OpPast) (e : Entry OpAsk) (w : Word) : Type 0 where
   pub turn : Option Word
   pub user : ℕ

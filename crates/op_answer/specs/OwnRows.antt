@@ -1,5 +1,5 @@
--- What the rows of a legal past are about: wishes that requests to this provider give, and users and clients of the registry.
--- Their moments are moments of the past.
+-- The contents of the rows of a legal past: wishes that requests to this provider can have, and users and clients of the
+-- registry. Their moments are moments of the past.
 use Rattle.std.specs.Prelude.{◌≡◌, ◌≤◌, true}
 use Rattle.sso_base.specs.Words.{IsWord}
 use Rattle.sso_base.specs.Legal.{last_moment}
@@ -14,7 +14,7 @@ use Rattle.code_grant.specs.declared.rows.TokenRow.{TokenRow}
 use Rattle.op_exchange.specs.Asks.{is_prepared_wish}
 use Rattle.op_answer.specs.Past.{OpPast}
 
--- a wish that a request gives
+-- a wish that a request can have
 pub record IsOwnWish (c : Configuration) (wish : Wish) : Type 0 where
   pub prepared : is_prepared_wish c wish ≡ true
   pub value : IsWishValue wish

@@ -1,4 +1,4 @@
--- What the provider replies, were there always room in its tables.
+-- The provider's replies, if none of its tables were full.
 use Rattle.std.specs.Prelude.{ℕ, ◌==◌, Bool, true, false, not, ◌||◌, [], Option, Some, None, option_map, option_and_then, Result, Ok, Err, if◌then◌else◌}
 use Rattle.sso_base.specs.Words.{Word, is_word, fresh_word, word_of_text}
 use Rattle.sso_base.specs.declared.history.Entry.{Entry}
@@ -47,7 +47,7 @@ use Rattle.op_issue.specs.declared.sign_out.SignOut.{SignOut}
 use Rattle.op_issue.specs.LogoutMessages.{logout_messages}
 use Rattle.op_answer.specs.Authentications.{session_authentication, code_authentication}
 
--- ---- what an authorization request gets (OpenID Connect Core 1.0, 3.1.2.5, 3.1.2.6, 3.2.2.5 and 3.3.2.5)
+-- ---- authorization responses (OpenID Connect Core 1.0, 3.1.2.5, 3.1.2.6, 3.2.2.5 and 3.3.2.5)
 
 abbrev pub refusal_of : Wish → AuthError → Refusal
 refusal_of wish code = record { redirect = wish.redirect; fragment = is_in_fragment wish.types; state = wish.state; code = code }
@@ -64,12 +64,12 @@ standing_of past wish in_turn session =
 
 -- ---- an authorization request (Core 3.1.2.1 to 3.1.2.4)
 
--- a page keeps the presented browser word where a live turn has it
+-- a page keeps the presented browser word if a live turn has it
 abbrev pub page_browser : OpPast → Entry OpAsk → Option Word → Word
 page_browser past e None = fresh_word e.fresh 0
 page_browser past e (Some browser) = if has_turn_browser past e.at browser then browser else fresh_word e.fresh 0
 
--- without a session nothing but a refusal or a login comes
+-- without a session, the reply is an error response or a login page
 abbrev pub authorize_by : Configuration → Entry OpAsk → Wish → Word → Need → Option SessionRow → OpReply
 authorize_by c e wish browser (need.Error code) session = Refused (refusal_of wish code) None
 authorize_by c e wish browser need.Consent (Some session) = consent_page c wish (fresh_word e.fresh 1) browser None
@@ -91,11 +91,11 @@ authorize c past e (verdict.Grant wish) browser session =
 abbrev pub if_of_user : ℕ → SessionRow → Option SessionRow
 if_of_user user session = if session.user == user then Some session else None
 
--- the presented session, where it is live and of the signed user
+-- the presented session, if it is live and of this user
 abbrev pub session_renewed : OpPast → ℕ → ℕ → Option Word → Option SessionRow
 session_renewed past at user presented = option_and_then (if_of_user user) (live_session past at presented)
 
--- that session with a new time, else a new one
+-- that session with a new time, or a new one
 abbrev pub session_left : Entry OpAsk → ℕ → Option SessionRow → SessionRow
 session_left e user None =
     record { word = fresh_word e.fresh 0; sid = fresh_word e.fresh 1; user = user; auth_time = e.at; clients = no_clients }
@@ -119,7 +119,7 @@ login_signed c past e turn None presented = LoginPage turn.word turn.browser tru
 login_signed c past e turn (Some user) presented =
     login_session c past e turn (session_after past e user presented)
 
--- no live turn; another browser; a wrong password; a right one
+-- no live turn; another browser; a wrong password; a correct one
 abbrev pub login : Configuration → OpPast → Entry OpAsk → Option TurnRow → Option ℕ → Option Word → Option Word → OpReply
 login c past e None signed browser presented = ErrorPage page.Turn
 login c past e (Some turn) signed browser presented =
@@ -153,7 +153,7 @@ abbrev pub is_turns : Option Word → Option Word → Bool
 is_turns presented None = false
 is_turns presented (Some session) = is_word presented session
 
--- another browser or session; a no; a yes
+-- another browser or session; no consent; consent
 abbrev pub consent_in : Configuration → OpPast → Entry OpAsk → TurnRow → Option SessionRow → Bool → Option Word → Option Word → OpReply
 consent_in c past e turn None agree browser presented = ErrorPage page.Turn
 consent_in c past e turn (Some session) agree browser presented =
@@ -161,7 +161,7 @@ consent_in c past e turn (Some session) agree browser presented =
     else if not agree then Refused (refusal_of turn.wish AccessDenied) None
     else consent_agreed c past e turn session
 
--- no live turn, or one without a live session, comes first
+-- no live turn, or one without a live session, is checked first
 abbrev pub consent : Configuration → OpPast → Entry OpAsk → Option TurnRow → Bool → Option Word → Option Word → OpReply
 consent c past e None agree browser presented = ErrorPage page.Turn
 consent c past e (Some turn) agree browser presented =
@@ -187,7 +187,7 @@ abbrev pub info_by : Configuration → Option TokenRow → OpReply
 info_by c None = InfoRefused true
 info_by c (Some token) = Info (claims_text (info_members c token.client token.user token.scopes token.asked))
 
--- no token; one that is no word; one that lives, or does not
+-- no token; a text that is not a word's; a token that lives, or does not
 abbrev pub info : Configuration → OpPast → Entry OpAsk → Bearer → OpReply
 info c past e bearer.Absent = InfoRefused false
 info c past e bearer.Unreadable = InfoRefused true

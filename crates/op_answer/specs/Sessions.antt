@@ -1,4 +1,4 @@
--- Sessions: a user who is logged in at the provider with one browser, and the clients that the session has answered.
+-- Sessions: a user who is logged in at the provider with one browser, and the clients that the session has logged in to.
 use Rattle.std.specs.Prelude.{ℕ, Bool, true, false, not, ◌&&◌, List, Option, Some, None, option_map, option_and_then, if◌then◌else◌}
 use Rattle.std.specs.Str.{bytes_eq}
 use Rattle.sso_base.specs.Words.{Word, is_word, fresh_word}
@@ -18,9 +18,9 @@ use Rattle.op_exchange.specs.Replied.{session_given}
 use Rattle.op_answer.specs.Past.{OpPair, OpPast}
 use Rattle.op_answer.specs.Turns.{turn_of}
 
--- ---- what a pair says of itself
+-- ---- the session that a pair sets
 
--- the session that a right password left
+-- the session after a login with a correct password
 abbrev pub session_set : OpAsk → OpReply → Option Word
 session_set (Login turn signed b presented) reply = session_given reply
 session_set ask reply = None
@@ -33,7 +33,7 @@ abbrev pub signed_user : OpAsk → Option ℕ
 signed_user (Login turn signed b session) = signed
 signed_user ask = None
 
--- ---- which wish and which session an answer is about
+-- ---- the wish and the session of an answer
 
 -- the wish of the request, or of the turn
 abbrev pub wish_by : OpPast → OpAsk → Option Wish
@@ -42,14 +42,14 @@ wish_by past (Login turn signed b session) = option_map (λ (row : TurnRow). row
 wish_by past (Consent turn agree b session) = option_map (λ (row : TurnRow). row.wish) (turn_of past turn)
 wish_by past ask = None
 
--- the presented session, the one that the login left, or the turn's
+-- the presented session, the one after the login, or the turn's
 abbrev pub session_used : OpPast → OpAsk → OpReply → Option Word
 session_used past (Authorize verdict b session) reply = session
 session_used past (Login turn signed b session) reply = session_set (Login turn signed b session) reply
 session_used past (Consent turn agree b session) reply = option_and_then (λ (row : TurnRow). row.session) (turn_of past turn)
 session_used past ask reply = None
 
--- the client that a pair answered
+-- the client that a pair answers
 abbrev pub client_of_wish : Bool → Option Wish → Option ℕ
 client_of_wish true (Some wish) = Some wish.client
 client_of_wish answers wish = None
@@ -63,7 +63,7 @@ abbrev pub and_client : Option ℕ → List Bool → List Bool
 and_client None clients = clients
 and_client (Some n) clients = with_client n clients
 
--- the live row of the word as it was, else a new one
+-- the live row of the word, or a new one
 abbrev pub session_before : Word → Word → ℕ → ℕ → Option SessionRow → SessionRow
 session_before w sid user at None = record { word = w; sid = sid; user = user; auth_time = at; clients = no_clients }
 session_before w sid user at (Some row) = row
@@ -73,11 +73,11 @@ session_by past p row w user =
     let before = session_before w (fresh_word p.entry.fresh 1) user p.entry.at row in
     record before { auth_time = p.entry.at; clients = and_client (client_answered past p) before.clients }
 
--- the row of a word, where it lives
+-- the row of a word, if it lives
 abbrev pub live_in : ℕ → Word → List SessionRow → Option SessionRow
 live_in at w held = option_and_then (if_lives session_life session_begun at) (row_of session_name w held)
 
--- A session is made by a login whose reply has a session word, and renewed by it where it was live.
+-- A session is made by a login whose reply sets a session word, and renewed by it if it was live.
 abbrev pub session_made_by : List SessionRow → OpPast → OpPair → Option Word → Option ℕ → Option SessionRow
 session_made_by held past p (Some w) (Some user) = Some (session_by past p (live_in p.entry.at w held) w user)
 session_made_by held past p w user = None
@@ -85,18 +85,18 @@ session_made_by held past p w user = None
 abbrev pub session_made : List SessionRow → OpPast → OpPair → Option SessionRow
 session_made held past p = session_made_by held past p (session_set p.entry.ask p.reply) (signed_user p.entry.ask)
 
--- the word was presented, and another is left
+-- the word was presented, and the login gives another
 abbrev pub is_replaced : Option Word → Option Word → Word → Bool
 is_replaced presented None w = false
 is_replaced presented (Some left) w = is_word presented w && not (bytes_eq left w)
 
--- A session is ended by a sign-out that presents it, and by a login that presents it and leaves another.
+-- A session ends by a sign-out that presents it, and by a login that presents it and gives another.
 abbrev pub ends_session : OpAsk → OpReply → Word → Bool
 ends_session (SignOut session) (SignedOut messages) w = is_word session w
 ends_session (Login turn signed b presented) reply w = is_replaced presented (session_given reply) w
 ends_session ask reply w = false
 
--- An answer that used the session adds its client.
+-- An authorization response that uses the session adds its client.
 abbrev pub session_kept : OpPast → OpPair → SessionRow → Option SessionRow
 session_kept past p row =
     if ends_session p.entry.ask p.reply row.word

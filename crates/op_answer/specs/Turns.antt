@@ -1,4 +1,5 @@
--- Turns: from the page of an authorization request to its answer or refusal (OpenID Connect Core 1.0, 3.1.2.3 and 3.1.2.4).
+-- Turns: from the page of an authorization request to its authorization response (OpenID Connect Core 1.0, 3.1.2.3 and
+-- 3.1.2.4).
 use Rattle.std.specs.Prelude.{◌≡◌, ℕ, Bool, true, false, not, List, Option, Some, None, option_and_then, if◌then◌else◌}
 use Rattle.std.specs.Str.{bytes_eq}
 use Rattle.std.specs.List.{list_any}
@@ -27,8 +28,7 @@ BeginsTurn (Authorize verdict browser session) (LoginPage w b again) v = w ≡ v
 BeginsTurn (Authorize verdict browser session) (ConsentPage w b given client scopes) v = w ≡ v
 BeginsTurn asked told v = ⊥
 
--- A turn is made by an authorization request that got a page. Its session is the presented one where that was a consent
--- page.
+-- A turn is made by an authorization request that gets a page. If that is a consent page, its session is the presented one.
 abbrev pub turn_started : ℕ → OpAsk → OpReply → Option TurnRow
 turn_started at (Authorize (Grant wish) b session) (LoginPage w browser again) =
     Some (record { word = w; browser = browser; wish = wish; session = None; in_turn = false; begun = at })
@@ -39,13 +39,13 @@ turn_started at ask reply = None
 abbrev pub turn_made : List TurnRow → OpPast → OpPair → Option TurnRow
 turn_made held past p = turn_started p.entry.at p.entry.ask p.reply
 
--- A consent page after a login gives the turn that login's session, and then it is in turn.
+-- A consent page after a login gives the turn that login's session, and sets `in_turn`.
 abbrev pub turn_taken : OpAsk → OpReply → TurnRow → TurnRow
 turn_taken (Login turn signed b presented) (ConsentPage w browser (Some session) client scopes) row =
     record row { session = Some session; in_turn = true }
 turn_taken ask reply row = row
 
--- A turn is ended by a later answer or refusal for it.
+-- A turn ends by a later authorization response for it.
 abbrev pub turn_kept : OpPast → OpPair → TurnRow → Option TurnRow
 turn_kept past p row =
     if not (is_word (turn_named p.entry.ask) row.word)

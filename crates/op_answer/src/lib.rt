@@ -1,11 +1,13 @@
-//! What the provider answers (OpenID Connect Core 1.0, 3), as a definition: for each past and each ask one reply, and what
-//! holds of it. It has no running code.
+//! The definition of the provider's answers (OpenID Connect Core 1.0, 3): one reply for each past and each request, and laws
+//! about it. It has no running code.
 //!
-//! The definitions stand in `specs/`: the rows that stand after a past (`Turns`, `Sessions`, `Codes`, `AccessTokens`,
-//! `Consents`), the reply that asks them (`Replies`, `Room`, `Answering`) and the logins that its tokens tell
-//! (`Authentications`), what a reply says of the past (`Causes`, `FullTables`, `Legal`), what the rows of a legal past are about
-//! and where their words come from (`OwnRows`, `Drawn`), and what it means literally that a user has granted a scope value
-//! (`Granted`).
+//! The definitions are in `specs/`:
+//!
+//! - the rows after a past: `Turns`, `Sessions`, `Codes`, `AccessTokens`, `Consents`;
+//! - the reply, which depends on these rows: `Replies`, `Room`, `Answering`; the logins in its tokens: `Authentications`;
+//! - what a reply implies about the past: `Causes`, `FullTables`, `Legal`;
+//! - the contents of the rows of a legal past, and the source of their words: `OwnRows`, `Drawn`;
+//! - the literal meaning of a granted scope value: `Granted`.
 #![tactic(auto)]
 
 mod law;

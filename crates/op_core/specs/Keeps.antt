@@ -1,4 +1,4 @@
--- What the provider keeps: tables that agree with its history, which is legal.
+-- The provider's invariant: its tables agree with its history, and the history is legal.
 use Rattle.std.specs.Prelude.{List, reverse}
 use Rattle.sso_base.specs.Legal.{last_moment}
 use Rattle.client_registry.specs.Configuration.{Configuration}
@@ -7,7 +7,7 @@ use Rattle.op_answer.specs.Past.{OpPair, OpPast}
 use Rattle.op_answer.specs.Legal.{IsLegalHistory}
 use Rattle.op_tables.specs.Agreeing.{Agrees, IsBegun, AreOwn}
 
--- by its past
+-- the invariant of the tables, for a past
 pub record KeepsPast (c : Configuration) (past : OpPast) (t : Tables) : Type 0 where
   pub agrees : Agrees t past (last_moment past)
   pub begun : IsBegun t (last_moment past)

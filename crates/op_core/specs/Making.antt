@@ -1,5 +1,5 @@
--- The rows that a step makes, from what lives before it. Where the reply is the provider's answer they are the rows that the
--- definitions of turns, sessions, codes and access tokens make.
+-- The rows that a step makes, from the rows that live before it. If the reply is the provider's answer, they are the rows that
+-- the definitions of turns, sessions, codes and access tokens make.
 use Rattle.std.specs.Prelude.{ℕ, length, Option, Some, None, option_map, option_and_then, Ok}
 use Rattle.sso_base.specs.Words.{Word, word_of_text}
 use Rattle.sso_base.specs.declared.history.Entry.{Entry}
@@ -28,7 +28,7 @@ wish_found past at (Login turn signed b session) = option_map (λ (row : TurnRow
 wish_found past at (Consent turn agree b session) = option_map (λ (row : TurnRow). row.wish) (live_turn past at turn)
 wish_found past at ask = None
 
--- the live session that was presented, the one that a right password leaves, or the live turn's
+-- the live session that was presented, the one after a correct password, or the live turn's
 abbrev pub session_found : OpPast → Entry OpAsk → OpAsk → Option SessionRow
 session_found past e (Authorize verdict b session) = live_session past e.at session
 session_found past e (Login turn (Some user) b presented) = Some (session_after past e user presented)
@@ -40,7 +40,7 @@ session_found past e ask = None
 abbrev pub client_found : OpPast → Entry OpAsk → OpReply → Option ℕ
 client_found past e reply = client_of_wish (is_answered reply) (wish_found past e.at e.ask)
 
--- A login whose reply has a session word puts the session that it leaves, with the client that it answers.
+-- a login whose reply sets a session word makes this session, with the client that the reply answers
 abbrev pub session_with : Option ℕ → SessionRow → SessionRow
 session_with client row = record row { clients = and_client client row.clients }
 

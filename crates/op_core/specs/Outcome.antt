@@ -1,4 +1,4 @@
--- What a pair brings beside its reply: the rows that it makes, the session that it used and the client that it answered.
+-- The effects of a pair besides its reply: the rows that it makes, the session that it used and the client that it answered.
 use Rattle.std.specs.Prelude.{◌≡◌, ℕ, Option, Some, None, option_and_then}
 use Rattle.sso_base.specs.Words.{Word}
 use Rattle.code_grant.specs.declared.rows.TurnRow.{TurnRow}
@@ -15,15 +15,15 @@ use Rattle.op_answer.specs.Sessions.{sessions, session_made, session_set, sessio
 use Rattle.op_answer.specs.Codes.{codes_issued, code_made}
 use Rattle.op_answer.specs.AccessTokens.{accesses, access_made}
 
--- the session of a reply that answers: presented, left by the login, or the live turn's
+-- the session of a reply: presented, from the login, or the live turn's
 abbrev pub used_found : OpPast → Entry OpAsk → OpAsk → OpReply → Option Word
 used_found past e (Authorize verdict b session) reply = session
 used_found past e (Login turn signed b session) reply = session_set (Login turn signed b session) reply
 used_found past e (Consent turn agree b session) reply = option_and_then (λ (row : TurnRow). row.session) (live_turn past e.at turn)
 used_found past e ask reply = None
 
--- these are the rows that the definitions of turns, sessions, codes and access tokens make; the session counts only where a
--- client was answered
+-- these are the rows that the definitions of turns, sessions, codes and access tokens make; the session counts only if a client
+-- was answered
 pub record Brings (past : OpPast) (p : OpPair) (turn : Option TurnRow) (session : Option SessionRow) (code : Option CodeRow) (token : Option TokenRow) (used : Option Word) (client : Option ℕ) : Type 0 where
   pub turn_is : turn ≡ turn_made (turns past) past p
   pub session_is : session ≡ session_made (sessions past) past p

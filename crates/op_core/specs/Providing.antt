@@ -1,4 +1,4 @@
--- The provider as a value: what it was set up with, its history, oldest first, and the rows that it holds.
+-- The model of the provider: its setup, its history, oldest first, and its rows.
 use Rattle.std.specs.Prelude.{List, reverse}
 use Rattle.client_registry.specs.Configuration.{Configuration}
 use Rattle.code_grant.specs.Tables.{Tables}

@@ -1,4 +1,4 @@
-// What the provider replies.
+// The provider's reply.
 
 ghost use Rattle.std.specs.Prelude.{◌≡◌, ◌≤◌, true, IfOk};
 ghost use Rattle.sso_base.specs.Legal.{last_moment};
@@ -40,7 +40,7 @@ impl OpCore {
         }
     }
 
-    // Whether a request can give the ask.
+    // Whether a request can produce the value.
     pub(crate) fn is_prepared(&self, ask: &OpAsk) -> bool
         ensures { result ≡ asks.is_prepared self.now.registry ask.now }
     {
@@ -55,7 +55,7 @@ impl OpCore {
         }
     }
 
-    // The reply, were there always room.
+    // The reply, if no table were full.
     fn reply(&self, alloc: Global, entry: &Entry<OpAsk>) -> Result<OpReply, NoMemory>
         requires moment { last_moment (past_of self.now) ≤ entry.now.at }
         requires prepared { asks.is_prepared self.now.registry entry.now.ask ≡ true }
@@ -97,7 +97,7 @@ impl OpCore {
         }
     }
 
-    // The reply: an ask that no request gives finds nothing here, and without room nothing changes.
+    // The reply. A value that no request produces gets `NotHere`, and with a full table nothing changes.
     #[tactic(auto, unfolding(op_answer::specs::Answering::op_answer))]
     pub(crate) fn answer(&self, alloc: Global, entry: &Entry<OpAsk>) -> Result<OpReply, NoMemory>
         requires { last_moment (past_of self.now) ≤ entry.now.at }

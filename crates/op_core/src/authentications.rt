@@ -1,4 +1,4 @@
-// The login that tokens tell.
+// The login in tokens.
 
 ghost use Rattle.std.specs.Prelude.{◌≡◌};
 ghost use Rattle.op_answer.specs.Authentications.{session_authentication, code_authentication};
@@ -6,7 +6,7 @@ ghost use Rattle.op_answer.specs.Authentications.{session_authentication, code_a
 use code_grant::{CodeRow, SessionRow};
 use op_issue::Authentication;
 
-// The login that a session is about.
+// The login of a session.
 pub(crate) fn authentication_of_session(session: &SessionRow) -> Authentication
     ensures { result ≡ session_authentication session.now }
 {

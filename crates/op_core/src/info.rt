@@ -1,4 +1,4 @@
-// What the provider replies to a UserInfo request (OpenID Connect Core 1.0, 5.3; RFC 6750, 3.1).
+// The provider's reply to a UserInfo request (OpenID Connect Core 1.0, 5.3; RFC 6750, 3.1).
 
 ghost use Rattle.std.specs.Prelude.{◌≡◌, ◌≤◌, true, IfOk, IfSome};
 ghost use Rattle.std.specs.Option.{option_copied};
@@ -18,7 +18,7 @@ use std::alloc::Global;
 use userinfo::{Bearer, info_claims};
 
 impl OpCore {
-    // What an access token tells of its user.
+    // The UserInfo claims for an access token.
     fn claims_told(&self, alloc: Global, token: &TokenRow) -> Result<Blob, NoMemory>
         requires { is_own_token self.now.registry token.now ≡ true }
         ensures { IfOk result (λ b. b ≡ claims_text (info_members self.now.registry token.now.client token.now.user token.now.scopes token.now.asked)) }

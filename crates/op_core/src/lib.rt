@@ -1,18 +1,18 @@
-//! The provider (OpenID Connect Core 1.0, 3): each ask gets the reply that is defined by the asks and replies before it.
+//! The provider (OpenID Connect Core 1.0, 3): the reply to each request is defined by the earlier requests and replies.
 //!
-//! [`OpCore`] meets `Core`: what it replies is `op_answer` of its past, it keeps its history, and its tables hold exactly what
-//! lives after the history. A step takes all its memory before its first change.
+//! [`OpCore`] implements `Core`. Its reply is `op_answer` of its past, it stores its history, and the live rows of its tables
+//! are exactly those that live after the history. A step allocates everything before its first change.
 //!
 //! | Module | What it has |
 //! |---|---|
 //! | `state` | [`OpCore`], a provider with its history and its tables |
 //! | `step` | one step |
-//! | `answering`, `replying`, `redeeming`, `info`, `sign_out` | the reply, by the rows that live |
-//! | `authentications` | the login that tokens tell |
-//! | `questions`, `room` | what is asked of the tables, and whether they have room |
-//! | `outcome`, `making` | what a reply brings: rows, the session that it used, the client that it answered |
+//! | `answering`, `replying`, `redeeming`, `info`, `sign_out` | the reply, from the live rows |
+//! | `authentications` | the login in tokens |
+//! | `questions`, `room` | lookups in the tables, and whether they have room |
+//! | `outcome`, `making` | the effects of a reply: rows, the session that it used, the client that it answered |
 //!
-//! How the tables take a pair up stands in the crate `op_tables`.
+//! The crate `op_tables` updates the tables with a pair.
 #![tactic(auto)]
 
 mod answering;

@@ -1,4 +1,4 @@
-// The rows that an ask and its reply make. They take memory, so they are made before anything changes.
+// The rows that a request and its reply make. They need memory, so they are made before anything changes.
 
 ghost use Rattle.std.specs.Prelude.{◌≡◌, ◌<◌, ◌≤◌, true, false, length, IfOk, IfSome, option_map};
 ghost use Rattle.std.specs.Option.{option_copied};
@@ -46,7 +46,7 @@ fn turn_begun(
     })
 }
 
-// The session, with the client that was answered.
+// The session, with the client that the reply answers.
 fn session_with(client: Option<u32>, session: &SessionRow) -> SessionRow
     requires { IfSome client (λ n. n < 128) }
     ensures { result ≡ spec.session_with client session.now }
@@ -58,7 +58,7 @@ fn session_with(client: Option<u32>, session: &SessionRow) -> SessionRow
     row
 }
 
-// A code of this wish and session.
+// A code for this wish and session.
 fn code_issued(
     alloc: Global,
     by: u64,
@@ -81,7 +81,7 @@ fn code_issued(
     })
 }
 
-// An access token of this wish and user.
+// An access token for this wish and user.
 fn access_issued(
     alloc: Global,
     by: u64,
@@ -106,7 +106,7 @@ fn access_issued(
 }
 
 impl OpCore {
-    // The place in the history of the next pair.
+    // The index of the next pair in the history.
     #[tactic(auto, using(crate::proofs::Places::as_long))]
     fn place(&self) -> u64
         ensures { result ≡ length (past_of self.now) }
@@ -120,7 +120,7 @@ impl OpCore {
         requires { is_prepared_wish self.now.registry wish.now ≡ true }
         ensures { wish.now.client < 128 }
     {
-        // A count says what every registry keeps.
+        // The contract of `clients` states the invariant of every registry.
         let _clients = self.registry.clients();
     }
 
@@ -132,7 +132,7 @@ impl OpCore {
         let _users = self.registry.users();
     }
 
-    // ---- what a reply is about
+    // ---- the wish, the session and the client of a reply
 
     // The wish of a live turn.
     fn turn_wish(&self, at: Moment, turn: Option<Word>) -> Option<&Wish>
@@ -164,7 +164,7 @@ impl OpCore {
         }
     }
 
-    // The presented session with a new time, where it is live and of this user; else a new one.
+    // The presented session with a new time, if it is live and of this user; otherwise a new one.
     pub(crate) fn session_after(
         &self,
         entry: &Entry<OpAsk>,
@@ -191,7 +191,7 @@ impl OpCore {
         }
     }
 
-    // The live session that was presented, the one that a right password leaves, or the live turn's.
+    // The live session that was presented, the one after a correct password, or the live turn's.
     fn session_found(&self, entry: &Entry<OpAsk>) -> Option<SessionRow>
         requires moment { last_moment (past_of self.now) ≤ entry.now.at }
         requires prepared { is_prepared self.now.registry entry.now.ask ≡ true }
@@ -230,7 +230,7 @@ impl OpCore {
 
     // ---- the rows
 
-    // The turn of an authorization request that got a page.
+    // The turn of an authorization request that gets a page.
     fn turn_put(
         &self,
         alloc: Global,
@@ -260,7 +260,7 @@ impl OpCore {
         Ok(Some(turn))
     }
 
-    // The session that a login leaves where its reply has a session word.
+    // The session after a login whose reply sets a session word.
     fn session_put(&self, entry: &Entry<OpAsk>, reply: &OpReply) -> Option<SessionRow>
         requires moment { last_moment (past_of self.now) ≤ entry.now.at }
         requires prepared { is_prepared self.now.registry entry.now.ask ≡ true }
@@ -311,7 +311,7 @@ impl OpCore {
         Ok(Some(code))
     }
 
-    // An access token of this wish and user of the registry.
+    // An access token for this wish and user of the registry.
     #[tactic(auto, using(crate::proofs::Ranges::token_is_own))]
     fn access_made(
         &self,
@@ -334,7 +334,7 @@ impl OpCore {
         access_issued(alloc, self.place(), at, word, code, wish, user)
     }
 
-    // The access token that came for a code.
+    // The access token issued for a code.
     fn access_redeemed(
         &self,
         alloc: Global,
@@ -356,7 +356,7 @@ impl OpCore {
         Ok(Some(token))
     }
 
-    // The access token of a response.
+    // The access token of an authorization response.
     fn access_answered(
         &self,
         alloc: Global,
@@ -383,7 +383,7 @@ impl OpCore {
         Ok(Some(token))
     }
 
-    // The access token of a response, or of tokens for a code.
+    // The access token of an authorization response or of a token response.
     fn access_put(
         &self,
         alloc: Global,
@@ -409,7 +409,7 @@ impl OpCore {
         }
     }
 
-    /// The rows that a prepared ask and its reply make.
+    /// The rows that a possible request and its reply make.
     pub(crate) fn made(
         &self,
         alloc: Global,

@@ -1,4 +1,4 @@
-// What a reply brings: the rows that it makes, the session that it used and the client that it answered.
+// The effects of a reply: the rows that it makes, the session that it used and the client that it answered.
 
 ghost use Rattle.std.specs.Prelude.{◌≡◌, ◌<◌, ◌≤◌, true, IfOk, IfSome};
 ghost use Rattle.sso_base.specs.Legal.{last_moment};
@@ -13,7 +13,7 @@ use op_tables::{Made, session_set};
 use sso_base::{Entry, NoMemory, Word};
 use std::alloc::Global;
 
-/// What a reply brings beside itself.
+/// The effects of a reply.
 #[derive(Drop)]
 pub(crate) struct Outcome {
     pub made: Made,
@@ -22,7 +22,7 @@ pub(crate) struct Outcome {
 }
 
 impl OpCore {
-    // The session of a reply that answers: presented, left by the login, or the live turn's.
+    // The session of a reply: presented, from the login, or the live turn's.
     fn used_found(&self, entry: &Entry<OpAsk>, reply: &OpReply) -> Option<Word>
         requires { last_moment (past_of self.now) ≤ entry.now.at }
         ensures { result ≡ spec.used_found (past_of self.now) entry.now entry.now.ask reply.now }
@@ -38,7 +38,7 @@ impl OpCore {
         }
     }
 
-    /// What a reply brings that is the provider's answer. An ask that no request gives brings nothing.
+    /// The effects of a reply that is the provider's answer. A value that no request produces has no effects.
     pub(crate) fn outcome(
         &self,
         alloc: Global,

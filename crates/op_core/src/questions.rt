@@ -1,4 +1,4 @@
-// What the provider asks its tables: the rows that live at a moment, which are those of its past.
+// Lookups in the tables: the rows that live at a moment, which are those of the past.
 
 ghost use Rattle.std.specs.Prelude.{◌≡◌, ◌<◌, ◌≤◌, true, IfSome};
 ghost use Rattle.std.specs.Option.{option_copied};
@@ -58,7 +58,7 @@ impl OpCore {
         }
     }
 
-    /// The held code of a word.
+    /// The code of a word that is kept.
     pub(crate) fn held_code(&self, at: Moment, word: Option<Word>) -> Option<&CodeRow>
         requires { last_moment (past_of self.now) ≤ at }
         ensures row { option_copied result ≡ codes.held_code (past_of self.now) at word }
@@ -107,12 +107,12 @@ impl OpCore {
         requires client { is_client self.now.registry client ≡ true }
         ensures { result ≡ grant_of (past_of self.now) user client }
     {
-        // A count says what every registry keeps: at most 512 users and 128 clients.
+        // The contract of `users` states the invariant of every registry: at most 512 users and 128 clients.
         let _users = self.registry.users();
         self.grants.granted(user, client)
     }
 
-    /// Whether no further turn of this word has room.
+    /// Whether no turn with this word can be added: the table is full, or has such a turn.
     pub(crate) fn lacks_turn(&self, at: Moment, word: Word) -> bool
         requires { last_moment (past_of self.now) ≤ at }
         ensures { result ≡ is_full most_rows turn_name word (turns.live_turns (past_of self.now) at) }
@@ -120,7 +120,7 @@ impl OpCore {
         !self.grants.room(Table::Turns, at) || self.live_turn(at, Some(word)).is_some()
     }
 
-    /// Whether no further code of this word has room.
+    /// Whether no code with this word can be added: the table is full, or has such a code.
     pub(crate) fn lacks_code(&self, at: Moment, word: Word) -> bool
         requires { last_moment (past_of self.now) ≤ at }
         ensures { result ≡ is_full most_rows code_name word (codes.held_codes (past_of self.now) at) }
@@ -128,7 +128,7 @@ impl OpCore {
         !self.grants.room(Table::Codes, at) || self.held_code(at, Some(word)).is_some()
     }
 
-    /// Whether no further access token of this word has room.
+    /// Whether no access token with this word can be added: the table is full, or has such a token.
     pub(crate) fn lacks_access(&self, at: Moment, word: Word) -> bool
         requires { last_moment (past_of self.now) ≤ at }
         ensures { result ≡ is_full most_rows access_name word (tokens.live_accesses (past_of self.now) at) }

@@ -1,4 +1,4 @@
-// What the provider replies to a token request (RFC 6749, 4.1.3, 4.1.4 and 5.2; OpenID Connect Core 1.0, 3.1.3).
+// The provider's reply to a token request (RFC 6749, 4.1.3, 4.1.4 and 5.2; OpenID Connect Core 1.0, 3.1.3).
 
 ghost use Rattle.std.specs.Prelude.{◌≡◌, ◌≤◌, true, Some, IfOk};
 ghost use Rattle.sso_base.specs.Legal.{last_moment};

@@ -1,4 +1,4 @@
-// What the provider replies, were there always room.
+// The provider's replies, if no table were full.
 
 ghost use Rattle.std.specs.Prelude.{◌≡◌, ◌<◌, ◌≤◌, true, false, length, option_map, IfOk, IfSome};
 ghost use Rattle.std.specs.Option.{option_copied};
@@ -33,7 +33,7 @@ fn is_turns(presented: Option<Word>, session: Option<Word>) -> bool
     }
 }
 
-// The refusal of a wish, and the session that a login left.
+// The error response to a wish, with the session after a login.
 fn refused(
     alloc: Global,
     wish: &Wish,
@@ -54,7 +54,7 @@ fn refused(
 }
 
 impl OpCore {
-    // The response to a wish, of this session.
+    // The successful response to a wish, for this session.
     fn answered(
         &self,
         alloc: Global,
@@ -95,7 +95,7 @@ impl OpCore {
         })
     }
 
-    // The session with which a wish is asked, and what its user has granted.
+    // The session that a wish comes with, and what its user has granted.
     fn standing(&self, wish: &Wish, in_turn: bool, session: &SessionRow) -> Standing
         requires wish { is_prepared_wish self.now.registry wish.now ≡ true }
         requires session { is_own_session self.now.registry session.now ≡ true }
@@ -110,7 +110,7 @@ impl OpCore {
         }
     }
 
-    // What a wish needs of this session.
+    // What a wish needs from this session.
     fn needed(&self, entry: &Entry<OpAsk>, wish: &Wish, session: Option<&SessionRow>) -> Need
         requires wish { is_prepared_wish self.now.registry wish.now ≡ true }
         requires session { IfSome (option_copied session) (λ row. is_own_session self.now.registry row ≡ true) }
@@ -127,7 +127,7 @@ impl OpCore {
 
     // ---- an authorization request
 
-    // The browser word of a new turn's page: the presented one where a live turn has it.
+    // The browser word of a new turn's page: the presented one if a live turn has it.
     fn page_browser(&self, entry: &Entry<OpAsk>, browser: Option<Word>) -> Word
         requires { last_moment (past_of self.now) ≤ entry.now.at }
         ensures { result ≡ spec.page_browser (past_of self.now) entry.now browser }
@@ -138,7 +138,7 @@ impl OpCore {
         }
     }
 
-    // What a wish gets that needs this.
+    // The reply to a wish with this need.
     fn authorize_by(
         &self,
         alloc: Global,

@@ -1,4 +1,4 @@
-// Whether the tables have room for what a reply makes.
+// Whether the tables have room for the rows of a reply.
 
 ghost use Rattle.std.specs.Prelude.{◌≡◌, ◌≤◌, nat_lt, length, is_some};
 ghost use Rattle.sso_base.specs.Legal.{last_moment};
@@ -15,7 +15,7 @@ use op_exchange::{OpAsk, OpReply};
 use sso_base::{Entry, Moment, Word};
 
 impl OpCore {
-    // Whether there is no room for the turn that an authorization request makes.
+    // Whether there is no room for the turn of an authorization request.
     fn lacks_turn_of(&self, at: Moment, ask: &OpAsk, reply: &OpReply) -> bool
         requires { last_moment (past_of self.now) ≤ at }
         ensures { result ≡ spec.lacks_turn (past_of self.now) at ask.now reply.now }
@@ -31,7 +31,7 @@ impl OpCore {
         }
     }
 
-    // Whether a further session has room, where the presented one ends in favour of this word.
+    // Whether there is room for one more session, if the presented one ends and this word replaces it.
     fn has_session_room(&self, at: Moment, presented: Option<Word>, word: Word) -> bool
         requires { last_moment (past_of self.now) ≤ at }
         ensures { result ≡ nat_lt (length (spec.sessions_beside presented word (live_sessions (past_of self.now) at))) most_rows }
@@ -82,7 +82,7 @@ impl OpCore {
         }
     }
 
-    // Whether there is no room for the session that a login leaves.
+    // Whether there is no room for the session of a login.
     fn lacks_session_of(&self, at: Moment, ask: &OpAsk, reply: &OpReply) -> bool
         requires { last_moment (past_of self.now) ≤ at }
         ensures { result ≡ spec.lacks_session (past_of self.now) at ask.now reply.now }
@@ -118,7 +118,7 @@ impl OpCore {
         }
     }
 
-    // Whether the tables lack room for what the reply makes.
+    // Whether the tables lack room for the rows of the reply.
     pub(crate) fn lacks_room(&self, entry: &Entry<OpAsk>, reply: &OpReply) -> bool
         requires { last_moment (past_of self.now) ≤ entry.now.at }
         ensures { result ≡ spec.lacks_room (past_of self.now) entry.now reply.now }

@@ -1,4 +1,4 @@
-// What the provider replies to a sign-out (OpenID Connect Back-Channel Logout 1.0, 2.3 and 2.5).
+// The provider's reply to a sign-out (OpenID Connect Back-Channel Logout 1.0, 2.3 and 2.5).
 
 ghost use Rattle.std.specs.Prelude.{◌≡◌, ◌≤◌, true, Some, IfOk};
 ghost use Rattle.sso_base.specs.Legal.{last_moment};

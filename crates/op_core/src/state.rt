@@ -1,4 +1,4 @@
-// The provider: its registry, its history, and the tables that answer for the history.
+// The provider: its registry, its history, and the tables for that history.
 
 ghost use Rattle.std.specs.Prelude.{◌≡◌, [], IfOk};
 ghost use Rattle.code_grant.specs.Tables.{no_tables};
@@ -13,8 +13,7 @@ use sso_base::{Journal, NoMemory};
 use std::alloc::Global;
 use std::marker::Model;
 
-/// The provider (OpenID Connect Core 1.0, 3), seen as its registry, its history, oldest first, and the
-/// rows of its tables.
+/// The provider (OpenID Connect Core 1.0, 3). The model is its registry, its history, oldest first, and the rows of its tables.
 #[derive(Drop)]
 pub struct OpCore {
     pub(crate) registry: Registry,
@@ -35,7 +34,7 @@ impl Model for OpCore {
 }
 
 impl OpCore {
-    /// A provider that was asked nothing.
+    /// A provider with an empty history.
     pub fn new(alloc: Global, registry: Registry) -> Result<OpCore, NoMemory>
         ensures { IfOk result (λ c. c ≡ record { registry = registry; history = []; tables = no_tables }) }
     {
@@ -46,7 +45,7 @@ impl OpCore {
         })
     }
 
-    /// The tables: what lives in them at the moment of the last entry is exactly what lives after the history.
+    /// The tables. Their live rows at the moment of the last entry are exactly those that live after the history.
     pub fn tables(&self) -> &Grants
         ensures tables { result.now ≡ self.now.tables }
         ensures agrees { Agrees result.now (past_of self.now) (last_moment (past_of self.now)) }

@@ -1,4 +1,4 @@
-// One step of the provider: it decides the reply and makes the rows, takes all memory, and only then changes anything.
+// One step of the provider: it decides the reply, makes the rows, reserves all memory, and only then changes anything.
 
 ghost use Rattle.std.specs.Prelude.{◌≡◌, ℕ, ◌<◌, ◌≤◌, ◌+◌, ◌++◌, [], ◌∷◌, length, true, IfSome, IfOk, OnOk, OnErr};
 ghost use Rattle.sso_base.specs.Legal.{last_moment, IsEntry};
@@ -34,7 +34,7 @@ fn reserve(journal: &mut Journal<OpAsk, OpReply>, grants: &mut Grants) -> Result
     grants.reserve()
 }
 
-// The history and the tables take up an entry with its reply, for which there is room.
+// Adds an entry and its reply to the history and updates the tables. Room was reserved for it.
 fn put(
     journal: &mut Journal<OpAsk, OpReply>,
     grants: &mut Grants,
@@ -62,7 +62,7 @@ fn put(
     journal.push(pair, weight);
 }
 
-// The history and the tables take up an entry with its reply. All memory is taken before the first change.
+// Adds an entry and its reply to the history and updates the tables. All memory is reserved before the first change.
 fn take_in(
     journal: &mut Journal<OpAsk, OpReply>,
     grants: &mut Grants,
@@ -90,7 +90,7 @@ fn take_in(
             Ok(())
         }
         Err(no) => {
-            // dropped by calls: at an early end of this function the prover would walk through all of their parts
+            // dropped by calls: at an early return of this function the prover would walk through all of their parts
             drop(entry);
             drop(reply);
             drop(outcome);
@@ -100,7 +100,7 @@ fn take_in(
 }
 
 impl OpCore {
-    // Takes up an entry with its reply and what it brings.
+    // Adds an entry with its reply and its effects.
     pub(crate) fn commit(
         &mut self,
         entry: Entry<OpAsk>,
@@ -138,7 +138,7 @@ impl OpCore {
         Ok(())
     }
 
-    // Takes up an entry with its reply.
+    // Adds an entry with its reply.
     fn take(
         &mut self,
         alloc: Global,
@@ -165,7 +165,7 @@ impl OpCore {
         }
     }
 
-    // Takes up an entry with its reply, and answers an equal reply.
+    // Adds an entry with its reply, and returns a copy of the reply.
     fn take_and_answer(
         &mut self,
         alloc: Global,

@@ -1,4 +1,4 @@
--- The asks that a request can give.
+-- The values of `OpAsk` that reading a request can produce.
 use Rattle.std.specs.Prelude.{Bool, true, false, ◌&&◌, Some, Ok, Err}
 use Rattle.client_registry.specs.Configuration.{Configuration}
 use Rattle.client_registry.specs.Numbers.{is_client, is_user}
@@ -17,8 +17,8 @@ abbrev pub is_prepared_verdict : Configuration → Verdict → Bool
 is_prepared_verdict c (verdict.Grant wish) = is_prepared_wish c wish
 is_prepared_verdict c other = true
 
--- reading a request gives numbers of the registry, nonces of at most 255 bytes, the scope value `openid`, and no want of
--- memory
+-- reading a request produces numbers of the registry, nonces of at most 255 bytes and the scope value `openid`, and never
+-- `NoMemory`
 abbrev pub is_prepared : Configuration → OpAsk → Bool
 is_prepared c (ask.Authorize verdict browser session) = is_prepared_verdict c verdict
 is_prepared c (ask.Login turn (Some user) browser session) = is_user c user

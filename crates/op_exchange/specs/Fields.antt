@@ -1,4 +1,4 @@
--- The names of the fields of the forms on the login page and the consent page, and what a consent form says of a yes (own).
+-- The names of the fields of the forms on the login page and the consent page, and the value for consent (our choice).
 use Rattle.std.specs.Prelude.{codes}
 use Rattle.sso_base.specs.Words.{Text}
 
@@ -17,6 +17,6 @@ password_field = codes "password"
 abbrev pub agree_field : Text
 agree_field = codes "agree"
 
--- its value where the user agrees
+-- its value if the user consents
 abbrev pub agree_value : Text
 agree_value = codes "yes"

@@ -1,5 +1,5 @@
--- Asks that hold values of their types: texts in UTF-8, words of 32 bytes, numbers of their size. A definition takes any list
--- and any number for them; what is promised of sealed texts needs these.
+-- Requests that hold values of their types: texts in UTF-8, words of 32 bytes, numbers of their size. A definition takes any
+-- list and any number for them; contracts about sealed texts need these bounds.
 use Rattle.std.specs.Prelude.{◌<◌, ◌^◌, IfSome, Result, Ok, Err}
 use Rattle.std.specs.Str.{IsUtf8}
 use Rattle.sso_base.specs.Words.{IsWord}

@@ -1,4 +1,4 @@
--- What an ask weighs: 1,024 and the bytes of its texts.
+-- The weight of a request: 1,024 and the bytes of its texts.
 use Rattle.std.specs.Prelude.{ℕ, ◌+◌, length, Result, Ok, Err}
 use Rattle.sso_base.specs.Weights.{empty_weight, text_bytes, texts_bytes, texts_bytes_if}
 use Rattle.auth_request.specs.declared.wish.Wish.{Wish}

@@ -1,27 +1,27 @@
-// What the provider is asked.
+// Requests to the provider.
 
 use auth_request::Verdict;
 use sso_base::Word;
 use token_endpoint::{Grant, GrantNo};
 use userinfo::Bearer;
 
-/// A request to the provider, as far as its answer depends on it. `browser` and `session` are the presented cookies.
+/// A request to the provider, as far as its reply depends on it. `browser` and `session` are the cookies that it presents.
 #[derive(Drop)]
 pub enum OpAsk {
-    /// An authorization request, and its judgement (OpenID Connect Core 1.0, 3.1.2.1 and 3.1.2.2).
+    /// An authorization request, and the result of its validation (OpenID Connect Core 1.0, 3.1.2.1 and 3.1.2.2).
     Authorize {
         verdict: Verdict,
         browser: Option<Word>,
         session: Option<Word>,
     },
-    /// A login form: its turn, and the number of the user whose password it has.
+    /// A login form: its turn, and the number of the user whose password it contains.
     Login {
         turn: Option<Word>,
         signed: Option<u32>,
         browser: Option<Word>,
         session: Option<Word>,
     },
-    /// A consent form: its turn, and whether the user agrees.
+    /// A consent form: its turn, and whether the user consents.
     Consent {
         turn: Option<Word>,
         agree: bool,
@@ -40,11 +40,11 @@ pub enum OpAsk {
     SignOut {
         session: Option<Word>,
     },
-    /// For the provider's metadata (OpenID Connect Discovery 1.0, 4).
+    /// A request for the provider's metadata (OpenID Connect Discovery 1.0, 4).
     Metadata,
-    /// For the provider's keys (OpenID Connect Core 1.0, 10.1).
+    /// A request for the provider's keys (OpenID Connect Core 1.0, 10.1).
     Keys,
-    /// A request in which a name stands twice.
+    /// A request in which a parameter name occurs twice.
     Twice,
     /// Any other request.
     NotHere,

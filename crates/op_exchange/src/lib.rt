@@ -1,4 +1,4 @@
-//! What the provider is asked, and what it replies (OpenID Connect Core 1.0, 3).
+//! The requests to the provider and its replies (OpenID Connect Core 1.0, 3).
 #![tactic(auto)]
 
 mod ask;

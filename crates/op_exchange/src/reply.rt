@@ -1,4 +1,4 @@
-// What the provider replies.
+// Replies of the provider.
 
 ghost use Rattle.std.specs.Prelude.{◌≡◌, IfOk};
 ghost use Rattle.op_exchange.specs.Replied as spec;
@@ -13,13 +13,14 @@ use token_endpoint::TokenError;
 /// The provider's reply to a request.
 #[derive(Drop)]
 pub enum OpReply {
-    /// The login form of a turn, for the browser whose cookie is set; again after a wrong password.
+    /// The login form of a turn, for the browser whose cookie is set. `again` is true after a wrong password.
     LoginPage {
         turn: Word,
         browser: Word,
         again: bool,
     },
-    /// The consent form of a turn: the client's id, and what the consent is about. A session that a login left is set.
+    /// The consent form of a turn: the client's id, and the scope values of the consent. It sets the session cookie after a
+    /// login.
     ConsentPage {
         turn: Word,
         browser: Word,
@@ -27,12 +28,12 @@ pub enum OpReply {
         client: Text,
         scopes: Scopes,
     },
-    /// A successful authorization response. A session that a login left is set.
+    /// A successful authorization response. It sets the session cookie after a login.
     Answered {
         answer: Answer,
         session: Option<Word>,
     },
-    /// An authorization error response. A session that a login left is set.
+    /// An authorization error response. It sets the session cookie after a login.
     Refused {
         refusal: Refusal,
         session: Option<Word>,
@@ -58,7 +59,7 @@ pub enum OpReply {
     InfoRefused {
         given: bool,
     },
-    /// A sign-out, with the messages that tell it to clients.
+    /// A sign-out, with the messages that notify clients.
     SignedOut {
         messages: Messages,
     },
@@ -68,7 +69,7 @@ pub enum OpReply {
     },
     /// The provider's keys, of which there are none.
     Keys,
-    /// Nothing is here.
+    /// Not found.
     NotHere,
     /// A table has no room for a row.
     Full,
@@ -119,14 +120,14 @@ fn tokens_copied(alloc: Global, access: Word, id: &Text) -> Result<OpReply, NoMe
 }
 
 impl OpReply {
-    /// Whether the reply ends the turn that it answers.
+    /// Whether the reply ends the turn that it replies to.
     pub fn ends_turn(&self) -> bool
         ensures { result ≡ spec.ends_turn self.now }
     {
         matches!(self, OpReply::Answered { .. } | OpReply::Refused { .. })
     }
 
-    /// The session word that the reply sets.
+    /// The session word that the reply sets as a cookie.
     pub fn session_given(&self) -> Option<Word>
         ensures { result ≡ spec.session_given self.now }
     {
@@ -138,7 +139,7 @@ impl OpReply {
         }
     }
 
-    /// The code that the reply has: that of an authorization response.
+    /// The code in the reply, if it is an authorization response that has one.
     pub fn code(&self) -> Option<Word>
         ensures { result ≡ spec.code_in self.now }
     {
@@ -148,7 +149,7 @@ impl OpReply {
         }
     }
 
-    /// The access token that the reply has: that of an authorization response or of a token response.
+    /// The access token in the reply, if it is an authorization response or a token response that has one.
     pub fn access(&self) -> Option<Word>
         ensures { result ≡ spec.access_in self.now }
     {
@@ -159,7 +160,7 @@ impl OpReply {
         }
     }
 
-    /// An equal reply.
+    /// A copy of the reply.
     pub fn copy(&self, alloc: Global) -> Result<OpReply, NoMemory>
         ensures { IfOk result (λ reply. reply ≡ self.now) }
     {

@@ -1,4 +1,5 @@
-// What the types of an ask say of its values, for the proofs: texts are UTF-8, words have 32 bytes, and numbers their size.
+// Facts that the types of a request give about its values, as lemmas for the proofs: texts are UTF-8, words have 32 bytes, and
+// numbers their size.
 
 ghost use Rattle.std.specs.Prelude.{◌<◌, ◌^◌, IfSome};
 ghost use Rattle.sso_base.specs.Legal.{IsEntry};
@@ -19,7 +20,7 @@ fn know_place(n: u32)
     ensures { n < 2 ^ 32 }
 {}
 
-// So has one that may be there.
+// The same for an optional number.
 fn know_place_if(n: Option<u32>)
     ensures { IfSome n (λ m. m < 2 ^ 32) }
 {
@@ -78,7 +79,7 @@ fn know_bearer(bearer: &Bearer)
     }
 }
 
-// An ask holds values of their types.
+// A request holds values of its types.
 fn know_ask(ask: &OpAsk)
     ensures { spec.IsOpAsk ask.now }
 {
@@ -120,7 +121,8 @@ fn know_ask(ask: &OpAsk)
     }
 }
 
-/// An entry has a moment and four words, and its ask holds values of their types. It says so for the proofs and does nothing.
+/// An entry has a moment and four words, and its request holds values of its types. A lemma for the proofs; the call does
+/// nothing.
 pub fn know_op_entry(entry: &Entry<OpAsk>)
     ensures { IsEntry spec.IsOpAsk entry.now }
 {

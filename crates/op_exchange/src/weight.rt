@@ -1,4 +1,4 @@
-// What an ask weighs. Sums stop at the greatest number of 64 bits.
+// The weight of a request. Sums saturate at the greatest number of 64 bits.
 
 ghost use Rattle.std.specs.Prelude.{◌≡◌};
 ghost use Rattle.sso_base.specs.Weights.{told_weight};

@@ -17,14 +17,14 @@ use Rattle.op_issue.specs.declared.issuing.Authentication.{Authentication}
 abbrev pub hash_of : Option Word → Option Text
 hash_of word = option_map (λ w. half_hash_of (word_text w)) word
 
--- only an ID Token that comes without any access token has the claims of the scope values (Core 5.4)
+-- only an ID Token without any access token has the claims of the scope values (Core 5.4)
 abbrev pub is_id_alone : Types → Bool
 is_id_alone types = types.id_token && not types.code && not types.token
 
 abbrev pub id_scopes : Wish → Scopes
 id_scopes wish = if is_id_alone wish.types then wish.scopes else no_scopes
 
--- an ID Token, beside an access token and a code or not
+-- the claims of an ID Token, which optionally comes with an access token and a code
 unfoldable pub id_claims : Configuration → Wish → Authentication → ℕ → Option Word → Option Word → IdClaims
 id_claims c wish who at access code =
     record {

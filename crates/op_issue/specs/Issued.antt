@@ -17,7 +17,7 @@ issued_code wish fresh = if_wished wish.types.code (fresh_word fresh 2)
 abbrev pub issued_access : Wish → List Word → Option Word
 issued_access wish fresh = if_wished wish.types.token (fresh_word fresh 3)
 
--- a code, an access token and an ID Token, as far as the response type has them
+-- those of a code, an access token and an ID Token that the response type has
 abbrev pub issued : Configuration → Wish → Authentication → ℕ → List Word → Answer
 issued c wish who at fresh =
     record {

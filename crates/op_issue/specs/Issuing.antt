@@ -1,4 +1,4 @@
--- For whom tokens are issued.
+-- The precondition for issuing tokens.
 use Rattle.std.specs.Prelude.{◌≡◌, ◌≤◌, ◌<◌, ℕ, true, length}
 use Rattle.sso_base.specs.Words.{IsWord}
 use Rattle.sso_base.specs.Values.{latest_moment}
@@ -8,7 +8,7 @@ use Rattle.auth_request.specs.declared.wish.Wish.{Wish}
 use Rattle.op_issue.specs.declared.issuing.Authentication.{Authentication}
 use Rattle.auth_request.specs.Values.{is_short_nonce}
 
--- at this moment a token may be issued for the wish of a client of the registry, to a user of it who logged in
+-- at this moment a token may be issued for the wish of a client, to a user who logged in; both are in the registry
 pub record MayIssue (c : Configuration) (wish : Wish) (who : Authentication) (at : ℕ) : Type 0 where
   pub registry : IsRegistry c
   pub client : wish.client < length c.clients

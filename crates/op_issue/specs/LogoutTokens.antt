@@ -14,12 +14,12 @@ use Rattle.op_issue.specs.declared.sign_out.SignOut.{SignOut}
 abbrev pub logout_id : Word → ℕ → Text
 logout_id drawn client = word_text drawn ++ codes "." ++ decimal client
 
--- the client wants a `sid` in its logout tokens (2.2)
+-- the client requires a `sid` in its logout tokens (2.2)
 abbrev pub wants_sid : Option Client → Bool
 wants_sid None = false
 wants_sid (Some client) = client.logout_session
 
--- the claims of the logout token for the client of a number
+-- the claims of the logout token for the client with a number
 unfoldable pub logout_claims : Configuration → ℕ → SignOut → LogoutClaims
 logout_claims c client out =
     record {

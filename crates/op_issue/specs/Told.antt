@@ -1,5 +1,5 @@
--- What it means literally that a message tells a sign-out: the session has answered some client of the registry that has a
--- logout URI, and the message is the one to it.
+-- The literal meaning of a message of a sign-out: some client of the registry has a logout URI, the session has logged in to
+-- it, and the message is the one to this client.
 use Rattle.std.specs.Prelude.{◌≡◌, ℕ, Bool, true, List, [], ◌∷◌, Some, ◌⊎◌}
 use Rattle.sso_base.specs.Words.{Text}
 use Rattle.sso_base.specs.declared.message.Message.{Message}
@@ -10,7 +10,7 @@ use Rattle.client_registry.specs.ClientSets.{has_client}
 use Rattle.op_issue.specs.declared.sign_out.SignOut.{SignOut}
 use Rattle.op_issue.specs.LogoutMessages.{logout_message}
 
--- the message tells it to the client of this number
+-- the message is the one to the client with this number
 pub record TellsAt (c : Configuration) (out : SignOut) (answered : List Bool) (number : ℕ) (message : Message) : Type 0 where
   pub client : Client
   pub client_is : client_at c number ≡ Some client
@@ -19,7 +19,7 @@ pub record TellsAt (c : Configuration) (out : SignOut) (answered : List Bool) (n
   pub uri_is : client.logout ≡ Some uri
   pub message_is : logout_message c out number uri ≡ message
 
--- it tells it to some client
+-- the message is the one to some client
 abbrev pub Tells : Configuration → SignOut → List Bool → Message → Type 0
 Tells c out answered message = (number : ℕ) × TellsAt c out answered number message
 

@@ -15,7 +15,7 @@ use sso_base::{Moment, NoMemory, Text, Texts, Word, copied_text, know_word};
 use std::alloc::Global;
 use userinfo::held_claims;
 
-// The half digest of the text of a word, where there is one.
+// The half digest of the text of the word, if there is one.
 fn hash_text(alloc: Global, word: &Option<Word>) -> Result<Option<Text>, NoMemory>
     ensures { IfOk result (λ o. o ≡ hash_of word.now) }
 {
@@ -29,7 +29,7 @@ fn hash_text(alloc: Global, word: &Option<Word>) -> Result<Option<Text>, NoMemor
     }
 }
 
-// The scope values whose claims the ID Token has: those of the wish where it comes without any access token.
+// The scope values whose claims the ID Token has: those of the wish if no access token is issued with it or for its code.
 fn scopes_told(wish: &Wish) -> Scopes
     ensures { result ≡ id_scopes wish.now }
 {
@@ -40,7 +40,7 @@ fn scopes_told(wish: &Wish) -> Scopes
     }
 }
 
-// The client as a lone audience (RFC 7519, 4.1.3).
+// The client as the only audience (RFC 7519, 4.1.3).
 pub(crate) fn audience_of(
     alloc: Global,
     registry: &Registry,
@@ -91,8 +91,8 @@ fn claims_for(
     })
 }
 
-// What the size of the claims rests on, said for the proof of `id_token_for`: each registry keeps its rules, and moments and
-// words have bounds.
+// A lemma for the proof of `id_token_for` about the size of the claims. It uses the invariant of the registry and the bounds of
+// moments and words.
 fn bounds_of(registry: &Registry, wish: &Wish, who: &Authentication, at: Moment)
     requires client { wish.now.client < length registry.now.clients }
     requires user { who.now.user < length registry.now.users }
@@ -106,11 +106,11 @@ fn bounds_of(registry: &Registry, wish: &Wish, who: &Authentication, at: Moment)
 }
 
 /// The ID Token for a wish and the user who logged in, sealed under the client's secret (OpenID Connect Core 1.0, 2 and
-/// 3.1.3.6). It is good for 300 seconds from the moment. It has the half digests of the access token and of the code beside
-/// it, where there are any, the user's claims that are asked for by name, and, where it is issued alone, those of the scope
-/// values (5.4).
+/// 3.1.3.6). It is valid for 300 seconds from the moment. It has the half digests of the access token and of the code issued
+/// with it, if there are any, and the user's claims that are requested by name. If it is issued alone, it also has those of the
+/// scope values (5.4).
 ///
-/// The client and the user are of the registry, and the nonce has at most 255 bytes: then the claims are never too long.
+/// The client and the user are in the registry, and the nonce has at most 255 bytes. So the claims are never too long.
 #[tactic(auto, unfolding(crate::specs::IdTokens::issued_id))]
 pub fn id_token_for(
     alloc: Global,

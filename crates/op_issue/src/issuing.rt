@@ -1,5 +1,5 @@
-// What is issued for a user who logged in: the successful authorization response (OpenID Connect Core 1.0, 3.1.2.5,
-// 3.2.2.5 and 3.3.2.5).
+// Issuing for a user who logged in: the successful authorization response (OpenID Connect Core 1.0, 3.1.2.5, 3.2.2.5 and
+// 3.3.2.5).
 
 ghost use Rattle.std.specs.Prelude.{◌≡◌, ◌<◌, true, length, IfOk};
 ghost use Rattle.auth_request.specs.Values.{is_short_nonce};
@@ -13,25 +13,25 @@ use client_registry::Registry;
 use sso_base::{Moment, NoMemory, Text, Word, copied_text};
 use std::alloc::Global;
 
-/// A user's login, as tokens tell it.
+/// The data of a user's login in tokens.
 #[derive(Clone, Copy, PartialEq, Eq)]
 pub struct Authentication {
-    /// The number of the user, from 0.
+    /// The number of the user, counted from 0.
     pub user: u32,
-    /// The session's name to clients (OpenID Connect Front-Channel Logout 1.0, 3).
+    /// The session's name for clients (OpenID Connect Front-Channel Logout 1.0, 3).
     pub sid: Word,
     /// When the user last logged in.
     pub auth_time: Moment,
 }
 
-// The word, where it is wished for.
+// The word, if the wish requests it.
 fn word_if(wished: bool, word: Word) -> Option<Word>
     ensures { result ≡ spec.if_wished wished word }
 {
     if wished { Some(word) } else { None }
 }
 
-// The ID Token, where it is wished for.
+// The ID Token, if the wish requests it.
 fn id_if_wished(
     alloc: Global,
     registry: &Registry,
@@ -54,10 +54,10 @@ fn id_if_wished(
 }
 
 /// The successful authorization response to a wish, for the user who logged in (OpenID Connect Core 1.0, 3.1.2.5, 3.2.2.5 and
-/// 3.3.2.5): a code, which is the third of the four fresh words, an access token, which is the fourth, and an ID Token about
-/// both, each where the response type has it. [`oidc_words::Types::is_in_fragment`] tells where it stands.
+/// 3.3.2.5). The response type decides which of these it has: a code, the third of the four fresh words; an access token, the
+/// fourth; and an ID Token about both. It is in the fragment if [`oidc_words::Types::is_in_fragment`] is true.
 ///
-/// The client and the user are of the registry, and the nonce has at most 255 bytes.
+/// The client and the user are in the registry, and the nonce has at most 255 bytes.
 pub fn issue(
     alloc: Global,
     registry: &Registry,

@@ -1,14 +1,14 @@
-//! What the provider issues to clients: ID Tokens and successful authorization responses (OpenID Connect Core 1.0, 2, 3), and the
-//! logout tokens that tell a sign-out (OpenID Connect Back-Channel Logout 1.0, 2.3 to 2.5).
+//! What the provider issues to clients: ID Tokens and successful authorization responses (OpenID Connect Core 1.0, 2, 3), and
+//! the logout tokens for a sign-out (OpenID Connect Back-Channel Logout 1.0, 2.3 to 2.5).
 //!
 //! | Module | What it has |
 //! |---|---|
 //! | `issuing` | [`Authentication`], a user's login; [`issue`] makes the response |
 //! | `id_tokens` | [`id_token_for`] makes the sealed ID Token |
-//! | `sign_out` | [`SignOut`], a sign-out as logout tokens tell it |
+//! | `sign_out` | [`SignOut`], the data of a sign-out |
 //! | `logout_tokens` | [`logout_token_for`] makes the sealed logout token for a client |
-//! | `messages` | [`logout_messages`] makes the messages to the clients that a session has answered |
-//! | `law`, `logout_law` | what holds of what is issued, for the crates above |
+//! | `messages` | [`logout_messages`] makes the messages to the clients that a session has logged in to |
+//! | `law`, `logout_law` | laws about what is issued, for the crates above |
 #![tactic(auto)]
 
 mod id_tokens;

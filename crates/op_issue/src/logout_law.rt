@@ -1,4 +1,4 @@
-// What holds of logout tokens and of the messages of a sign-out, for the crates above.
+// Laws about logout tokens and the messages of a sign-out, for the crates above.
 
 ghost use Rattle.std.specs.Prelude.{◌≡◌, ◌≤◌, ◌<◌, ◌+◌, ◌^◌, ◌↔◌, ℕ, Bool, List, ◌∷◌, ◌++◌, Ok};
 ghost use Rattle.sso_base.specs.Words.{Word, Text, IsWord};
@@ -15,8 +15,8 @@ ghost use Rattle.op_issue.specs.LogoutMessages.{logout_pairs, logout_messages};
 ghost use Rattle.op_issue.specs.Ending.{MayEnd};
 ghost use Rattle.op_issue.specs.Told.{TellsAt, Tells, IsAmong};
 
-/// What the provider issues is read back, under the client's secret, as the claims that were sealed: the claims of a logout
-/// token are always short enough, and values of their types. The form of a logout request is read as its token.
+/// Reading an issued logout token under the client's secret returns the sealed claims. The claims are always short enough, and
+/// values of their types. Reading the form of a logout request returns its token.
 pub fn logout_tokens_are_read()
     ensures texts { (c : Configuration) (client : ℕ) (out : SignOut) → MayEnd c client out → HasTexts (logout_claims c client out) }
     ensures sealable { (c : Configuration) (client : ℕ) (out : SignOut) → MayEnd c client out → IsSealable (logout_claims c client out) }
@@ -24,8 +24,8 @@ pub fn logout_tokens_are_read()
     ensures form { (c : Configuration) (client : ℕ) (out : SignOut) → form_pairs (form_text (logout_pairs (issued_logout c client out))) ≡ logout_pairs (issued_logout c client out) }
 {}
 
-/// The claims of a logout token are good for its client for 180 seconds: their life of 120, and a minute that clocks may
-/// differ. They are good for no client of another provider, for no other client and not later.
+/// The claims of a logout token are accepted by its client for 180 seconds: their life of 120 seconds plus 60 seconds of
+/// leeway. They are not accepted with another issuer or client, or later.
 pub fn logout_tokens_are_good()
     ensures good { (c : Configuration) (client : ℕ) (out : SignOut) (later : ℕ) → out.at ≤ later + 60 → later < out.at + 180 → IsGoodLogoutToken c.provider.issuer (client_id c client) (logout_claims c client out) later }
     ensures issuer { (c : Configuration) (client : ℕ) (out : SignOut) (issuer receiver : Text) (later : ℕ) → IsGoodLogoutToken issuer receiver (logout_claims c client out) later → issuer ≡ c.provider.issuer }
@@ -33,14 +33,14 @@ pub fn logout_tokens_are_good()
     ensures life { (c : Configuration) (client : ℕ) (out : SignOut) (issuer receiver : Text) (later : ℕ) → IsGoodLogoutToken issuer receiver (logout_claims c client out) later → later < out.at + 180 }
 {}
 
-/// The identifier of a logout token tells the word of the sign-out and the client: tokens of other words or of other clients
-/// have other identifiers (OpenID Connect Back-Channel Logout 1.0, 2.4).
+/// The identifier of a logout token determines the word of the sign-out and the client. So tokens of other words or of other
+/// clients have other identifiers (OpenID Connect Back-Channel Logout 1.0, 2.4).
 pub fn logout_tokens_have_own_identifiers()
     ensures { (v w : Word) (m n : ℕ) → IsWord v → IsWord w → m < 2 ^ 64 → n < 2 ^ 64 → logout_id v m ≡ logout_id w n → (v ≡ w) × (m ≡ n) }
 {}
 
-/// A message tells a sign-out exactly where it is to a client that the session has answered and that has a logout URI. The
-/// messages are in the order of the registry: of any two, the first tells a client of a lower number.
+/// A message is sent if and only if it is to a client that the session has logged in to and that has a logout URI. The messages
+/// are in the order of the registry: of any two, the first is to a client with a lower number.
 pub fn messages_tell_answered_clients()
     ensures told { (c : Configuration) (out : SignOut) (answered : List Bool) (message : Message) → IsAmong message (logout_messages c out answered) ↔ Tells c out answered message }
     ensures in_order { (c : Configuration) (out : SignOut) (answered : List Bool) (before between after : List Message) (m k : Message) → logout_messages c out answered ≡ before ++ m ∷ (between ++ k ∷ after) → (i : ℕ) × (j : ℕ) × (i < j) × TellsAt c out answered i m × TellsAt c out answered j k }

@@ -33,7 +33,7 @@ fn logout_id(alloc: Global, drawn: &Word, client: u32) -> Result<Text, NoMemory>
     dotted(alloc, word.as_str(), number.as_str())
 }
 
-// The name of the session, where it is wanted.
+// The name of the session, if it is wanted.
 fn sid_if(alloc: Global, wanted: bool, sid: &Word) -> Result<Option<Text>, NoMemory>
     ensures { IfOk result (λ o. o ≡ if_wished wanted (word_text sid.now)) }
 {
@@ -67,8 +67,7 @@ fn claims_for(
     })
 }
 
-// What sealing rests on, said for the proof of `logout_token_for`: each registry keeps its rules, and moments and words have
-// bounds.
+// A lemma for the proof of `logout_token_for`. It uses the invariant of the registry and the bounds of moments and words.
 fn bounds_of(registry: &Registry, client: u32, out: &SignOut)
     requires client { client < length registry.now.clients }
     requires user { out.now.who.user < length registry.now.users }
@@ -80,11 +79,11 @@ fn bounds_of(registry: &Registry, client: u32, out: &SignOut)
     let _at = out.at.seconds();
 }
 
-/// The logout token for a client, sealed under the client's secret (OpenID Connect Back-Channel Logout 1.0, 2.4). It is good
-/// for 120 seconds from the moment of the sign-out. It names the user by the subject at the client, and the session where the
-/// client wants that. Its own identifier is the text of the word of the sign-out, a dot and the number of the client.
+/// The logout token for a client, sealed under the client's secret (OpenID Connect Back-Channel Logout 1.0, 2.4). It is valid
+/// for 120 seconds from the moment of the sign-out. It names the user by the subject at the client, and the session if the
+/// client requires it. Its own identifier is the text of the word of the sign-out, a dot and the number of the client.
 ///
-/// The client and the user are of the registry: then the claims are never too long.
+/// The client and the user are in the registry. So the claims are never too long.
 #[tactic(auto, unfolding(crate::specs::LogoutTokens::issued_logout))]
 pub fn logout_token_for(
     alloc: Global,

@@ -41,7 +41,7 @@ fn message_to(
     })
 }
 
-// Adds the message to a client with this logout URI, where the session has answered it.
+// Adds the message to a client with this logout URI, if the session has logged in to the client.
 fn push_message(
     alloc: Global,
     messages: &mut Messages,
@@ -61,7 +61,7 @@ fn push_message(
     }
 }
 
-// Adds the messages to all clients that the session has answered.
+// Adds the messages to all clients that the session has logged in to.
 fn push_messages(
     alloc: Global,
     messages: &mut Messages,
@@ -87,11 +87,11 @@ fn push_messages(
     Ok(())
 }
 
-/// The messages of a sign-out: one to each client that the session has answered and that has a logout URI, in the order of the
-/// registry (OpenID Connect Back-Channel Logout 1.0, 2.3). Each is a POST to the logout URI with the client's logout token as
-/// `logout_token` (2.5).
+/// The messages of a sign-out: one to each client that the session has logged in to and that has a logout URI, in the order of
+/// the registry (OpenID Connect Back-Channel Logout 1.0, 2.3). Each is a POST to the logout URI with the client's logout token
+/// as `logout_token` (2.5).
 ///
-/// The user is of the registry. Numbers that no client has are ignored.
+/// The user is in the registry. Numbers without a client are ignored.
 #[tactic(auto, unfolding(crate::specs::LogoutMessages::logout_messages))]
 pub fn logout_messages(
     alloc: Global,

@@ -3,7 +3,7 @@
 use crate::issuing::Authentication;
 use sso_base::{Moment, Word};
 
-/// A sign-out, as logout tokens tell it.
+/// The data of a sign-out in logout tokens.
 #[derive(Clone, Copy)]
 pub struct SignOut {
     /// The login that ends.

@@ -1,5 +1,5 @@
--- The forms that the provider's own pages post: that of a login and that of a consent. A field with another name is as if it were
--- not there, a field that is absent is empty, and no name of the form may stand twice, whatever the values.
+-- The forms that the provider's own pages post: the login form and the consent form. Fields with other names are ignored, an
+-- absent field is empty, and no name of the form may occur twice, with any values.
 use Rattle.std.specs.Prelude.{ℕ, Bool, nat_lt, List, [], ◌∷◌, length, filter, Option, unwrap_or}
 use Rattle.std.specs.List.{list_any}
 use Rattle.std.specs.Str.{bytes_eq}
@@ -25,7 +25,7 @@ count name fields = length (filter (λ (field : Pair). bytes_eq field.0 name) fi
 abbrev pub stands_twice : Text → List Pair → Bool
 stands_twice name fields = nat_lt 1 (count name fields)
 
--- one of the names stands twice
+-- one of the names occurs twice
 abbrev pub repeats_one : List Text → List Pair → Bool
 repeats_one names fields = list_any (λ name. stands_twice name fields) names
 

@@ -1,4 +1,4 @@
--- What the provider is asked by a request.
+-- The value of a request to the provider.
 use Rattle.std.specs.Prelude.{ℕ, Bool, true, false, List, Option, Some, None, option_and_then, Result, Ok, Err, if◌then◌else◌}
 use Rattle.std.specs.Result.{result_ok}
 use Rattle.std.specs.Str.{bytes_eq}
@@ -30,22 +30,22 @@ use Rattle.op_request.specs.PostedForms.{login_names, consent_names, fields_of, 
 
 -- ---- an authorization request (OpenID Connect Core 1.0, 3.1.2.1)
 
--- the client whose id the request has
+-- the client with the request's `client_id`
 abbrev pub client_named : Configuration → Params → Option Client
 client_named c params = option_and_then (client_at c) (client_number c params)
 
--- the parameters of a request object over those beside it; none where the object is none of this client for this provider, or
--- what stands beside it does not allow it (Core 6.1 and 6.3)
+-- the merged parameters of a request and its request object; none if the object is not one of this client for this provider, or
+-- does not fit the parameters outside it (Core 6.1 and 6.3)
 abbrev pub with_object : Configuration → Client → Params → Text → Option Params
 with_object c client beside object =
     option_and_then (λ inside. result_ok (request_merged beside inside)) (result_ok (object_read client c.provider.issuer object))
 
--- where the object was refused, what stands beside it is judged
+-- if the object was rejected, the parameters outside it are validated
 abbrev pub judged_whole : Configuration → Params → Option Params → Verdict
 judged_whole c beside None = judgement c beside true
 judged_whole c beside (Some whole) = judgement c whole false
 
--- a request object is read under the secret of its client, so there is none without a client
+-- a request object is read under the secret of its client, so it is ignored without a client
 abbrev pub judged_by : Configuration → Params → Option Client → Option Text → Verdict
 judged_by c params (Some client) (Some object) = judged_whole c params (with_object c client params object)
 judged_by c params client object = judgement c params false
@@ -53,7 +53,7 @@ judged_by c params client object = judgement c params false
 abbrev pub judged : Configuration → Params → Verdict
 judged c params = judged_by c params (client_named c params) params.request
 
--- the only refusal of a form is that a name stands twice
+-- the only error of a form is that a name occurs twice
 abbrev pub authorization_asked : Configuration → Ask → Result Params AskNo → OpAsk
 authorization_asked c request (Ok params) = ask.Authorize (judged c params) request.first request.second
 authorization_asked c request (Err why) = ask.Twice
@@ -68,7 +68,7 @@ is_password_of (Some user) password = bytes_eq (proof_of password user.salt user
 abbrev pub if_password : Configuration → Text → ℕ → Option ℕ
 if_password c password n = if is_password_of (user_at c n) password then Some n else None
 
--- the number of the user that has this id and this password
+-- the number of the user with this id and this password
 abbrev pub signed_user : Configuration → Text → Text → Option ℕ
 signed_user c id password = option_and_then (if_password c password) (user_place id c.users)
 
@@ -99,6 +99,6 @@ asked_at c request (Some endpoint.Token) = ask.Token (grant_read c request.auth 
 asked_at c request (Some endpoint.UserInfo) = ask.Info (bearer_read request.auth)
 asked_at c request (Some endpoint.SignOut) = ask.SignOut request.second
 
--- what a request asks of the provider with this configuration
+-- the value of a request to the provider with this configuration
 unfoldable pub prepared : Configuration → Ask → OpAsk
 prepared c request = asked_at c request (endpoint_asked c.prefix request)

@@ -1,4 +1,4 @@
--- What a request to the provider is and what it asks, in plain words.
+-- Requests to the provider and their values, stated literally.
 use Rattle.std.specs.Prelude.{◌≡◌, ◌⊎◌, ℕ, false, true, List, [], ◌∷◌, ◌++◌, Option, Some, None}
 use Rattle.sso_base.specs.Words.{Word, Text, IsWord, word_text}
 use Rattle.sso_base.specs.declared.http.Ask.{Ask}
@@ -25,19 +25,19 @@ use Rattle.op_request.specs.declared.routes.Endpoint.TheVariants as endpoint
 use Rattle.op_request.specs.Routes.{Route, routes_of}
 use Rattle.op_request.specs.PostedForms.{login_names, consent_names, fields_of}
 
--- ---- where a request goes
+-- ---- endpoints
 
 abbrev pub IsListed : Route → List Route → Type 0
 IsListed route [] = ⊥
 IsListed route (first ∷ routes) = (first ≡ route) ⊎ IsListed route routes
 
--- the request is to this endpoint: its path is the provider's and then a path that is listed for its method
+-- the request is to this endpoint: its path is the provider's, followed by a path that is listed for its method
 pub record IsTo (c : Configuration) (request : Ask) (e : Endpoint) : Type 0 where
   pub rest : Text
   pub path : request.path ≡ c.prefix ++ rest
   pub listed : IsListed (rest, e) (routes_of request.method)
 
--- the endpoint to which an ask belongs, but for one that has a name twice
+-- the endpoint to which a value belongs, except `Twice`
 abbrev pub own_endpoint : OpAsk → Option Endpoint
 own_endpoint (ask.Authorize verdict browser session) = Some endpoint.Authorization
 own_endpoint (ask.Login turn signed browser session) = Some endpoint.Login
@@ -52,7 +52,7 @@ own_endpoint ask.NotHere = None
 
 -- ---- fields of a form
 
--- one of the names does
+-- one of the names occurs twice
 pub record RepeatsName (names : List Text) (fields : List Pair) : Type 0 where
   pub name : Text
   pub listed : has_text name names ≡ true
@@ -62,7 +62,7 @@ pub record RepeatsName (names : List Text) (fields : List Pair) : Type 0 where
 abbrev pub IsField : List Pair → Text → Text → Type 0
 IsField fields name value = Has fields (name, value) ⊎ (HasNo fields name × (value ≡ []))
 
--- the form has the id of the user of this number, and a password whose proof is the user's (RFC 8018, 5.2)
+-- the form has the id of the user with this number, and a password whose proof is the user's (RFC 8018, 5.2)
 pub record ShowsPassword (c : Configuration) (fields : List Pair) (number : ℕ) : Type 0 where
   pub user : User
   pub there : user_at c number ≡ Some user
@@ -71,19 +71,19 @@ pub record ShowsPassword (c : Configuration) (fields : List Pair) (number : ℕ)
   pub shown : IsField fields password_field password
   pub proved : proof_of password user.salt user.rounds ≡ user.proof
 
--- the word is that of the form's field `turn`, where that is the text of one
+-- the word is that of the form's field `turn`, if that is the text of a word
 abbrev pub IsTurn : List Pair → Option Word → Type 0
 IsTurn fields (Some w) = Has fields (turn_field, word_text w) × IsWord w
 IsTurn fields None = (w : Word) → IsWord w → ¬ Has fields (turn_field, word_text w)
 
--- ---- a name that stands twice
+-- ---- names that occur twice
 
--- the request posts a form to this endpoint, in which one of the names stands twice
+-- the request posts a form to this endpoint, and one of the names occurs twice in it
 pub record RepeatsField (c : Configuration) (request : Ask) (e : Endpoint) (names : List Text) : Type 0 where
   pub to : IsTo c request e
   pub repeats : RepeatsName names (fields_of request.body)
 
--- the request is an authorization request, in which a parameter stands twice with values
+-- the request is an authorization request, and a parameter occurs twice in it with values
 pub record RepeatsParameter (c : Configuration) (request : Ask) : Type 0 where
   pub to : IsTo c request endpoint.Authorization
   pub name : Text
@@ -94,8 +94,8 @@ RepeatsAName c request = RepeatsParameter c request ⊎ (RepeatsField c request 
 
 -- ---- an authorization request
 
--- the client of this number has the request's id, and the request has a request object of this client for this provider, with
--- these parameters (OpenID Connect Core 1.0, 6.1)
+-- the client with this number has the request's `client_id`, and the request has a request object of this client for this
+-- provider, with these parameters (OpenID Connect Core 1.0, 6.1)
 pub record HasObject (c : Configuration) (beside inside : Params) : Type 0 where
   pub object : Text
   pub stands : beside.request ≡ Some object
@@ -105,11 +105,11 @@ pub record HasObject (c : Configuration) (beside inside : Params) : Type 0 where
   pub named : beside.client_id ≡ Some client.id
   pub is_object : IsRequestObject client c.provider.issuer object inside
 
--- the parameters of a request object over those beside it, and where there is none, those of the request
+-- the merged parameters of the request and its request object; those of the request if it has no object
 abbrev pub IsWhole : Configuration → Params → Params → Type 0
 IsWhole c beside whole = ((beside.request ≡ None) × (whole ≡ beside)) ⊎ ((inside : Params) × HasObject c beside inside × IsMerged beside inside whole)
 
--- the form is a request whose parameters, with those of its object, are granted
+-- the form is a request whose parameters, merged with those of its object, are granted
 pub record IsGranted (c : Configuration) (form : List ℕ) (wish : Wish) : Type 0 where
   pub beside : Params
   pub read : HasRequest form beside
@@ -119,7 +119,7 @@ pub record IsGranted (c : Configuration) (form : List ℕ) (wish : Wish) : Type 
 
 -- ---- cookies
 
--- the ask has the words of the request's cookies: the first is the browser's, the second the session's
+-- the value has the words of the request's cookies: the first is the browser's, the second the session's
 abbrev pub HasCookies : Ask → OpAsk → Type 0
 HasCookies request (ask.Authorize verdict browser session) = (browser ≡ request.first) × (session ≡ request.second)
 HasCookies request (ask.Login turn signed browser session) = (browser ≡ request.first) × (session ≡ request.second)

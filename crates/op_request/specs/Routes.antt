@@ -1,5 +1,5 @@
--- Which endpoint of the provider a request is to, by its method and its path. The paths
--- stand below the path of the issuer (OpenID Connect Discovery 1.0, 4).
+-- The endpoint of a request to the provider, by its method and its path. The paths are below the path of the issuer (OpenID
+-- Connect Discovery 1.0, 4).
 use Rattle.std.specs.Prelude.{List, [], ◌∷◌, length, take, drop, Option, Some, None, option_and_then, if◌then◌else◌}
 use Rattle.std.specs.Str.{bytes_eq}
 use Rattle.sso_base.specs.Words.{Text}
@@ -10,7 +10,7 @@ use Rattle.oidc_words.specs.Paths.{metadata_path, keys_path, authorize_path, tok
 use Rattle.op_request.specs.declared.routes.Endpoint.{Endpoint}
 use Rattle.op_request.specs.declared.routes.Endpoint.TheVariants.{Metadata, Keys, Authorization, Login, Consent, Token, UserInfo, SignOut}
 
--- what follows the prefix, in a path that begins with it
+-- the rest of a path that begins with the prefix
 abbrev pub below : Text → Text → Option Text
 below prefix path = if bytes_eq (take (length prefix) path) prefix then Some (drop (length prefix) path) else None
 
@@ -40,11 +40,11 @@ routes_of Get = get_routes
 routes_of Post = post_routes
 routes_of Other = []
 
--- the endpoint of this path
+-- the endpoint with this path
 abbrev pub endpoint_of : List Route → Text → Option Endpoint
 endpoint_of [] path = None
 endpoint_of (route ∷ routes) path = if bytes_eq path route.0 then Some route.1 else endpoint_of routes path
 
--- the endpoint that a request is to, where the paths stand below this prefix
+-- the endpoint of a request, if the provider's paths are below this prefix
 abbrev pub endpoint_asked : Text → Ask → Option Endpoint
 endpoint_asked prefix request = option_and_then (endpoint_of (routes_of request.method)) (below prefix request.path)

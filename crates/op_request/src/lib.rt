@@ -1,12 +1,12 @@
-//! Requests to the provider, read as what they ask of it (OpenID Connect Core 1.0, 3.1.2.1, 3.1.3.1 and 5.3.1). Passwords, the
-//! secrets of clients and request objects are checked here, so that what is asked can be answered without them.
+//! HTTP requests to the provider, read as values of `OpAsk` (OpenID Connect Core 1.0, 3.1.2.1, 3.1.3.1 and 5.3.1). Passwords,
+//! client secrets and request objects are verified here. Later steps only get the results.
 //!
 //! | Module | What it has |
 //! |---|---|
 //! | `prepare` | [`prepare_op`] reads a request |
-//! | `routes` | which endpoint a request is to |
+//! | `routes` | the endpoint of a request |
 //! | `posted_forms` | the fields of the forms that the provider's own pages post |
-//! | `law` | what holds of the asks that requests give, for the crates above |
+//! | `law` | laws about the values that requests produce, for the crates above |
 #![tactic(auto)]
 
 mod law;

@@ -28,14 +28,14 @@ fn count(fields: &[Pair], name: &str) -> usize
     count
 }
 
-// Whether more than one field has the name.
+// Whether the name occurs more than once.
 fn stands_twice(fields: &[Pair], name: &str) -> bool
     ensures { result ≡ spec.stands_twice name.now fields.now }
 {
     count(fields, name) > 1
 }
 
-// Whether a name of the login form stands twice.
+// Whether a name of the login form occurs twice.
 pub(crate) fn repeats_in_login(fields: &[Pair]) -> bool
     ensures { result ≡ spec.repeats_one spec.login_names fields.now }
 {
@@ -44,14 +44,14 @@ pub(crate) fn repeats_in_login(fields: &[Pair]) -> bool
         || stands_twice(fields, PASSWORD_FIELD)
 }
 
-// Whether a name of the consent form stands twice.
+// Whether a name of the consent form occurs twice.
 pub(crate) fn repeats_in_consent(fields: &[Pair]) -> bool
     ensures { result ≡ spec.repeats_one spec.consent_names fields.now }
 {
     stands_twice(fields, TURN_FIELD) || stands_twice(fields, AGREE_FIELD)
 }
 
-// The value of the field that has the name; an absent one is empty.
+// The value of the field with this name; empty if it is absent.
 pub(crate) fn field<'a>(fields: &'a [Pair], name: &str) -> &'a str
     ensures { result.now ≡ spec.field name.now fields.now }
 {

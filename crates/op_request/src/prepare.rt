@@ -1,4 +1,4 @@
-// A request to the provider is read as what it asks.
+// Reading a request to the provider as a value of `OpAsk`.
 
 ghost use Rattle.std.specs.Prelude.{◌≡◌, Some, IfOk, option_map};
 ghost use Rattle.client_registry.specs.Registered.{IsUser};
@@ -20,7 +20,7 @@ use std::alloc::Global;
 use token_endpoint::{GrantNo, read_grant};
 use userinfo::read_bearer;
 
-// The client whose id the request has.
+// The client with the request's `client_id`.
 #[tactic(auto, using(auth_request::proofs::Numbers::below))]
 fn client_named<'a>(registry: &'a Registry, params: &Params) -> Option<&'a Client>
     ensures { option_map (λ k. k.now) result ≡ spec.client_named registry.now params.now }
@@ -34,7 +34,7 @@ fn client_named<'a>(registry: &'a Registry, params: &Params) -> Option<&'a Clien
     }
 }
 
-// The parameters of a request object over those beside it. None where the object is refused (OpenID Connect Core 1.0, 6.1).
+// The merged parameters of a request and its request object; `None` if the object is rejected (OpenID Connect Core 1.0, 6.1).
 fn with_object(
     alloc: Global,
     registry: &Registry,
@@ -57,7 +57,7 @@ fn with_object(
     }
 }
 
-// The judgement of a request whose request object gave the whole parameters, or was refused.
+// Validates a request whose request object gave the merged parameters, or was rejected.
 fn judged_whole(
     alloc: Global,
     registry: &Registry,
@@ -72,7 +72,7 @@ fn judged_whole(
     }
 }
 
-// The judgement of a request. Its request object is read where its client is known.
+// Validates a request. Its request object is read if its client is known.
 fn judged(alloc: Global, registry: &Registry, params: &Params) -> Result<Verdict, NoMemory>
     ensures { IfOk result (λ v. v ≡ spec.judged registry.now params.now) }
 {
@@ -85,7 +85,7 @@ fn judged(alloc: Global, registry: &Registry, params: &Params) -> Result<Verdict
     }
 }
 
-// What an authorization request asks, by the form of its parameters (OpenID Connect Core 1.0, 3.1.2.1).
+// The value for an authorization request, from the form of its parameters (OpenID Connect Core 1.0, 3.1.2.1).
 fn authorization(
     alloc: Global,
     registry: &Registry,
@@ -131,7 +131,7 @@ fn signed_user(registry: &Registry, id: &str, password: &str) -> Option<u32>
     }
 }
 
-// What a login form asks.
+// The value for a login form.
 fn login(alloc: Global, registry: &Registry, ask: &Ask) -> Result<OpAsk, NoMemory>
     ensures { IfOk result (λ asked. asked ≡ spec.login_asked registry.now ask.now (fields_of ask.now.body)) }
 {
@@ -151,7 +151,7 @@ fn login(alloc: Global, registry: &Registry, ask: &Ask) -> Result<OpAsk, NoMemor
     })
 }
 
-// What a consent form asks.
+// The value for a consent form.
 fn consent(alloc: Global, ask: &Ask) -> Result<OpAsk, NoMemory>
     ensures { IfOk result (λ asked. asked ≡ spec.consent_asked ask.now (fields_of ask.now.body)) }
 {
@@ -167,7 +167,7 @@ fn consent(alloc: Global, ask: &Ask) -> Result<OpAsk, NoMemory>
     })
 }
 
-// The body of a request, where there is one.
+// The body of a request, if there is one.
 fn body_of(body: &Option<Blob>) -> Option<&[u8]>
     ensures { option_map (λ b. b.now) result ≡ body.now }
 {
@@ -177,7 +177,7 @@ fn body_of(body: &Option<Blob>) -> Option<&[u8]>
     }
 }
 
-// What a token request asks (OpenID Connect Core 1.0, 3.1.3.1).
+// The value for a token request (OpenID Connect Core 1.0, 3.1.3.1).
 fn token(alloc: Global, registry: &Registry, ask: &Ask) -> Result<OpAsk, NoMemory>
     ensures { IfOk result (λ asked. asked ≡ OpAsk.Token (grant_read registry.now ask.now.auth ask.now.body)) }
 {
@@ -187,29 +187,30 @@ fn token(alloc: Global, registry: &Registry, ask: &Ask) -> Result<OpAsk, NoMemor
     }
 }
 
-/// What a request asks of the provider with this registry. `first` of the request is the browser's cookie and `second` that of
-/// the session.
+/// Reads a request to the provider with this registry, as an [`OpAsk`]. `first` of the request is the browser's cookie and
+/// `second` the session's.
 ///
-/// The path begins with the issuer's path without a last `/`, and then comes one of these. Any other request, also one by another
-/// method, is [`OpAsk::NotHere`].
+/// The path is the issuer's path without a last `/`, followed by one of these. Any other request, also one with another method,
+/// is [`OpAsk::NotHere`].
 ///
-/// | Request | Ask |
+/// | Request | Result |
 /// |---|---|
 /// | GET `/.well-known/openid-configuration` | [`OpAsk::Metadata`] |
 /// | GET `/jwks` | [`OpAsk::Keys`] |
-/// | GET or POST `/authorize` | [`OpAsk::Authorize`], by the parameters of the query or of the posted form |
+/// | GET or POST `/authorize` | [`OpAsk::Authorize`], from the parameters of the query or of the posted form |
 /// | POST `/login` with `turn`, `user`, `password` | [`OpAsk::Login`] |
-/// | POST `/consent` with `turn`, `agree` | [`OpAsk::Consent`], agreed exactly where `agree` is `yes` |
+/// | POST `/consent` with `turn`, `agree` | [`OpAsk::Consent`], agreed if and only if `agree` is `yes` |
 /// | POST `/token` | [`OpAsk::Token`] |
-/// | GET or POST `/userinfo` | [`OpAsk::Info`], by the `Authorization` header alone |
+/// | GET or POST `/userinfo` | [`OpAsk::Info`], from the `Authorization` header only |
 /// | POST `/signout` | [`OpAsk::SignOut`] |
 ///
-/// At `/authorize`, `/login` and `/consent` a name of the form that stands twice gives [`OpAsk::Twice`]; at `/authorize` pairs
-/// with an empty value are ignored first. A field that is absent is empty, and so is an absent form.
+/// At `/authorize`, `/login` and `/consent`, a name that occurs twice in the form gives [`OpAsk::Twice`]; at `/authorize`,
+/// pairs with an empty value are ignored first. An absent field is empty, and so is an absent form.
 ///
-/// A request object is read where the client of the request is known, under that client's secret, and its parameters win over
-/// those beside it (OpenID Connect Core 1.0, 6.1). Where it is refused, what stands beside it is judged as a request whose object
-/// was refused. A login is signed as the user whose id is `user`, exactly where the proof of `password` is that user's (RFC 8018).
+/// A request object is read if the client of the request is known, under that client's secret. Its parameters take precedence
+/// over those outside it (OpenID Connect Core 1.0, 6.1). If it is rejected, the parameters outside it are validated as a
+/// request whose object was rejected. A login is signed as the user whose id is `user`, if and only if the proof of `password`
+/// is that user's (RFC 8018).
 #[tactic(auto, unfolding(crate::specs::Prepared::prepared))]
 pub fn prepare_op(alloc: Global, registry: &Registry, ask: &Ask) -> Result<OpAsk, NoMemory>
     ensures { IfOk result (λ asked. asked ≡ spec.prepared registry.now ask.now) }

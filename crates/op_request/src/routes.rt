@@ -1,4 +1,4 @@
-// Which endpoint of the provider a request is to.
+// The endpoint of a request to the provider.
 
 ghost use Rattle.std.specs.Prelude.{◌≡◌, option_map};
 ghost use Rattle.op_request.specs.Routes as spec;
@@ -22,7 +22,7 @@ pub(crate) enum Endpoint {
     SignOut,
 }
 
-// What follows the prefix, in a path that begins with it.
+// The rest of a path that begins with the prefix.
 fn below<'a>(prefix: &Text, path: &'a Text) -> Option<&'a [u8]>
     ensures { option_map (λ p. p.now) result ≡ spec.below prefix.now path.now }
 {
@@ -30,7 +30,7 @@ fn below<'a>(prefix: &Text, path: &'a Text) -> Option<&'a [u8]>
     path.as_str().as_bytes().strip_prefix(prefix)
 }
 
-// The endpoint that a GET of the path is to.
+// The endpoint of a GET of the path.
 fn got(path: &[u8]) -> Option<Endpoint>
     ensures { result ≡ spec.endpoint_of spec.get_routes path.now }
 {
@@ -49,7 +49,7 @@ fn got(path: &[u8]) -> Option<Endpoint>
     None
 }
 
-// The endpoint that a POST to the path is to.
+// The endpoint of a POST to the path.
 fn posted_to(path: &[u8]) -> Option<Endpoint>
     ensures { result ≡ spec.endpoint_of spec.post_routes path.now }
 {
@@ -74,7 +74,7 @@ fn posted_to(path: &[u8]) -> Option<Endpoint>
     None
 }
 
-// The endpoint that a request is to, where the paths stand below this prefix.
+// The endpoint of a request, if the provider's paths are below this prefix.
 pub(crate) fn endpoint_asked(prefix: &Text, ask: &Ask) -> Option<Endpoint>
     ensures { result ≡ spec.endpoint_asked prefix.now ask.now }
 {

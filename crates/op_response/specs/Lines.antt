@@ -1,4 +1,4 @@
--- The lines that tell the provider's replies in the text of a replay. They tell no word, token or claim.
+-- The lines of the provider's replies in the text of a replay. They show no word, token or claim.
 use Rattle.std.specs.Prelude.{ℕ, true, false, length, [], ◌∷◌, ◌++◌, codes, is_some}
 use Rattle.std.specs.Fmt.{decimal}
 use Rattle.sso_base.specs.Words.{Text}
@@ -12,7 +12,7 @@ use Rattle.op_exchange.specs.declared.reply.OpReply.TheVariants as reply
 use Rattle.oidc_words.specs.Words.{spaced}
 use Rattle.oidc_words.specs.Types.{code_word, id_token_word, token_word}
 
--- what an error page is about
+-- the reason of an error page
 abbrev pub page_word : PageNo → Text
 page_word page.Client = codes "client"
 page_word page.Redirect = codes "redirect"
@@ -20,12 +20,12 @@ page_word page.Twice = codes "twice"
 page_word page.Turn = codes "turn"
 page_word page.Browser = codes "browser"
 
--- the parts that an answer has
+-- the parts of a successful response
 abbrev pub answer_words : Answer → Text
 answer_words answer =
     spaced ((true, codes "answer") ∷ (is_some answer.code, code_word) ∷ (is_some answer.id, id_token_word) ∷ (is_some answer.access, token_word) ∷ [])
 
--- a sign-out, and how many messages tell it
+-- a sign-out, with the number of its messages
 abbrev pub signed_out : ℕ → Text
 signed_out messages = codes "signout " ++ decimal messages
 

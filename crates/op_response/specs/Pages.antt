@@ -1,9 +1,9 @@
--- The pages on which a user logs in and consents (OpenID Connect Core 1.0, 3.1.2.3 and 3.1.2.4), in HTML (own).
+-- The pages on which a user logs in and consents (OpenID Connect Core 1.0, 3.1.2.3 and 3.1.2.4), in HTML (our choice).
 --
--- Nothing is escaped in them, since nothing that is written into them has a mark that HTML reads: a word's text is letters,
--- digits, `-` and `_`; the id of a client is letters, digits, `.`, `_`, `~` and `-`; scope values are letters. The path of an
--- issuer is as the URL Standard writes it, without `"`, `<` and `>`; it may have `&`, which HTML reads only where the name or
--- number of a character follows.
+-- Nothing is escaped in them, because no inserted text has a character with a meaning in HTML. A word's text has letters,
+-- digits, `-` and `_`; the id of a client has letters, digits, `.`, `_`, `~` and `-`; scope values have letters. The path of an
+-- issuer is serialized as in the URL Standard, without `"`, `<` and `>`. It may have `&`, which has a meaning in HTML only
+-- before the name or number of a character.
 use Rattle.std.specs.Prelude.{Bool, true, false, [], ◌∷◌, codes}
 use Rattle.std.specs.List.{concat}
 use Rattle.sso_base.specs.Words.{Text}
@@ -35,7 +35,7 @@ login_text prefix turn note =
     ∷ codes "\"><button>Login</button></form>"
     ∷ note ∷ [])
 
--- the form of a turn, by its text, below the path of the issuer; again after a wrong password
+-- the form of a turn, given the turn's text, with an action below the path of the issuer; `again` after a wrong password
 abbrev pub login_page : Text → Text → Bool → Text
 login_page prefix turn again = login_text prefix turn (again_note again)
 
@@ -63,6 +63,7 @@ consent_text prefix turn client scopes =
     ∷ agree_field
     ∷ codes "\" value=\"no\">No</button></form>" ∷ [])
 
--- the form of a turn, by its text, below the path of the issuer: a client, by its id, and the scope values that it asks for
+-- the form of a turn, given the turn's text, with an action below the path of the issuer: a client's id and the requested scope
+-- values
 abbrev pub consent_page : Text → Text → Text → Scopes → Text
 consent_page prefix turn client scopes = consent_text prefix turn client (scope_text scopes)

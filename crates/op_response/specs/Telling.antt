@@ -27,12 +27,12 @@ abbrev pub json : Text → HttpReply
 json text =
     record { status = 200; pragma = false; location = None; cookies = []; challenge = None; kind = Json; body = text }
 
--- a response of the token endpoint, which no cache keeps (RFC 6749, 5.1 and 5.2)
+-- a response of the token endpoint, which must not be cached (RFC 6749, 5.1 and 5.2)
 abbrev pub token_response : ℕ → Option Text → Text → HttpReply
 token_response status challenge text =
     record { status = status; pragma = true; location = None; cookies = []; challenge = challenge; kind = Json; body = text }
 
--- a request without a token that is good (RFC 6750, 3)
+-- the reply to a request without a valid token (RFC 6750, 3)
 abbrev pub unauthorized : Text → HttpReply
 unauthorized challenge =
     record { status = 401; pragma = false; location = None; cookies = []; challenge = Some challenge; kind = Empty; body = [] }
@@ -50,14 +50,14 @@ consent_shown c turn browser session client scopes =
 abbrev pub error_shown : PageNo → HttpReply
 error_shown why = plain 400 (codes "error " ++ page_word why)
 
--- ---- refusals
+-- ---- error responses
 
--- a client that did not show that it is one is told how to (RFC 6749, 5.2; RFC 7617, 2)
+-- a client that is not authenticated gets a challenge (RFC 6749, 5.2; RFC 7617, 2)
 abbrev pub token_refused : TokenError → HttpReply
 token_refused InvalidClient = token_response 401 (Some (codes "Basic realm=\"sso\"")) (error_text InvalidClient)
 token_refused other = token_response 400 None (error_text other)
 
--- a token that is not good is an error, and no token is none (RFC 6750, 3.1)
+-- an invalid token gives an error code, a missing one does not (RFC 6750, 3.1)
 abbrev pub bearer_challenge : Bool → Text
 bearer_challenge true = bearer_word ++ codes " error=\"" ++ invalid_token ++ codes "\""
 bearer_challenge false = bearer_word ++ codes " realm=\"sso\""

@@ -1,4 +1,4 @@
--- What the provider's replies set and hold, as a user agent reads it.
+-- The cookies and the contents of the provider's replies, as a user agent reads them.
 use Rattle.std.specs.Prelude.{ℕ, ◌==◌, ◌||◌, Bool, true, false, List, ◌++◌, Option, Some, None}
 use Rattle.std.specs.List.{list_any}
 use Rattle.sso_base.specs.Words.{Word, Text}
@@ -27,7 +27,7 @@ is_token_response (Tokens access id) = true
 is_token_response (TokenRefused code) = true
 is_token_response reply = false
 
--- ---- marks that HTML reads: `"`, `&`, `'`, `<` and `>`
+-- ---- characters with a meaning in HTML: `"`, `&`, `'`, `<` and `>`
 
 abbrev pub is_mark : ℕ → Bool
 is_mark b = b == 34 || b == 38 || b == 39 || b == 60 || b == 62

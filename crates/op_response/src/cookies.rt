@@ -8,13 +8,13 @@ use http_reply::cookie;
 use sso_base::{NoMemory, Texts, Word};
 use std::alloc::Global;
 
-// The cookie of a browser that was given a form.
+// The cookie of a browser that got a form.
 const BROWSER: &str = "op_b";
 
 // The cookie of a session.
 const SESSION: &str = "op_s";
 
-// The browser's cookie alone.
+// Only the browser's cookie.
 pub(crate) fn browser_cookies(
     alloc: Global,
     secure: bool,
@@ -27,7 +27,7 @@ pub(crate) fn browser_cookies(
     Ok(cookies)
 }
 
-// Adds the session's cookie, where there is a session word.
+// Adds the session's cookie, if there is a session word.
 pub(crate) fn push_session(
     cookies: &mut Texts,
     alloc: Global,

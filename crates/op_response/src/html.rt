@@ -1,4 +1,4 @@
-// The login page and the consent page are written.
+// Writing the login page and the consent page.
 
 ghost use Rattle.std.specs.Prelude.{◌≡◌, IfOk};
 ghost use Rattle.sso_base.specs.Words.{word_text};
@@ -20,7 +20,7 @@ fn again_note(again: bool) -> &'static str
     }
 }
 
-// The login page of a turn, by its text, below the path of the issuer.
+// The login page of a turn, given the turn's text, with an action below the path of the issuer.
 #[tactic(auto, unfolding(crate::specs::Pages::login_text))]
 fn login_text(alloc: Global, prefix: &str, turn: &str, note: &str) -> Result<Blob, NoMemory>
     ensures { IfOk result (λ b. b ≡ spec.login_text prefix.now turn.now note.now) }
@@ -43,7 +43,7 @@ fn login_text(alloc: Global, prefix: &str, turn: &str, note: &str) -> Result<Blo
     Ok(Blob::from_vec(joined(alloc, &pieces)?.into_bytes()))
 }
 
-// The same, again after a wrong password.
+// The login page, with a note after a wrong password.
 pub(crate) fn login_page(
     alloc: Global,
     prefix: &Text,
@@ -56,7 +56,7 @@ pub(crate) fn login_page(
     login_text(alloc, prefix.as_str(), turn.as_str(), again_note(again))
 }
 
-// The consent page of a turn, by its text, below the path of the issuer: a client, and scope values.
+// The consent page of a turn, given the turn's text, with an action below the path of the issuer: a client and scope values.
 #[tactic(auto, unfolding(crate::specs::Pages::consent_text))]
 fn consent_text(
     alloc: Global,
@@ -90,7 +90,7 @@ fn consent_text(
     Ok(Blob::from_vec(joined(alloc, &pieces)?.into_bytes()))
 }
 
-// The same, for a client by its id.
+// The consent page, for a client given by its id.
 pub(crate) fn consent_page(
     alloc: Global,
     prefix: &Text,

@@ -1,4 +1,4 @@
-// What holds of replies that are told.
+// Laws about the output of replies.
 
 ghost use Rattle.std.specs.Prelude.{◌≡◌, ◌==◌, ◌++◌, ◌↔◌, ℕ, [], ◌∷◌, Bool, true, false, Option, Some, is_some, codes, map, Ok};
 ghost use Rattle.std.specs.List.{list_any};
@@ -28,18 +28,16 @@ ghost use Rattle.op_response.specs.Lines.{line_of};
 ghost use Rattle.http_reply.specs.Told.{kept, sets_cookie};
 ghost use Rattle.op_response.specs.Told.{browser_given, words_set, is_token_response, has_mark};
 
-/// The cookies of a reply hold the words that it sets, in order and no others: the browser word of a page, and its session
-/// word where it has one. A user agent reads each under its name as the word's text, for every path, `HttpOnly`,
-/// `SameSite=Lax` and, exactly where the issuer is https, `Secure` (RFC 6265, 5.2). A reply without a session word sets no
-/// session cookie.
+/// The cookies of a reply hold exactly the words that it sets, in order: the browser word of a page, and the session word, if
+/// there is one. A user agent reads each under its name as the word's text, for every path, `HttpOnly`, `SameSite=Lax` and, if
+/// and only if the issuer is https, `Secure` (RFC 6265, 5.2). A reply without a session word sets no session cookie.
 pub fn cookies_hold_the_words_of_replies()
     ensures read { (c : Configuration) (r : OpReply) → map cookie_read (http_of c r).cookies ≡ map (kept c.secure) (words_set r) }
     ensures session { (c : Configuration) (r : OpReply) → sets_cookie session_cookie (http_of c r).cookies ≡ is_some (session_given r) }
     ensures browser { (c : Configuration) (r : OpReply) → sets_cookie browser_cookie (http_of c r).cookies ≡ is_some (browser_given r) }
 {}
 
-/// Authorization responses, and no other replies, send the user agent on, with status 303, and to the location of the
-/// response.
+/// Authorization responses, and no other replies, redirect the user agent with status 303, to the location of the response.
 pub fn responses_send_the_user_agent_on()
     ensures answer { (c : Configuration) (a : Answer) (given : Option Word) → (http_of c (reply.Answered a given)).location ≡ Some (answer_location a) }
     ensures refusal { (c : Configuration) (r : Refusal) (given : Option Word) → (http_of c (reply.Refused r given)).location ≡ Some (refusal_location r) }
@@ -47,20 +45,21 @@ pub fn responses_send_the_user_agent_on()
     ensures status { (c : Configuration) (r : OpReply) → ((http_of c r).status ≡ 303) ↔ (ends_turn r ≡ true) }
 {}
 
-/// Token responses, and no other replies, have `Pragma: no-cache`, and they are JSON. One that has tokens is read as these.
+/// Token responses, and no other replies, have `Pragma: no-cache`, and they are JSON. Reading one with tokens returns these
+/// tokens.
 pub fn token_responses_are_not_cached()
     ensures pragma { (c : Configuration) (r : OpReply) → (http_of c r).pragma ≡ is_token_response r }
     ensures json { (c : Configuration) (r : OpReply) → is_token_response r ≡ true → (http_of c r).kind ≡ kind.Json }
     ensures read { (c : Configuration) (w : Word) (id : Text) → IsUtf8 id → tokens_read (record { status = (http_of c (reply.Tokens w id)).status; body = (http_of c (reply.Tokens w id)).body }) ≡ Ok (record { access = word_text w; id = id }) }
 {}
 
-/// A reply is a challenge exactly where its status is 401 (RFC 9110, 15.5.2).
+/// A reply has a challenge if and only if its status is 401 (RFC 9110, 15.5.2).
 pub fn challenges_are_unauthorized()
     ensures { (c : Configuration) (r : OpReply) → ((http_of c r).status ≡ 401) ↔ (is_some (http_of c r).challenge ≡ true) }
 {}
 
-/// The login form and the consent form are posted to the paths that the provider serves for them, with the text of their own turn, and a
-/// consent page says which client asks for which scope values.
+/// The login form and the consent form are posted to the paths that the provider serves for them, with the text of their own
+/// turn. A consent page states the client and the scope values that it requests.
 pub fn forms_are_posted_to_the_provider()
     ensures login { (c : Configuration) (turn browser : Word) (again : Bool) → HasSubslice (http_of c (reply.LoginPage turn browser again)).body (codes "<form method=\"post\" action=\"" ++ (c.prefix ++ (login_path ++ codes "\">"))) }
     ensures login_turn { (c : Configuration) (turn browser : Word) (again : Bool) → HasSubslice (http_of c (reply.LoginPage turn browser again)).body (codes "<input type=\"hidden\" name=\"" ++ (turn_field ++ (codes "\" value=\"" ++ (word_text turn ++ codes "\">")))) }
@@ -70,20 +69,21 @@ pub fn forms_are_posted_to_the_provider()
     ensures scopes { (s : Scopes) → scopes_among (parameter_words (Some (scope_text s))) ≡ s }
 {}
 
-/// No word's text, no id of a registry's client and no scope value has a mark that HTML reads, so pages escape nothing.
+/// The text of a word, the id of a registry's client and the scope values have no character with a meaning in HTML, so pages
+/// escape nothing.
 pub fn pages_have_nothing_to_escape()
     ensures word { (w : Word) → has_mark (word_text w) ≡ false }
     ensures client { (c : Configuration) (n : ℕ) → IsRegistry c → has_mark (client_id c n) ≡ false }
     ensures scopes { (s : Scopes) → has_mark (scope_text s) ≡ false }
 {}
 
-/// A plain body is one line, and a reply of no kind has none.
+/// A plain body is one line, and a reply without a kind has an empty body.
 pub fn plain_bodies_are_lines()
     ensures plain { (c : Configuration) (r : OpReply) → (http_of c r).kind ≡ kind.Plain → (line : Text) × ((http_of c r).body ≡ line ++ 10 ∷ []) × (list_any (λ b. b == 10) line ≡ false) }
     ensures empty { (c : Configuration) (r : OpReply) → (http_of c r).kind ≡ kind.Empty → (http_of c r).body ≡ [] }
 {}
 
-/// A line tells which parts an answer has and nothing of what they are, and the code of a refusal.
+/// A line shows which parts a response has but none of their values, and the code of an error.
 pub fn lines_tell_parts_and_codes()
     ensures parts { (a b : Answer) (given other : Option Word) → is_some a.code ≡ is_some b.code → is_some a.id ≡ is_some b.id → is_some a.access ≡ is_some b.access → line_of (reply.Answered a given) ≡ line_of (reply.Answered b other) }
     ensures code { (a b : Refusal) (given other : Option Word) → line_of (reply.Refused a given) ≡ line_of (reply.Refused b other) → a.code ≡ b.code }

@@ -1,5 +1,5 @@
-//! The provider's replies as they go out: in HTTP (RFC 9110; OpenID Connect Core 1.0, 3.1.2, 3.1.3 and 5.3), and as the lines
-//! of a replay.
+//! The provider's replies as output: in HTTP (RFC 9110; OpenID Connect Core 1.0, 3.1.2, 3.1.3 and 5.3), and as the lines of a
+//! replay.
 //!
 //! | Module | What it has |
 //! |---|---|
@@ -7,7 +7,7 @@
 //! | `html` | the login page and the consent page |
 //! | `cookies` | the browser's cookie and the session's |
 //! | `lines` | [`op_line`]: the line of a reply |
-//! | `law` | what holds of replies that are told, for the crates above |
+//! | `law` | laws about the output of replies, for the crates above |
 #![tactic(auto)]
 
 mod cookies;

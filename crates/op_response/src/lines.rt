@@ -1,4 +1,4 @@
-// The line that tells a reply is written.
+// Writing the line of a reply.
 
 ghost use Rattle.std.specs.Prelude.{◌≡◌, IfOk};
 ghost use Rattle.op_response.specs.Lines as spec;
@@ -11,7 +11,7 @@ use op_exchange::OpReply;
 use sso_base::{NoMemory, Text};
 use std::alloc::Global;
 
-// What an error page is about.
+// The reason of an error page.
 pub(crate) fn page_word(why: PageNo) -> &'static str
     ensures { result.now ≡ spec.page_word why }
 {
@@ -36,7 +36,7 @@ fn answer_words(alloc: Global, answer: &Answer) -> Result<Text, NoMemory>
     spaced(alloc, &words)
 }
 
-// `signout` and how many messages it sends.
+// `signout` and the number of messages that it sends.
 fn signed_out(alloc: Global, messages: usize) -> Result<Text, NoMemory>
     ensures { IfOk result (λ t. t ≡ spec.signed_out messages) }
 {
@@ -44,10 +44,14 @@ fn signed_out(alloc: Global, messages: usize) -> Result<Text, NoMemory>
     phrase(alloc, "signout ", count.as_str())
 }
 
-/// The line that tells this reply in the text of a replay, without its place and its role: `login`, `login again`,
-/// `consent`, `answer` and the parts that it has, in the order `code`, `id_token` and `token`, `error` and the code, `page`
-/// and what it is about, `tokens`, `refused` and the code, `info`, `info invalid_token`, `info no_token`, `signout` and the
-/// number of messages, `metadata`, `keys`, `nothing` or `full`. It tells no word, token or claim.
+/// The line of this reply in the text of a replay, without its index and its role:
+///
+/// - `login`, `login again`, `consent`;
+/// - `answer` with its parts in the order `code`, `id_token` and `token`; `error` with the code; `page` with the reason;
+/// - `tokens`; `refused` with the code; `info`, `info invalid_token`, `info no_token`;
+/// - `signout` with the number of messages; `metadata`, `keys`, `nothing`, `full`.
+///
+/// It shows no word, token or claim.
 #[tactic(auto, unfolding(crate::specs::Lines::line_of))]
 pub fn op_line(alloc: Global, reply: &OpReply) -> Result<Text, NoMemory>
     ensures { IfOk result (λ t. t ≡ spec.line_of reply.now) }

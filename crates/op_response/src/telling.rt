@@ -1,4 +1,4 @@
-// Replies are told in HTTP.
+// Replies in HTTP.
 
 ghost use Rattle.std.specs.Prelude.{◌≡◌, IfOk};
 ghost use Rattle.op_response.specs.Cookies.{session_cookies};
@@ -35,7 +35,7 @@ fn json(alloc: Global, body: &[u8]) -> Result<HttpReply, NoMemory>
     })
 }
 
-// The user agent is sent to this location. A session that a login left is set.
+// A redirect of the user agent to this location, with the session cookie if there is a session word.
 fn sent_with_session(
     alloc: Global,
     secure: bool,
@@ -140,17 +140,17 @@ fn error_shown(alloc: Global, why: PageNo) -> Result<HttpReply, NoMemory>
     plain(alloc, 400, line.as_str())
 }
 
-/// What this reply is in HTTP, at a provider with this registry.
+/// The HTTP reply for this reply of a provider with this registry.
 ///
-/// A login page and a consent page are HTML and set the browser's cookie `op_b`. An answer and a refusal send the user agent
-/// to their location, with status 303. Each of these but a login page sets the session's cookie `op_s` where it has a
-/// session word. A cookie is a word's text, for every path, `HttpOnly`, `SameSite=Lax` and, where the issuer is https,
-/// `Secure` (RFC 6265, 4.1).
+/// A login page and a consent page are HTML and set the browser's cookie `op_b`. Authorization responses redirect the user
+/// agent to their location, with status 303. Each of these, except a login page, sets the session's cookie `op_s` if it has a
+/// session word. A cookie is a word's text, for every path, `HttpOnly`, `SameSite=Lax` and, if the issuer is https, `Secure`
+/// (RFC 6265, 4.1).
 ///
-/// Token responses are JSON with `Pragma: no-cache` (RFC 6749, 5.1 and 5.2). The claims of a user, the provider's metadata
-/// and its keys are JSON. Error pages, sign-outs and replies where nothing is found or a table is full are one line of text.
-/// A client that did not authenticate, and a request to UserInfo without a good token, are challenged, with status 401 (RFC
-/// 6749, 5.2; RFC 6750, 3).
+/// Token responses are JSON with `Pragma: no-cache` (RFC 6749, 5.1 and 5.2). The claims of a user, the provider's metadata and
+/// its keys are JSON. Error pages, sign-outs, and replies for an unknown path or a full table are one line of text. A client
+/// that is not authenticated, and a UserInfo request without a valid token, get a challenge with status 401 (RFC 6749, 5.2; RFC
+/// 6750, 3).
 #[tactic(auto, unfolding(crate::specs::Telling::http_of))]
 pub fn op_http(alloc: Global, registry: &Registry, reply: &OpReply) -> Result<HttpReply, NoMemory>
     ensures { IfOk result (λ h. h ≡ spec.http_of registry.now reply.now) }

@@ -1,4 +1,4 @@
--- The provider's tables and the questions of its past: what lives in both at a moment is the same.
+-- The provider's tables and the lookups in its past: the rows that live at a moment are the same in both.
 use Rattle.std.specs.Prelude.{◌≡◌, ◌<◌, ℕ, Bool, true, ◌&&◌}
 use Rattle.std.specs.List.{list_all}
 use Rattle.sso_base.specs.Rows.{live_rows}
@@ -28,14 +28,14 @@ pub record Agrees (t : Tables) (past : OpPast) (at : ℕ) : Type 0 where
   pub tokens : live_rows access_life access_begun at t.tokens ≡ live_accesses past at
   pub granted : (user client : ℕ) → user < 512 → client < 128 → granted_to user client t.consents ≡ grant_of past user client
 
--- no held row begins after the moment
+-- no row in the tables begins after the moment
 pub record IsBegun (t : Tables) (at : ℕ) : Type 0 where
   pub turns : none_after turn_begun at t.turns ≡ true
   pub sessions : none_after session_begun at t.sessions ≡ true
   pub codes : none_after code_begun at t.codes ≡ true
   pub tokens : none_after access_begun at t.tokens ≡ true
 
--- the rows are about users, clients and wishes that requests to this provider give
+-- the rows are about users, clients and wishes that requests to this provider can have
 abbrev pub is_own_turn : Configuration → TurnRow → Bool
 is_own_turn c row = is_prepared_wish c row.wish
 

@@ -1,5 +1,5 @@
--- How the tables are kept in agreement with the past: what an ask and its reply say of the rows that are held, and what the
--- tables are after one more pair.
+-- How the tables are kept in agreement with the past: the changes of a request and its reply to existing rows, and the tables
+-- after one more pair.
 use Rattle.std.specs.Prelude.{◌≡◌, ◌≢◌, ◌<◌, ℕ, Bool, true, false, List, length, filter_map, Option, Some, None, option_map, option_and_then, Ok, if◌then◌else◌}
 use Rattle.std.specs.Str.{bytes_eq}
 use Rattle.sso_base.specs.Words.{Word}
@@ -34,12 +34,12 @@ use Rattle.op_answer.specs.Consents.{turn_agreed, granted_by}
 
 -- ---- turns
 
--- the session that a consent page after a login gives its turn
+-- the session that a consent page after a login gives to its turn
 abbrev pub session_taken : OpAsk → OpReply → Option Word
 session_taken (Login turn signed b presented) (ConsentPage w browser session client scopes) = session
 session_taken ask reply = None
 
--- the turn of the word is ended, or else gets the session
+-- the turn with the word ends, or gets the session
 abbrev pub turn_moved : Option Word → Bool → Option Word → Tables → Tables
 turn_moved None ends taken t = t
 turn_moved (Some w) true taken t = turn_ended w t
@@ -48,13 +48,13 @@ turn_moved (Some w) false None t = t
 
 -- ---- sessions
 
--- the presented session, where a login left another
+-- the presented session, if the login gives another
 abbrev pub session_replaced : Option Word → Option Word → Option Word
 session_replaced None left = None
 session_replaced (Some presented) None = None
 session_replaced (Some presented) (Some left) = if bytes_eq presented left then None else Some presented
 
--- the session that a sign-out ends, or a login
+-- the session that a sign-out or a login ends
 abbrev pub session_ended : OpAsk → OpReply → Option Word
 session_ended (SignOut session) (SignedOut messages) = session
 session_ended (Login turn signed b presented) reply = session_replaced presented (session_set (Login turn signed b presented) reply)
@@ -70,7 +70,7 @@ visited_if used client t = t
 
 -- ---- codes
 
--- the token request that got tokens or was refused
+-- the token request that got tokens or an error response
 abbrev pub grant_answered : OpAsk → OpReply → Option Grant
 grant_answered (Token (Ok grant)) (Tokens access id) = Some grant
 grant_answered (Token (Ok grant)) (TokenRefused code) = Some grant
@@ -81,7 +81,7 @@ abbrev pub code_asked : Option Word → Grant → ℕ → Tables → Tables
 code_asked None grant at t = t
 code_asked (Some w) grant at t = after_answer (redemption w grant.client grant.redirect at t) w t
 
--- Tokens tell that the code was good, and a refusal that it was not. Where neither came, no spent code was found.
+-- Tokens imply that the code was valid, and an error response that it was not. With any other reply, no spent code was found.
 abbrev pub TellsRedeem : OpReply → Redeem → Type 0
 TellsRedeem (Tokens access id) answer = answer ≡ Redeemed
 TellsRedeem (TokenRefused code) answer = answer ≢ Redeemed
@@ -91,13 +91,13 @@ abbrev pub TellsRedemption : OpPast → ℕ → OpAsk → OpReply → Type 0
 TellsRedemption past at (Token (Ok grant)) reply = TellsRedeem reply (redeem past at grant)
 TellsRedemption past at ask reply = Unit {0}
 
--- the held code that a token request names is found among these
+-- the code that a token request names is found among these codes
 abbrev pub FindsCode : List CodeRow → OpPast → ℕ → OpAsk → Type 0
 FindsCode codes past at ask = option_and_then (λ w. row_of code_name w codes) (code_named ask) ≡ held_code past at (code_named ask)
 
 -- ---- what users have granted
 
--- the turn of a consent form that agreed and was answered or refused
+-- the turn of a consent form in which the user consented, if it got an authorization response
 abbrev pub agreed_turn : OpAsk → OpReply → Option Word
 agreed_turn (Consent turn true b session) reply = if ends_turn reply then turn else None
 agreed_turn ask reply = None
@@ -105,7 +105,7 @@ agreed_turn ask reply = None
 abbrev pub session_in : Tables → Option Word → Option SessionRow
 session_in t w = option_and_then (λ v. row_of session_name v t.sessions) w
 
--- the user of the turn's session grants what the turn's consent page was about
+-- the grant by the user of the turn's session of the scopes of the turn's consent page
 abbrev pub agreement_by : TurnRow → SessionRow → Agreement
 agreement_by turn session = record { user = session.user; client = turn.wish.client; scopes = needed_scopes turn.wish }
 
@@ -116,14 +116,14 @@ agreement_of t (Some turn) = option_map (agreement_by turn) (session_in t turn.s
 abbrev pub turn_in : Tables → Option Word → Option TurnRow
 turn_in t w = option_and_then (λ v. row_of turn_name v t.turns) w
 
--- the turn that was agreed to is found in the tables, and so is its session
+-- the turn of the consent is found in the tables, and so is its session
 pub record FindsAgreement (t : Tables) (past : OpPast) (asked : OpAsk) (reply : OpReply) : Type 0 where
   pub turn : turn_in t (agreed_turn asked reply) ≡ turn_agreed past asked reply
   pub session : (row : TurnRow) → turn_agreed past asked reply ≡ Some row → session_in t row.session ≡ session_of past row.session
 
--- ---- rows that are put
+-- ---- new rows
 
--- the row may be put into a table, in place of one of its name
+-- the row may be added to a table, and replaces one with its name
 pub record MayPut {R : Type 0} (name : R → Word) (begun : R → ℕ) (reserved : Bool) (rows : List R) (row : R) : Type 0 where
   pub room : reserved ≡ true
   pub few : length (without name (name row) rows) < most_rows
@@ -147,7 +147,7 @@ token_put (Some row) t = record t { tokens = put access_name (Some row) t.tokens
 
 -- ---- one more pair
 
--- the tables after a pair: what lived at its moment, as the pair leaves it, and what it makes and grants
+-- the tables after a pair: the rows that lived at its moment, as the pair leaves them, the rows that it makes, and its grants
 pub record FollowsPair (before after : Tables) (past : OpPast) (p : OpPair) : Type 0 where
   pub turns_are : after.turns ≡ put turn_name (turn_made (turns past) past p) (filter_map (turn_kept past p) (live_rows turn_life turn_begun p.entry.at before.turns))
   pub sessions_are : after.sessions ≡ put session_name (session_made (sessions past) past p) (filter_map (session_kept past p) (live_rows session_life session_begun p.entry.at before.sessions))

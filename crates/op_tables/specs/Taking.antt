@@ -1,4 +1,5 @@
--- What a step takes up: a pair whose reply is the answer after a past with which the tables agree, and the rows that it makes.
+-- The precondition of an update: the tables agree with the past, the reply is the answer after it, and the rows are those it
+-- makes.
 use Rattle.std.specs.Prelude.{◌≡◌, ◌≤◌, ℕ, Option, Some}
 use Rattle.sso_base.specs.Words.{Word}
 use Rattle.client_registry.specs.Configuration.{Configuration}

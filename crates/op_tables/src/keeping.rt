@@ -1,4 +1,4 @@
-// What a pair changes in the tables, so that they stay in agreement with the past. It takes no memory.
+// The changes of a pair to the tables, so that they stay in agreement with the past. They allocate nothing.
 
 ghost use Rattle.std.specs.Prelude.{◌≡◌, ◌<◌, ◌≤◌, ℕ, filter_map, Some, IfSome, option_map};
 ghost use Rattle.std.specs.Option.{option_copied};
@@ -35,7 +35,7 @@ fn turn_named(ask: &OpAsk) -> Option<Word>
     }
 }
 
-// The session that a consent page after a login gives its turn.
+// The session that a consent page after a login gives to its turn.
 fn session_taken(ask: &OpAsk, reply: &OpReply) -> Option<Word>
     ensures { result ≡ spec.session_taken ask.now reply.now }
 {
@@ -58,8 +58,8 @@ fn move_turn(grants: &mut Grants, turn: Option<Word>, ends: bool, taken: Option<
     }
 }
 
-/// Leaves the turns as the pair does: that of a form is ended where the form was answered or refused, and has the login's
-/// session after a consent page.
+/// Updates the turns with the pair. The turn of a form ends if the form got an authorization response. After a consent page it
+/// has the session of the login.
 pub(crate) fn keep_turns(grants: &mut Grants, pair: &Pair<OpAsk, OpReply>)
     ensures { (past : OpPast) → grants.new ≡ record grants.old { turns = filter_map (turns.turn_kept past pair.now) grants.old.turns } }
 {
@@ -70,7 +70,7 @@ pub(crate) fn keep_turns(grants: &mut Grants, pair: &Pair<OpAsk, OpReply>)
 
 // ---- sessions
 
-/// The word of the session that a right password left.
+/// The word of the session after a login with a correct password.
 pub fn session_set(ask: &OpAsk, reply: &OpReply) -> Option<Word>
     ensures { result ≡ sessions.session_set ask.now reply.now }
 {
@@ -80,7 +80,7 @@ pub fn session_set(ask: &OpAsk, reply: &OpReply) -> Option<Word>
     }
 }
 
-// The presented session, where a login left another.
+// The presented session, if the login gives another.
 fn session_replaced(presented: &Option<Word>, left: &Option<Word>) -> Option<Word>
     ensures { result ≡ spec.session_replaced presented.now left.now }
 {
@@ -93,7 +93,7 @@ fn session_replaced(presented: &Option<Word>, left: &Option<Word>) -> Option<Wor
     Some(*presented)
 }
 
-// The session that a sign-out ends, or a login.
+// The session that a sign-out or a login ends.
 fn session_ended(ask: &OpAsk, reply: &OpReply) -> Option<Word>
     ensures { result ≡ spec.session_ended ask.now reply.now }
 {
@@ -124,8 +124,8 @@ fn visit_if(grants: &mut Grants, used: Option<Word>, client: Option<u32>)
     }
 }
 
-/// Leaves the sessions as the pair does, which used a session and answered a client: the presented one is ended in favour
-/// of another that a login left, and by a sign-out; the one that was used has the client.
+/// Updates the sessions with the pair. The presented session ends if a login gives another, or by a sign-out. The session that
+/// the pair used gets the client that it answered.
 pub(crate) fn keep_sessions(
     grants: &mut Grants,
     pair: &Pair<OpAsk, OpReply>,
@@ -141,7 +141,7 @@ pub(crate) fn keep_sessions(
 
 // ---- codes
 
-// The token request that got tokens or was refused.
+// The token request that got tokens or an error response.
 fn grant_answered<'a>(ask: &'a OpAsk, reply: &OpReply) -> Option<&'a Grant>
     ensures { option_copied result ≡ spec.grant_answered ask.now reply.now }
 {
@@ -154,7 +154,7 @@ fn grant_answered<'a>(ask: &'a OpAsk, reply: &OpReply) -> Option<&'a Grant>
     }
 }
 
-// A client asks tokens for a code. A client that no code can be of gets nothing.
+// Redeems a code. A text that is not a word's, or a client number that no code can have, changes nothing.
 fn ask_code(grants: &mut Grants, grant: &Grant, at: Moment)
     ensures { grants.new ≡ spec.code_asked (word_of_text grant.now.code) grant.now at grants.old }
 {
@@ -167,8 +167,8 @@ fn ask_code(grants: &mut Grants, grant: &Grant, at: Moment)
     }
 }
 
-/// Leaves the codes and the access tokens as the pair does: a token request that got tokens spends its code, and one that
-/// found its code spent ends the tokens that came for it (RFC 6749, 4.1.2).
+/// Updates the codes and the access tokens with the pair. A token request that got tokens marks its code spent. One that found
+/// its code spent removes the access tokens issued for it (RFC 6749, 4.1.2).
 pub(crate) fn keep_codes(grants: &mut Grants, pair: &Pair<OpAsk, OpReply>)
     ensures { (past : OpPast) → spec.FindsCode grants.old.codes past pair.now.entry.at pair.now.entry.ask → spec.TellsRedemption past pair.now.entry.at pair.now.entry.ask pair.now.reply → grants.new ≡ record grants.old { codes = filter_map (codes.code_kept past pair.now) grants.old.codes; tokens = filter_map (tokens.access_kept past pair.now) grants.old.tokens } }
 {
@@ -177,7 +177,7 @@ pub(crate) fn keep_codes(grants: &mut Grants, pair: &Pair<OpAsk, OpReply>)
     }
 }
 
-// ---- rows that are put
+// ---- new rows
 
 fn put_turn(grants: &mut Grants, row: Option<TurnRow>)
     requires { IfSome row (λ r. MayAddRow turn_name turn_begun grants.old.reserved.turns grants.old.turns r × (r.wish.client < 128)) }
@@ -188,7 +188,7 @@ fn put_turn(grants: &mut Grants, row: Option<TurnRow>)
     }
 }
 
-// The session of that word is ended first.
+// The session with that word ends first.
 fn put_session(grants: &mut Grants, row: Option<SessionRow>)
     requires { IfSome row (λ r. spec.MayPut session_name session_begun grants.old.reserved.sessions grants.old.sessions r × (r.user < 512)) }
     ensures { grants.new ≡ spec.session_put row grants.old }
@@ -217,7 +217,7 @@ fn put_token(grants: &mut Grants, row: Option<TokenRow>)
     }
 }
 
-/// Puts at most one row in each table. A session takes the place of one of its word.
+/// Adds at most one row to each table. A session replaces the one with its word.
 pub(crate) fn put_rows(
     grants: &mut Grants,
     turn: Option<TurnRow>,
@@ -243,7 +243,7 @@ pub(crate) fn put_rows(
 
 // ---- what users have granted
 
-/// What is granted, to which client, and by which user.
+/// The granted scopes, with the client and the user.
 #[derive(Clone, Copy)]
 pub(crate) struct Agreement {
     user: u32,
@@ -251,7 +251,7 @@ pub(crate) struct Agreement {
     scopes: Scopes,
 }
 
-// The turn of a consent form that agreed and was answered or refused.
+// The turn of a consent form in which the user consented, if it got an authorization response.
 fn agreed_turn(ask: &OpAsk, reply: &OpReply) -> Option<Word>
     ensures { result ≡ spec.agreed_turn ask.now reply.now }
 {
@@ -265,7 +265,7 @@ fn agreed_turn(ask: &OpAsk, reply: &OpReply) -> Option<Word>
     }
 }
 
-// The user of the turn's session grants what the turn's consent page was about.
+// The grant by the user of the turn's session of the scopes of the turn's consent page.
 fn agreement_of(grants: &Grants, turn: Option<Word>) -> Option<Agreement>
     ensures agreement { result ≡ spec.agreement_of grants.now (spec.turn_in grants.now turn) }
     ensures in_range { IfSome result (λ a. (a.user < 512) × (a.client < 128)) }
@@ -279,7 +279,7 @@ fn agreement_of(grants: &Grants, turn: Option<Word>) -> Option<Agreement>
     })
 }
 
-/// The consent that a form gave is granted.
+/// Grants the scopes of the consent that a form gave.
 pub(crate) fn grant_agreed(grants: &mut Grants, pair: &Pair<OpAsk, OpReply>)
     ensures granted { (past : OpPast) → spec.FindsAgreement grants.old past pair.now.entry.ask pair.now.reply → (user client : ℕ) → user < 512 → client < 128 → granted_to user client grants.new.consents ≡ joined (granted_to user client grants.old.consents) (consents.granted_by past user client (consents.turn_agreed past pair.now.entry.ask pair.now.reply)) }
     ensures others { grants.new ≡ record grants.old { consents = grants.new.consents } }

@@ -1,14 +1,15 @@
-//! How the provider's tables take up an ask and its reply (OpenID Connect Core 1.0, 3), so that they stay in agreement with
-//! the past.
+//! How the provider's tables are updated with a request and its reply (OpenID Connect Core 1.0, 3), so that they stay in
+//! agreement with the past.
 //!
-//! The tables are `Grants` of `code_grant`. After a pair they hold what lived at its moment, as the pair leaves it, the rows
-//! that it makes, and what it grants (`FollowsPair`). Nothing here takes memory, so a step can take all its memory before.
+//! The tables are `Grants` of `code_grant`. After a pair they have the rows that lived at its moment, as the pair leaves them,
+//! the rows that it makes, and the scopes that it grants (`FollowsPair`). Nothing here allocates, so a step can allocate
+//! everything before.
 //!
 //! | Module | What it has |
 //! |---|---|
-//! | `made` | [`Made`], the rows that a pair brings |
-//! | `taking` | [`take_up`]: a pair is taken up |
-//! | `keeping` | what it changes in each table, and [`session_set`], the session that a login left |
+//! | `made` | [`Made`], the rows that a pair makes |
+//! | `taking` | [`take_up`] updates the tables with a pair |
+//! | `keeping` | the changes in each table, and [`session_set`], the session after a login |
 #![tactic(auto)]
 
 mod keeping;

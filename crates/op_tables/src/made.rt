@@ -1,10 +1,10 @@
-// The rows that a pair brings to the tables.
+// The rows that a pair makes.
 
 ghost use Rattle.std.specs.Prelude.{◌≡◌, None};
 
 use code_grant::{CodeRow, SessionRow, TokenRow, TurnRow};
 
-/// The rows that an ask and its reply make: at most one of each kind.
+/// The rows that a request and its reply make: at most one of each kind.
 #[derive(Drop)]
 pub struct Made {
     pub turn: Option<TurnRow>,

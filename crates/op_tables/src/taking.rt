@@ -1,4 +1,4 @@
-// A pair is taken up by the tables.
+// Updating the tables with a pair.
 
 ghost use Rattle.std.specs.Prelude.{◌≡◌, ◌<◌, ◌≤◌, ℕ, true, length, IfSome};
 ghost use Rattle.client_registry.specs.Configuration.{Configuration};
@@ -13,7 +13,7 @@ use code_grant::{Grants, SessionRow};
 use op_exchange::{OpAsk, OpReply};
 use sso_base::{Pair, Word};
 
-// No more sessions are held than a table may hold. A look-up says so.
+// The number of sessions is at most the limit. A lookup has this as its postcondition.
 fn sessions_fit(grants: &Grants, session: &Option<SessionRow>)
     ensures { IfSome session.now (λ row. length grants.now.sessions ≤ most_rows) }
 {
@@ -22,8 +22,8 @@ fn sessions_fit(grants: &Grants, session: &Option<SessionRow>)
     }
 }
 
-/// Takes a pair up: what has ended leaves the tables, the pair changes what is held, and its rows are put. It takes no
-/// memory.
+/// Updates the tables with a pair: expired rows are removed, the pair changes the other rows, and its new rows are added. It
+/// allocates nothing.
 pub fn take_up(
     grants: &mut Grants,
     pair: &Pair<OpAsk, OpReply>,

@@ -1,4 +1,4 @@
--- The names in a URL's query, read as a form (the URL Standard, 5.1).
+-- The names in a URL's query, parsed as a form (the URL Standard, 5.1).
 use Rattle.std.specs.Prelude.{ℕ, List, [], map, Option, Some, None}
 use Rattle.std.specs.Str.Lossy.{utf8_lossy}
 use Rattle.form_urlencoded.specs.Form.{raw_pairs, decode}

@@ -1,5 +1,5 @@
--- URLs that may be registered: https, or http at this machine (OpenID Connect Discovery 1.0, 3; RFC 6749, 3.1.2),
--- read by the URL Standard.
+-- URLs that may be registered: https, or http on this machine (OpenID Connect Discovery 1.0, 3; RFC 6749, 3.1.2), parsed as the
+-- URL Standard says.
 use Rattle.std.specs.Prelude.{◌≡◌, ◌≤◌, ℕ, Bool, true, not, ◌&&◌, ◌||◌, ◌==◌, List, [], length, nat_lt, nat_le, codes, Option, Some, None, is_some, option_map, unwrap_or, Result, Ok, Err, if◌then◌else◌}
 use Rattle.std.specs.List.{list_all}
 use Rattle.std.specs.Str.{bytes_eq}
@@ -16,7 +16,7 @@ use Rattle.registered_url.specs.declared.web_url.WebUrl.{WebUrl}
 abbrev pub is_visible : ℕ → Bool
 is_visible b = nat_lt 32 b && nat_lt b 127
 
--- the host as the URL writes it
+-- the host as the URL serializes it
 abbrev pub host_of : Parts → List ℕ
 host_of url = unwrap_or (option_map host_text (nonempty_host url)) []
 
@@ -44,7 +44,7 @@ pub record KeepsUrlRule (t : List ℕ) (url : Parts) : Type 0 where
   pub parsed : parse_url None t ≡ Ok url
   pub allowed : is_allowed url ≡ true
 
--- what is kept of a URL
+-- the stored parts of a URL
 abbrev pub kept_parts : Parts → WebUrl
 kept_parts url = record {
   secure = is_https url;
@@ -61,11 +61,11 @@ if_allowed (Err e) = None
 abbrev pub is_short_and_visible : List ℕ → Bool
 is_short_and_visible t = nat_le (length t) 512 && list_all is_visible t
 
--- the URL of a text that keeps the rule
+-- the URL of a text that satisfies the rule
 unfoldable pub parts_of : List ℕ → Option Parts
 parts_of t = if is_short_and_visible t then if_allowed (parse_url None t) else None
 
--- what is kept of the URL of a text that keeps the rule
+-- the stored parts of the URL of a text that satisfies the rule
 abbrev pub url_of : List ℕ → Option WebUrl
 url_of t = option_map kept_parts (parts_of t)
 

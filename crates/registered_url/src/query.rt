@@ -21,7 +21,7 @@ fn names_of_form(alloc: Global, form: &[u8]) -> Result<Texts, NoMemory>
 }
 
 impl WebUrl {
-    /// The names in the query, read as a form (the URL Standard, 5.1), in order; none where there is no query.
+    /// The names in the query, parsed as a form (the URL Standard, 5.1), in order; none if there is no query.
     pub fn query_names(&self, alloc: Global) -> Result<Texts, NoMemory>
         ensures { IfOk result (λ t. t ≡ query_names self.now) }
     {

@@ -1,4 +1,4 @@
-// A text is read as a URL, or refused.
+// Reading a text as a URL, or rejecting it.
 
 ghost use Rattle.std.specs.Prelude.{◌≡◌, ◌⊎◌, Some, None, IfOk, IfErr, codes};
 ghost use Rattle.std.specs.List.{list_all};
@@ -13,12 +13,12 @@ use url::{ParseError, Url};
 // The greatest length of a URL, in bytes.
 const MOST: usize = 512;
 
-/// Why a text is no URL that may be registered, or memory ran out.
+/// Why a text is not a URL that may be registered, or `NoMemory`.
 #[derive(Clone, Copy, Debug, PartialEq, Eq)]
 pub enum UrlNo {
     /// Memory ran out.
     NoMemory,
-    /// The text breaks the rule for URLs.
+    /// The text violates the rule for URLs.
     BadUrl,
 }
 
@@ -55,7 +55,7 @@ fn is_local_host(host: &str) -> bool
     is_same(host, "127.0.0.1") || is_same(host, "localhost")
 }
 
-// Whether the URL has no fragment and no user information, and is https, or http at this machine.
+// Whether the URL has no fragment and no user information, and is https, or http on this machine.
 fn may_be_registered(url: &Url) -> bool
     ensures { result ≡ is_allowed url.now }
 {
@@ -74,7 +74,7 @@ fn is_all_visible(text: &[u8]) -> bool
     text.iter().all(|&byte| 32 < byte && byte < 127)
 }
 
-// The URL of a text that keeps the rule.
+// The URL of a text that satisfies the rule.
 #[tactic(auto, unfolding(crate::specs::Rule::parts_of))]
 fn allowed_url(alloc: Global, text: &str) -> Result<Option<Url>, NoMemory>
     ensures { IfOk result (λ o. o ≡ parts_of text.now) }
@@ -113,7 +113,7 @@ fn query(alloc: Global, url: &Url) -> Result<Option<Text>, NoMemory>
     }
 }
 
-// What is kept of a URL.
+// The stored parts of a URL.
 fn kept(alloc: Global, url: &Url) -> Result<WebUrl, NoMemory>
     ensures { IfOk result (λ u. u ≡ kept_parts url.now) }
 {
@@ -128,9 +128,11 @@ fn kept(alloc: Global, url: &Url) -> Result<WebUrl, NoMemory>
 
 /// Reads a URL that may be registered (OpenID Connect Discovery 1.0, 3; RFC 6749, 3.1.2; the URL Standard).
 ///
-/// The rule for URLs: the text has at most 512 bytes of visible ASCII, parses as a URL, has no fragment and no user
-/// information, and is https, or http with the host `127.0.0.1` or `localhost`. Scheme, host, fragment and user
-/// information are those of the parsed URL. [`UrlNo::BadUrl`] is answered exactly where the text breaks it.
+/// The rule for URLs: the text has at most 512 bytes of visible ASCII and parses as a URL. The URL has no fragment and no user
+/// information, and is https, or http with the host `127.0.0.1` or `localhost`. Scheme, host, fragment and user information are
+/// those of the parsed URL.
+///
+/// Returns [`UrlNo::BadUrl`] if and only if the text violates the rule.
 pub fn read_url(alloc: Global, text: &str) -> Result<WebUrl, UrlNo>
     ensures ok { IfOk result (λ u. url_of text.now ≡ Some u) }
     ensures err { IfErr result (λ e. (e ≡ UrlNo.NoMemory) ⊎ ((e ≡ UrlNo.BadUrl) × (url_of text.now ≡ None))) }

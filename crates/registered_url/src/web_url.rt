@@ -1,4 +1,4 @@
-// What is kept of URLs.
+// The stored parts of URLs.
 
 ghost use Rattle.std.specs.Prelude.{◌≡◌, ◌<◌, [], ◌∷◌, ◌++◌, length, IfOk, OnOk, OnErr, slice_get, Some};
 ghost use Rattle.registered_url.specs.Rule.{is_same_server};
@@ -7,18 +7,18 @@ use sso_base::{NoMemory, Text, copied_text};
 use std::alloc::Global;
 use std::marker::Model;
 
-/// What is kept of a URL whose scheme is http or https.
+/// The stored parts of a URL whose scheme is http or https.
 #[derive(Drop)]
 pub struct WebUrl {
     /// Whether the scheme is https.
     pub secure: bool,
-    /// The host, as the URL writes it: in lower case, an address in brackets if it is of version 6.
+    /// The host as the URL serializes it: in lower case, an IPv6 address in brackets.
     pub host: Text,
-    /// The port, 443 or 80 where none is written.
+    /// The port; 443 or 80 if none is written.
     pub port: u16,
     /// The path, percent-encoded, from its first `/`.
     pub path: Text,
-    /// The query, percent-encoded, without its `?`, where there is a `?`.
+    /// The query, percent-encoded, without its `?`, if there is a `?`.
     pub query: Option<Text>,
 }
 
@@ -32,7 +32,7 @@ impl WebUrl {
             && self.port == other.port
     }
 
-    /// An equal URL.
+    /// A copy of the URL.
     pub fn copy(&self, alloc: Global) -> Result<WebUrl, NoMemory>
         ensures { IfOk result (λ u. u ≡ self.now) }
     {
@@ -46,7 +46,7 @@ impl WebUrl {
     }
 }
 
-/// URLs in order, seen as the list of them.
+/// A list of URLs. The model is that list.
 #[derive(Drop)]
 pub struct WebUrls {
     items: Vec<WebUrl>,
@@ -62,7 +62,7 @@ impl Model for WebUrls {
 }
 
 impl WebUrls {
-    /// No URL.
+    /// An empty list.
     pub fn new(alloc: Global) -> WebUrls
         ensures { result ≡ [] }
     {
@@ -71,7 +71,7 @@ impl WebUrls {
         }
     }
 
-    /// Adds a URL at the end.
+    /// Adds a URL at the end. On `NoMemory` the list is unchanged.
     pub fn push(&mut self, url: WebUrl) -> Result<(), NoMemory>
         ensures ok { OnOk result (self.new ≡ self.old ++ url ∷ []) }
         ensures err { OnErr result (self.new ≡ self.old) }
@@ -87,7 +87,7 @@ impl WebUrls {
         self.items.len()
     }
 
-    /// The URL at this place, from 0.
+    /// The URL at this index, counted from 0.
     pub fn at(&self, place: usize) -> &WebUrl
         requires { place < length self.now }
         ensures { slice_get self.now place ≡ Some result.now }
@@ -102,7 +102,7 @@ impl WebUrls {
         self.items.as_slice()
     }
 
-    /// An equal list of URLs.
+    /// A copy of the list.
     pub fn copy(&self, alloc: Global) -> Result<WebUrls, NoMemory>
         ensures { IfOk result (λ u. u ≡ self.now) }
     {

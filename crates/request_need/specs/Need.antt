@@ -15,11 +15,11 @@ use Rattle.request_need.specs.declared.standing.Standing.{Standing}
 
 -- ---- scope values
 
--- the scope values that a consent to the wish is about: those that it names, and those that hold an asked claim
+-- the scope values that a consent to the wish covers: those that it names, and those of the claims that it requests
 unfoldable pub needed_scopes : Wish → Scopes
 needed_scopes wish = joined wish.scopes (joined (scopes_with_any wish.id_asked) (scopes_with_any wish.info_asked))
 
--- ---- what is asked of the session
+-- ---- conditions on the session
 
 abbrev pub is_older : Option ℕ → ℕ → Bool
 is_older None age = false
@@ -39,18 +39,18 @@ abbrev pub is_none_of : List ℕ → Option (List (List ℕ)) → Bool
 is_none_of sub None = false
 is_none_of sub (Some subs) = not (is_one_of subs sub)
 
--- particular users are asked for, and this is none of them (Core 5.5.1)
+-- particular users are requested, and this is none of them (Core 5.5.1)
 abbrev pub is_foreign : Configuration → Wish → Option Standing → Bool
 is_foreign c wish None = false
 is_foreign c wish (Some s) = is_none_of (subject_at c wish.client s.user) wish.subs
 
--- ---- what is asked of the user's consent
+-- ---- conditions on the user's consent
 
 abbrev pub asks_consent : Option Client → Bool
 asks_consent None = false
 asks_consent (Some client) = client.asks_consent
 
--- consent is wanted, and not given yet (Core 3.1.2.4)
+-- consent is required, and not given yet (Core 3.1.2.4)
 abbrev pub is_unagreed : Configuration → Wish → Option Standing → Bool
 is_unagreed c wish None = false
 is_unagreed c wish (Some s) =
@@ -60,7 +60,7 @@ is_unagreed c wish (Some s) =
 
 -- ---- the need
 
--- what is needed: the first case that fits
+-- the need: the first case that applies
 unfoldable pub needed : Configuration → Wish → Option Standing → ℕ → Need
 needed c wish standing at =
     if wish.none && (is_none standing || is_late wish standing at || is_foreign c wish standing)
@@ -77,7 +77,7 @@ needed c wish standing at =
     then need.Consent
     else need.Answer
 
--- ---- what a need is asked of
+-- ---- precondition
 
 -- the user of the standing is one of the registry's
 abbrev pub IsUserOf : Configuration → Option Standing → Type 0

@@ -10,8 +10,8 @@ use client_registry::Registry;
 use oidc_words::{AuthError, Scopes};
 use sso_base::{Moment, Text, Texts};
 
-/// The scope values that a consent to the wish is about: those that it names, and those that hold a claim that it asks
-/// for (OpenID Connect Core 1.0, 5.4 and 5.5).
+/// The scope values that a consent to the wish covers: those that it names, and those of the claims that it requests (OpenID
+/// Connect Core 1.0, 5.4 and 5.5).
 #[tactic(auto, unfolding(crate::specs::Need::needed_scopes))]
 pub fn needed_scopes(wish: &Wish) -> Scopes
     ensures { result ≡ spec.needed_scopes wish.now }
@@ -20,7 +20,7 @@ pub fn needed_scopes(wish: &Wish) -> Scopes
     wish.scopes.joined(asked)
 }
 
-// Whether the age is above the greatest that is allowed.
+// Whether the age is above the allowed maximum.
 fn is_older(most: Option<u64>, age: u64) -> bool
     ensures { result ≡ spec.is_older most age }
 {
@@ -61,7 +61,7 @@ fn is_none_of(sub: &Text, subs: &Option<Texts>) -> bool
     }
 }
 
-// Whether the wish asks for other users than this one.
+// Whether the wish requests particular users, and this is none of them.
 fn is_foreign(registry: &Registry, wish: &Wish, standing: Option<&Standing>) -> bool
     requires client { wish.now.client < length registry.now.clients }
     requires user { spec.IsUserOf registry.now (option_map (λ s. s.now) standing) }
@@ -73,7 +73,7 @@ fn is_foreign(registry: &Registry, wish: &Wish, standing: Option<&Standing>) -> 
     }
 }
 
-// Whether a consent is wanted that was not given.
+// Whether a consent is required that was not given.
 fn is_unagreed(registry: &Registry, wish: &Wish, standing: Option<&Standing>) -> bool
     requires client { wish.now.client < length registry.now.clients }
     ensures { result ≡ spec.is_unagreed registry.now wish.now (option_map (λ s. s.now) standing.entry) }
@@ -88,8 +88,8 @@ fn is_unagreed(registry: &Registry, wish: &Wish, standing: Option<&Standing>) ->
     }
 }
 
-/// What a request still needs of the user who asks, at a moment: the first case that fits (OpenID Connect Core 1.0,
-/// 3.1.2.1 to 3.1.2.4). It takes no memory and never fails.
+/// What a request still needs from the user at a moment: the first case that applies (OpenID Connect Core 1.0, 3.1.2.1 to
+/// 3.1.2.4). It allocates nothing and never fails.
 #[tactic(auto, unfolding(crate::specs::Need::needed))]
 pub fn decide(registry: &Registry, wish: &Wish, standing: Option<&Standing>, at: Moment) -> Need
     requires client { wish.now.client < length registry.now.clients }

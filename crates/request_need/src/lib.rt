@@ -1,12 +1,12 @@
-//! What an authorization request still needs before it is answered: that the user logs in, that the user agrees, or
-//! nothing (OpenID Connect Core 1.0, 3.1.2.1 to 3.1.2.4).
+//! What an authorization request still needs before it is answered: that the user logs in, that the user consents, or nothing
+//! (OpenID Connect Core 1.0, 3.1.2.1 to 3.1.2.4).
 //!
 //! | Module | What it has |
 //! |---|---|
-//! | `standing` | [`Standing`], who asks, as far as the provider knows |
+//! | `standing` | [`Standing`], the session that a request comes with |
 //! | `need` | [`Need`], what is needed |
-//! | `deciding` | [`decide`] tells the need; [`needed_scopes`] are those that a consent is about |
-//! | `law` | what holds of needs, for the crates above |
+//! | `deciding` | [`decide`] returns the need; [`needed_scopes`] are the scope values of a consent |
+//! | `law` | laws about needs, for the crates above |
 #![tactic(auto)]
 
 mod deciding;

@@ -7,7 +7,7 @@ use oidc_words::AuthError;
 pub enum Need {
     /// The user logs in (OpenID Connect Core 1.0, 3.1.2.3).
     Login,
-    /// The user agrees (OpenID Connect Core 1.0, 3.1.2.4).
+    /// The user consents (OpenID Connect Core 1.0, 3.1.2.4).
     Consent,
     /// Nothing: it is answered.
     Answer,

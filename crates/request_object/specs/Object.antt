@@ -1,5 +1,5 @@
--- What a request object is, in the standard's words: a sealed claim set in which the parameters of an authorization
--- request stand (OpenID Connect Core 1.0, 6.1), and the refusals of one that is none, in order.
+-- What a request object is, in the standard's words: a sealed claim set that contains the parameters of an authorization
+-- request (OpenID Connect Core 1.0, 6.1). Then the errors for other texts, in order.
 use Rattle.std.specs.Prelude.{◌≡◌, ◌⊎◌, ℕ, List, [], ◌∷◌, Bool, ◌||◌, Option, Some, None, option_map, option_and_then, is_some, codes, IsTrue, IfSome}
 use Rattle.sso_base.specs.Texts.{has_text}
 use Rattle.serde_json.specs.Data.{Data, string, Members}
@@ -13,17 +13,18 @@ use Rattle.request_object.specs.declared.no.ObjNo.{ObjNo}
 use Rattle.request_object.specs.declared.no.ObjNo.TheVariants.{Claims, Issuer, Audience, Nested}
 use Rattle.request_object.specs.Reading.{digits_in, object_text, text_or, is_other, lacks}
 
--- the value is a string or an array of strings, and the text is the string or among them (RFC 7519, 4.1.3)
+-- the value is this string, or an array of strings that contains it (RFC 7519, 4.1.3)
 abbrev pub IsFor : List ℕ → Data → Type 0
 IsFor t d = (ts : List (List ℕ)) × (data_texts d ≡ Some ts) × IsTrue (has_text t ts)
 
--- the parameter is absent, or its value is this string, or has this text in another form
+-- the parameter is absent, or its value is this string, or another form of this text
 abbrev pub StandsAs : (Data → Option (List ℕ)) → Option Data → Option (List ℕ) → Type 0
 StandsAs other None v = v ≡ None
 StandsAs other (Some d) None = ⊥
 StandsAs other (Some d) (Some s) = (d ≡ string s) ⊎ (other d ≡ Some s)
 
--- the parameters p stand in the claim set, each under its name, and it is the client's, for the issuer, where it says so
+-- the claim set contains the parameters p, each under its name; `iss`, if present, is the client, and `aud`, if present, has
+-- the issuer
 pub record HasRequest (client : Client) (issuer : List ℕ) (ms : Members) (p : Params) : Type 0 where
   pub from_client : IfSome (get_member (codes "iss") ms) (λ d. d ≡ string client.id)
   pub for_issuer : IfSome (get_member (codes "aud") ms) (λ d. IsFor issuer d)
@@ -52,7 +53,7 @@ pub record IsRequestObject (client : Client) (issuer t : List ℕ) (p : Params) 
   pub reads : Reads payload claims
   pub has : HasRequest client issuer claims p
 
--- ---- the refusals of a claim set: first the claims of another kind, in the order of their names, then the others
+-- ---- the errors of a claim set: first the claims of another kind, in the order of their names, then the others
 
 abbrev pub request_refusals : Client → List ℕ → Members → List (Bool × ObjNo)
 request_refusals client issuer ms =

@@ -1,4 +1,4 @@
--- The parameters that a request object gives, or why it is refused (OpenID Connect Core 1.0, 6.1 and 6.3).
+-- The parameters in a request object, or why it is rejected (OpenID Connect Core 1.0, 6.1 and 6.3).
 use Rattle.std.specs.Prelude.{ℕ, List, Bool, true, false, not, ◌||◌, Option, Some, None, option_map, is_some, Result, Ok, Err, codes, decimal}
 use Rattle.std.specs.Str.{bytes_eq}
 use Rattle.serde_json.specs.Data.{Data, Members}
@@ -34,19 +34,19 @@ abbrev pub either : Option (List ℕ) → Option (List ℕ) → Option (List ℕ
 either (Some s) o = Some s
 either None o = o
 
--- a string is its own text; what is none may have a text of another form
+-- a string is its own text; another value may have a text in another form
 abbrev pub text_or : (Data → Option (List ℕ)) → Data → Option (List ℕ)
 text_or other d = either (as_str d) (other d)
 
--- `max_age`, a string or a number (OpenID Connect Core 1.0, 6.1, where it is a number)
+-- `max_age`, a string or a number (OpenID Connect Core 1.0, 6.1, has it as a number)
 abbrev pub age_claim : Members → Result (Option (List ℕ)) ClaimNo
 age_claim ms = of_kind (codes "max_age") (get_member (codes "max_age") ms) (text_or digits_in)
 
--- `claims`, a string or an object (OpenID Connect Core 1.0, 5.5, where it is an object in a request object)
+-- `claims`, a string or an object (OpenID Connect Core 1.0, 5.5, has it as an object in a request object)
 abbrev pub claims_claim : Members → Result (Option (List ℕ)) ClaimNo
 claims_claim ms = of_kind (codes "claims") (get_member (codes "claims") ms) (text_or object_text)
 
--- the claims, as far as they are there; the first of another kind, by name, is refused
+-- the claims, each of which may be absent; the first of another kind, by name, is an error
 unfoldable pub first_in : Members → Result FirstClaims ClaimNo
 first_in ms =
     and_then (texts_claim (codes "aud") ms) (λ aud.
@@ -73,19 +73,19 @@ last_in ms =
 abbrev pub raw_in : Members → Result RawRequest ClaimNo
 raw_in ms = and_then (first_in ms) (λ first. and_then (last_in ms) (λ last. Ok (record { first = first; last = last })))
 
--- ---- what is refused, in order
+-- ---- the errors, in order
 
--- it is there, and is another text
+-- the text is present, and differs from this one
 abbrev pub is_other : List ℕ → Option (List ℕ) → Bool
 is_other t None = false
 is_other t (Some s) = not (bytes_eq s t)
 
--- the texts are there, and the text is not among them
+-- the texts are present, and the text is not among them
 abbrev pub lacks : List ℕ → Option (List (List ℕ)) → Bool
 lacks t None = false
 lacks t (Some ts) = not (has_text t ts)
 
--- the parameters, where the object is the client's, for this provider, and with no request inside
+-- the parameters, if the object is the client's, for this provider, and contains no request object
 unfoldable pub judged : Client → List ℕ → RawRequest → Result Params ObjNo
 judged client issuer r =
     forbid Issuer (is_other client.id r.first.iss)
@@ -111,7 +111,7 @@ abbrev pub if_raw : Client → List ℕ → Result RawRequest ClaimNo → Result
 if_raw client issuer (Ok r) = judged client issuer r
 if_raw client issuer (Err e) = Err (Claims e)
 
--- the parameters that a claim set gives
+-- the parameters in a claim set
 unfoldable pub request_of : Client → List ℕ → Members → Result Params ObjNo
 request_of client issuer ms = if_raw client issuer (raw_in ms)
 
@@ -123,17 +123,17 @@ abbrev pub if_opened : Client → List ℕ → Result Unsealed JwsNo → Result 
 if_opened client issuer (Ok o) = if_claims client issuer (claims_read o.payload)
 if_opened client issuer (Err e) = Err (Jws e)
 
--- the parameters that a text gives as a request object of the client for the issuer, or the first refusal that fits
+-- the parameters in a text as a request object of the client for the issuer, or the first error that applies
 unfoldable pub request_read : Client → List ℕ → List ℕ → Result Params ObjNo
 request_read client issuer t = if_opened client issuer (verdict client.secret t)
 
--- want of memory stands inside another refusal
+-- `NoMemory` is wrapped in another error
 abbrev pub hides_memory : ObjNo → Bool
 hides_memory (Jws jws.NoMemory) = true
 hides_memory (Claims claims.NoMemory) = true
 hides_memory e = false
 
--- a refusal of a sealed text or of claims, as that of a request object; want of memory is the object's own
+-- an error of a sealed text or of claims, as an error of the request object; `NoMemory` stays `NoMemory`
 abbrev pub as_jws : JwsNo → ObjNo
 as_jws jws.NoMemory = NoMemory
 as_jws e = Jws e

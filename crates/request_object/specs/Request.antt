@@ -1,5 +1,5 @@
--- A request object that is written: the parameters of an authorization request as claims, issued by the client for the
--- provider (OpenID Connect Core 1.0, 6.1). It has neither `request` nor `request_uri`, nor `registration`.
+-- Writing a request object: the parameters of an authorization request as claims, issued by the client for the provider (OpenID
+-- Connect Core 1.0, 6.1). It has no `request`, no `request_uri` and no `registration`.
 use Rattle.std.specs.Prelude.{ℕ, List, [], ◌∷◌, ◌++◌, Option, Some, option_map, codes}
 use Rattle.serde_json.specs.Data.{string, Members, no_members}
 use Rattle.claim_set.specs.Building.{Entry, put_all}

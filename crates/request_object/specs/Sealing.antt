@@ -1,4 +1,4 @@
--- The parameters of which a request object is written.
+-- The parameters from which a request object can be written.
 use Rattle.std.specs.Prelude.{◌≡◌, ◌≤◌, ℕ, List, length, None, IfSome}
 use Rattle.std.specs.Str.{IsUtf8}
 use Rattle.claim_set.specs.Reading.{claims_text}
@@ -7,7 +7,7 @@ use Rattle.client_registry.specs.declared.records.Client.{Client}
 use Rattle.request_params.specs.declared.params.Params.{Params}
 use Rattle.request_object.specs.Request.{request_members}
 
--- the parameters can be sealed: the claims fit, their text is short, and what a request object must not have is absent
+-- the parameters can be sealed: the claims fit, their text is short, and what a request object must not contain is absent
 pub record IsSealable (client : Client) (issuer : List ℕ) (p : Params) : Type 0 where
   pub fits : ClaimsFit (request_members client issuer p)
   pub short : length (claims_text (request_members client issuer p)) ≤ 6000

@@ -1,4 +1,4 @@
-// What holds of request objects, for the crates above.
+// Laws about request objects, for the crates above.
 
 ghost use Rattle.std.specs.Prelude.{◌≡◌, ℕ, List, Ok, Err, IsOk};
 ghost use Rattle.serde_json.specs.Data.{Members};
@@ -17,15 +17,15 @@ ghost use Rattle.request_object.specs.Sealing.{HasTexts, IsSealable};
 ghost use Rattle.request_object.specs.Reading.{request_read};
 ghost use Rattle.request_object.specs.Object.{IsRequestObject, request_refusals};
 
-/// A text is read exactly where it is a request object of the client for the issuer: a claim set, sealed under the
-/// client's secret, in which the parameters stand (OpenID Connect Core 1.0, 6.1).
+/// A text is accepted if and only if it is a request object of the client for the issuer: a claim set, sealed under the
+/// client's secret, that contains the parameters (OpenID Connect Core 1.0, 6.1).
 pub fn read_objects_are_request_objects()
     ensures object { (client : Client) (issuer t : List ℕ) (p : Params) → request_read client issuer t ≡ Ok p → IsRequestObject client issuer t p }
     ensures read { (client : Client) (issuer t : List ℕ) (p : Params) → IsRequestObject client issuer t p → request_read client issuer t ≡ Ok p }
 {}
 
-/// A text that is no request object is refused for the first reason: it is not sealed under the client's secret, its
-/// payload is no claim set, or its claims meet a condition of `request_refusals`, of which the first counts.
+/// A text that is no request object is rejected for the first of these reasons. It is not sealed under the client's secret; its
+/// payload is no claim set; or a condition of `request_refusals` is true, the first of which counts.
 pub fn refused_objects_have_the_first_reason()
     ensures unopened { (client : Client) (issuer t : List ℕ) (e : JwsNo) → verdict client.secret t ≡ Err e → request_read client issuer t ≡ Err (no.Jws e) }
     ensures unread { (client : Client) (issuer h p t : List ℕ) (e : ClaimNo) → Sealed client.secret h p t → claims_read p ≡ Err e → request_read client issuer t ≡ Err (no.Claims e) }
@@ -33,12 +33,12 @@ pub fn refused_objects_have_the_first_reason()
     ensures accepted { (client : Client) (issuer h p t : List ℕ) (ms : Members) → Sealed client.secret h p t → Reads p ms → first_refusal (request_refusals client issuer ms) ≡ Ok tt → IsOk (request_read client issuer t) }
 {}
 
-/// The claim set of a request object fits where the identifier, the issuer and the parameters are in UTF-8.
+/// The claim set of a request object fits if the identifier, the issuer and the parameters are in UTF-8.
 pub fn parameters_of_their_types_fit()
     ensures { (client : Client) (issuer : List ℕ) (p : Params) → HasTexts client issuer p → ClaimsFit (request_members client issuer p) }
 {}
 
-/// The text that is written for parameters is read, by the same client's secret and for the same issuer, as these
+/// Reading the text that is written for parameters, with the same client's secret and for the same issuer, returns these
 /// parameters.
 pub fn sealed_requests_are_read()
     ensures { (client : Client) (issuer : List ℕ) (p : Params) → IsSealable client issuer p → request_read client issuer (request_text client issuer p) ≡ Ok p }

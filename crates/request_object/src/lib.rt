@@ -1,15 +1,15 @@
-//! Request objects: authorization requests whose parameters are sealed by the client (OpenID Connect Core 1.0, 6.1).
+//! Request objects: authorization requests whose parameters are signed by the client (OpenID Connect Core 1.0, 6.1).
 //!
-//! A request object is a sealed text (RFC 7515, 3.1) under the client's secret. Its payload is a claim set in which the
-//! parameters of the request stand by their names, with the client as `iss` and the provider's issuer as `aud`.
+//! A request object is a sealed text (RFC 7515, 3.1) under the client's secret. Its payload is a claim set that contains the
+//! parameters of the request by name, with the client as `iss` and the provider's issuer as `aud`.
 //!
 //! | Module | What it has |
 //! |---|---|
-//! | `sealing` | [`seal_request`] writes and seals one; [`written_len`] is the test of one condition of it |
+//! | `sealing` | [`seal_request`] writes and seals one; [`written_len`] tests one of its preconditions |
 //! | `reading` | [`unseal_request`] reads the parameters of one |
 //! | `raw` | the claims of a request object, each of its kind |
-//! | `no` | [`ObjNo`], why a request object is refused |
-//! | `law` | what holds of request objects, for the crates above |
+//! | `no` | [`ObjNo`], why a request object is rejected |
+//! | `law` | laws about request objects, for the crates above |
 #![tactic(auto)]
 
 mod law;

@@ -1,26 +1,26 @@
-// Why a request object is refused.
+// Why a request object is rejected.
 
 use claim_set::ClaimNo;
 use jws_compact::JwsNo;
 use sso_base::NoMemory;
 
-/// Why a text is no request object of a client for a provider, or memory ran out. Where several of the former fit, the
-/// first in this order is answered (OpenID Connect Core 1.0, 6.1 and 6.3).
+/// Why a text is no request object of a client for a provider, or `NoMemory`. If several reasons apply, the first in this order
+/// is returned (OpenID Connect Core 1.0, 6.1 and 6.3).
 #[derive(Drop)]
 pub enum ObjNo {
     /// Memory ran out.
     NoMemory,
-    /// It is no sealed text under the client's secret, for this reason. It is never [`JwsNo::NoMemory`].
+    /// It is not a sealed text under the client's secret, for this reason. The reason is never [`JwsNo::NoMemory`].
     Jws(JwsNo),
-    /// Its payload is no claim set, or a claim is of another kind, the first in the order of their names: a parameter
-    /// or `iss` that is not a string, but for a `max_age` that is a number from 0 to 2^40 - 1 and a `claims` that is an
-    /// object, or an `aud` that is neither a string nor an array of strings. It is never [`ClaimNo::NoMemory`].
+    /// Its payload is no claim set, or a claim has another kind: the first such claim in the order of their names. Parameters
+    /// and `iss` must be strings, except that `max_age` may be a number from 0 to 2^40 - 1 and `claims` an object. `aud` must
+    /// be a string or an array of strings. The reason is never [`ClaimNo::NoMemory`].
     Claims(ClaimNo),
-    /// `iss` is there and is not the client (6.1).
+    /// `iss` is present and is not the client (6.1).
     Issuer,
-    /// `aud` is there and the provider's issuer is not in it (6.1).
+    /// `aud` is present and does not contain the provider's issuer (6.1).
     Audience,
-    /// `request` or `request_uri` is there (6.1).
+    /// `request` or `request_uri` is present (6.1).
     Nested,
 }
 
@@ -41,7 +41,7 @@ impl From<JwsNo> for ObjNo {
 
     ghost from_gives = { λ given e. (e ≡ as_jws given) × IsFalse (hides_memory e) };
 
-    // The refusal of a sealed text, as that of a request object.
+    // An error of a sealed text, as an error of the request object.
     fn from(error: JwsNo) -> ObjNo {
         match error {
             JwsNo::NoMemory => ObjNo::NoMemory,
@@ -56,7 +56,7 @@ impl From<ClaimNo> for ObjNo {
 
     ghost from_gives = { λ given e. (e ≡ as_claims given) × IsFalse (hides_memory e) };
 
-    // The refusal of claims, as that of a request object.
+    // An error of claims, as an error of the request object.
     fn from(error: ClaimNo) -> ObjNo {
         match error {
             ClaimNo::NoMemory => ObjNo::NoMemory,

@@ -1,4 +1,4 @@
-// The claims of a request object, as far as they are there, each of its kind.
+// The claims of a request object, each of its kind or absent.
 
 ghost use Rattle.std.specs.Prelude.{◌≡◌, ◌⊎◌, Ok, Err, IfOk, IfErr, option_and_then, decimal, codes};
 ghost use Rattle.serde_json.specs.Find.{get_member};
@@ -61,7 +61,7 @@ fn age(alloc: Global, claims: &ClaimSet) -> Result<Option<Text>, ClaimNo>
     }
 }
 
-// The JSON text of the object that `claims` is, where it is one.
+// The JSON text of the object in `claims`, if it is an object.
 fn claims_object(claims: &ClaimSet) -> Result<Option<Text>, NoMemory>
     ensures { IfOk result (λ o. o ≡ option_and_then object_text (get_member (codes "claims") claims.now)) }
 {
@@ -87,7 +87,7 @@ fn asked_claims(claims: &ClaimSet) -> Result<Option<Text>, ClaimNo>
     }
 }
 
-// The claims are asked for in the order of their names, so that the first of another kind is the one that is refused.
+// The claims are read in the order of their names, so the first one of another kind decides.
 #[tactic(auto, unfolding(crate::specs::Reading::first_in))]
 fn first_claims(alloc: Global, claims: &ClaimSet) -> Result<FirstClaims, ClaimNo>
     ensures ok { IfOk result (λ r. first_in claims.now ≡ Ok r) }
@@ -136,7 +136,7 @@ fn last_claims(claims: &ClaimSet) -> Result<LastClaims, ClaimNo>
     })
 }
 
-// The claims, as far as they are there, or the refusal of the first that is of another kind.
+// The claims, each of which may be absent, or the error for the first that has another kind.
 pub(crate) fn raw_claims(alloc: Global, claims: &ClaimSet) -> Result<RawRequest, ClaimNo>
     ensures ok { IfOk result (λ r. raw_in claims.now ≡ Ok r) }
     ensures err { IfErr result (λ e. (e ≡ ClaimNo.NoMemory) ⊎ (raw_in claims.now ≡ Err e)) }

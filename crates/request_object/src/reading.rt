@@ -1,4 +1,4 @@
-// A request object is read, or refused for the first reason that fits.
+// Reading a request object, or rejecting a text for the first reason that applies.
 
 ghost use Rattle.std.specs.Prelude.{◌≡◌, ◌⊎◌, Ok, Err, IfOk, IfErr, IsFalse};
 ghost use Rattle.request_params.specs.declared.params.Params.{Params};
@@ -14,7 +14,7 @@ use request_params::Params;
 use sso_base::{Text, Texts};
 use std::alloc::Global;
 
-// Whether there is a text, and it is another than this one.
+// Whether there is a text, and it differs from this one.
 fn is_other(text: &Text, given: &Option<Text>) -> bool
     ensures { result ≡ is_other_text text.now given.now }
 {
@@ -34,7 +34,7 @@ fn lacks(text: &Text, given: &Option<Texts>) -> bool
     }
 }
 
-// The parameters among the claims, where the object is the client's, for this issuer, and has no request inside.
+// The parameters among the claims, if the object is the client's, for this issuer, and contains no request object.
 #[tactic(auto, unfolding(crate::specs::Reading::judged))]
 fn params_in(client: &Client, issuer: &Text, raw: RawRequest) -> Result<Params, ObjNo>
     ensures ok { IfOk result (λ p. judged client.now issuer.now raw ≡ Ok p) }
@@ -68,7 +68,7 @@ fn params_in(client: &Client, issuer: &Text, raw: RawRequest) -> Result<Params, 
     })
 }
 
-// The parameters that a claim set gives.
+// The parameters in a claim set.
 #[tactic(auto, unfolding(crate::specs::Reading::request_of))]
 fn request_in(
     alloc: Global,
@@ -84,7 +84,7 @@ fn request_in(
     params_in(client, issuer, raw)
 }
 
-// The parameters of the request object that a text is, or the first refusal that fits.
+// The parameters of the request object that a text is, or the first error that applies.
 #[tactic(auto, unfolding(crate::specs::Reading::request_read))]
 fn opened(alloc: Global, client: &Client, issuer: &Text, text: &[u8]) -> Result<Params, ObjNo>
     ensures answers { IfOk result (λ p. request_read client.now issuer.now text.now ≡ Ok p) }
@@ -103,8 +103,8 @@ fn opened(alloc: Global, client: &Client, issuer: &Text, text: &[u8]) -> Result<
 /// `claims` an object, which is read as its JSON text. An empty string is a value. `iss` and `aud` may be absent; `exp`,
 /// `iat`, `nbf`, `jti` and all other claims are ignored.
 ///
-/// Exactly the request objects of this client for this issuer are read. Of any other text the first refusal that fits is
-/// answered, in the order of [`ObjNo`]. A refusal has no want of memory inside.
+/// Accepts exactly the request objects of this client for this issuer. For any other text it returns the first error that
+/// applies, in the order of [`ObjNo`]. `NoMemory` is never wrapped in another error.
 pub fn unseal_request(
     alloc: Global,
     client: &Client,

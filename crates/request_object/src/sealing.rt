@@ -1,4 +1,4 @@
-// A request object is written: the parameters as a claim set, sealed under the client's secret.
+// Writing a request object: the parameters as a claim set, sealed under the client's secret.
 
 ghost use Rattle.std.specs.Prelude.{◌≡◌, ◌≤◌, IfOk, OnOk, Ok, None, length};
 ghost use Rattle.claim_set.specs.Building.{put_all};
@@ -58,7 +58,7 @@ fn request_set(
     Ok(set)
 }
 
-/// How many bytes the written claims have: the test of the first condition of [`seal_request`].
+/// How many bytes the written claims have. This tests the first precondition of [`seal_request`].
 pub fn written_len(
     alloc: Global,
     client: &Client,
@@ -71,12 +71,12 @@ pub fn written_len(
     Ok(written.as_bytes().len())
 }
 
-/// The request object with these parameters, of the client for the provider with this issuer: the claims `iss`, the
-/// client's identifier, `aud`, the issuer, and each parameter that is there, as a string, sealed under the client's
-/// secret (OpenID Connect Core 1.0, 6.1). It is read as the same parameters.
+/// The request object with these parameters, of the client for the provider with this issuer. Its claims are `iss`, the
+/// client's identifier, `aud`, the issuer, and each parameter that is present, as a string. It is sealed under the client's
+/// secret (OpenID Connect Core 1.0, 6.1). Reading it returns the same parameters.
 ///
-/// The written claims have at most 6,000 bytes, of which [`written_len`] is the test, and `request`, `request_uri` and
-/// `registration` are absent.
+/// The written claims have at most 6,000 bytes; [`written_len`] tests this. `request`, `request_uri` and `registration` are
+/// absent.
 pub fn seal_request(
     alloc: Global,
     client: &Client,

@@ -1,15 +1,15 @@
--- Pairs behind a URL: as its query, or as its fragment (RFC 6749, 3.1 and 4.2.2; OAuth 2.0 Multiple Response Type Encoding
+-- Pairs appended to a URL: as its query, or as its fragment (RFC 6749, 3.1 and 4.2.2; OAuth 2.0 Multiple Response Type Encoding
 -- Practices, 2.1).
 use Rattle.std.specs.Prelude.{Bool, ◌==◌, List, ◌++◌, codes, if◌then◌else◌}
 use Rattle.std.specs.List.{list_any}
 use Rattle.sso_base.specs.Words.{Text}
 use Rattle.request_params.specs.Form.{Pair, form_text}
 
--- the URL has a query already
+-- the URL already has a query
 abbrev pub has_query : Text → Bool
 has_query url = list_any (λ b. b == 63) url
 
--- `?`, or `&` where the URL has a query already
+-- `?`, or `&` if the URL already has a query
 abbrev pub query_mark : Text → Text
 query_mark url = if has_query url then codes "&" else codes "?"
 

@@ -8,7 +8,7 @@ use Rattle.request_params.specs.declared.params.Params.{Params}
 use Rattle.request_params.specs.declared.name.ParamName.{ParamName}
 use Rattle.request_params.specs.declared.name.ParamName.TheVariants.{ResponseType, ClientId, RedirectUri, Scope, State, Nonce, ResponseMode, Prompt, MaxAge, Claims, Request, RequestUri, Registration}
 
--- how a name is written
+-- the text of a name
 abbrev pub name_text : ParamName → Text
 name_text ResponseType = codes "response_type"
 name_text ClientId = codes "client_id"
@@ -29,11 +29,11 @@ all_names =
     ResponseType ∷ ClientId ∷ RedirectUri ∷ Scope ∷ State ∷ Nonce ∷ ResponseMode ∷ Prompt ∷ MaxAge ∷ Claims ∷ Request ∷ RequestUri
     ∷ Registration ∷ []
 
--- the name that is written so
+-- the name with this text
 abbrev pub name_of : Text → Option ParamName
 name_of t = find (λ name. bytes_eq (name_text name) t) all_names
 
--- the parameter of a name, where it is there
+-- the parameter of a name, if it is present
 abbrev pub param_of : ParamName → Params → Option Text
 param_of ResponseType params = params.response_type
 param_of ClientId params = params.client_id
@@ -49,7 +49,7 @@ param_of Request params = params.request
 param_of RequestUri params = params.request_uri
 param_of Registration params = params.registration
 
--- the parameters that are, name by name, what f gives
+-- the parameters that f gives, name by name
 abbrev pub params_by : (ParamName → Option Text) → Params
 params_by f = record {
   response_type = f ResponseType;
@@ -67,14 +67,14 @@ params_by f = record {
   registration = f Registration;
 }
 
--- no parameter is there
+-- no parameter is present
 abbrev pub no_params : Params
 no_params = params_by (λ _. None)
 
--- the parameters, but with this one under this name
+-- the parameters after the one with this name is replaced
 abbrev pub with_param : ParamName → Option Text → Params → Params
 with_param name value params = params_by (λ other. if bytes_eq (name_text name) (name_text other) then value else param_of other params)
 
--- the parameters that are there are in UTF-8
+-- the parameters that are present are in UTF-8
 abbrev pub AreTexts : Params → Type 0
 AreTexts params = (name : ParamName) → IfSome (param_of name params) IsUtf8

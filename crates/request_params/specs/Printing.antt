@@ -20,7 +20,7 @@ pair_if params name = option_map (λ value. (name_text name, value)) (param_of n
 abbrev pub pairs_named : Params → List ParamName → List Pair
 pairs_named params names = filter_map (pair_if params) names
 
--- the pairs that are written of a request: those of its parameters that are there
+-- the pairs that are written for a request: those of its parameters that are present
 abbrev pub request_pairs : Params → List Pair
 request_pairs params = pairs_named params printed_names
 
@@ -32,7 +32,7 @@ request_form params = form_text (request_pairs params)
 unfoldable pub request_location : Text → Params → Text
 request_location endpoint params = with_query endpoint (request_pairs params)
 
--- a request of which all is written: its parameters are texts, none is empty, and those that are not written are absent
+-- a request that is written completely: its parameters are texts, none is empty, and those that are not written are absent
 pub record IsPrinted (params : Params) : Type 0 where
   pub texts : AreTexts params
   pub filled : (name : ParamName) → ¬ (param_of name params ≡ Some [])

@@ -1,5 +1,5 @@
--- Reading an authorization request: its parameters are the pairs of a form (OpenID Connect Core 1.0, 3.1.2.1; RFC 6749,
--- 3.1). Pairs with other names or with empty values are as if they were not there, and no name may stand twice.
+-- Reading an authorization request: its parameters are the pairs of a form (OpenID Connect Core 1.0, 3.1.2.1; RFC 6749, 3.1).
+-- Pairs with other names or with empty values are ignored, and no name may occur twice.
 use Rattle.std.specs.Prelude.{◌≡◌, ◌⊎◌, ℕ, Bool, ◌&&◌, List, [], ◌∷◌, ◌++◌, length, filter, nat_lt, Option, Some, None, is_some, Result, Ok, Err, IsTrue, IsFalse, ⊤, if◌then◌else◌}
 use Rattle.std.specs.List.{list_any}
 use Rattle.std.specs.Str.{bytes_eq}
@@ -30,16 +30,16 @@ abbrev pub value_of : Text → List Pair → Option Text
 value_of name [] = None
 value_of name (pair ∷ pairs) = if bytes_eq pair.0 name then Some pair.1 else value_of name pairs
 
--- the name of the first of the pairs whose name one of those before it has; some stand before all
+-- the name of the first of the pairs that repeats an earlier name; the pairs `before` precede them
 abbrev pub repeated_after : List Pair → List Pair → Option Text
 repeated_after before [] = None
 repeated_after before (pair ∷ pairs) = if has_name pair.0 before then Some pair.0 else repeated_after (before ++ pair ∷ []) pairs
 
--- the first name that stands again
+-- the first name that is repeated
 abbrev pub first_repeated : List Pair → Option Text
 first_repeated pairs = repeated_after [] pairs
 
--- the parameters that stand in pairs
+-- the parameters in the pairs
 abbrev pub params_in : List Pair → Params
 params_in pairs = params_by (λ name. value_of (name_text name) pairs)
 
@@ -50,11 +50,11 @@ unless_repeated (Some name) params = Err (Twice name)
 abbrev pub pairs_read : List Pair → Result Params AskNo
 pairs_read pairs = unless_repeated (first_repeated pairs) (params_in pairs)
 
--- the request in a form, or its refusal
+-- the request in a form, or its error
 unfoldable pub request_read : List ℕ → Result Params AskNo
 request_read form = pairs_read (kept_pairs form)
 
--- ---- the same in literal words
+-- ---- the same, stated literally
 
 -- the pair is one of the pairs
 abbrev pub Has : List Pair → Pair → Type 0
@@ -70,12 +70,12 @@ pub record StandsTwice (name : Text) (pairs : List Pair) : Type 0 where
   pub after : List Pair
   pub cut : pairs ≡ before ++ (name, first) ∷ (between ++ (name, second) ∷ after)
 
--- no name stands twice
+-- no name occurs twice
 abbrev pub StandOnce : List Pair → Type 0
 StandOnce [] = ⊤
 StandOnce (pair ∷ pairs) = IsFalse (has_name pair.0 pairs) × StandOnce pairs
 
--- the name is that of the first pair whose name stood before: up to that pair no name stands twice
+-- the name is that of the first pair that repeats an earlier name: before that pair no name occurs twice
 pub record RepeatsFirst (pairs : List Pair) (name : Text) : Type 0 where
   pub before : List Pair
   pub value : Text
@@ -84,13 +84,13 @@ pub record RepeatsFirst (pairs : List Pair) (name : Text) : Type 0 where
   pub once : StandOnce before
   pub stood : IsTrue (has_name name before)
 
--- the form has these parameters: no name stands twice in it, and each parameter is the value of the pair with its name
+-- the form has these parameters: no name occurs twice in it, and each parameter is the value of the pair with its name
 pub record HasRequest (form : List ℕ) (params : Params) : Type 0 where
   pub once : StandOnce (kept_pairs form)
   pub stands : (name : ParamName) (value : Text) → param_of name params ≡ Some value → Has (kept_pairs form) (name_text name, value)
   pub all : (name : ParamName) (value : Text) → Has (kept_pairs form) (name_text name, value) → param_of name params ≡ Some value
 
--- the form is refused so: with the first name that stands again, and for no other reason
+-- the causes of each error of reading: the first repeated name, and no other
 abbrev pub RefusesForm : List ℕ → AskNo → Type 0
 RefusesForm form (Twice name) = RepeatsFirst (kept_pairs form) name
 RefusesForm form (Differs name) = ⊥

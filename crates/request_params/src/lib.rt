@@ -1,19 +1,19 @@
-//! The parameters of authorization requests: read from forms, merged with those of a request object, and written as the
-//! location to which a user agent is sent (OpenID Connect Core 1.0, 3.1.2.1 and 6.1).
+//! The parameters of authorization requests: reading them from forms, merging them with those of a request object, and writing
+//! the location to which a user agent is sent (OpenID Connect Core 1.0, 3.1.2.1 and 6.1).
 //!
 //! | Module | What it has |
 //! |---|---|
 //! | `name` | [`ParamName`], the names of the parameters, and [`ALL_NAMES`] |
 //! | `params` | [`Params`], the parameters of a request |
-//! | `no` | [`AskNo`], why a request is refused |
-//! | `form` | [`form_of`] finds the form of a request |
+//! | `no` | [`AskNo`], why a request is rejected |
+//! | `form` | [`form_of`] returns the form of a request |
 //! | `pairs` | [`read_pairs`] reads the pairs of a form, [`value_of`] looks one up |
 //! | `reading` | [`read_request`] reads a form as a request |
-//! | `merging` | [`merge`] puts the parameters of a request object over those beside it |
-//! | `location` | [`with_query`] and [`with_fragment`] write pairs behind a URL |
+//! | `merging` | [`merge`] merges the parameters of a request object with those outside it |
+//! | `location` | [`with_query`] and [`with_fragment`] append pairs to a URL |
 //! | `printing` | [`print_request`] writes the location of a request |
-//! | `scheme` | [`scheme_of`] is the scheme of an `Authorization` header, and [`cut`] what stands after it |
-//! | `law` | what holds of requests, for the crates above |
+//! | `scheme` | [`scheme_of`] is the scheme of an `Authorization` header; [`cut`] splits bytes at the first given byte |
+//! | `law` | laws about requests, for the crates above |
 #![tactic(auto)]
 
 mod form;

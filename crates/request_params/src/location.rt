@@ -1,4 +1,4 @@
-// Pairs are written behind a URL.
+// Appending pairs to a URL.
 
 ghost use Rattle.std.specs.Prelude.{◌≡◌, ◌++◌, map, codes, IfOk};
 ghost use Rattle.form_urlencoded.specs.Form.{pair_text};
@@ -19,7 +19,7 @@ fn print_pairs(alloc: Global, pairs: &[(&str, &str)]) -> Result<Text, NoMemory>
     Ok(Text::from_string(form.finish()))
 }
 
-// Three texts, one behind another.
+// The concatenation of three texts.
 fn joined(alloc: Global, url: &str, mark: &str, form: &str) -> Result<Text, NoMemory>
     ensures { IfOk result (λ t. t ≡ url.now ++ mark.now ++ form.now) }
 {
@@ -42,8 +42,8 @@ fn query_mark(url: &str) -> &'static str
     if has_query(url) { "&" } else { "?" }
 }
 
-/// The URL with these names and values in its query: behind `?`, or `&` where the URL has a `?` already. They are written
-/// as a form, in order (the URL Standard, 5.2). No URL is read: a URL with a fragment would take them into it.
+/// The URL with these names and values in its query: after `?`, or after `&` if the URL already has a `?`. They are written as
+/// a form, in order (the URL Standard, 5.2). The URL is not parsed, so a fragment would swallow them.
 #[tactic(auto, unfolding(crate::specs::Location::with_query))]
 pub fn with_query(alloc: Global, url: &Text, pairs: &[(&str, &str)]) -> Result<Text, NoMemory>
     ensures { IfOk result (λ t. t ≡ spec.with_query url.now (map pair_text pairs.now)) }
@@ -52,8 +52,8 @@ pub fn with_query(alloc: Global, url: &Text, pairs: &[(&str, &str)]) -> Result<T
     joined(alloc, url.as_str(), query_mark(url.as_str()), form.as_str())
 }
 
-/// The URL with these names and values as its fragment, behind `#`. They are written as a form, in order (OAuth 2.0
-/// Multiple Response Type Encoding Practices, 2.1).
+/// The URL with these names and values as its fragment, after `#`. They are written as a form, in order (OAuth 2.0 Multiple
+/// Response Type Encoding Practices, 2.1).
 #[tactic(auto, unfolding(crate::specs::Location::with_fragment))]
 pub fn with_fragment(alloc: Global, url: &Text, pairs: &[(&str, &str)]) -> Result<Text, NoMemory>
     ensures { IfOk result (λ t. t ≡ spec.with_fragment url.now (map pair_text pairs.now)) }

@@ -1,4 +1,4 @@
-// The parameters of a request object are put over those beside it.
+// Merging the parameters of a request object with those outside it.
 
 ghost use Rattle.std.specs.Prelude.{◌≡◌, ◌⊎◌, true, Ok, Err, IfOk, IfErr, IsErrAnd, OnOk};
 ghost use Rattle.std.specs.Option.{option_or};
@@ -17,7 +17,7 @@ use oidc_words::{OPENID, has_word};
 use sso_base::{NoMemory, Text, copied_text};
 use std::alloc::Global;
 
-// Whether a scope is there and has the word `openid`.
+// Whether there is a scope that has the word `openid`.
 fn is_openid(scope: &Option<Text>) -> bool
     ensures { result ≡ states_word openid_word scope.now }
 {
@@ -27,7 +27,7 @@ fn is_openid(scope: &Option<Text>) -> bool
     }
 }
 
-// Whether a parameter is absent beside the request object, or another one in it.
+// Whether a parameter is absent outside the request object, or differs in it.
 fn is_another(outer: &Option<Text>, inner: &Option<Text>) -> bool
     ensures { result ≡ differ outer.now inner.now }
 {
@@ -38,7 +38,7 @@ fn is_another(outer: &Option<Text>, inner: &Option<Text>) -> bool
     }
 }
 
-// The first refusal whose condition holds.
+// The error of the first condition that is true.
 fn refused(alloc: Global, outer: &Params, inner: &Params) -> Result<(), AskNo>
     ensures ok { OnOk result (first_refusal (merge_refusals outer.now inner.now) ≡ Ok tt) }
     ensures err { IfErr result (λ e. (e ≡ AskNo.NoMemory) ⊎ (first_refusal (merge_refusals outer.now inner.now) ≡ Err e)) }
@@ -57,7 +57,7 @@ fn refused(alloc: Global, outer: &Params, inner: &Params) -> Result<(), AskNo>
     Ok(())
 }
 
-// The inner parameter where it is there, else the outer one.
+// The inner parameter if it is present, otherwise the outer one.
 fn first_there(
     alloc: Global,
     inner: &Option<Text>,
@@ -88,7 +88,7 @@ fn set_all(
     Ok(())
 }
 
-// Each parameter of the request object, and the others from beside it.
+// Each parameter of the request object, and the others from outside it.
 fn put_over(alloc: Global, outer: &Params, inner: &Params) -> Result<Params, NoMemory>
     ensures { IfOk result (λ params. params ≡ merged outer.now inner.now) }
 {
@@ -97,7 +97,7 @@ fn put_over(alloc: Global, outer: &Params, inner: &Params) -> Result<Params, NoM
     Ok(params)
 }
 
-// The whole request, or the refusal.
+// The whole request, or the error.
 #[tactic(auto, unfolding(crate::specs::Merging::request_merged))]
 fn whole(alloc: Global, outer: &Params, inner: &Params) -> Result<Params, AskNo>
     ensures answers { IfOk result (λ params. request_merged outer.now inner.now ≡ Ok params) }
@@ -107,12 +107,12 @@ fn whole(alloc: Global, outer: &Params, inner: &Params) -> Result<Params, AskNo>
     Ok(put_over(alloc, outer, inner)?)
 }
 
-/// Puts the parameters of a request object, `inner`, over those beside it, `outer` (OpenID Connect Core 1.0, 6.1).
+/// Merges the parameters of a request object, `inner`, with those outside it, `outer` (OpenID Connect Core 1.0, 6.1).
 ///
-/// Each parameter is that of `inner` where it is there, also where it is empty, else that of `outer`.
-/// [`AskNo::Differs`] is answered exactly where `client_id`, or else `response_type`, is absent in `outer`, or is in both
-/// and not the same. [`AskNo::OuterScope`] is answered exactly where neither is so and the `scope` of `outer` is absent or
-/// does not have the word `openid`; words stand between single spaces.
+/// Each parameter is that of `inner` if it is present there, even if it is empty, otherwise that of `outer`. Returns
+/// [`AskNo::Differs`] if and only if `client_id`, or then `response_type`, is absent in `outer` or has different values in
+/// both. Returns [`AskNo::OuterScope`] if and only if neither is the case, and the `scope` of `outer` is absent or does not
+/// have the word `openid`. Words are separated by single spaces.
 pub fn merge(alloc: Global, outer: &Params, inner: &Params) -> Result<Params, AskNo>
     ensures answers { IfOk result (λ params. request_merged outer.now inner.now ≡ Ok params) }
     ensures merged { IfOk result (λ params. IsMerged outer.now inner.now params) }

@@ -55,7 +55,7 @@ pub const ALL_NAMES: [ParamName; 13] = [
 ];
 
 impl ParamName {
-    /// How the name is written: in lower case, with `_` between words.
+    /// The text of the name: in lower case, with `_` between words.
     pub fn as_str(self) -> &'static str
         ensures { result.now ≡ name_text self }
     {
@@ -76,7 +76,7 @@ impl ParamName {
         }
     }
 
-    /// The name that is written so, where there is one. Case counts.
+    /// The name with this text, if there is one. Case matters.
     pub fn read(text: &str) -> Option<ParamName>
         ensures { result ≡ name_of text.now }
     {
@@ -84,7 +84,7 @@ impl ParamName {
     }
 }
 
-// The first of these names that is written so.
+// The first of these names with this text.
 fn find_name(names: &[ParamName], text: &str) -> Option<ParamName>
     ensures { result ≡ find (λ name. bytes_eq (name_text name) text.now) names.now }
 {

@@ -11,8 +11,8 @@ use std::alloc::Global;
 /// A name and its value.
 pub type Pair = (Text, Text);
 
-/// The pairs of a form, in order (the URL Standard, 5.1). Those with an empty value are among them. In names and values
-/// `+` is a space and escapes are decoded, and what is then no UTF-8 becomes U+FFFD.
+/// The pairs of a form, in order (the URL Standard, 5.1), including those with an empty value. In names and values, `+` is a
+/// space, escapes are decoded, and invalid UTF-8 becomes U+FFFD.
 #[tactic(auto, unfolding(crate::specs::Form::form_pairs))]
 pub fn read_pairs(alloc: Global, form: &[u8]) -> Result<Vec<Pair>, NoMemory>
     ensures { IfOk result (λ v. v.items ≡ form_pairs form.now) }
@@ -25,7 +25,7 @@ pub fn read_pairs(alloc: Global, form: &[u8]) -> Result<Vec<Pair>, NoMemory>
     Ok(pairs)
 }
 
-/// The value of the first pair that has the name. It takes no memory.
+/// The value of the first pair with this name. It allocates nothing.
 pub fn value_of<'a>(pairs: &'a [Pair], name: &str) -> Option<&'a Text>
     ensures { option_map (λ t. t.now) result ≡ value_in name.now pairs.now }
 {

@@ -6,35 +6,35 @@ ghost use Rattle.request_params.specs.Names.{param_of, no_params, with_param};
 use crate::name::ParamName;
 use sso_base::Text;
 
-/// The parameters of an authorization request, as far as they are there (OpenID Connect Core 1.0, 3.1.2.1, 5.5, 6 and
-/// 7.2.1; OAuth 2.0 Multiple Response Type Encoding Practices, 2.1).
+/// The parameters of an authorization request, each of which may be absent (OpenID Connect Core 1.0, 3.1.2.1, 5.5, 6 and 7.2.1;
+/// OAuth 2.0 Multiple Response Type Encoding Practices, 2.1).
 #[derive(Drop)]
 pub struct Params {
-    /// What is asked for: a code, an ID Token, or both (OpenID Connect Core 1.0, 3).
+    /// What is requested: a code, an ID Token, an access token, or several of them (OpenID Connect Core 1.0, 3).
     pub response_type: Option<Text>,
     /// The client (RFC 6749, 2.2).
     pub client_id: Option<Text>,
-    /// Where the answer is sent (RFC 6749, 3.1.2).
+    /// Where the response is sent (RFC 6749, 3.1.2).
     pub redirect_uri: Option<Text>,
-    /// The scope values, `openid` among them (OpenID Connect Core 1.0, 5.4).
+    /// The scope values, with `openid` among them (OpenID Connect Core 1.0, 5.4).
     pub scope: Option<Text>,
-    /// What the answer gives back (RFC 6749, 4.1.1).
+    /// A value that the response repeats (RFC 6749, 4.1.1).
     pub state: Option<Text>,
-    /// What the ID Token gives back (OpenID Connect Core 1.0, 3.1.2.1).
+    /// A value that the ID Token repeats (OpenID Connect Core 1.0, 3.1.2.1).
     pub nonce: Option<Text>,
-    /// How the answer is sent (OpenID Connect Core 1.0, 3.1.2.1).
+    /// How the response is sent (OpenID Connect Core 1.0, 3.1.2.1).
     pub response_mode: Option<Text>,
     /// Whether the user is asked to log in or to consent (OpenID Connect Core 1.0, 3.1.2.1).
     pub prompt: Option<Text>,
     /// How long ago the user may have logged in, in seconds (OpenID Connect Core 1.0, 3.1.2.1).
     pub max_age: Option<Text>,
-    /// The claims that are asked for by name (OpenID Connect Core 1.0, 5.5).
+    /// The claims that are requested by name (OpenID Connect Core 1.0, 5.5).
     pub claims: Option<Text>,
     /// A request object (OpenID Connect Core 1.0, 6.1).
     pub request: Option<Text>,
-    /// Where a request object lies (OpenID Connect Core 1.0, 6.2).
+    /// The URL of a request object (OpenID Connect Core 1.0, 6.2).
     pub request_uri: Option<Text>,
-    /// What a self-issued provider is told of the client (OpenID Connect Core 1.0, 7.2.1).
+    /// Metadata of the client for a self-issued provider (OpenID Connect Core 1.0, 7.2.1).
     pub registration: Option<Text>,
 }
 
@@ -60,7 +60,7 @@ impl Params {
         }
     }
 
-    /// The parameter of this name, where it is there.
+    /// The parameter of this name, if it is present.
     pub fn get(&self, name: ParamName) -> &Option<Text>
         ensures { result.now ≡ param_of name self.now }
     {
@@ -81,7 +81,7 @@ impl Params {
         }
     }
 
-    /// Sets the parameter of this name. The one that was there is dropped.
+    /// Sets the parameter of this name and drops its old value.
     pub fn set(&mut self, name: ParamName, value: Option<Text>)
         ensures { self.new ≡ with_param name value self.old }
     {

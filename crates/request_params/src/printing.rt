@@ -1,4 +1,4 @@
-// The location of an authorization request is written.
+// Writing the location of an authorization request.
 
 ghost use Rattle.std.specs.Prelude.{◌≡◌, ◌++◌, map, IfOk};
 ghost use Rattle.form_urlencoded.specs.Form.{pair_text};
@@ -23,7 +23,7 @@ const PRINTED_NAMES: [ParamName; 9] = [
     ParamName::Request,
 ];
 
-// The parameters of these names that are there, as pairs.
+// The parameters of these names that are present, as pairs.
 fn pairs<'a>(
     alloc: Global,
     names: &[ParamName],
@@ -41,8 +41,8 @@ fn pairs<'a>(
 }
 
 /// The location to which a user agent is sent with an authorization request (OpenID Connect Core 1.0, 3.1.2.1; RFC 6749,
-/// 4.1.1): the endpoint with the parameters in its query, in the order `response_type`, `client_id`, `redirect_uri`,
-/// `scope`, `state`, `nonce`, `prompt`, `max_age`, `request`, as far as they are there. `response_mode`, `claims`,
+/// 4.1.1): the endpoint with the parameters in its query. It writes those that are present of `response_type`, `client_id`,
+/// `redirect_uri`, `scope`, `state`, `nonce`, `prompt`, `max_age` and `request`, in this order. `response_mode`, `claims`,
 /// `request_uri` and `registration` are not written.
 #[tactic(auto, unfolding(crate::specs::Printing::request_location))]
 pub fn print_request(alloc: Global, endpoint: &Text, params: &Params) -> Result<Text, NoMemory>

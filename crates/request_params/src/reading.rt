@@ -1,4 +1,4 @@
-// A form is read as an authorization request.
+// Reading a form as an authorization request.
 
 ghost use Rattle.std.specs.Prelude.{◌≡◌, ◌⊎◌, Ok, Err, IfOk, IfErr, IsErrAnd, OnOk};
 ghost use Rattle.request_params.specs.declared.params.Params.{Params};
@@ -15,7 +15,7 @@ use form_urlencoded::parse;
 use sso_base::Text;
 use std::alloc::Global;
 
-// Takes in one more pair of a form, unless its name stood before.
+// Adds one more pair of a form, unless its name occurred before.
 fn take(params: &mut Params, name: Text, value: Text) -> Result<(), AskNo>
     ensures ok { OnOk result (with_pair params.old (name, value) ≡ Ok params.new) }
     ensures err { IfErr result (λ e. with_pair params.old (name, value) ≡ Err e) }
@@ -33,7 +33,7 @@ fn take(params: &mut Params, name: Text, value: Text) -> Result<(), AskNo>
     Ok(())
 }
 
-// Takes in the pairs of a form, one after another.
+// Adds the pairs of a form, one after another.
 #[tactic(auto, unfolding(crate::specs::Form::form_pairs))]
 fn take_all(alloc: Global, params: &mut Params, form: &[u8]) -> Result<(), AskNo>
     ensures ok { OnOk result (with_pairs params.old (form_pairs form.now) ≡ Ok params.new) }
@@ -46,7 +46,7 @@ fn take_all(alloc: Global, params: &mut Params, form: &[u8]) -> Result<(), AskNo
     Ok(())
 }
 
-// The parameters of a form, or the refusal.
+// The parameters of a form, or the error.
 #[tactic(auto, using(crate::proofs::InOrder::taken_read))]
 fn read(alloc: Global, form: &[u8]) -> Result<Params, AskNo>
     ensures answers { IfOk result (λ params. request_read form.now ≡ Ok params) }
@@ -60,9 +60,9 @@ fn read(alloc: Global, form: &[u8]) -> Result<Params, AskNo>
 /// Reads the parameters of an authorization request from a form, the query or the body of the request (OpenID Connect Core
 /// 1.0, 3.1.2.1; RFC 6749, 3.1; the URL Standard, 5.1).
 ///
-/// Pairs with other names and pairs with an empty value are ignored. [`AskNo::Twice`] has the first name that stands again
-/// among the others, and is answered exactly where there is one; there is no other refusal. In names and values `+` is a
-/// space and escapes are decoded, and what is then no UTF-8 becomes U+FFFD, so each parameter is UTF-8.
+/// Pairs with other names and pairs with an empty value are ignored. Returns [`AskNo::Twice`] with the first repeated name, if
+/// and only if there is one; there is no other error. In names and values, `+` is a space, escapes are decoded, and invalid
+/// UTF-8 becomes U+FFFD. So each parameter is UTF-8.
 pub fn read_request(alloc: Global, form: &[u8]) -> Result<Params, AskNo>
     ensures answers { IfOk result (λ params. request_read form.now ≡ Ok params) }
     ensures request { IfOk result (λ params. HasRequest form.now params) }

@@ -1,9 +1,9 @@
-// The scheme of an `Authorization` header, and what stands after it (RFC 9110, 11.6.2).
+// The scheme of an `Authorization` header, and the text after it (RFC 9110, 11.6.2).
 
 ghost use Rattle.std.specs.Prelude.{◌≡◌, option_map};
 ghost use Rattle.request_params.specs.Scheme.{cut as cut_at_first, scheme_of as scheme};
 
-/// What stands before and after the first of these bytes, where there is one. It takes no memory.
+/// The parts before and after the first such byte, if there is one. It allocates nothing.
 pub fn cut(bytes: &[u8], mark: u8) -> Option<(&[u8], &[u8])>
     ensures { option_map (λ parts. (parts.0.now, parts.1.now)) result ≡ cut_at_first mark bytes.now }
 {
@@ -15,8 +15,8 @@ pub fn cut(bytes: &[u8], mark: u8) -> Option<(&[u8], &[u8])>
     None
 }
 
-/// The scheme of an `Authorization` header: what stands before its first space, or the whole where there is none
-/// (RFC 9110, 11.6.2). It takes no memory.
+/// The scheme of an `Authorization` header: the text before its first space, or the whole header if there is none (RFC 9110,
+/// 11.6.2). It allocates nothing.
 pub fn scheme_of(header: &[u8]) -> &[u8]
     ensures { result.now ≡ scheme header.now }
 {

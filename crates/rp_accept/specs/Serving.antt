@@ -1,4 +1,4 @@
--- Which setups of relying parties are served.
+-- The setups of relying parties that are served.
 use Rattle.std.specs.Prelude.{◌≡◌, ◌<◌, ℕ, length}
 use Rattle.client_registry.specs.declared.records.Provider.{Provider}
 use Rattle.client_registry.specs.Configuration.{Configuration}

@@ -13,7 +13,7 @@ use sso_base::{Entry, NoMemory, Text};
 use std::alloc::Global;
 use token_endpoint::Tokens;
 
-// The half digest of the text, where it is there, is the text's.
+// If there is a text, a half digest that is present must be the text's.
 fn may_hash(text: &Option<Text>) -> Half
     ensures { result ≡ spec.may_hash text.now }
 {
@@ -37,7 +37,7 @@ impl Setup {
         self.rules_for(alloc, &pending.nonce, pending.begun, token, code)
     }
 
-    // The claims of the ID Token are judged.
+    // Verifies the claims of the ID Token.
     fn judge_back(
         &self,
         alloc: Global,
@@ -61,7 +61,7 @@ impl Setup {
         self.fetch_or_enter(alloc, entry, access, pending.word, &claims.sub)
     }
 
-    /// The reply to the tokens of this exchange, which lives: the claims of their ID Token are judged.
+    /// The reply to the tokens of this live exchange, after the claims of their ID Token are verified.
     pub fn reply_to_tokens(
         &self,
         alloc: Global,

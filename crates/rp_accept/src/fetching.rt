@@ -1,4 +1,4 @@
-// Whether UserInfo is asked for, and the reply to its answer (OpenID Connect Core 1.0, 5.3).
+// Whether UserInfo is requested, and the reply to its response (OpenID Connect Core 1.0, 5.3).
 
 ghost use Rattle.std.specs.Prelude.{◌≡◌, IfOk};
 ghost use Rattle.std.specs.Option.{option_copied};
@@ -12,7 +12,7 @@ use sso_base::{Entry, NoMemory, Text, Word};
 use std::alloc::Global;
 use userinfo::print_info;
 
-// Whether a subject came before, and is another.
+// Whether there is an earlier subject that differs.
 pub(crate) fn is_other(before: &Option<Text>, sub: &Text) -> bool
     ensures { result ≡ spec.is_other before.now sub.now }
 {
@@ -22,7 +22,7 @@ pub(crate) fn is_other(before: &Option<Text>, sub: &Text) -> bool
     }
 }
 
-// The subject enters.
+// A new session of the subject.
 fn enter(alloc: Global, entry: &Entry<RpAsk>, sub: &Text) -> Result<RpReply, NoMemory>
     ensures { IfOk result (λ r. r ≡ spec.entered entry.now sub.now) }
 {
@@ -43,14 +43,14 @@ fn fetch(alloc: Global, endpoint: &Text, access: &Text, pending: Word) -> Result
 }
 
 impl Setup {
-    // The UserInfo endpoint, where the party asks for UserInfo and the provider has it.
+    // The UserInfo endpoint, if the party requests UserInfo and the provider has it.
     fn info_endpoint(&self) -> Option<&Text>
         ensures { option_copied result ≡ spec.info_endpoint self.now }
     {
         text_if(self.party().userinfo, &self.provider().userinfo)
     }
 
-    // UserInfo is asked for with the access token, under this word, else the subject enters.
+    // Requests UserInfo with the access token, under this word, or else begins a session of the subject.
     pub(crate) fn fetch_or_enter(
         &self,
         alloc: Global,
@@ -71,7 +71,7 @@ impl Setup {
     }
 }
 
-/// The reply to the subject that UserInfo told in this exchange, which lives: it is the one of the ID Token before (OpenID Connect
+/// The reply to the UserInfo subject of this live exchange. The subject must be that of the earlier ID Token (OpenID Connect
 /// Core 1.0, 5.3.2).
 pub fn reply_to_info(
     alloc: Global,

@@ -1,5 +1,5 @@
-// Whether a request, or an answer to one, can give an ask: nothing in it is want of memory, and an ID Token was read exactly
-// where there is one.
+// Whether a request or a response can produce a value: it contains no `NoMemory`, and an ID Token was read if and only if there
+// is one.
 
 ghost use Rattle.std.specs.Prelude.{◌≡◌, Option};
 ghost use Rattle.sso_base.specs.Words.{Word};
@@ -58,7 +58,7 @@ fn is_id_read(id: &Result<IdClaims, IdNo>) -> bool
     }
 }
 
-// An ID Token was read exactly where there is its text.
+// An ID Token was read if and only if its text is present.
 fn is_read_of(text: &Option<Text>, id: &Option<Result<IdClaims, IdNo>>) -> bool
     ensures { result ≡ spec.is_read_of text.now id.now }
 {
@@ -109,7 +109,7 @@ fn is_logout_read(claims: &Result<LogoutClaims, LogoutNo>) -> bool
     }
 }
 
-/// Whether a request, or an answer to one, can give the ask.
+/// Whether a request or a response can produce the value.
 pub fn is_prepared(ask: &RpAsk) -> bool
     ensures { result ≡ spec.is_prepared ask.now }
 {

@@ -16,7 +16,7 @@ use sso_base::{Entry, Moment, NoMemory, Text, Word};
 use std::alloc::Global;
 use token_endpoint::print_grant;
 
-// The text, where it counts.
+// The text, if it counts.
 pub(crate) fn text_if(wanted: bool, text: &Option<Text>) -> Option<&Text>
     ensures { option_copied result ≡ asked.if_wanted wanted text.now }
 {
@@ -29,7 +29,7 @@ pub(crate) fn text_if(wanted: bool, text: &Option<Text>) -> Option<&Text>
     }
 }
 
-// What was read of an ID Token, where it counts.
+// The ID Token as it was read, if it counts.
 fn id_if(wanted: bool, id: &Option<Result<IdClaims, IdNo>>) -> Option<&Result<IdClaims, IdNo>>
     ensures { option_copied result ≡ asked.if_wanted wanted id.now }
 {
@@ -42,7 +42,7 @@ fn id_if(wanted: bool, id: &Option<Result<IdClaims, IdNo>>) -> Option<&Result<Id
     }
 }
 
-// The half digest of the text must be there, where there is the text.
+// If there is a text, its half digest is required.
 fn must_hash(text: Option<&Text>) -> Half
     ensures { result ≡ spec.must_hash (option_copied text.entry) }
 {
@@ -52,7 +52,7 @@ fn must_hash(text: Option<&Text>) -> Half
     }
 }
 
-// The first part that the response type has and the response has not.
+// The first part that the response type has and the response lacks.
 fn part_missing(types: &Types, heard: &Heard) -> Option<Part>
     ensures { result ≡ spec.part_missing types.now heard.now }
 {
@@ -69,7 +69,7 @@ fn part_missing(types: &Types, heard: &Heard) -> Option<Part>
 }
 
 impl Setup {
-    // The rules for an ID Token of a login with this nonce, begun then.
+    // The rules for an ID Token of a login with this nonce and this start.
     pub(crate) fn rules_for(
         &self,
         alloc: Global,
@@ -91,14 +91,14 @@ impl Setup {
         })
     }
 
-    // The code of a response, where its type has one.
+    // The code of a response, if its type has one.
     fn front_code<'a>(&self, heard: &'a Heard) -> Option<&'a Text>
         ensures { option_copied result ≡ spec.front_code self.now heard.now }
     {
         text_if(self.party().types.code, &heard.code)
     }
 
-    // The access token of a response, where its type has one.
+    // The access token of a response, if its type has one.
     fn front_access<'a>(&self, heard: &'a Heard) -> Option<&'a Text>
         ensures { option_copied result ≡ spec.front_access self.now heard.now }
     {
@@ -135,7 +135,7 @@ impl Setup {
         })
     }
 
-    // A code is exchanged, else the claims of the ID Token count.
+    // Exchanges the code, or else uses the claims of the ID Token.
     fn exchange_or_enter(
         &self,
         alloc: Global,
@@ -158,7 +158,7 @@ impl Setup {
         self.fetch_or_enter(alloc, entry, access, entry.fresh[0], &claims.sub)
     }
 
-    // The claims of the response's ID Token are judged.
+    // Verifies the claims of the response's ID Token.
     fn judge_front(
         &self,
         alloc: Global,
@@ -176,7 +176,7 @@ impl Setup {
         self.exchange_or_enter(alloc, entry, heard, self.front_code(heard), Some(claims))
     }
 
-    // The response's ID Token, where its type has one.
+    // The response's ID Token, if its type has one.
     fn read_front(
         &self,
         alloc: Global,
@@ -198,8 +198,8 @@ impl Setup {
         }
     }
 
-    /// The reply to a response of this login, which lives, from its own browser: the claims of its ID Token are judged, and its code is
-    /// exchanged, where its type has them.
+    /// The reply to a response of this live login, from its own browser. The claims of its ID Token are verified and its code
+    /// is exchanged, if its type has them.
     pub fn reply_to_response(
         &self,
         alloc: Global,

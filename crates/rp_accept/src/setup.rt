@@ -1,4 +1,4 @@
-// What a relying party was set up with.
+// The setup of a relying party.
 
 ghost use Rattle.std.specs.Prelude.{◌≡◌, ◌<◌, length, IfOk};
 ghost use Rattle.login_request.specs.Request.{login_location};
@@ -13,7 +13,7 @@ use sso_base::{Moment, NoMemory, Text, Word};
 use std::alloc::Global;
 use std::marker::Model;
 
-/// What a relying party was set up with: a registry, the number of a party of it, and the provider that the party trusts.
+/// The setup of a relying party: a registry, the number of a party in it, and the provider that the party trusts.
 #[derive(Drop)]
 pub struct Setup {
     registry: Registry,
@@ -34,7 +34,7 @@ impl Model for Setup {
 }
 
 impl Setup {
-    /// The party of this number in the registry, which trusts this provider. The provider's issuer is the registry's.
+    /// The party with this number in the registry, which trusts this provider. The provider's issuer is the registry's.
     pub fn new(registry: Registry, number: u32, provider: Provider) -> Setup
         requires party { number < length registry.parties }
         requires issuer { provider.issuer ≡ registry.provider.issuer }
@@ -54,11 +54,11 @@ impl Setup {
         self.registry.party(self.number)
     }
 
-    /// The client that the party is.
+    /// The client of the party.
     pub(crate) fn client(&self) -> &Client
         ensures { result.now ≡ client_of self.now }
     {
-        // A count says what every registry keeps: that the client of each of its parties is there.
+        // The contract of `parties` states the invariant of every registry: the client of each of its parties exists.
         let _parties = self.registry.parties();
         self.registry.client(self.party().client)
     }
@@ -70,14 +70,16 @@ impl Setup {
         &self.provider
     }
 
-    /// Judges the claims of a logout token, which the party received, at a moment (OpenID Connect Back-Channel Logout 1.0, 2.6).
+    /// Verifies the claims of a logout token that the party received, at a moment (OpenID Connect Back-Channel Logout 1.0,
+    /// 2.6).
     pub fn judge_logout(&self, claims: &LogoutClaims, at: Moment) -> Result<(), LogoutNo>
         ensures { result ≡ logout_judged self.now.provider.issuer (client_of self.now).id claims.now at }
     {
         judge_logout(&self.provider().issuer, &self.client().id, claims, at)
     }
 
-    /// Where a login of this state and nonce begins: an authorization request at the provider (OpenID Connect Core 1.0, 3.1.2.1).
+    /// The location that begins a login with this state and nonce: an authorization request to the provider (OpenID Connect
+    /// Core 1.0, 3.1.2.1).
     pub fn login_location(
         &self,
         alloc: Global,
@@ -86,7 +88,7 @@ impl Setup {
     ) -> Result<Text, NoMemory>
         ensures { IfOk result (λ t. t ≡ login_location (client_of self.now) (party_of self.now) self.now.provider state.now nonce.now) }
     {
-        // A count says what every registry keeps: that its issuer is short.
+        // The contract of `parties` states the invariant of every registry: its issuer is short.
         let _parties = self.registry.parties();
         login_request(
             alloc,

@@ -1,4 +1,4 @@
--- A relying party's answer to an entry, by its past alone.
+-- A relying party's answer to an entry, as a function of its past.
 use Rattle.std.specs.Prelude.{if◌then◌else◌}
 use Rattle.sso_base.specs.declared.history.Entry.{Entry}
 use Rattle.rp_login.specs.declared.rows.Stage.TheVariants as stage
@@ -14,7 +14,7 @@ use Rattle.rp_answer.specs.Visits.{live_visit}
 use Rattle.rp_answer.specs.Replies.{begin, callback, tokens, info, visited, left, logout}
 use Rattle.rp_answer.specs.Room.{unless_full}
 
--- The reply, were there always room.
+-- the reply, if no table were full
 abbrev pub rp_reply : PartySetup → RpPast → Entry RpAsk → RpAsk → RpReply
 rp_reply s past e (ask.Begin browser) = begin s past e browser
 rp_reply s past e ask.Fragment = Fragment
@@ -26,6 +26,6 @@ rp_reply s past e (ask.Leave session) = left (live_visit (party_of s).types past
 rp_reply s past e (ask.Logout claims) = logout s past e claims
 rp_reply s past e ask.NotHere = NotHere
 
--- the relying party's answer: an ask that no request gives finds nothing here
+-- the relying party's answer; a value that no request produces gets `NotHere`
 unfoldable pub rp_answer : PartySetup → RpPast → Entry RpAsk → RpReply
 rp_answer s past e = if is_prepared e.ask then unless_full (party_of s).types past e (rp_reply s past e e.ask) else NotHere

@@ -1,5 +1,5 @@
--- What an ask tells a relying party. Of an authorization response only those parts count that its response type has
--- (OpenID Connect Core 1.0, 3.1.2.5, 3.2.2.5 and 3.3.2.5).
+-- The contents of a request to a relying party. Of an authorization response, only the parts of its response type count (OpenID
+-- Connect Core 1.0, 3.1.2.5, 3.2.2.5 and 3.3.2.5).
 use Rattle.std.specs.Prelude.{Bool, Option, Some, None, option_map, option_and_then, Result, Ok, Err, if◌then◌else◌}
 use Rattle.sso_base.specs.Words.{Word, Text}
 use Rattle.id_token.specs.declared.claims.IdClaims.{IdClaims}
@@ -14,12 +14,12 @@ use Rattle.rp_exchange.specs.declared.reply.RpReply.TheVariants.{Ended}
 abbrev pub if_wanted : {X : Type 0} → Bool → Option X → Option X
 if_wanted wanted x = if wanted then x else None
 
--- the state of a response that can be read
+-- the state of an authorization response that can be read
 abbrev pub state_named : RpAsk → Option Word
 state_named (Callback (Ok heard) id browser) = heard.state
 state_named asked = None
 
--- the code of one
+-- the code of an authorization response, if its type has one
 abbrev pub code_heard : Types → RpAsk → Option Text
 code_heard types (Callback (Ok heard) id browser) = if_wanted types.code heard.code
 code_heard types asked = None
@@ -29,7 +29,7 @@ claims_read None = None
 claims_read (Some (Err why)) = None
 claims_read (Some (Ok claims)) = Some claims
 
--- the claims of the ID Token that was judged
+-- the claims of the ID Token that is verified
 abbrev pub claims_judged : Types → RpAsk → Option IdClaims
 claims_judged types (Callback heard id browser) = if_wanted types.id_token (claims_read id)
 claims_judged types (Tokens pending came id) = claims_read id

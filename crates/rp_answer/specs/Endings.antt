@@ -7,7 +7,7 @@ use Rattle.rp_exchange.specs.declared.ask.RpAsk.TheVariants as ask
 use Rattle.rp_exchange.specs.declared.reply.RpReply.TheVariants as reply
 use Rattle.rp_answer.specs.Past.{RpPair}
 
--- the pair accepts a logout token of these claims
+-- the pair accepts a logout token with these claims
 pub record Accepts (p : RpPair) (claims : LogoutClaims) : Type 0 where
   pub asked : p.entry.ask ≡ ask.Logout (Ok claims)
   pub count : ℕ
@@ -19,7 +19,7 @@ pub record Leaves (p : RpPair) (visit : SessionRow) : Type 0 where
   pub ended : Bool
   pub replied : p.reply ≡ reply.Left ended
 
--- a logout token is accepted that means the session (OpenID Connect Back-Channel Logout 1.0, 2.7)
+-- a logout token that names the session is accepted (OpenID Connect Back-Channel Logout 1.0, 2.7)
 pub record LogsOut (p : RpPair) (visit : SessionRow) : Type 0 where
   pub claims : LogoutClaims
   pub accepts : Accepts p claims

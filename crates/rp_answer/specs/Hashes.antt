@@ -17,7 +17,7 @@ use Rattle.rp_answer.specs.Setup.{PartySetup, party_of, client_of}
 use Rattle.rp_answer.specs.Asked.{claims_judged}
 use Rattle.rp_answer.specs.Replies.{front_access, front_code, info_endpoint}
 
--- the message exchanges the code of the response, and the ID Token beside it, which was judged, has that code's `c_hash`
+-- the message exchanges the code of the response, and the verified ID Token that came with it has that code's `c_hash`
 pub record CodeHasHash (s : PartySetup) (e : Entry RpAsk) (message : Message) : Type 0 where
   pub heard : Heard
   pub id : Option (Result IdClaims IdNo)
@@ -30,7 +30,7 @@ pub record CodeHasHash (s : PartySetup) (e : Entry RpAsk) (message : Message) : 
   pub came : claims_judged (party_of s).types e.ask ≡ Some claims
   pub hash : claims.c_hash ≡ Some (half_hash_of code)
 
--- the access token is that of the response, and the ID Token beside it has its `at_hash`
+-- the access token is that of the authorization response, and the ID Token that came with it has its `at_hash`
 pub record FrontHasHash (s : PartySetup) (e : Entry RpAsk) (claims : IdClaims) (access : Text) : Type 0 where
   pub heard : Heard
   pub id : Option (Result IdClaims IdNo)
@@ -39,7 +39,7 @@ pub record FrontHasHash (s : PartySetup) (e : Entry RpAsk) (claims : IdClaims) (
   pub access_is : front_access s heard ≡ Some access
   pub hash : claims.at_hash ≡ Some (half_hash_of access)
 
--- it is that of the token response, and the ID Token beside it has its `at_hash`, where it has one
+-- the access token is that of the token response; if the ID Token that came with it has an `at_hash`, it is that of the token
 pub record BackHasHash (e : Entry RpAsk) (claims : IdClaims) (access : Text) : Type 0 where
   pub pending : Word
   pub came : Tokens
@@ -48,7 +48,7 @@ pub record BackHasHash (e : Entry RpAsk) (claims : IdClaims) (access : Text) : T
   pub access_is : came.access ≡ access
   pub hash : IfSome claims.at_hash (λ h. h ≡ half_hash_of access)
 
--- the message asks for UserInfo with the access token beside which an ID Token was judged
+-- the message requests UserInfo with the access token that came with a verified ID Token
 pub record AccessHasHash (s : PartySetup) (e : Entry RpAsk) (message : Message) : Type 0 where
   pub endpoint : Text
   pub endpoint_is : info_endpoint s ≡ Some endpoint

@@ -1,5 +1,5 @@
--- Legal pasts of a relying party, and what holds in them: who enters has a live login of the same browser and nonce and an
--- accepted ID Token, and each login enters at most once.
+-- Legal pasts of a relying party, and what is true in them. A new session has a live login of the same browser and nonce, and
+-- an accepted ID Token. Each login gives at most one session.
 use Rattle.std.specs.Prelude.{◌≡◌, ℕ, ◌+◌, List, ◌∷◌, ◌++◌, length, Option, Some, None, option_map, Result, Ok, ◌⊎◌}
 use Rattle.sso_base.specs.Words.{Word, Text, fresh_word, word_text}
 use Rattle.sso_base.specs.Legal.{IsLegalBy}
@@ -39,7 +39,7 @@ use Rattle.rp_answer.specs.Causes.{OwnLogin}
 abbrev pub IsLegalRp : PartySetup → RpPast → Type 0
 IsLegalRp s past = IsLegalBy IsRpAsk (rp_answer s) past
 
--- a history, oldest first, whose past is legal, and that weighs no more than a history may
+-- a history, oldest first, whose past is legal, and that weighs no more than the limit
 abbrev pub IsLegalHistory : PartySetup → List RpPair → Type 0
 IsLegalHistory s history = IsLegalHistoryBy IsRpAsk (rp_answer s) ask_weight history
 
@@ -60,19 +60,19 @@ pub record BegunBy (past : RpPast) (login : LoginRow) : Type 0 where
   pub begun_then : login.begun ≡ maker.entry.at
   pub place : login.by ≡ length earlier
 
--- ---- who responds
+-- ---- who brings the response
 
--- a pair of the entry stands in the past, after these earlier pairs
+-- a pair with this entry is in the past, after these earlier pairs
 pub record Before (past earlier : RpPast) (entry : Entry RpAsk) : Type 0 where
   pub later : RpPast
   pub reply : RpReply
   pub parts : past ≡ later ++ (record { entry = entry; reply = reply }) ∷ earlier
 
--- the entry is this very one, or one before
+-- the entry is this one, or an earlier one
 abbrev pub NowOrBefore : RpPast → Entry RpAsk → RpPast → Entry RpAsk → Type 0
 NowOrBefore past e earlier entry = ((past ≡ earlier) × (e ≡ entry)) ⊎ Before past earlier entry
 
--- the login's own browser brought the response of its state: by this very ask, or by an earlier one
+-- the login's own browser brought the response with its state: with this request, or with an earlier one
 pub record Responded (past : RpPast) (e : Entry RpAsk) (login : LoginRow) : Type 0 where
   pub earlier : RpPast
   pub entry : Entry RpAsk
@@ -83,10 +83,10 @@ pub record Responded (past : RpPast) (e : Entry RpAsk) (login : LoginRow) : Type
   pub own : OwnLogin earlier entry heard browser login
   pub now_or_before : NowOrBefore past e earlier entry
 
--- ---- what is judged for a login
+-- ---- the ID Token of a login
 
--- an ID Token came with the ask and is good by the rules of the login: its issuer is the trusted provider, it is for this client,
--- and it has the login's nonce
+-- an ID Token came with the request and is good by the rules of the login: its issuer is the trusted provider, it is for this
+-- client, and it has the login's nonce
 pub record JudgedWith (s : PartySetup) (e : Entry RpAsk) (login : LoginRow) (claims : IdClaims) : Type 0 where
   pub came : claims_judged (party_of s).types e.ask ≡ Some claims
   pub rules : IdRules
@@ -98,10 +98,10 @@ pub record JudgedWith (s : PartySetup) (e : Entry RpAsk) (login : LoginRow) (cla
   pub good : Unit {0}
   pub judged : id_judged rules claims e.at ≡ Ok good
 
--- ---- who sent the requests that wait
+-- ---- who sent the pending requests
 
--- a pair exchanged the code of a login's response and drew the exchange's word; what waits has the login's nonce, begin and
--- place, the response's code, and what its ID Token says of the user, where its type has one
+-- A pair exchanged the code of a login's response and drew the exchange's word. The pending exchange has the login's nonce,
+-- start and index, the response's code, and the subject and `sid` of its ID Token, if its type has one.
 pub record ExchangedBy (s : PartySetup) (past : RpPast) (pending : PendingRow) : Type 0 where
   pub later : RpPast
   pub maker : RpPair
@@ -124,7 +124,7 @@ pub record ExchangedBy (s : PartySetup) (past : RpPast) (pending : PendingRow) :
   pub sub_is : pending.sub ≡ sub_in (claims_judged (party_of s).types maker.entry.ask)
   pub sid_is : pending.sid ≡ sid_in (claims_judged (party_of s).types maker.entry.ask)
 
--- UserInfo was asked for at once, with the response of the login, which its own browser brought, and the word was drawn
+-- UserInfo was requested at once, with the response of the login, which its own browser brought, and the word was drawn
 pub record AskedAtOnce (past : RpPast) (e : Entry RpAsk) (login : LoginRow) (w : Word) : Type 0 where
   pub heard : Heard
   pub id : Option (Result IdClaims IdNo)
@@ -133,7 +133,7 @@ pub record AskedAtOnce (past : RpPast) (e : Entry RpAsk) (login : LoginRow) (w :
   pub own : OwnLogin past e heard browser login
   pub drawn : w ≡ fresh_word e.fresh 0
 
--- it was asked for after the token response to an exchange of this very word
+-- UserInfo was requested after the token response to an exchange with the same word
 pub record AskedAfterExchange (s : PartySetup) (past : RpPast) (e : Entry RpAsk) (login : LoginRow) (w : Word) : Type 0 where
   pub came : Tokens
   pub id : Option (Result IdClaims IdNo)
@@ -144,8 +144,8 @@ pub record AskedAfterExchange (s : PartySetup) (past : RpPast) (e : Entry RpAsk)
   pub sent : ExchangedBy s past exchange
   pub of_login : sent.login ≡ login
 
--- a pair asked for UserInfo; what waits has the nonce, begin and place of the login for which it asked, and the subject and the
--- `sid` of the ID Token that was judged then
+-- A pair requested UserInfo. The pending exchange has the nonce, start and index of its login, and the subject and the `sid` of
+-- the ID Token that was verified then.
 pub record FetchedBy (s : PartySetup) (past : RpPast) (pending : PendingRow) : Type 0 where
   pub later : RpPast
   pub maker : RpPair
@@ -165,15 +165,15 @@ pub record FetchedBy (s : PartySetup) (past : RpPast) (pending : PendingRow) : T
   pub sub_is : pending.sub ≡ Some claims.sub
   pub sid_is : pending.sid ≡ claims.sid
 
--- by what it waits for
+-- by the response that it is waiting for
 abbrev pub SentBy : PartySetup → RpPast → PendingRow → Stage → Type 0
 SentBy s past pending stage.Tokens = ExchangedBy s past pending
 SentBy s past pending stage.Info = FetchedBy s past pending
 
--- ---- which ID Token lets a login in
+-- ---- the ID Token with which a login succeeds
 
--- the UserInfo response is to a request that waits for it, and the ID Token is the one that was judged with the very ask after
--- which UserInfo was asked for so
+-- the UserInfo response is to a request that is waiting for it, and the ID Token is the one that was verified with the entry
+-- after which UserInfo was requested
 pub record JudgedBefore (s : PartySetup) (past : RpPast) (e : Entry RpAsk) (w : Word) (login : LoginRow) (claims : IdClaims) : Type 0 where
   pub waiting : PendingRow
   pub live : live_pending (party_of s).types past e.at w stage.Info ≡ Some waiting
@@ -181,14 +181,14 @@ pub record JudgedBefore (s : PartySetup) (past : RpPast) (e : Entry RpAsk) (w : 
   pub of_login : asked_by.login ≡ login
   pub claims_are : asked_by.claims ≡ claims
 
--- by the ask: one that was judged before, where UserInfo came; else one that came with this very ask and is judged now
+-- with a UserInfo response, an ID Token that was verified before; otherwise one that came with this request and is verified now
 abbrev pub JudgedFor : PartySetup → RpPast → Entry RpAsk → RpAsk → LoginRow → IdClaims → Type 0
 JudgedFor s past e (ask.Info w came) login claims = JudgedBefore s past e w login claims
 JudgedFor s past e other login claims = JudgedWith s e login claims
 
--- ---- which logout tokens are remembered
+-- ---- the logout tokens that are remembered
 
--- a pair accepted a logout token of this `jti`, at this place of the history, from 1
+-- a pair accepted a logout token with this `jti`; its number in the history, counted from 1, is this one
 pub record AcceptedBy (past : RpPast) (seen : SeenRow) : Type 0 where
   pub later : RpPast
   pub maker : RpPair
@@ -202,7 +202,7 @@ pub record AcceptedBy (past : RpPast) (seen : SeenRow) : Type 0 where
   pub accepted_then : seen.accepted ≡ maker.entry.at
   pub place : seen.place ≡ length earlier + 1
 
--- ---- which login enters, by the place of the pair that began it, from 0
+-- ---- the login that gives a session, by the index of the pair that began it, counted from 0
 
 abbrev pub place_of_login : Option LoginRow → Option ℕ
 place_of_login login = option_map (λ (row : LoginRow). row.by) login
@@ -219,11 +219,11 @@ login_entered_by types past e asked replied = None
 abbrev pub login_entered : Types → RpPast → RpPair → Option ℕ
 login_entered types past p = login_entered_by types past p.entry p.entry.ask p.reply
 
--- ---- who enters
+-- ---- who gets a session
 
--- a session begins with a login whose browser brought its response, and with an ID Token that was judged good for this login: it
--- came with this very ask, or, where UserInfo came, with the ask after which that was asked for. This login enters, and the
--- session has its nonce, the subject and the `sid` of that token, and the moment.
+-- A session begins with a login whose browser brought its response, and with an ID Token that was verified for this login. The
+-- token came with this request or, for a UserInfo response, with the request after which UserInfo was requested. The session
+-- has the login's nonce, the token's subject and `sid`, and the moment.
 pub record LoginEntered (s : PartySetup) (past : RpPast) (e : Entry RpAsk) (w : Word) (sub : Text) : Type 0 where
   pub login : LoginRow
   pub responded : Responded past e login
@@ -234,8 +234,8 @@ pub record LoginEntered (s : PartySetup) (past : RpPast) (e : Entry RpAsk) (w : 
   pub visit_is : visit_by (party_of s).types e.at past e.ask (reply.Entered w sub)
       ≡ Some (record { word = w; nonce = login.nonce; sub = sub; sid = claims.sid; entered = e.at })
 
--- a pair let the session in, and drew its word; the session has the nonce of the login that entered, and the subject and the
--- `sid` of the ID Token that was judged for it
+-- a pair began the session and drew its word; the session has the nonce of its login, and the subject and the `sid` of the ID
+-- Token that was verified for it
 pub record EnteredBy (s : PartySetup) (past : RpPast) (visit : SessionRow) : Type 0 where
   pub later : RpPast
   pub maker : RpPair

@@ -1,4 +1,4 @@
--- Logins: from the begin of a login to its callback (OpenID Connect Core 1.0, 3.1.2.1, `state` and `nonce`).
+-- Logins: from the start of a login to its callback (OpenID Connect Core 1.0, 3.1.2.1, `state` and `nonce`).
 use Rattle.std.specs.Prelude.{ℕ, Bool, true, false, not, ◌&&◌, List, length, Option, Some, None, option_and_then, if◌then◌else◌}
 use Rattle.std.specs.Str.{bytes_eq}
 use Rattle.std.specs.List.{list_any}
@@ -16,7 +16,7 @@ use Rattle.rp_exchange.specs.declared.reply.RpReply.TheVariants.{Ask, Refused, N
 use Rattle.rp_answer.specs.Past.{RpPair, RpPast}
 use Rattle.rp_answer.specs.Asked.{state_named}
 
--- A login is begun by an authorization request. Its state and nonce are drawn, its browser is the one whose cookie is set.
+-- A login is begun by an authorization request. Its state and nonce are drawn, and its browser is the one whose cookie is set.
 abbrev pub login_started : ℕ → ℕ → List Word → RpAsk → RpReply → Option LoginRow
 login_started by at fresh (Begin presented) (Ask to browser) =
     Some (record { state = fresh_word fresh 1; nonce = fresh_word fresh 2; browser = browser; begun = at; by = by })
@@ -25,7 +25,7 @@ login_started by at fresh asked reply = None
 abbrev pub login_made : List LoginRow → RpPast → RpPair → Option LoginRow
 login_made held past p = login_started (length past) p.entry.at p.entry.fresh p.entry.ask p.reply
 
--- the refusals of an authorization response that was not shown to belong to the login, or for which there was no room
+-- the errors of an authorization response that does not belong to the login, or for which there is no room
 abbrev pub leaves_login : RpNo → Bool
 leaves_login (no.Twice name) = true
 leaves_login no.NoState = true
@@ -39,7 +39,7 @@ ends_login NotHere = false
 ends_login (Refused why) = not (leaves_login why)
 ends_login reply = true
 
--- A login is ended by the first authorization response of its state that came from its browser, good or bad.
+-- A login ends with the first authorization response with its state from its own browser, valid or not.
 abbrev pub login_kept : RpPast → RpPair → LoginRow → Option LoginRow
 login_kept past p row = if is_word (state_named p.entry.ask) row.state && ends_login p.reply then None else Some row
 

@@ -1,4 +1,5 @@
--- Pending exchanges: a token request (OpenID Connect Core 1.0, 3.1.3) or a UserInfo request (5.3) that waits for its answer.
+-- Pending exchanges: a token request (OpenID Connect Core 1.0, 3.1.3) or a UserInfo request (5.3) that is waiting for its
+-- response.
 use Rattle.std.specs.Prelude.{ℕ, Bool, true, false, ◌&&◌, List, Option, Some, None, option_map, option_and_then, if◌then◌else◌}
 use Rattle.std.specs.Str.{bytes_eq}
 use Rattle.sso_base.specs.Words.{Word}
@@ -19,7 +20,7 @@ use Rattle.rp_answer.specs.Past.{RpPair, RpPast}
 use Rattle.rp_answer.specs.Asked.{state_named, code_heard, claims_judged, sub_in, sid_in}
 use Rattle.rp_answer.specs.Logins.{login_of}
 
--- ---- what an exchange waits for
+-- ---- the response that an exchange is waiting for
 
 abbrev pub is_stage : Stage → Stage → Bool
 is_stage stage.Tokens stage.Tokens = true
@@ -32,7 +33,7 @@ if_stage wanted row = if is_stage wanted row.stage then Some row else None
 
 -- ---- how it is made
 
--- what the response of a login leaves pending
+-- the pending exchange after the response of a login
 abbrev pub pending_started : Types → ℕ → RpAsk → Word → Stage → LoginRow → PendingRow
 pending_started types at asked w waits login =
     record {
@@ -47,7 +48,8 @@ pending_started types at asked w waits login =
       by = login.by;
     }
 
--- what a token response leaves pending: a UserInfo request, with what its ID Token says, and the code of the exchange before it
+-- the pending exchange after a token response: a UserInfo request, with the subject and `sid` of its ID Token, and the earlier
+-- code
 abbrev pub pending_followed : Types → ℕ → RpAsk → Word → PendingRow → PendingRow
 pending_followed types at asked w before =
     record before {
@@ -58,21 +60,21 @@ pending_followed types at asked w before =
       stage = stage.Info;
     }
 
--- by the response of a login
+-- after the response of a login
 abbrev pub started_by : Types → ℕ → RpPast → RpAsk → Word → Stage → Option PendingRow
 started_by types at past asked w waits = option_map (pending_started types at asked w waits) (login_of past (state_named asked))
 
--- by the token response to an exchange of those that are held
+-- after the token response to one of these exchanges
 abbrev pub followed_by : Types → ℕ → List PendingRow → RpAsk → Word → Word → Option PendingRow
 followed_by types at held asked answered w =
     option_map (pending_followed types at asked w) (option_and_then (if_stage stage.Tokens) (row_of pending_name answered held))
 
--- UserInfo is asked for after the token response, or at once
+-- UserInfo is requested after the token response, or at once
 abbrev pub fetched_by : Types → ℕ → RpPast → List PendingRow → Word → RpAsk → Option PendingRow
 fetched_by types at past held w (ask.Tokens answered came id) = followed_by types at held (ask.Tokens answered came id) answered w
 fetched_by types at past held w asked = started_by types at past asked w stage.Info
 
--- A pending exchange is made where a code is exchanged, and where UserInfo is asked for.
+-- A pending exchange is made if a code is exchanged, and if UserInfo is requested.
 abbrev pub pending_by : Types → ℕ → RpPast → List PendingRow → RpAsk → RpReply → Option PendingRow
 pending_by types at past held asked (Exchange w message) = started_by types at past asked w stage.Tokens
 pending_by types at past held asked (Fetch w message) = fetched_by types at past held w asked
@@ -83,7 +85,7 @@ pending_made types held past p = pending_by types p.entry.at past held p.entry.a
 
 -- ---- how it ends
 
--- the word of the exchange that an answer is to, and what that exchange waits for
+-- the word of the exchange that a response belongs to, and the kind of that response
 abbrev pub answer_named : RpAsk → Option (Word × Stage)
 answer_named (ask.Tokens answered came id) = Some (answered, stage.Tokens)
 answer_named (ask.Info answered came) = Some (answered, stage.Info)
@@ -98,7 +100,7 @@ ends_pending NotHere = false
 ends_pending (Refused (no.Full table)) = false
 ends_pending reply = true
 
--- It is ended by the first answer that it waits for, good or bad, unless there was no room.
+-- It ends with the first response that it is waiting for, valid or not, unless there is no room.
 abbrev pub pending_kept : RpPast → RpPair → PendingRow → Option PendingRow
 pending_kept past p row = if is_answered (answer_named p.entry.ask) row && ends_pending p.reply then None else Some row
 
@@ -113,10 +115,10 @@ live_pendings types past at = live_rows pending_life pending_begun at (pendings 
 abbrev pub pending_of : Types → RpPast → Word → Option PendingRow
 pending_of types past w = row_of pending_name w (pendings types past)
 
--- the one of a word, whatever it waits for
+-- the live exchange with this word, with any response pending
 abbrev pub any_live_pending : Types → RpPast → ℕ → Word → Option PendingRow
 any_live_pending types past at w = option_and_then (if_lives pending_life pending_begun at) (pending_of types past w)
 
--- the one of a word that waits for this answer
+-- the live exchange with this word that is waiting for this response
 abbrev pub live_pending : Types → RpPast → ℕ → Word → Stage → Option PendingRow
 live_pending types past at w wanted = option_and_then (if_stage wanted) (any_live_pending types past at w)

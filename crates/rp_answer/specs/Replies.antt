@@ -1,4 +1,4 @@
--- What a relying party replies, were there always room in its tables.
+-- A relying party's replies, if none of its tables were full.
 use Rattle.std.specs.Prelude.{ℕ, Bool, false, not, ◌&&◌, List, length, filter, Option, Some, None, is_some, is_none, Result, Ok, Err, if◌then◌else◌}
 use Rattle.std.specs.Str.{bytes_eq}
 use Rattle.sso_base.specs.Words.{Word, Text, is_word, fresh_word, word_text}
@@ -42,9 +42,9 @@ use Rattle.rp_answer.specs.Logins.{live_login, has_login_browser}
 use Rattle.rp_answer.specs.Visits.{live_visits}
 use Rattle.rp_answer.specs.Seens.{live_seen}
 
--- ---- the begin of a login (OpenID Connect Core 1.0, 3.1.2.1)
+-- ---- the start of a login (OpenID Connect Core 1.0, 3.1.2.1)
 
--- the presented browser word is kept where a live login has it
+-- the presented browser word is kept if a live login has it
 abbrev pub login_browser : RpPast → Entry RpAsk → Option Word → Word
 login_browser past e None = fresh_word e.fresh 0
 login_browser past e (Some browser) = if has_login_browser past e.at browser then browser else fresh_word e.fresh 0
@@ -53,14 +53,14 @@ abbrev pub begin : PartySetup → RpPast → Entry RpAsk → Option Word → RpR
 begin s past e browser =
     Ask (login_location (client_of s) (party_of s) s.provider (fresh_word e.fresh 1) (fresh_word e.fresh 2)) (login_browser past e browser)
 
--- ---- what is asked of ID Tokens (Core 3.1.3.7, 3.1.3.8, 3.2.2.9, 3.2.2.11, 3.3.2.9, 3.3.2.10 and 3.3.2.12)
+-- ---- the rules for ID Tokens (Core 3.1.3.7, 3.1.3.8, 3.2.2.9, 3.2.2.11, 3.3.2.9, 3.3.2.10 and 3.3.2.12)
 
--- the half digest of the text must be there, where the response type has the text
+-- if there is a text, its half digest is required
 abbrev pub must_hash : Option Text → Half
 must_hash None = Free
 must_hash (Some text) = Must (half_hash_of text)
 
--- the half digest of the text, where it is there, is the text's
+-- if there is a text, a half digest that is present must be the text's
 abbrev pub may_hash : Option Text → Half
 may_hash None = Free
 may_hash (Some text) = IfThere (half_hash_of text)
@@ -77,14 +77,14 @@ rules_for s nonce begun token code =
       code = code;
     }
 
--- the access token and the code of a response, where its type has them
+-- the access token and the code of a response, if its type has them
 abbrev pub front_access : PartySetup → Heard → Option Text
 front_access s heard = if_wanted (party_of s).types.token heard.access
 
 abbrev pub front_code : PartySetup → Heard → Option Text
 front_code s heard = if_wanted (party_of s).types.code heard.code
 
--- of the ID Token in an authorization response, and of the one in a token response
+-- the rules for the ID Token in an authorization response, and for the one in a token response
 abbrev pub front_rules : PartySetup → LoginRow → Heard → IdRules
 front_rules s login heard = rules_for s login.nonce login.begun (must_hash (front_access s heard)) (must_hash (front_code s heard))
 
@@ -93,7 +93,7 @@ back_rules s pending tokens = rules_for s pending.nonce pending.begun (may_hash 
 
 -- ---- an authorization response (Core 3.1.2.5, 3.1.2.6, 3.2.2.5, 3.2.2.6, 3.3.2.5 and 3.3.2.6; RFC 6749, 10.12)
 
--- the first part that the response type has and the response has not
+-- the first part that the response type has and the response lacks
 abbrev pub part_missing : Types → Heard → Option Part
 part_missing types heard =
     if types.code && is_none heard.code then Some part.Code
@@ -105,7 +105,7 @@ part_missing types heard =
 abbrev pub exchange : PartySetup → Entry RpAsk → Text → RpReply
 exchange s e code = Exchange (fresh_word e.fresh 0) (token_message (client_of s) s.provider.token code (party_of s).redirect)
 
--- the UserInfo endpoint, where the party asks for UserInfo and the provider has it (Core 5.3)
+-- the UserInfo endpoint, if the party requests UserInfo and the provider has it (Core 5.3)
 abbrev pub info_endpoint : PartySetup → Option Text
 info_endpoint s = if_wanted (party_of s).userinfo s.provider.userinfo
 
@@ -116,13 +116,13 @@ fetched endpoint access w = Fetch w (info_message endpoint access)
 abbrev pub entered : Entry RpAsk → Text → RpReply
 entered e sub = Entered (fresh_word e.fresh 1) sub
 
--- UserInfo is asked for with the access token, else the subject enters
+-- a UserInfo request with the access token, or else a session of the subject
 abbrev pub fetch_or_enter : Entry RpAsk → Option Text → Option Text → Word → Text → RpReply
 fetch_or_enter e None access w sub = entered e sub
 fetch_or_enter e (Some endpoint) None w sub = entered e sub
 fetch_or_enter e (Some endpoint) (Some access) w sub = fetched endpoint access w
 
--- a code is exchanged, else the claims of the ID Token count
+-- the code is exchanged, or else the claims of the ID Token are used
 abbrev pub exchange_or_enter : PartySetup → Entry RpAsk → Heard → Option Text → Option IdClaims → RpReply
 exchange_or_enter s e heard (Some code) claims = exchange s e code
 exchange_or_enter s e heard None (Some claims) = fetch_or_enter e (info_endpoint s) (front_access s heard) (fresh_word e.fresh 0) claims.sub
@@ -156,7 +156,7 @@ abbrev pub response_to : PartySetup → RpPast → Entry RpAsk → Heard → Opt
 response_to s past e heard id browser None = Refused no.NoState
 response_to s past e heard id browser (Some state) = response_of s e heard id browser (live_login past e.at (Some state))
 
--- The refusals in order: a part stands twice, no state, no live login of it, another browser, the provider's error, a missing
+-- The errors in order: a repeated parameter, no state, no live login with it, another browser, the provider's error, a missing
 -- part, a bad ID Token.
 abbrev pub callback : PartySetup → RpPast → Entry RpAsk → Result Heard AnswerNo → Option (Result IdClaims IdNo) → Option Word → RpReply
 callback s past e (Err (answer_no.Twice name)) id browser = Refused (no.Twice name)
@@ -165,12 +165,12 @@ callback s past e (Ok heard) id browser = response_to s past e heard id browser 
 
 -- ---- a token response (Core 3.1.3.5, 3.1.3.7, 3.3.3.6 and 3.3.3.7)
 
--- a subject came before, and is another
+-- there is an earlier subject that differs
 abbrev pub is_other : Option Text → Text → Bool
 is_other None sub = false
 is_other (Some before) sub = not (bytes_eq before sub)
 
--- a question that follows keeps the word of the exchange
+-- a UserInfo request that follows keeps the word of the exchange
 abbrev pub back_accepted : PartySetup → Entry RpAsk → PendingRow → Tokens → IdClaims → RpReply
 back_accepted s e pending came claims = fetch_or_enter e (info_endpoint s) (Some came.access) pending.word claims.sub
 
@@ -184,7 +184,7 @@ back_read s e pending came None = Refused (no.Missing part.Id)
 back_read s e pending came (Some (Err why)) = Refused (no.Id why)
 back_read s e pending came (Some (Ok claims)) = back_judged s e pending came claims (id_judged (back_rules s pending came) claims e.at)
 
--- The refusals in order: no live exchange, a bad response, a bad ID Token, another subject.
+-- The errors in order: no live exchange, a bad response, a bad ID Token, another subject.
 abbrev pub tokens : PartySetup → Entry RpAsk → Option PendingRow → Result Tokens TokensNo → Option (Result IdClaims IdNo) → RpReply
 tokens s e None came id = Refused no.StalePending
 tokens s e (Some pending) (Err why) id = Refused (no.Tokens why)
@@ -195,7 +195,7 @@ tokens s e (Some pending) (Ok came) id = back_read s e pending came id
 abbrev pub info_came : Entry RpAsk → PendingRow → Text → RpReply
 info_came e pending sub = if is_other pending.sub sub then Refused no.SubjectDiffers else entered e sub
 
--- The refusals in order: no live exchange, a bad response, another subject.
+-- The errors in order: no live exchange, a bad response, another subject.
 abbrev pub info : Entry RpAsk → Option PendingRow → Result Text InfoNo → RpReply
 info e None came = Refused no.StalePending
 info e (Some pending) (Err why) = Refused (no.Info why)
@@ -214,7 +214,7 @@ left visit = Left (is_some visit)
 
 -- ---- a logout request (OpenID Connect Back-Channel Logout 1.0, 2.5 to 2.8)
 
--- how many of the sessions a logout token names: those that equal each part that it has
+-- how many of the sessions a logout token names: those that match each part that it has
 abbrev pub meant_count : LogoutClaims → List SessionRow → ℕ
 meant_count claims visits = length (filter (is_meant claims.sub claims.sid) visits)
 
@@ -226,7 +226,7 @@ abbrev pub logout_good : PartySetup → RpPast → Entry RpAsk → LogoutClaims 
 logout_good s past e claims (Err why) = Refused (no.Logout why)
 logout_good s past e claims (Ok good) = logout_new s past e claims (live_seen past e.at claims.jti)
 
--- The refusals in order: a bad logout token, one that was accepted before.
+-- The errors in order: a bad logout token, one that was accepted before.
 abbrev pub logout : PartySetup → RpPast → Entry RpAsk → Result LogoutClaims LogoutNo → RpReply
 logout s past e (Err why) = Refused (no.Logout why)
 logout s past e (Ok claims) = logout_good s past e claims (logout_judged s.provider.issuer (client_of s).id claims e.at)

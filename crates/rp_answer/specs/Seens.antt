@@ -1,4 +1,4 @@
--- The logout tokens that a relying party has accepted, which it takes once only (OpenID Connect Back-Channel Logout 1.0, 2.6,
+-- The logout tokens that a relying party has accepted. It accepts each only once (OpenID Connect Back-Channel Logout 1.0, 2.6,
 -- step 8).
 use Rattle.std.specs.Prelude.{ℕ, ◌+◌, List, length, Option, Some, option_map, option_and_then}
 use Rattle.sso_base.specs.Words.{Text}
@@ -12,18 +12,18 @@ use Rattle.rp_exchange.specs.declared.reply.RpReply.{RpReply}
 use Rattle.rp_answer.specs.Past.{RpPair, RpPast}
 use Rattle.rp_answer.specs.Asked.{token_accepted}
 
--- what is remembered of a token: its `jti`, and where and when it was accepted; the place in the history is counted from 1
+-- the record of an accepted token: its `jti`, the number of its pair in the history, counted from 1, and the moment
 abbrev pub seen_of : ℕ → ℕ → LogoutClaims → SeenRow
 seen_of before at claims = record { jti = claims.jti; place = before + 1; accepted = at }
 
--- One is remembered where it is accepted.
+-- A token is recorded if it is accepted.
 abbrev pub seen_by : ℕ → ℕ → RpAsk → RpReply → Option SeenRow
 seen_by before at asked reply = option_map (seen_of before at) (token_accepted asked reply)
 
 abbrev pub seen_made : List SeenRow → RpPast → RpPair → Option SeenRow
 seen_made held past p = seen_by (length past) p.entry.at p.entry.ask p.reply
 
--- Nothing ends it but its life.
+-- Only its life ends it.
 abbrev pub seen_kept : RpPast → RpPair → SeenRow → Option SeenRow
 seen_kept past p row = Some row
 

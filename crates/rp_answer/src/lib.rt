@@ -1,9 +1,11 @@
-//! What a relying party answers (OpenID Connect Core 1.0, 3), as a definition: for each past and each ask one reply, and what
-//! holds of it. It has no running code.
+//! The definition of a relying party's answers (OpenID Connect Core 1.0, 3): one reply for each past and each request, and laws
+//! about it. It has no running code.
 //!
-//! The definitions stand in `specs/`: the rows that stand after a past (`Logins`, `Pendings`, `Visits`, `Seens`), the reply
-//! that asks them (`Replies`, `Room`, `Answering`), and what a reply says of the past (`Causes`, `Legal`, `Endings`,
-//! `Hashes`).
+//! The definitions are in `specs/`:
+//!
+//! - the rows after a past: `Logins`, `Pendings`, `Visits`, `Seens`;
+//! - the reply, which depends on these rows: `Replies`, `Room`, `Answering`;
+//! - what a reply implies about the past: `Causes`, `Legal`, `Endings`, `Hashes`.
 #![tactic(auto)]
 
 mod law;

@@ -1,4 +1,4 @@
--- A relying party's tables and the questions of its past: what lives in both at a moment is the same.
+-- A relying party's tables and the lookups in its past: the rows that live at a moment are the same in both.
 use Rattle.std.specs.Prelude.{◌≡◌, ℕ, true, List, reverse}
 use Rattle.sso_base.specs.Rows.{live_rows}
 use Rattle.sso_base.specs.Legal.{last_moment}
@@ -21,19 +21,19 @@ pub record Agrees (types : Types) (t : Tables) (past : RpPast) (at : ℕ) : Type
   pub visits : live_rows visit_life visit_begun at t.visits ≡ live_visits types past at
   pub seens : live_rows seen_life seen_begun at t.seens ≡ live_seens past at
 
--- no held row begins after the moment
+-- no row in the tables begins after the moment
 pub record IsBegun (t : Tables) (at : ℕ) : Type 0 where
   pub logins : none_after login_begun at t.logins ≡ true
   pub pendings : none_after pending_begun at t.pendings ≡ true
   pub visits : none_after visit_begun at t.visits ≡ true
   pub seens : none_after seen_begun at t.seens ≡ true
 
--- what the party keeps beside its history, by its past
+-- the invariant of the party's tables, for a past
 pub record KeepsPast (types : Types) (past : RpPast) (t : Tables) : Type 0 where
   pub agrees : Agrees types t past (last_moment past)
   pub begun : IsBegun t (last_moment past)
 
--- what a party keeps: the tables are those of its history, which is legal
+-- the invariant of a party: the tables are those of its history, which is legal
 pub record Keeps (s : PartySetup) (history : List RpPair) (t : Tables) : Type 0 where
   pub tables : KeepsPast (party_of s).types (reverse history) t
   pub legal : IsLegalHistory s history

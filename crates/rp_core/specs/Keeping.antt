@@ -1,4 +1,4 @@
--- What the tables are after one more pair.
+-- The tables after one more pair.
 use Rattle.std.specs.Prelude.{◌≡◌, ◌≤◌, ℕ, Bool, List, ◌||◌, true, filter_map, Option, Some, None, is_some, option_and_then, if◌then◌else◌}
 use Rattle.sso_base.specs.Words.{Word}
 use Rattle.sso_base.specs.Rows.{put, row_of, live_rows}
@@ -22,7 +22,7 @@ use Rattle.rp_answer.specs.Answering.{rp_answer}
 use Rattle.rp_core.specs.Agreeing.{Agrees, IsBegun}
 use Rattle.rp_core.specs.Making.{Brings}
 
--- what lived at the pair's moment, as the pair leaves it, and what it makes
+-- the rows that lived at the pair's moment, as the pair leaves them, and the rows that it makes
 pub record FollowsPair (types : Types) (before after : Tables) (past : RpPast) (p : RpPair) : Type 0 where
   pub logins_are : after.logins ≡ put login_name (login_made (logins past) past p) (filter_map (login_kept past p) (live_rows login_life login_begun p.entry.at before.logins))
   pub pendings_are : after.pendings
@@ -30,7 +30,8 @@ pub record FollowsPair (types : Types) (before after : Tables) (past : RpPast) (
   pub visits_are : after.visits ≡ put visit_name (visit_made types (visits types past) past p) (filter_map (visit_kept past p) (live_rows visit_life visit_begun p.entry.at before.visits))
   pub seens_are : after.seens ≡ put seen_name (seen_made (seens past) past p) (filter_map (seen_kept past p) (live_rows seen_life seen_begun p.entry.at before.seens))
 
--- What a step takes up: a pair whose reply is the answer after a past with which the tables agree, and the rows that it makes.
+-- The precondition of an update: the tables agree with the past, the reply is the answer after it, and the rows are those it
+-- makes.
 pub record TakesUp (s : PartySetup) (past : RpPast) (before : ℕ) (t : Tables) (p : RpPair) (login : Option LoginRow) (pending : Option PendingRow) (visit : Option SessionRow) (seen : Option SeenRow) : Type 0 where
   pub order : before ≤ p.entry.at
   pub agrees : Agrees (party_of s).types t past before
@@ -38,13 +39,13 @@ pub record TakesUp (s : PartySetup) (past : RpPast) (before : ℕ) (t : Tables) 
   pub reply_is : p.reply ≡ rp_answer s past p.entry
   pub brings : Brings (party_of s).types past p login pending visit seen
 
--- ---- exchanges that are answered
+-- ---- exchanges that get their response
 
--- the exchange of this word waits for this answer
+-- the exchange with this word is waiting for this response
 abbrev pub is_waiting : Word → Stage → List PendingRow → Bool
 is_waiting w waits rows = is_some (option_and_then (if_stage waits) (row_of pending_name w rows))
 
--- it is gone
+-- the exchanges without it
 abbrev pub without_answered : Word → Stage → List PendingRow → List PendingRow
 without_answered w waits rows = filter_map (λ row. if is_answered (Some (w, waits)) row then None else Some row) rows
 

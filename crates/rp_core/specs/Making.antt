@@ -1,4 +1,4 @@
--- The rows that an entry and its reply bring, by what lives: those that the definitions make, where the reply is the answer.
+-- The rows that an entry and its reply make, from the live rows. If the reply is the answer, they are those of the definitions.
 use Rattle.std.specs.Prelude.{◌≡◌, Option, None, option_map, option_and_then}
 use Rattle.sso_base.specs.Words.{Word}
 use Rattle.sso_base.specs.declared.history.Entry.{Entry}
@@ -20,11 +20,11 @@ use Rattle.rp_answer.specs.Pendings.{pendings, pending_started, pending_followed
 use Rattle.rp_answer.specs.Seens.{seens, seen_made}
 use Rattle.rp_answer.specs.Visits.{visits, visit_of, visit_after, visit_made}
 
--- what the response of the live login leaves pending
+-- the pending exchange after the response of the live login
 abbrev pub started_found : Types → RpPast → Entry RpAsk → Word → Stage → Option PendingRow
 started_found types past e w waits = option_map (pending_started types e.at e.ask w waits) (live_login past e.at (state_named e.ask))
 
--- what the token response to the live exchange of this word does
+-- the pending exchange after the token response to the live exchange with this word
 abbrev pub followed_found : Types → RpPast → Entry RpAsk → Word → Word → Option PendingRow
 followed_found types past e answered w = option_map (pending_followed types e.at e.ask w) (live_pending types past e.at answered stage.Tokens)
 
@@ -32,24 +32,24 @@ abbrev pub fetched_found : Types → RpPast → Entry RpAsk → Word → RpAsk �
 fetched_found types past e w (Tokens answered came id) = followed_found types past e answered w
 fetched_found types past e w asked = started_found types past e w stage.Info
 
--- the pending exchange that a reply leaves
+-- the pending exchange that a reply makes
 abbrev pub pending_found : Types → RpPast → Entry RpAsk → RpReply → Option PendingRow
 pending_found types past e (Exchange w message) = started_found types past e w stage.Tokens
 pending_found types past e (Fetch w message) = fetched_found types past e w e.ask
 pending_found types past e reply = None
 
--- the nonce of the live login, or of the live exchange, that an ask is about
+-- the nonce of the live login, or of the live exchange, that a request belongs to
 abbrev pub nonce_found : Types → RpPast → Entry RpAsk → RpAsk → Option Word
 nonce_found types past e (Callback heard id browser) =
     option_map (λ (login : LoginRow). login.nonce) (live_login past e.at (state_named (Callback heard id browser)))
 nonce_found types past e (Tokens w came id) = option_map (λ (pending : PendingRow). pending.nonce) (live_pending types past e.at w stage.Tokens)
 nonce_found types past e asked = None
 
--- the session of the claims that were judged with an ask
+-- the session of the claims that were verified with a request
 abbrev pub visit_judged : Types → RpPast → Entry RpAsk → Word → RpAsk → Option SessionRow
 visit_judged types past e w asked = option_and_then (λ nonce. option_map (visit_of e.at w nonce) (claims_judged types asked)) (nonce_found types past e asked)
 
--- the session that an ask lets in under this word
+-- the session with this word that a request begins
 abbrev pub visit_in : Types → RpPast → Entry RpAsk → Word → RpAsk → Option SessionRow
 visit_in types past e w (Info answered came) = option_and_then (visit_after e.at w) (live_pending types past e.at answered stage.Info)
 visit_in types past e w asked = visit_judged types past e w asked

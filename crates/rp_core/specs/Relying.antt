@@ -1,4 +1,4 @@
--- A relying party as a value: what it was set up with, its history, oldest first, and its tables.
+-- The model of a relying party: its setup, its history, oldest first, and its tables.
 use Rattle.std.specs.Prelude.{List, reverse}
 use Rattle.rp_login.specs.Tables.{Tables}
 use Rattle.rp_answer.specs.Past.{RpPair, RpPast}

@@ -1,4 +1,4 @@
-// What a relying party replies.
+// A relying party's reply.
 
 ghost use Rattle.std.specs.Prelude.{◌≡◌, ◌≤◌, IfOk};
 ghost use Rattle.sso_base.specs.Legal.{last_moment};
@@ -12,7 +12,7 @@ use sso_base::{Entry, NoMemory};
 use std::alloc::Global;
 
 impl RpCore {
-    // The reply, were there always room.
+    // The reply, if no table were full.
     fn reply(&self, alloc: Global, entry: &Entry<RpAsk>) -> Result<RpReply, NoMemory>
         requires { last_moment (past_of self.now) ≤ entry.now.at }
         ensures { IfOk result (λ r. r ≡ spec.rp_reply self.now.setup (past_of self.now) entry.now entry.now.ask) }
@@ -36,7 +36,7 @@ impl RpCore {
         }
     }
 
-    // The reply: an ask that no request gives finds nothing here, and without room nothing changes.
+    // The reply. A value that no request produces gets `NotHere`, and with a full table nothing changes.
     #[tactic(auto, unfolding(rp_answer::specs::Answering::rp_answer))]
     pub(crate) fn answer(&self, alloc: Global, entry: &Entry<RpAsk>) -> Result<RpReply, NoMemory>
         requires { last_moment (past_of self.now) ≤ entry.now.at }

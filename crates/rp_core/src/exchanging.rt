@@ -1,4 +1,4 @@
-// The replies to answers of the token endpoint and of UserInfo, and to a visit, were there always room.
+// The replies to token responses, to UserInfo responses and to a visit, if no table were full.
 
 ghost use Rattle.std.specs.Prelude.{◌≡◌, ◌≤◌, IfOk};
 ghost use Rattle.sso_base.specs.Legal.{last_moment};
@@ -20,7 +20,7 @@ use token_endpoint::{Tokens, TokensNo};
 use userinfo::InfoNo;
 
 impl RpCore {
-    // An answer of the token endpoint.
+    // The reply to a token response.
     pub(crate) fn tokens(
         &self,
         alloc: Global,
@@ -45,7 +45,7 @@ impl RpCore {
         }
     }
 
-    // An answer of UserInfo.
+    // The reply to a UserInfo response.
     pub(crate) fn info(
         &self,
         alloc: Global,
@@ -69,7 +69,7 @@ impl RpCore {
         }
     }
 
-    // A visit.
+    // The reply to a visit.
     pub(crate) fn visit(
         &self,
         alloc: Global,

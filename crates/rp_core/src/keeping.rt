@@ -1,4 +1,4 @@
-// A pair is taken up by the tables. It takes no memory.
+// Updating the tables with a pair. It allocates nothing.
 
 ghost use Rattle.std.specs.Prelude.{◌≡◌, true, false, filter_map, IfSome, ℕ, None};
 ghost use Rattle.held_rows.specs.Held.{MayAddRow};
@@ -46,7 +46,7 @@ fn ends_pending(reply: &RpReply) -> bool
     )
 }
 
-// The word of the exchange that an answer is to, and what that exchange waits for.
+// The word of the exchange that a response belongs to, and the kind of that response.
 fn answer_named(ask: &RpAsk) -> Option<(Word, Stage)>
     ensures { result ≡ pendings.answer_named ask.now }
 {
@@ -57,7 +57,7 @@ fn answer_named(ask: &RpAsk) -> Option<(Word, Stage)>
     }
 }
 
-// Whether the exchange of this word waits for this answer.
+// Whether the exchange with this word is waiting for this response.
 fn is_waiting(tables: &Logins, word: Word, waits: Stage) -> bool
     ensures row { result ≡ spec.is_waiting word waits tables.now.pendings }
     ensures held { ArePendings tables.now.pendings }
@@ -68,7 +68,7 @@ fn is_waiting(tables: &Logins, word: Word, waits: Stage) -> bool
     }
 }
 
-// Ends the exchange of this word, where it waits for this answer.
+// Ends the exchange with this word, if it is waiting for this response.
 fn end_answered(tables: &mut Logins, word: Word, waits: Stage)
     ensures { tables.new ≡ record tables.old { pendings = spec.without_answered word waits tables.old.pendings } }
 {
@@ -77,7 +77,7 @@ fn end_answered(tables: &mut Logins, word: Word, waits: Stage)
     }
 }
 
-// Leaves the logins as the pair does: that of a response from its own browser is ended.
+// Updates the logins with the pair. The login of a response from its own browser ends.
 fn keep_logins(tables: &mut Logins, pair: &Pair<RpAsk, RpReply>)
     ensures { (past : RpPast) → tables.new ≡ record tables.old { logins = filter_map (logins.login_kept past pair.now) tables.old.logins } }
 {
@@ -89,7 +89,7 @@ fn keep_logins(tables: &mut Logins, pair: &Pair<RpAsk, RpReply>)
     }
 }
 
-// Leaves the pending exchanges as the pair does: that of an answer is ended.
+// Updates the pending exchanges with the pair. The exchange of a response ends.
 fn keep_pendings(tables: &mut Logins, pair: &Pair<RpAsk, RpReply>)
     ensures { (past : RpPast) → tables.new ≡ record tables.old { pendings = filter_map (pendings.pending_kept past pair.now) tables.old.pendings } }
 {
@@ -101,7 +101,7 @@ fn keep_pendings(tables: &mut Logins, pair: &Pair<RpAsk, RpReply>)
     }
 }
 
-// The word of the session that is left.
+// The word of the session that the browser leaves.
 fn session_left(ask: &RpAsk, reply: &RpReply) -> Option<Word>
     ensures { result ≡ visits.session_left ask.now reply.now }
 {
@@ -124,7 +124,8 @@ fn end_accepted(tables: &mut Logins, pair: &Pair<RpAsk, RpReply>)
     }
 }
 
-// Leaves the sessions as the pair does: that which is left ends, and those that an accepted logout token names.
+// Updates the sessions with the pair. The session that the browser leaves ends, and so do those that an accepted logout token
+// names.
 fn keep_visits(tables: &mut Logins, pair: &Pair<RpAsk, RpReply>)
     requires { IfSome (asked.token_accepted pair.now.entry.ask pair.now.reply) spec.NamesSomebody }
     ensures { (past : RpPast) → tables.new ≡ record tables.old { visits = filter_map (visits.visit_kept past pair.now) tables.old.visits } }
@@ -173,7 +174,7 @@ fn add_seen(tables: &mut Logins, row: Option<SeenRow>)
     }
 }
 
-/// Takes a pair up: what has ended leaves the tables, the pair changes what is held, and its rows are put.
+/// Updates the tables with a pair: expired rows are removed, the pair changes the other rows, and its new rows are added.
 pub(crate) fn take_up(tables: &mut Logins, pair: &Pair<RpAsk, RpReply>, made: Made)
     requires may { (s : PartySetup) × (past : RpPast) × (before : ℕ) × spec.TakesUp s past before tables.old pair.now made.login made.pending made.visit made.seen }
     requires reserved { tables.old.reserved ≡ record { logins = true; pendings = true; visits = true; seens = true } }

@@ -1,17 +1,17 @@
-//! A relying party (OpenID Connect Core 1.0, 3; OpenID Connect Back-Channel Logout 1.0, 2): each ask gets the reply that is defined
-//! by the asks and replies before it.
+//! A relying party (OpenID Connect Core 1.0, 3; OpenID Connect Back-Channel Logout 1.0, 2): the reply to each request is
+//! defined by the earlier requests and replies.
 //!
-//! [`RpCore`] meets `Core`: what it replies is `rp_answer` of its past, it keeps its history, and its tables hold exactly what
-//! lives after the history. A step takes all its memory before its first change.
+//! [`RpCore`] implements `Core`. Its reply is `rp_answer` of its past, it stores its history, and the live rows of its tables
+//! are exactly those that live after the history. A step allocates everything before its first change.
 //!
 //! | Module | What it has |
 //! |---|---|
 //! | `state` | [`RpCore`], a relying party with its history and its tables |
 //! | `step` | one step |
-//! | `answering`, `responding`, `exchanging`, `logging_out` | the reply, by the rows that live |
-//! | `questions`, `room` | what is asked of the tables, and whether they have room |
+//! | `answering`, `responding`, `exchanging`, `logging_out` | the reply, from the live rows |
+//! | `questions`, `room` | lookups in the tables, and whether they have room |
 //! | `making` | the rows that a reply makes |
-//! | `keeping` | how the tables take a pair up |
+//! | `keeping` | updating the tables with a pair |
 #![tactic(auto)]
 
 mod answering;

@@ -1,4 +1,4 @@
-// The replies to leaving and to a logout request, were there always room (OpenID Connect Back-Channel Logout 1.0, 2.5 to 2.8).
+// The replies to leaving and to a logout request, if no table were full (OpenID Connect Back-Channel Logout 1.0, 2.5 to 2.8).
 
 ghost use Rattle.std.specs.Prelude.{◌≡◌, ◌≤◌, IfOk};
 ghost use Rattle.sso_base.specs.Legal.{last_moment};
@@ -16,7 +16,7 @@ use sso_base::{Entry, NoMemory, Word};
 use std::alloc::Global;
 
 impl RpCore {
-    // A user leaves.
+    // The reply when a user leaves.
     pub(crate) fn leave(&self, entry: &Entry<RpAsk>, session: Option<Word>) -> RpReply
         requires { last_moment (past_of self.now) ≤ entry.now.at }
         ensures { result ≡ spec.left (live_visit (party_of self.now.setup).types (past_of self.now) entry.now.at session) }
@@ -26,7 +26,7 @@ impl RpCore {
         }
     }
 
-    // A good logout token: it is accepted, unless it was before.
+    // A verified logout token: it is accepted, unless it was accepted before.
     fn logout_new(&self, entry: &Entry<RpAsk>, claims: &LogoutClaims) -> RpReply
         requires { last_moment (past_of self.now) ≤ entry.now.at }
         ensures { result ≡ spec.logout_new self.now.setup (past_of self.now) entry.now claims.now (live_seen (past_of self.now) entry.now.at claims.now.jti) }
@@ -41,7 +41,7 @@ impl RpCore {
         }
     }
 
-    // The claims of a logout token are judged.
+    // Verifies the claims of a logout token.
     fn logout_read(&self, entry: &Entry<RpAsk>, claims: &LogoutClaims) -> RpReply
         requires { last_moment (past_of self.now) ≤ entry.now.at }
         ensures { result ≡ spec.logout_good self.now.setup (past_of self.now) entry.now claims.now (logout_judged self.now.setup.provider.issuer (client_of self.now.setup).id claims.now entry.now.at) }
@@ -54,7 +54,7 @@ impl RpCore {
         }
     }
 
-    // A logout request.
+    // The reply to a logout request.
     pub(crate) fn logout(
         &self,
         alloc: Global,

@@ -1,4 +1,4 @@
-// The rows that a reply makes. They take memory, so they are made before anything changes.
+// The rows that a reply makes. They need memory, so they are made before anything changes.
 
 ghost use Rattle.std.specs.Prelude.{◌≡◌, ◌≤◌, IfOk, length, Some, option_and_then};
 ghost use Rattle.std.specs.Option.{option_copied};
@@ -33,7 +33,7 @@ pub(crate) struct Made {
     pub seen: Option<SeenRow>,
 }
 
-// The state of a response that can be read.
+// The state of an authorization response that can be read.
 pub(crate) fn state_named(ask: &RpAsk) -> Option<Word>
     ensures { result ≡ asked.state_named ask.now }
 {
@@ -56,7 +56,7 @@ pub(crate) fn token_accepted<'a>(ask: &'a RpAsk, reply: &RpReply) -> Option<&'a 
     }
 }
 
-// An equal text, where it counts.
+// A copy of the text, if it counts.
 fn copied_if(alloc: Global, wanted: bool, text: &Option<Text>) -> Result<Option<Text>, NoMemory>
     ensures { IfOk result (λ t. t ≡ asked.if_wanted wanted text.now) }
 {
@@ -67,7 +67,7 @@ fn copied_if(alloc: Global, wanted: bool, text: &Option<Text>) -> Result<Option<
     }
 }
 
-// The code of a response.
+// The code of an authorization response, if its type has one.
 fn code_heard(alloc: Global, types: &Types, ask: &RpAsk) -> Result<Option<Text>, NoMemory>
     ensures { IfOk result (λ t. t ≡ asked.code_heard types.now ask.now) }
 {
@@ -80,7 +80,7 @@ fn code_heard(alloc: Global, types: &Types, ask: &RpAsk) -> Result<Option<Text>,
     }
 }
 
-// The claims of an ID Token that was read.
+// The claims of an ID Token, if it was read.
 fn claims_read(id: &Option<Result<IdClaims, IdNo>>) -> Option<&IdClaims>
     ensures { option_copied result ≡ asked.claims_read id.now }
 {
@@ -90,7 +90,7 @@ fn claims_read(id: &Option<Result<IdClaims, IdNo>>) -> Option<&IdClaims>
     }
 }
 
-// The claims of the ID Token that was judged.
+// The claims of the ID Token that is verified.
 fn claims_judged<'a>(types: &Types, ask: &'a RpAsk) -> Option<&'a IdClaims>
     ensures { option_copied result ≡ asked.claims_judged types.now ask.now }
 {
@@ -127,7 +127,7 @@ fn sid_in(alloc: Global, claims: Option<&IdClaims>) -> Result<Option<Text>, NoMe
     }
 }
 
-// What the response of a login leaves pending.
+// The pending exchange after the response of a login.
 fn pending_started(
     alloc: Global,
     types: &Types,
@@ -153,7 +153,7 @@ fn pending_started(
     })
 }
 
-// What a token response leaves pending: a UserInfo request, with the code of the exchange before it.
+// The pending exchange after a token response: a UserInfo request, with the code of the earlier exchange.
 fn pending_followed(
     alloc: Global,
     types: &Types,
@@ -178,7 +178,7 @@ fn pending_followed(
     })
 }
 
-// The session of these claims.
+// The session for these claims.
 fn visit_of(
     alloc: Global,
     at: Moment,
@@ -197,7 +197,7 @@ fn visit_of(
     })
 }
 
-// The session that follows UserInfo, with what the ID Token before it said.
+// The session after UserInfo, with the subject and `sid` of the earlier ID Token.
 fn visit_after(
     alloc: Global,
     at: Moment,
@@ -219,7 +219,7 @@ fn visit_after(
 }
 
 impl RpCore {
-    // The place of the next pair in the history, counted from 0.
+    // The index of the next pair in the history, counted from 0.
     #[tactic(auto, using(crate::proofs::Places::as_long))]
     fn place(&self) -> u64
         ensures place { result ≡ length (past_of self.now) }
@@ -244,7 +244,7 @@ impl RpCore {
         }
     }
 
-    // What the response of the live login leaves pending.
+    // The pending exchange after the response of the live login.
     fn started_found(
         &self,
         alloc: Global,
@@ -263,7 +263,7 @@ impl RpCore {
         Ok(Some(row))
     }
 
-    // What the token response to the live exchange of this word leaves pending.
+    // The pending exchange after the token response to the live exchange with this word.
     fn followed_found(
         &self,
         alloc: Global,
@@ -282,7 +282,7 @@ impl RpCore {
         Ok(Some(row))
     }
 
-    // What a UserInfo request leaves pending.
+    // The pending exchange of a UserInfo request.
     fn fetched_found(
         &self,
         alloc: Global,
@@ -298,7 +298,7 @@ impl RpCore {
         }
     }
 
-    // The pending exchange that a reply leaves.
+    // The pending exchange that a reply makes.
     fn pending_found(
         &self,
         alloc: Global,
@@ -317,7 +317,7 @@ impl RpCore {
         }
     }
 
-    // The nonce of the live login, or of the live exchange, that an ask is about.
+    // The nonce of the live login, or of the live exchange, that a request belongs to.
     fn nonce_found(&self, at: Moment, ask: &RpAsk) -> Option<Word>
         requires { last_moment (past_of self.now) ≤ at }
         ensures { (e : Entry RpAsk) → e.at ≡ at → result ≡ spec.nonce_found (party_of self.now.setup).types (past_of self.now) e ask.now }
@@ -335,7 +335,7 @@ impl RpCore {
         }
     }
 
-    // The session that enters after UserInfo.
+    // The session that begins after UserInfo.
     fn visit_of_info(
         &self,
         alloc: Global,
@@ -352,7 +352,7 @@ impl RpCore {
         }
     }
 
-    // The session that enters with the claims of its ask.
+    // The session that begins with the claims of its request.
     fn visit_of_claims(
         &self,
         alloc: Global,
@@ -371,7 +371,7 @@ impl RpCore {
         Ok(Some(visit_of(alloc, entry.at, word, nonce, claims)?))
     }
 
-    // The session that an ask lets in.
+    // The session that a request begins.
     fn visit_in(
         &self,
         alloc: Global,
@@ -387,7 +387,7 @@ impl RpCore {
         }
     }
 
-    // The session that enters.
+    // The session that begins with this reply.
     fn visit_found(
         &self,
         alloc: Global,
@@ -403,7 +403,7 @@ impl RpCore {
         }
     }
 
-    // What is remembered of a logout token that is accepted.
+    // The record of a logout token that is accepted.
     fn seen_accepted(
         &self,
         alloc: Global,
@@ -422,7 +422,7 @@ impl RpCore {
         }
     }
 
-    /// The rows that a reply makes that is the party's answer.
+    /// The rows that a reply makes, if it is the party's answer.
     pub(crate) fn made(
         &self,
         alloc: Global,

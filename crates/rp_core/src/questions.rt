@@ -1,4 +1,4 @@
-// What a relying party asks its tables: the rows that live at a moment, which are those of its past.
+// Lookups in the tables: the rows that live at a moment, which are those of the past.
 
 ghost use Rattle.std.specs.Prelude.{◌≡◌, ◌≤◌, true, length, Some, is_some};
 ghost use Rattle.std.specs.Option.{option_copied};
@@ -20,7 +20,7 @@ use oidc_words::{LOGIN_LIFE, PENDING_LIFE, SEEN_LIFE, VISIT_LIFE};
 use rp_login::{LoginRow, PendingRow, RpTable, SeenRow, SessionRow, Stage};
 use sso_base::{Moment, Word, bytes_if, is_live};
 
-// Whether the answer is the one that is waited for.
+// Whether the response is the one that is pending.
 pub(crate) fn is_stage(waits: Stage, stage: Stage) -> bool
     ensures { result ≡ pendings.is_stage waits stage }
 {
@@ -49,7 +49,7 @@ impl RpCore {
         }
     }
 
-    /// The live pending exchange of a word, whatever it waits for.
+    /// The live pending exchange with a word, with any response pending.
     fn any_live_pending(&self, at: Moment, word: Word) -> Option<&PendingRow>
         requires { last_moment (past_of self.now) ≤ at }
         ensures { option_copied result ≡ pendings.any_live_pending (party_of self.now.setup).types (past_of self.now) at word }
@@ -64,7 +64,7 @@ impl RpCore {
         }
     }
 
-    /// The live pending exchange of a word that waits for this answer.
+    /// The live pending exchange with a word that is waiting for this response.
     pub(crate) fn live_pending(&self, at: Moment, word: Word, waits: Stage) -> Option<&PendingRow>
         requires { last_moment (past_of self.now) ≤ at }
         ensures { option_copied result ≡ pendings.live_pending (party_of self.now.setup).types (past_of self.now) at word waits }
@@ -97,7 +97,7 @@ impl RpCore {
         }
     }
 
-    /// The logout token of that `jti` that is remembered.
+    /// The accepted logout token with that `jti`, if it is still remembered.
     pub(crate) fn live_seen(&self, at: Moment, jti: &[u8]) -> Option<&SeenRow>
         requires { last_moment (past_of self.now) ≤ at }
         ensures { option_copied result ≡ seens.live_seen (past_of self.now) at jti.now }
@@ -130,7 +130,7 @@ impl RpCore {
         self.logins.has_browser(browser, at)
     }
 
-    /// Whether no further login of this state has room.
+    /// Whether no login with this state can be added: the table is full, or has such a login.
     pub(crate) fn lacks_login(&self, at: Moment, state: Word) -> bool
         requires { last_moment (past_of self.now) ≤ at }
         ensures { result ≡ is_full most_rows login_name state (logins.live_logins (past_of self.now) at) }
@@ -138,7 +138,7 @@ impl RpCore {
         !self.logins.room(RpTable::Logins, at) || self.live_login(at, Some(state)).is_some()
     }
 
-    /// Whether no further pending exchange of this word has room.
+    /// Whether no pending exchange with this word can be added: the table is full, or has such an exchange.
     pub(crate) fn lacks_pending(&self, at: Moment, word: Word) -> bool
         requires { last_moment (past_of self.now) ≤ at }
         ensures { result ≡ is_full most_rows pending_name word (pendings.live_pendings (party_of self.now.setup).types (past_of self.now) at) }
@@ -146,18 +146,18 @@ impl RpCore {
         !self.logins.room(RpTable::Pendings, at) || self.any_live_pending(at, word).is_some()
     }
 
-    // Whether a pending exchange of this word lives. The table keeps few.
+    // Whether a pending exchange with this word lives. The table has at most 65,536 rows.
     fn is_pending(&self, at: Moment, word: Word) -> bool
         requires { last_moment (past_of self.now) ≤ at }
         ensures row { result ≡ is_some (row_of pending_name word (pendings.live_pendings (party_of self.now.setup).types (past_of self.now) at)) }
         ensures few { length (pendings.live_pendings (party_of self.now.setup).types (past_of self.now) at) ≤ most_rows }
     {
-        // A look says what the table keeps: at most 65,536 rows.
+        // The contract of `pending` states the table's invariant: at most 65,536 rows.
         let _row = self.logins.pending(word);
         self.any_live_pending(at, word).is_some()
     }
 
-    // Whether no further one of this word has room beside the answered one, which lives.
+    // Whether no exchange with this word can be added when the answered one, which lives, ends.
     fn lacks_beside_live(&self, at: Moment, answered: Word, word: Word) -> bool
         requires order { last_moment (past_of self.now) ≤ at }
         requires there { is_some (row_of pending_name answered (pendings.live_pendings (party_of self.now.setup).types (past_of self.now) at)) ≡ true }
@@ -167,7 +167,7 @@ impl RpCore {
         answered != word && named
     }
 
-    /// Whether no further pending exchange of this word has room beside the one that is answered, which ends.
+    /// Whether no pending exchange with this word can be added when the answered one ends.
     pub(crate) fn lacks_pending_beside(&self, at: Moment, answered: Word, word: Word) -> bool
         requires { last_moment (past_of self.now) ≤ at }
         ensures { result ≡ is_full most_rows pending_name word (without pending_name answered (pendings.live_pendings (party_of self.now.setup).types (past_of self.now) at)) }
@@ -179,7 +179,7 @@ impl RpCore {
         }
     }
 
-    /// Whether no further session of this word has room.
+    /// Whether no session with this word can be added: the table is full, or has such a session.
     pub(crate) fn lacks_visit(&self, at: Moment, word: Word) -> bool
         requires { last_moment (past_of self.now) ≤ at }
         ensures { result ≡ is_full most_rows visit_name word (visits.live_visits (party_of self.now.setup).types (past_of self.now) at) }
@@ -187,7 +187,7 @@ impl RpCore {
         !self.logins.room(RpTable::Sessions, at) || self.live_visit(at, Some(word)).is_some()
     }
 
-    /// Whether no further logout token of this `jti` has room.
+    /// Whether no logout token with this `jti` can be added: the table is full, or has such a token.
     pub(crate) fn lacks_seen(&self, at: Moment, jti: &[u8]) -> bool
         requires { last_moment (past_of self.now) ≤ at }
         ensures { result ≡ is_full most_rows seen_name jti.now (seens.live_seens (past_of self.now) at) }

@@ -1,4 +1,4 @@
-// The replies to the begin of a login and to an authorization response, were there always room.
+// The replies to the start of a login and to an authorization response, if no table were full.
 
 ghost use Rattle.std.specs.Prelude.{◌≡◌, ◌≤◌, IfOk};
 ghost use Rattle.sso_base.specs.Legal.{last_moment};
@@ -13,7 +13,7 @@ use sso_base::{Entry, NoMemory, Word};
 use std::alloc::Global;
 
 impl RpCore {
-    // The browser word of a login that begins: the presented one, where a live login has it.
+    // The browser word of a new login: the presented one if a live login has it.
     fn login_browser(&self, entry: &Entry<RpAsk>, presented: Option<Word>) -> Word
         requires { last_moment (past_of self.now) ≤ entry.now.at }
         ensures { result ≡ spec.login_browser (past_of self.now) entry.now presented }
@@ -28,7 +28,7 @@ impl RpCore {
         }
     }
 
-    // The begin of a login.
+    // The reply to the start of a login.
     pub(crate) fn begin(
         &self,
         alloc: Global,
@@ -47,7 +47,7 @@ impl RpCore {
         })
     }
 
-    // A response that can be read.
+    // The reply to an authorization response that can be read.
     fn response(
         &self,
         alloc: Global,
@@ -76,7 +76,7 @@ impl RpCore {
         }
     }
 
-    // An authorization response.
+    // The reply to an authorization response.
     pub(crate) fn callback(
         &self,
         alloc: Global,

@@ -1,4 +1,4 @@
-// Whether the tables have room for what a reply makes.
+// Whether the tables have room for the rows of a reply.
 
 ghost use Rattle.std.specs.Prelude.{◌≡◌, ◌≤◌};
 ghost use Rattle.sso_base.specs.Legal.{last_moment};
@@ -21,7 +21,7 @@ fn if_full(table: RpTable, full: bool) -> Option<RpTable>
 }
 
 impl RpCore {
-    // Whether no UserInfo request of this word has room, beside the exchange that a token response ends.
+    // Whether there is no room for a UserInfo request with this word, when the exchange of a token response ends.
     fn lacks_question(&self, entry: &Entry<RpAsk>, word: Word) -> bool
         requires { last_moment (past_of self.now) ≤ entry.now.at }
         ensures { result ≡ is_full most_rows pending_name word (spec.beside_answered entry.now.ask (live_pendings (party_of self.now.setup).types (past_of self.now) entry.now.at)) }
@@ -32,7 +32,7 @@ impl RpCore {
         }
     }
 
-    // The table of the logout tokens, where it has no room for this one.
+    // The table of the logout tokens, if it has no room for this one.
     fn seen_lacking(&self, entry: &Entry<RpAsk>) -> Option<RpTable>
         requires { last_moment (past_of self.now) ≤ entry.now.at }
         ensures { result ≡ spec.seen_lacking (past_of self.now) entry.now entry.now.ask }
@@ -48,7 +48,7 @@ impl RpCore {
         }
     }
 
-    // The table that has no room for what the reply makes.
+    // The table that has no room for a row of the reply.
     pub(crate) fn table_lacking(&self, entry: &Entry<RpAsk>, reply: &RpReply) -> Option<RpTable>
         requires { last_moment (past_of self.now) ≤ entry.now.at }
         ensures { result ≡ spec.table_lacking (party_of self.now.setup).types (past_of self.now) entry.now reply.now }

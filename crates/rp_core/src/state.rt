@@ -1,4 +1,4 @@
-// A relying party: what it was set up with, its history, and the tables that answer for the history.
+// A relying party: its setup, its history, and the tables for that history.
 
 ghost use Rattle.std.specs.Prelude.{◌≡◌, ◌<◌, length, [], IfOk};
 ghost use Rattle.sso_base.specs.Legal.{last_moment};
@@ -16,8 +16,8 @@ use sso_base::{Journal, NoMemory};
 use std::alloc::Global;
 use std::marker::Model;
 
-/// A relying party (OpenID Connect Core 1.0, 3), seen as its setup, which is a registry, the number of a party of it and the
-/// provider that the party trusts, its history, oldest first, and its tables.
+/// A relying party (OpenID Connect Core 1.0, 3). The model is its setup, its history, oldest first, and its tables. The setup
+/// is a registry, the number of a party in it, and the provider that the party trusts.
 #[derive(Drop)]
 pub struct RpCore {
     pub(crate) setup: Setup,
@@ -43,7 +43,7 @@ impl Model for RpCore {
 }
 
 impl RpCore {
-    /// A relying party that was asked nothing: the party of this number in the registry, which trusts this provider. The
+    /// A relying party with an empty history: the party with this number in the registry, which trusts this provider. The
     /// provider's issuer is the registry's.
     pub fn new(
         alloc: Global,
@@ -62,7 +62,7 @@ impl RpCore {
         })
     }
 
-    /// The tables: what lives in them at the moment of the last entry is exactly what lives after the history.
+    /// The tables. Their live rows at the moment of the last entry are exactly those that live after the history.
     pub fn tables(&self) -> &Logins
         ensures tables { result.now ≡ self.now.tables }
         ensures agrees { Agrees (party_of self.now.setup).types result.now (past_of self.now) (last_moment (past_of self.now)) }

@@ -1,4 +1,4 @@
-// One step of a relying party: it decides the reply and makes the rows, takes all memory, and only then changes anything.
+// One step of a relying party: it decides the reply, makes the rows, reserves all memory, and only then changes anything.
 
 ghost use Rattle.std.specs.Prelude.{◌≡◌, ℕ, ◌<◌, ◌≤◌, ◌+◌, ◌++◌, true, [], ◌∷◌, length, OnOk, OnErr};
 ghost use Rattle.rp_login.specs.Tables.{with_room};
@@ -32,7 +32,7 @@ fn reserve(journal: &mut Journal<RpAsk, RpReply>, logins: &mut Logins) -> Result
     logins.reserve()
 }
 
-// The history and the tables take up an entry with its reply, for which there is room.
+// Adds an entry and its reply to the history and updates the tables. Room was reserved for it.
 fn put(
     journal: &mut Journal<RpAsk, RpReply>,
     logins: &mut Logins,
@@ -54,7 +54,7 @@ fn put(
     journal.push(pair, weight);
 }
 
-// The history and the tables take up an entry with its reply. All memory is taken before the first change.
+// Adds an entry and its reply to the history and updates the tables. All memory is reserved before the first change.
 fn take_in(
     journal: &mut Journal<RpAsk, RpReply>,
     logins: &mut Logins,
@@ -77,7 +77,7 @@ fn take_in(
             Ok(())
         }
         Err(no) => {
-            // dropped by calls: at an early end of this function the prover would walk through all of their parts
+            // dropped by calls: at an early return of this function the prover would walk through all of their parts
             drop(entry);
             drop(reply);
             drop(made);
@@ -87,7 +87,7 @@ fn take_in(
 }
 
 impl RpCore {
-    // Takes up an entry with its reply and its rows.
+    // Adds an entry with its reply and its rows.
     fn commit(
         &mut self,
         entry: Entry<RpAsk>,

@@ -1,4 +1,4 @@
--- The asks that a request or the answer of a provider can give.
+-- The values of `RpAsk` that a request or a provider's response can produce.
 use Rattle.std.specs.Prelude.{Bool, true, false, not, ◌&&◌, ◌||◌, Option, Some, None, is_some, is_none, Result, Ok, Err}
 use Rattle.sso_base.specs.Words.{Text}
 use Rattle.id_token.specs.declared.claims.IdClaims.{IdClaims}
@@ -19,7 +19,7 @@ use Rattle.userinfo.specs.Answer as info
 use Rattle.rp_exchange.specs.declared.ask.RpAsk.{RpAsk}
 use Rattle.rp_exchange.specs.declared.ask.RpAsk.TheVariants as ask
 
--- ---- refusals without want of memory, also inside
+-- ---- errors without `NoMemory`, also inside
 
 abbrev pub is_id_refusal : IdNo → Bool
 is_id_refusal id_no.NoMemory = false
@@ -37,13 +37,13 @@ abbrev pub is_logout_refusal : LogoutNo → Bool
 is_logout_refusal logout_no.NoMemory = false
 is_logout_refusal why = not (logout_token.hides_memory why)
 
--- ---- what was read, or why it was refused
+-- ---- what was read, or why it was rejected
 
 abbrev pub is_id_read : Result IdClaims IdNo → Bool
 is_id_read (Ok claims) = true
 is_id_read (Err why) = is_id_refusal why
 
--- something was read of an ID Token exactly where its text is there
+-- an ID Token was read if and only if its text is present
 abbrev pub is_read_of : Option Text → Option (Result IdClaims IdNo) → Bool
 is_read_of None id = is_none id
 is_read_of (Some text) None = false
@@ -53,7 +53,7 @@ abbrev pub is_info_read : Result Text InfoNo → Bool
 is_info_read (Ok sub) = true
 is_info_read (Err why) = is_info_refusal why
 
--- a logout token that was read names somebody (Back-Channel Logout 1.0, 2.4)
+-- a logout token that was read names a user or a session (Back-Channel Logout 1.0, 2.4)
 abbrev pub is_logout_read : Result LogoutClaims LogoutNo → Bool
 is_logout_read (Ok claims) = is_some claims.sub || is_some claims.sid
 is_logout_read (Err why) = is_logout_refusal why

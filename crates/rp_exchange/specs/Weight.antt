@@ -1,4 +1,4 @@
--- What an ask weighs: 1,024 and the bytes of its texts. A claim set counts as the text that is written of it.
+-- The weight of a request: 1,024 and the bytes of its texts. A claim set counts as its text.
 use Rattle.std.specs.Prelude.{ℕ, ◌+◌, length, Option, Some, None, Result, Ok, Err}
 use Rattle.sso_base.specs.Words.{Text}
 use Rattle.sso_base.specs.Weights.{empty_weight, text_bytes, texts_bytes}
@@ -34,7 +34,7 @@ id_bytes x = field_bytes x + length (claims_text x.more)
 abbrev pub claims_bytes : LogoutClaims → ℕ
 claims_bytes x = length x.iss + texts_bytes x.aud + length x.jti + text_bytes x.sub + text_bytes x.sid
 
--- ---- refusals that have a name
+-- ---- errors with a name
 
 abbrev pub claims_refused_bytes : ClaimNo → ℕ
 claims_refused_bytes (WrongKind name) = length name
@@ -59,7 +59,7 @@ logout_refused_bytes (logout_no.Claims why) = claims_refused_bytes why
 logout_refused_bytes (logout_no.Missing name) = length name
 logout_refused_bytes other = 0
 
--- ---- what was read, or why it was refused
+-- ---- what was read, or why it was rejected
 
 abbrev pub id_read_bytes : Option (Result IdClaims IdNo) → ℕ
 id_read_bytes None = 0

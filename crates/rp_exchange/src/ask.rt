@@ -1,4 +1,4 @@
-// What a relying party is asked.
+// Requests and responses to a relying party.
 
 use auth_answer::{AnswerNo, Heard};
 use id_token::{IdClaims, IdNo};
@@ -7,40 +7,38 @@ use sso_base::{Text, Word};
 use token_endpoint::{Tokens, TokensNo};
 use userinfo::InfoNo;
 
-/// A request to a relying party, or the answer to one of its own, as far as its reply depends on it. `browser` and `session`
-/// are the presented cookies.
+/// A request to a relying party, or the response to one of its own, as far as its reply depends on it. `browser` and `session`
+/// are the cookies that the request presents.
 #[derive(Drop)]
 pub enum RpAsk {
-    /// To begin a login (OpenID Connect Core 1.0, 3.1.2.1).
+    /// A request to begin a login (OpenID Connect Core 1.0, 3.1.2.1).
     Begin {
         browser: Option<Word>,
     },
-    /// To the redirection URI with an answer in the fragment, which only the browser sees (Core 3.2.2.5).
+    /// A request to the redirect URI with a response in the fragment, which only the browser sees (Core 3.2.2.5).
     Fragment,
-    /// An authorization response, and what was read of the ID Token in it, where it has one (Core 3.1.2.5, 3.2.2.5 and
-    /// 3.3.2.5).
+    /// An authorization response, and its ID Token as it was read, if it has one (Core 3.1.2.5, 3.2.2.5 and 3.3.2.5).
     Callback {
         heard: Result<Heard, AnswerNo>,
         id: Option<Result<IdClaims, IdNo>>,
         browser: Option<Word>,
     },
-    /// The token endpoint's answer in a pending exchange, and what was read of the ID Token in it, where it has one
-    /// (Core 3.1.3.3).
+    /// The token response in a pending exchange, and its ID Token as it was read, if it has one (Core 3.1.3.3).
     Tokens {
         pending: Word,
         tokens: Result<Tokens, TokensNo>,
         id: Option<Result<IdClaims, IdNo>>,
     },
-    /// The UserInfo endpoint's answer in a pending exchange: its subject (Core 5.3.2).
+    /// The UserInfo response in a pending exchange: its subject (Core 5.3.2).
     Info {
         pending: Word,
         sub: Result<Text, InfoNo>,
     },
-    /// For who is logged in.
+    /// A request for the page that shows who is logged in.
     Visit {
         session: Option<Word>,
     },
-    /// To leave.
+    /// A request to leave.
     Leave {
         session: Option<Word>,
     },

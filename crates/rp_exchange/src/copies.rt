@@ -1,4 +1,4 @@
-// Equal refusals.
+// Copies of errors.
 
 ghost use Rattle.std.specs.Prelude.{◌≡◌, IfOk};
 
@@ -11,7 +11,7 @@ use std::alloc::Global;
 use token_endpoint::TokensNo;
 use userinfo::InfoNo;
 
-// An equal refusal of claims.
+// A copy of an error of claims.
 fn copied_claims(alloc: Global, why: &ClaimNo) -> Result<ClaimNo, NoMemory>
     ensures { IfOk result (λ n. n ≡ why.now) }
 {
@@ -23,7 +23,7 @@ fn copied_claims(alloc: Global, why: &ClaimNo) -> Result<ClaimNo, NoMemory>
     })
 }
 
-/// An equal refusal of an ID Token.
+/// A copy of an error of an ID Token.
 pub fn copied_id(alloc: Global, why: &IdNo) -> Result<IdNo, NoMemory>
     ensures { IfOk result (λ n. n ≡ why.now) }
 {
@@ -45,7 +45,7 @@ pub fn copied_id(alloc: Global, why: &IdNo) -> Result<IdNo, NoMemory>
     })
 }
 
-/// An equal refusal of a token response.
+/// A copy of an error of a token response.
 pub fn copied_tokens(alloc: Global, why: &TokensNo) -> Result<TokensNo, NoMemory>
     ensures { IfOk result (λ n. n ≡ why.now) }
 {
@@ -58,7 +58,7 @@ pub fn copied_tokens(alloc: Global, why: &TokensNo) -> Result<TokensNo, NoMemory
     })
 }
 
-/// An equal refusal of a UserInfo response.
+/// A copy of an error of a UserInfo response.
 pub fn copied_info(alloc: Global, why: &InfoNo) -> Result<InfoNo, NoMemory>
     ensures { IfOk result (λ n. n ≡ why.now) }
 {
@@ -70,7 +70,7 @@ pub fn copied_info(alloc: Global, why: &InfoNo) -> Result<InfoNo, NoMemory>
     })
 }
 
-/// An equal refusal of a logout token.
+/// A copy of an error of a logout token.
 pub fn copied_logout(alloc: Global, why: &LogoutNo) -> Result<LogoutNo, NoMemory>
     ensures { IfOk result (λ n. n ≡ why.now) }
 {
@@ -92,7 +92,7 @@ pub fn copied_logout(alloc: Global, why: &LogoutNo) -> Result<LogoutNo, NoMemory
 }
 
 impl RpNo {
-    /// An equal refusal.
+    /// A copy of the error.
     pub fn copy(&self, alloc: Global) -> Result<RpNo, NoMemory>
         ensures { IfOk result (λ n. n ≡ self.now) }
     {

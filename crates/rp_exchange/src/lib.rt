@@ -1,13 +1,13 @@
-//! What a relying party is asked, and what it replies (OpenID Connect Core 1.0, 3; OpenID Connect Back-Channel Logout 1.0, 2).
+//! The requests to a relying party and its replies (OpenID Connect Core 1.0, 3; OpenID Connect Back-Channel Logout 1.0, 2).
 //!
 //! | Module | What it has |
 //! |---|---|
-//! | `ask` | [`RpAsk`], what a relying party is asked |
-//! | `reply` | [`RpReply`], what it replies |
-//! | `no` | [`RpNo`], why it refuses |
-//! | `copies` | equal refusals |
-//! | `values` | asks hold values of their types |
-//! | `weight` | what an ask weighs |
+//! | `ask` | [`RpAsk`], a request or a response to a relying party |
+//! | `reply` | [`RpReply`], its reply |
+//! | `no` | [`RpNo`], why it rejects one |
+//! | `copies` | copies of errors |
+//! | `values` | requests hold values of their types |
+//! | `weight` | the weight of a request |
 #![tactic(auto)]
 
 mod ask;

@@ -1,4 +1,4 @@
-// Why a relying party refuses.
+// Why a relying party rejects a request or a response.
 
 use id_token::IdNo;
 use logout_token::LogoutNo;
@@ -19,38 +19,40 @@ pub enum Part {
     Id,
 }
 
-/// Why a relying party refuses. Of an authorization response the first that fits of `Twice`, `NoState`, `StaleLogin`,
-/// `WrongBrowser`, `Provider`, `Missing`, `Id` and `Full` is answered; of a token response that of `StalePending`, `Tokens`,
-/// `Id`, `SubjectDiffers` and `Full`; of a UserInfo response that of `StalePending`, `Info`, `SubjectDiffers` and `Full`; of a
-/// logout request that of `Logout`, `Seen` and `Full`.
+/// Why a relying party rejects a request or a response. The first error that applies is returned:
+///
+/// - for an authorization response: `Twice`, `NoState`, `StaleLogin`, `WrongBrowser`, `Provider`, `Missing`, `Id`, `Full`;
+/// - for a token response: `StalePending`, `Tokens`, `Id`, `SubjectDiffers`, `Full`;
+/// - for a UserInfo response: `StalePending`, `Info`, `SubjectDiffers`, `Full`;
+/// - for a logout request: `Logout`, `Seen`, `Full`.
 #[derive(Drop)]
 pub enum RpNo {
-    /// The part of this name stands twice in the authorization response (RFC 6749, 3.1).
+    /// The parameter of this name occurs twice in the authorization response (RFC 6749, 3.1).
     Twice(Text),
     /// It has no `state` that is the text of a word (RFC 6749, 10.12).
     NoState,
-    /// No login that still lives has its `state`.
+    /// No live login has its `state`.
     StaleLogin,
-    /// The login of its `state` was begun by another browser. The login stays.
+    /// Another browser began the login of its `state`. The login stays.
     WrongBrowser,
-    /// The provider refused, with this code (OpenID Connect Core 1.0, 3.1.2.6).
+    /// The provider returned an error response with this code (OpenID Connect Core 1.0, 3.1.2.6).
     Provider(AuthError),
-    /// The response type has this part, the first of `code`, `access_token` and `id_token`, and the response has not.
+    /// The response lacks this part of its type: the first of `code`, `access_token` and `id_token`.
     Missing(Part),
-    /// The ID Token is refused (Core 3.1.3.7, 3.2.2.11 and 3.3.2.12).
+    /// The ID Token is rejected (Core 3.1.3.7, 3.2.2.11 and 3.3.2.12).
     Id(IdNo),
-    /// No pending exchange that still lives has this word and waits for this answer.
+    /// No live pending exchange has this word and is waiting for this response.
     StalePending,
-    /// The token response is refused (Core 3.1.3.5).
+    /// The token response is rejected (Core 3.1.3.5).
     Tokens(TokensNo),
-    /// The UserInfo response is refused (Core 5.3.4).
+    /// The UserInfo response is rejected (Core 5.3.4).
     Info(InfoNo),
-    /// The subject is not that of the ID Token before (Core 3.3.3.6 and 5.3.2).
+    /// The subject is not that of the earlier ID Token (Core 3.3.3.6 and 5.3.2).
     SubjectDiffers,
-    /// This table has no room for a row. Nothing is changed.
+    /// This table has no room for a row. Nothing changes.
     Full(RpTable),
-    /// The logout token is refused (OpenID Connect Back-Channel Logout 1.0, 2.6).
+    /// The logout token is rejected (OpenID Connect Back-Channel Logout 1.0, 2.6).
     Logout(LogoutNo),
-    /// The logout token was accepted before, at this place of the party's history, counted from 1 (2.6, step 8).
+    /// The logout token was accepted before, by the pair with this number in the party's history, counted from 1 (2.6, step 8).
     Seen(u64),
 }

@@ -1,4 +1,4 @@
-// What a relying party replies.
+// Replies of a relying party.
 
 ghost use Rattle.std.specs.Prelude.{◌≡◌, IfOk};
 
@@ -6,7 +6,7 @@ use crate::no::RpNo;
 use sso_base::{Message, NoMemory, Text, Word};
 use std::alloc::Global;
 
-/// A relying party's reply to a request, or to the answer to one of its own.
+/// A relying party's reply to a request, or to the response to one of its own.
 #[derive(Drop)]
 pub enum RpReply {
     /// An authorization request to the provider, at this location, for the browser whose cookie is set (OpenID Connect
@@ -14,28 +14,28 @@ pub enum RpReply {
     Ask { to: Text, browser: Word },
     /// The page that posts the fragment of its location (Core 3.2.2.5).
     Fragment,
-    /// A token request to send, and the word of the exchange that waits for its answer (Core 3.1.3.1).
+    /// A token request to send, and the word of the exchange that is waiting for the response (Core 3.1.3.1).
     Exchange { pending: Word, message: Message },
-    /// A UserInfo request to send, and the word of the exchange that waits for its answer (Core 5.3.1).
+    /// A UserInfo request to send, and the word of the exchange that is waiting for the response (Core 5.3.1).
     Fetch { pending: Word, message: Message },
-    /// A session, whose cookie is set, of this subject.
+    /// A new session of this subject. Its cookie is set.
     Entered { session: Word, sub: Text },
-    /// The session's subject is this one.
+    /// The subject of the session.
     User { sub: Text },
     /// There is no session.
     Nobody,
-    /// The session is over, and whether there was one.
+    /// The session is over. `ended` is true if there was one.
     Left { ended: bool },
-    /// A logout token was accepted, and ended so many sessions (OpenID Connect Back-Channel Logout 1.0, 2.7).
+    /// A logout token was accepted, and ended this number of sessions (OpenID Connect Back-Channel Logout 1.0, 2.7).
     Ended { count: u32 },
-    /// A refusal.
+    /// An error.
     Refused { why: RpNo },
-    /// Nothing is here.
+    /// Not found.
     NotHere,
 }
 
 impl RpReply {
-    /// An equal reply.
+    /// A copy of the reply.
     pub fn copy(&self, alloc: Global) -> Result<RpReply, NoMemory>
         ensures { IfOk result (λ reply. reply ≡ self.now) }
     {

@@ -1,4 +1,4 @@
-// What an ask weighs. Sums stop at the greatest number of 64 bits.
+// The weight of a request. Sums saturate at the greatest number of 64 bits.
 
 ghost use Rattle.std.specs.Prelude.{◌≡◌, length, IfOk};
 ghost use Rattle.sso_base.specs.Weights.{told_weight};
@@ -148,7 +148,7 @@ fn ask_bytes(ask: &RpAsk) -> Result<u64, NoMemory>
 impl Weighed for RpAsk {
     ghost weighs = { spec.ask_weight };
 
-    // The claims of an ID Token that are no fields weigh as much as their text, for which it takes memory.
+    // The claims of an ID Token that are not fields weigh as much as their text, which needs memory.
     fn weight(&self) -> Result<u64, NoMemory> {
         Ok(ask_bytes(self)?.saturating_add(EMPTY_WEIGHT))
     }

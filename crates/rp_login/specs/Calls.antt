@@ -1,5 +1,4 @@
--- The calls that change the tables, one after another; and which of them add a row of a name, end one, or come too late
--- for it.
+-- Sequences of calls that change the tables; and which calls add a row of a name, end one, or keep an accepted logout token.
 use Rattle.std.specs.Prelude.{◌≡◌, ℕ, Bool, true, false, List, [], ◌∷◌, Option}
 use Rattle.std.specs.Str.{bytes_eq}
 use Rattle.std.specs.List.{AllByRecursion}
@@ -37,7 +36,7 @@ after (end_pending w) t = pending_ended w t
 after (end_session w) t = visit_ended w t
 after (end_named sub sid) t = named_ended sub sid t
 
--- the tables after calls, the first of which comes first
+-- the tables after a sequence of calls
 abbrev pub after_all : List Call → Tables → Tables
 after_all [] t = t
 after_all (call ∷ calls) t = after_all calls (after call t)
@@ -55,11 +54,11 @@ abbrev pub adds_session : Word → Call → Bool
 adds_session w (add_session row) = bytes_eq row.word w
 adds_session w call = false
 
--- none of the calls adds one
+-- no call passes the test
 abbrev pub NoneAdds : (Call → Bool) → List Call → Type 0
 NoneAdds test calls = AllByRecursion (λ call. test call ≡ false) calls
 
--- a purge at which what was seen at this moment lives, or any other call
+-- a purge at which a logout token accepted at this moment still lives, or any other call
 abbrev pub leaves_seen : ℕ → Call → Bool
 leaves_seen accepted (purge at) = lives seen_life accepted at
 leaves_seen accepted call = true

@@ -5,17 +5,17 @@ use Rattle.std.specs.Str.{bytes_eq}
 use Rattle.sso_base.specs.Words.{Text}
 use Rattle.rp_login.specs.declared.rows.SessionRow.{SessionRow}
 
--- a part that is not given fits every session; one that is given fits that very text
+-- a part that is not given matches every session; a given part matches an equal text
 abbrev pub fits_text : Option Text → Option Text → Bool
 fits_text None held = true
 fits_text (Some part) None = false
 fits_text (Some part) (Some text) = bytes_eq part text
 
--- the session equals each given part
+-- the session matches each given part
 abbrev pub is_meant : Option Text → Option Text → SessionRow → Bool
 is_meant sub sid visit = fits_text sub (Some visit.sub) && fits_text sid visit.sid
 
--- the same, said of the parts
+-- the same, stated for each part
 pub record IsMeant (sub sid : Option Text) (visit : SessionRow) : Type 0 where
   pub subject : IfSome sub (λ given. visit.sub ≡ given)
   pub session : IfSome sid (λ given. visit.sid ≡ Some given)

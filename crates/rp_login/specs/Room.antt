@@ -1,4 +1,4 @@
--- The view of a relying party's tables, and what it means that room is reserved in them.
+-- The model of a relying party's tables, and the meaning of reserved room.
 use Rattle.rp_login.specs.declared.tables.Logins.TheInside.{Inside}
 use Rattle.held_rows.specs.Held.{HasMemory}
 use Rattle.rp_login.specs.Tables.{Tables}
@@ -12,7 +12,7 @@ tables_of l = record {
   reserved = l.reserved;
 }
 
--- where room is reserved, there is memory for one more row
+-- if room is reserved in a table, there is memory for one more row
 pub record IsRoomReserved (l : Inside) : Type 0 where
   pub logins : HasMemory l.reserved.logins l.logins
   pub pendings : HasMemory l.reserved.pendings l.pendings

@@ -1,4 +1,4 @@
--- The rows of a relying party's tables: which word or text names each, and when it begins.
+-- The rows of a relying party's tables: the word or text that names each, and the moment it begins.
 use Rattle.std.specs.Prelude.{ℕ}
 use Rattle.sso_base.specs.Words.{Word, Text}
 use Rattle.rp_login.specs.declared.rows.LoginRow.{LoginRow}
@@ -14,7 +14,7 @@ login_name login = login.state
 abbrev pub login_begun : LoginRow → ℕ
 login_begun login = login.begun
 
--- ---- pending exchanges: each lives from its question on
+-- ---- pending exchanges: each lives from its request on
 
 abbrev pub pending_name : PendingRow → Word
 pending_name pending = pending.word
@@ -30,7 +30,7 @@ visit_name visit = visit.word
 abbrev pub visit_begun : SessionRow → ℕ
 visit_begun visit = visit.entered
 
--- ---- logout tokens that were seen
+-- ---- accepted logout tokens
 
 abbrev pub seen_name : SeenRow → Text
 seen_name seen = seen.jti

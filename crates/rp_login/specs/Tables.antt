@@ -1,4 +1,4 @@
--- A relying party's tables as their calls see them, and what each call makes of them.
+-- A relying party's tables as their calls see them, and the effect of each call.
 use Rattle.std.specs.Prelude.{ℕ, Bool, true, false, not, List, [], ◌∷◌, ◌++◌, filter, length, Option}
 use Rattle.sso_base.specs.Words.{Word, Text}
 use Rattle.sso_base.specs.Rows.{without, live_rows}
@@ -14,8 +14,7 @@ use Rattle.oidc_words.specs.Lives.{login_life, pending_life, visit_life, seen_li
 use Rattle.held_rows.specs.Held.{IsHeld, AnyRow, has_room_for_one, IsFull}
 use Rattle.rp_login.specs.Named.{is_meant}
 
--- the held rows of each table in the order in which they were added, and for which tables room for one more row is
--- reserved
+-- the rows of each table in the order in which they were added, and the tables in which room for one more row is reserved
 pub record Tables : Type 0 where
   pub logins : List LoginRow
   pub pendings : List PendingRow
@@ -32,7 +31,7 @@ no_tables = record {
   reserved = record { logins = false; pendings = false; visits = false; seens = false };
 }
 
--- ---- what each table keeps: at most 65,536 rows, no two of one name, in the order of the moments from which they live
+-- ---- the invariant of each table: at most 65,536 rows, with distinct names, in the order of the moments from which they live
 
 abbrev pub AreLogins : List LoginRow → Type 0
 AreLogins rows = IsHeld login_name login_begun AnyRow rows
@@ -51,7 +50,7 @@ AreSeens rows = IsHeld seen_name seen_begun AnyRow rows
 abbrev pub with_room : Tables → Tables
 with_room t = record t { reserved = record { logins = true; pendings = true; visits = true; seens = true } }
 
--- the rows whose life has ended at the moment are gone
+-- the tables without the rows whose life has ended at the moment
 abbrev pub purged : ℕ → Tables → Tables
 purged at t = record t {
   logins = live_rows login_life login_begun at t.logins;
@@ -60,21 +59,21 @@ purged at t = record t {
   seens = live_rows seen_life seen_begun at t.seens;
 }
 
--- fewer rows of the table live at the moment than it may hold
+-- the number of rows of the table that live at the moment is below the limit
 abbrev pub has_room : RpTable → ℕ → Tables → Bool
 has_room Logins at t = has_room_for_one login_life login_begun at t.logins
 has_room Pendings at t = has_room_for_one pending_life pending_begun at t.pendings
 has_room Sessions at t = has_room_for_one visit_life visit_begun at t.visits
 has_room Seen at t = has_room_for_one seen_life seen_begun at t.seens
 
--- 65,536 rows of the table are held, and a purge at the moment would take out none of them
+-- the table has 65,536 rows, and a purge at the moment would remove none of them
 abbrev pub IsFullTable : RpTable → ℕ → Tables → Type 0
 IsFullTable Logins at t = IsFull login_life login_begun at t.logins
 IsFullTable Pendings at t = IsFull pending_life pending_begun at t.pendings
 IsFullTable Sessions at t = IsFull visit_life visit_begun at t.visits
 IsFullTable Seen at t = IsFull seen_life seen_begun at t.seens
 
--- ---- one row more; its room is used
+-- ---- one row more; it uses the reserved room
 
 abbrev pub with_login : LoginRow → Tables → Tables
 with_login row t = record t { logins = t.logins ++ row ∷ []; reserved = record t.reserved { logins = false } }
@@ -99,14 +98,14 @@ pending_ended w t = record t { pendings = without pending_name w t.pendings }
 abbrev pub visit_ended : Word → Tables → Tables
 visit_ended w t = record t { visits = without visit_name w t.visits }
 
--- The sessions that equal each given part end.
+-- the tables without the sessions that match each given part
 abbrev pub named_ended : Option Text → Option Text → Tables → Tables
 named_ended sub sid t = record t { visits = filter (λ visit. not (is_meant sub sid visit)) t.visits }
 
--- how many they are
+-- the number of these sessions
 abbrev pub named_count : Option Text → Option Text → Tables → ℕ
 named_count sub sid t = length (filter (is_meant sub sid) t.visits)
 
--- how many of those that live at the moment
+-- the number of these sessions that live at the moment
 abbrev pub live_named_count : Option Text → Option Text → ℕ → Tables → ℕ
 live_named_count sub sid at t = named_count sub sid (purged at t)

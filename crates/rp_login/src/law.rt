@@ -1,4 +1,4 @@
-// What holds of the tables, for the crates above.
+// Laws about the tables, for the crates above.
 
 ghost use Rattle.std.specs.Prelude.{◌≡◌, ◌<◌, ◌+◌, ℕ, true, false, List, ◌++◌, length, Option, Some, None, option_and_then};
 ghost use Rattle.std.specs.Str.{bytes_eq};
@@ -16,7 +16,7 @@ ghost use Rattle.oidc_words.specs.Lives.{login_life, pending_life, visit_life, s
 ghost use Rattle.rp_login.specs.Tables.{Tables, AreLogins, ArePendings, AreVisits, AreSeens, has_room, named_count};
 ghost use Rattle.rp_login.specs.Calls as calls;
 
-/// A row that was added is found by its name, where its name was new. The rows of other names are found as before.
+/// A row that is added under a new name is found by that name. The rows of other names are found as before.
 pub fn added_rows_are_found()
     ensures login { (row : LoginRow) (t : Tables) → row_of login_name row.state t.logins ≡ None → row_of login_name row.state (calls.after (calls.add_login row) t).logins ≡ Some row }
     ensures pending { (row : PendingRow) (t : Tables) → row_of pending_name row.word t.pendings ≡ None → row_of pending_name row.word (calls.after (calls.add_pending row) t).pendings ≡ Some row }
@@ -28,7 +28,7 @@ pub fn added_rows_are_found()
     ensures other_seens { (jti : Text) (row : SeenRow) (t : Tables) → bytes_eq row.jti jti ≡ false → row_of seen_name jti (calls.after (calls.add_seen row) t).seens ≡ row_of seen_name jti t.seens }
 {}
 
-/// A row that was ended is gone, and the rows of other names stay.
+/// A row that is ended is no longer found, and the rows of other names stay.
 pub fn ended_rows_are_gone()
     ensures login { (state : Word) (t : Tables) → row_of login_name state (calls.after (calls.end_login state) t).logins ≡ None }
     ensures pending { (w : Word) (t : Tables) → row_of pending_name w (calls.after (calls.end_pending w) t).pendings ≡ None }
@@ -38,15 +38,15 @@ pub fn ended_rows_are_gone()
     ensures other_sessions { (v w : Word) (t : Tables) → bytes_eq v w ≡ false → row_of visit_name w (calls.after (calls.end_session v) t).visits ≡ row_of visit_name w t.visits }
 {}
 
-/// A row that is gone stays gone, through all calls that do not add its name anew: a login that was ended is found no
-/// more, so its callback counts once.
+/// An absent row stays absent through all calls that do not add its name again. This is why the callback of a login counts only
+/// once.
 pub fn rows_come_back_by_adds_alone()
     ensures login { (state : Word) (steps : List calls.Call) (t : Tables) → row_of login_name state t.logins ≡ None → calls.NoneAdds (calls.adds_login state) steps → row_of login_name state (calls.after_all steps t).logins ≡ None }
     ensures pending { (w : Word) (steps : List calls.Call) (t : Tables) → row_of pending_name w t.pendings ≡ None → calls.NoneAdds (calls.adds_pending w) steps → row_of pending_name w (calls.after_all steps t).pendings ≡ None }
     ensures session { (w : Word) (steps : List calls.Call) (t : Tables) → row_of visit_name w t.visits ≡ None → calls.NoneAdds (calls.adds_session w) steps → row_of visit_name w (calls.after_all steps t).visits ≡ None }
 {}
 
-/// A purge leaves of each name the row that lives, and takes out what does not.
+/// For each name, a purge leaves the row that lives, and removes one that does not.
 pub fn purges_leave_what_lives()
     ensures logins { (at : ℕ) (state : Word) (t : Tables) → AreLogins t.logins → row_of login_name state (calls.after (calls.purge at) t).logins ≡ option_and_then (if_lives login_life login_begun at) (row_of login_name state t.logins) }
     ensures pendings { (at : ℕ) (w : Word) (t : Tables) → ArePendings t.pendings → row_of pending_name w (calls.after (calls.purge at) t).pendings ≡ option_and_then (if_lives pending_life pending_begun at) (row_of pending_name w t.pendings) }
@@ -54,7 +54,7 @@ pub fn purges_leave_what_lives()
     ensures seens { (at : ℕ) (jti : Text) (t : Tables) → AreSeens t.seens → row_of seen_name jti (calls.after (calls.purge at) t).seens ≡ option_and_then (if_lives seen_life seen_begun at) (row_of seen_name jti t.seens) }
 {}
 
-/// Where a table has room at a moment, fewer rows than it may hold are left by a purge at that moment.
+/// If a table has room at a moment, a purge at that moment leaves fewer rows than the limit.
 pub fn purges_make_the_room()
     ensures logins { (at : ℕ) (t : Tables) → has_room table.Logins at t ≡ true → length (calls.after (calls.purge at) t).logins < most_rows }
     ensures pendings { (at : ℕ) (t : Tables) → has_room table.Pendings at t ≡ true → length (calls.after (calls.purge at) t).pendings < most_rows }
@@ -62,14 +62,14 @@ pub fn purges_make_the_room()
     ensures seens { (at : ℕ) (t : Tables) → has_room table.Seen at t ≡ true → length (calls.after (calls.purge at) t).seens < most_rows }
 {}
 
-/// A logout token that was seen is found through all calls but a purge 661 seconds later, or later still: it is not
+/// A logout token that was accepted is found through all calls, except a purge 661 or more seconds later. This is why it is not
 /// accepted twice (OpenID Connect Back-Channel Logout 1.0, 2.6).
 pub fn seen_tokens_are_remembered()
     ensures { (row : SeenRow) (steps : List calls.Call) (t : Tables) → row_of seen_name row.jti t.seens ≡ Some row → calls.AllLeaveSeen row.accepted steps → row_of seen_name row.jti (calls.after_all steps t).seens ≡ Some row }
 {}
 
-/// The sessions that equal each given part end, and no others; those stay in their order, and the number is that of the
-/// sessions that ended (OpenID Connect Back-Channel Logout 1.0, 2.7).
+/// Exactly the sessions that match each given part end. The others stay in their order. The returned number is that of the
+/// sessions that end (OpenID Connect Back-Channel Logout 1.0, 2.7).
 pub fn named_sessions_are_ended()
     ensures meant { (sub sid : Option Text) (visit : SessionRow) → is_meant sub sid visit ≡ true → IsMeant sub sid visit }
     ensures all_meant { (sub sid : Option Text) (visit : SessionRow) → IsMeant sub sid visit → is_meant sub sid visit ≡ true }

@@ -1,16 +1,17 @@
-//! A relying party's tables: the logins that it began, the exchanges that wait for an answer, its sessions, and the logout
-//! tokens that it has seen (OpenID Connect Core 1.0, 3.1.2.1 and 3.1.3; OpenID Connect Back-Channel Logout 1.0, 2.6).
+//! A relying party's tables: the logins that were begun, the exchanges that are waiting for a response, its sessions, and the
+//! logout tokens that it has accepted (OpenID Connect Core 1.0, 3.1.2.1 and 3.1.3; OpenID Connect Back-Channel Logout 1.0,
+//! 2.6).
 //!
-//! Each table is seen as the list of its held rows in the order in which they were added. Only [`Logins::new`] and
-//! [`Logins::reserve`] take memory.
+//! The model of each table is the list of its rows, in the order in which they were added. Only [`Logins::new`] and
+//! [`Logins::reserve`] allocate.
 //!
 //! | Module | What it has |
 //! |---|---|
-//! | `tables` | [`Logins`], all tables: made, reserved, purged |
+//! | `tables` | [`Logins`], all tables: construction, reserving, purging |
 //! | `logins`, `pendings`, `sessions`, `seens` | the calls of `Logins` on one table each |
 //! | `rows` | [`LoginRow`], [`PendingRow`] with its [`Stage`], [`SessionRow`], [`SeenRow`] |
 //! | `table` | [`RpTable`] names a table |
-//! | `law` | what holds of the tables, for the crates above |
+//! | `law` | laws about the tables, for the crates above |
 #![tactic(auto)]
 
 mod law;

@@ -48,7 +48,7 @@ impl Test<LoginRow> for OfBrowser {
 }
 
 impl Logins {
-    /// Adds a login.
+    /// Adds a login. Room was reserved, the table is not full, its state is new, and no other login began later.
     pub fn add_login(&mut self, row: LoginRow)
         requires reserved { self.old.reserved.logins ≡ true }
         requires few { length self.old.logins < most_rows }
@@ -60,14 +60,14 @@ impl Logins {
         self.logins.add(row);
     }
 
-    /// Whether a held login that lives at the moment has that browser word.
+    /// Whether a login that lives at the moment has this browser word.
     pub fn has_browser(&self, browser: Word, at: Moment) -> bool
         ensures { result ≡ list_any (λ (login : LoginRow). bytes_eq login.browser browser) (live_rows login_life login_begun at self.now.logins) }
     {
         self.logins.any_live(&OfBrowser { browser }, at)
     }
 
-    /// The login of that state; None exactly where no held login has it. Its life may have ended.
+    /// The login with this state; `None` if and only if no login in the table has it. Its life may have ended.
     pub fn login(&self, state: Word) -> Option<&LoginRow>
         ensures row { option_copied result ≡ row_of login_name state self.now.logins }
         ensures held { spec.AreLogins self.now.logins }
@@ -75,7 +75,7 @@ impl Logins {
         self.logins.find(&state.bytes())
     }
 
-    /// Takes out the login of that state. Where no held login has it, nothing changes.
+    /// Removes the login with this state. If no login in the table has it, nothing changes.
     pub fn end_login(&mut self, state: Word)
         ensures { self.new ≡ spec.login_ended state self.old }
     {

@@ -12,7 +12,7 @@ use crate::tables::Logins;
 use sso_base::Word;
 
 impl Logins {
-    /// Adds a pending exchange.
+    /// Adds a pending exchange. Room was reserved, the table is not full, its word is new, and no other exchange began later.
     pub fn add_pending(&mut self, row: PendingRow)
         requires reserved { self.old.reserved.pendings ≡ true }
         requires few { length self.old.pendings < most_rows }
@@ -24,7 +24,7 @@ impl Logins {
         self.pendings.add(row);
     }
 
-    /// The pending exchange of that word; None exactly where no held one has it. Its life may have ended.
+    /// The pending exchange with this word; `None` if and only if none in the table has it. Its life may have ended.
     pub fn pending(&self, word: Word) -> Option<&PendingRow>
         ensures row { option_copied result ≡ row_of pending_name word self.now.pendings }
         ensures held { spec.ArePendings self.now.pendings }
@@ -32,7 +32,7 @@ impl Logins {
         self.pendings.find(&word.bytes())
     }
 
-    /// Takes out the pending exchange of that word. Where no held one has it, nothing changes.
+    /// Removes the pending exchange with this word. If none in the table has it, nothing changes.
     pub fn end_pending(&mut self, word: Word)
         ensures { self.new ≡ spec.pending_ended word self.old }
     {

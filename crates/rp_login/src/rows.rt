@@ -18,21 +18,21 @@ pub struct LoginRow {
     pub nonce: Word,
     /// When it began.
     pub begun: Moment,
-    /// The place in the party's history, counted from 0, of the pair that began it.
+    /// The index, counted from 0, of the pair in the party's history that began it.
     pub by: u64,
 }
 
-/// What a pending exchange waits for: the answer of the token endpoint (OpenID Connect Core 1.0, 3.1.3) or of the UserInfo
+/// What a pending exchange is waiting for: a response of the token endpoint (OpenID Connect Core 1.0, 3.1.3) or of the UserInfo
 /// endpoint (5.3).
 #[derive(Clone, Copy, PartialEq, Eq)]
 pub enum Stage {
-    /// For a token response.
+    /// A token response.
     Tokens,
-    /// For a UserInfo response.
+    /// A UserInfo response.
     Info,
 }
 
-/// A pending exchange: a question to the provider that waits for its answer. It lives for 120 seconds from `since`.
+/// A pending exchange: a request to the provider that is waiting for its response. It lives for 120 seconds from `since`.
 #[derive(Drop)]
 pub struct PendingRow {
     /// The word that names the exchange.
@@ -41,7 +41,7 @@ pub struct PendingRow {
     pub nonce: Word,
     /// When its login began.
     pub begun: Moment,
-    /// When the question was asked.
+    /// When the request was sent.
     pub since: Moment,
     /// The subject of the last ID Token so far.
     pub sub: Option<Text>,
@@ -49,13 +49,13 @@ pub struct PendingRow {
     pub sid: Option<Text>,
     /// The code of its callback.
     pub code: Option<Text>,
-    /// What it waits for.
+    /// What it is waiting for.
     pub stage: Stage,
-    /// The place in the party's history, counted from 0, of the pair that began its login.
+    /// The index, counted from 0, of the pair in the party's history that began its login.
     pub by: u64,
 }
 
-/// A session: a login that a relying party let in. It lives for 28,800 seconds.
+/// A session: a login that the relying party accepted. It lives for 28,800 seconds.
 #[derive(Drop)]
 pub struct SessionRow {
     /// The cookie of the browser.
@@ -75,7 +75,7 @@ pub struct SessionRow {
 pub struct SeenRow {
     /// The token's `jti`, which names it (RFC 7519, 4.1.7).
     pub jti: Text,
-    /// The place in the party's history, counted from 1, at which it was accepted.
+    /// The number, counted from 1, of the pair in the party's history that accepted it.
     pub place: u64,
     /// When it was accepted.
     pub accepted: Moment,

@@ -1,4 +1,4 @@
-// The logout tokens that a relying party has seen.
+// The logout tokens that a relying party has accepted.
 
 ghost use Rattle.std.specs.Prelude.{◌≡◌, ◌<◌, true, length, None};
 ghost use Rattle.std.specs.Option.{option_copied};
@@ -11,7 +11,8 @@ use crate::rows::SeenRow;
 use crate::tables::Logins;
 
 impl Logins {
-    /// Adds a logout token that was accepted.
+    /// Adds a logout token that was accepted. Room was reserved, the table is not full, its `jti` is new, and no other token
+    /// was accepted later.
     pub fn add_seen(&mut self, row: SeenRow)
         requires reserved { self.old.reserved.seens ≡ true }
         requires few { length self.old.seens < most_rows }
@@ -23,7 +24,8 @@ impl Logins {
         self.seens.add(row);
     }
 
-    /// The logout token of that `jti`; None exactly where no held one has it. It may have been accepted too long ago.
+    /// The logout token with this `jti`; `None` if and only if none in the table has it. It may have been accepted too long
+    /// ago.
     pub fn seen(&self, jti: &[u8]) -> Option<&SeenRow>
         ensures row { option_copied result ≡ row_of seen_name jti.now self.now.seens }
         ensures held { spec.AreSeens self.now.seens }

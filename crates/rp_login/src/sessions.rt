@@ -19,7 +19,7 @@ use crate::tables::Logins;
 use held_rows::{By, Test};
 use sso_base::{Moment, Text, Word};
 
-// Whether the part is not given, or is this text.
+// Whether the part is not given, or is equal to this text.
 fn fits(part: Option<&[u8]>, text: Option<&Text>) -> bool
     ensures { result ≡ fits_text (option_map (λ p. p.now) part.entry) (option_copied text.entry) }
 {
@@ -30,14 +30,14 @@ fn fits(part: Option<&[u8]>, text: Option<&Text>) -> bool
     }
 }
 
-// Whether the session equals each given part.
+// Whether the session matches each given part.
 fn is_named(visit: &SessionRow, sub: Option<&[u8]>, sid: Option<&[u8]>) -> bool
     ensures { result ≡ is_meant (option_map (λ p. p.now) sub.entry) (option_map (λ p. p.now) sid.entry) visit.now }
 {
     fits(sub, Some(&visit.sub)) && fits(sid, visit.sid.as_ref())
 }
 
-// The sessions of a `sid`, with the subject that is given besides, if one is.
+// The sessions with a `sid` and, if one is given, a subject.
 #[derive(Clone, Copy)]
 struct OfSid<'a> {
     sub: Option<&'a [u8]>,
@@ -66,7 +66,7 @@ impl Test<SessionRow> for OfSid<'_> {
     ghost are_found = { λ t visit passes. found_by t.sid.now (fits_text (Some t.sid.now)) refl (λ held fits. sym (bytes_same t.sid.now held fits)) visit.sid (and_parts (fits_text (option_map (λ p. p.now) t.sub) (Some visit.sub)) (fits_text (Some t.sid.now) visit.sid) passes).1 };
 }
 
-// The sessions of a subject.
+// The sessions with a subject.
 #[derive(Clone, Copy)]
 struct OfSub<'a> {
     sub: &'a [u8],
@@ -95,7 +95,7 @@ impl Test<SessionRow> for OfSub<'_> {
 }
 
 impl Logins {
-    /// Adds a session.
+    /// Adds a session. Room was reserved, the table is not full, its word is new, and no other session began later.
     pub fn add_session(&mut self, row: SessionRow)
         requires reserved { self.old.reserved.visits ≡ true }
         requires few { length self.old.visits < most_rows }
@@ -107,7 +107,7 @@ impl Logins {
         self.visits.add(row);
     }
 
-    /// The session of that word; None exactly where no held session has it. Its life may have ended.
+    /// The session with this word; `None` if and only if no session in the table has it. Its life may have ended.
     pub fn session(&self, word: Word) -> Option<&SessionRow>
         ensures row { option_copied result ≡ row_of visit_name word self.now.visits }
         ensures held { spec.AreVisits self.now.visits }
@@ -115,7 +115,7 @@ impl Logins {
         self.visits.find(&word.bytes())
     }
 
-    /// Takes out the session of that word, and answers whether one was held.
+    /// Removes the session with this word, and returns whether the table had one.
     pub fn end_session(&mut self, word: Word) -> bool
         ensures held { result ≡ is_some (row_of visit_name word self.old.visits) }
         ensures rows { self.new ≡ spec.visit_ended word self.old }
@@ -125,8 +125,8 @@ impl Logins {
         held
     }
 
-    /// How many sessions that live at the moment equal each given part, a subject or a `sid`. Right after a purge at that moment
-    /// they are those that `end_named` ends; without one, it also ends held sessions whose life is over.
+    /// How many sessions that live at the moment match each given part, a subject or a `sid`. Right after a purge at that
+    /// moment, they are those that `end_named` ends. Without a purge, `end_named` also ends sessions whose life is over.
     pub fn count_named(&self, sub: Option<&[u8]>, sid: Option<&[u8]>, at: Moment) -> u32
         ensures { result ≡ spec.live_named_count (option_map (λ p. p.now) sub.entry) (option_map (λ p. p.now) sid.entry) at self.now }
     {
@@ -137,8 +137,8 @@ impl Logins {
         }
     }
 
-    /// Takes out the sessions that equal each given part, a subject or a `sid`, and answers their number (OpenID Connect
-    /// Back-Channel Logout 1.0, 2.7). A session without a `sid` equals none that is given.
+    /// Removes the sessions that match each given part, a subject or a `sid`, and returns their number (OpenID Connect
+    /// Back-Channel Logout 1.0, 2.7). A session without a `sid` matches no given `sid`.
     pub fn end_named(&mut self, sub: Option<&[u8]>, sid: Option<&[u8]>) -> u32
         requires { (is_some sub || is_some sid) ≡ true }
         ensures count { result ≡ spec.named_count (option_map (λ p. p.now) sub.entry) (option_map (λ p. p.now) sid.entry) self.old }

@@ -13,7 +13,7 @@ pub enum RpTable {
     Seen,
 }
 
-/// For which tables room for one more row is reserved.
+/// The tables in which room for one more row is reserved.
 #[derive(Clone, Copy)]
 pub struct Reserved {
     /// For a login.

@@ -10,8 +10,8 @@ use sso_base::{Moment, NoMemory};
 use std::alloc::Global;
 use std::marker::Model;
 
-/// A relying party's tables, each seen as the list of its held rows in the order in which they were added. A table holds at
-/// most 65,536 rows, no two of one name, in the order of the moments from which they live.
+/// A relying party's tables. The model of each table is the list of its rows, in the order in which they were added. A table
+/// has at most 65,536 rows, with distinct names, in the order of the moments from which they live.
 #[derive(Drop)]
 pub struct Logins {
     pub(crate) logins: Held<LoginRow>,
@@ -35,7 +35,7 @@ impl Model for Logins {
 }
 
 impl Logins {
-    /// No rows.
+    /// Empty tables.
     pub fn new(alloc: Global) -> Result<Logins, NoMemory>
         ensures { IfOk result (λ logins. logins ≡ spec.no_tables) }
     {
@@ -53,7 +53,7 @@ impl Logins {
         })
     }
 
-    /// Makes room for one row in each table.
+    /// Makes room for one row in each table. On `NoMemory` nothing changes.
     pub fn reserve(&mut self) -> Result<(), NoMemory>
         ensures ok { OnOk result (self.new ≡ spec.with_room self.old) }
         ensures err { OnErr result (self.new ≡ self.old) }
@@ -71,7 +71,7 @@ impl Logins {
         Ok(())
     }
 
-    /// Takes out exactly the rows whose life has ended at the moment.
+    /// Removes exactly the rows whose life has ended at the moment.
     pub fn purge(&mut self, at: Moment)
         ensures { self.new ≡ spec.purged at self.old }
     {
@@ -81,8 +81,8 @@ impl Logins {
         self.seens.purge(at);
     }
 
-    /// Whether the table has room for one more row at the moment: false exactly where 65,536 rows of it are held and
-    /// `purge` at the moment would take out none of them.
+    /// Whether the table has room for one more row at the moment. It is false if and only if the table has 65,536 rows and
+    /// `purge` at the moment would remove none of them.
     pub fn room(&self, table: RpTable, at: Moment) -> bool
         ensures room { result ≡ spec.has_room table at self.now }
         ensures full { result ≡ false → spec.IsFullTable table at self.now }

@@ -1,4 +1,4 @@
--- What a request asks of a relying party, and what the answers of the token endpoint and of UserInfo do.
+-- The values of requests to a relying party, of token responses and of UserInfo responses.
 use Rattle.std.specs.Prelude.{ℕ, ◌==◌, nat_lt, Bool, true, false, ◌&&◌, List, [], length, filter, codes, Option, Some, None, option_map, option_and_then, unwrap_or, Result, Ok, Err, if◌then◌else◌}
 use Rattle.std.specs.Str.{bytes_eq}
 use Rattle.sso_base.specs.Words.{Word, Text}
@@ -32,18 +32,18 @@ use Rattle.rp_request.specs.Routes.{endpoint_asked}
 
 -- ---- an authorization response (OpenID Connect Core 1.0, 3.1.2.5 and 3.2.2.5)
 
--- an ID Token in it is read under the secret
+-- its ID Token is read under the secret
 abbrev pub callback_asked : Text → Option Word → Result Heard AnswerNo → RpAsk
 callback_asked secret browser (Ok heard) = ask.Callback (Ok heard) (option_map (id_read secret) heard.id) browser
 callback_asked secret browser (Err why) = ask.Callback (Err why) None browser
 
--- ---- a response in the fragment of the location, which only the browser sees (Core 3.2.2.5): the page that posts it is asked for
+-- ---- a response in the fragment, which only the browser sees (Core 3.2.2.5): a request for the page that posts it
 
 abbrev pub is_get : Method → Bool
 is_get Get = true
 is_get method = false
 
--- a GET with an empty query, where the response type answers in the fragment
+-- a GET with an empty query, for a response type whose response is in the fragment
 abbrev pub wants_page : Types → Ask → Bool
 wants_page types request = is_get request.method && (length request.query == 0 && is_in_fragment types)
 
@@ -53,15 +53,15 @@ redirected secret types request =
 
 -- ---- a logout request (OpenID Connect Back-Channel Logout 1.0, 2.5)
 
--- the value of a name that stands once among pairs
+-- the value of a name that occurs once among the pairs
 abbrev pub only_value : Text → List Pair → Option Text
 only_value name pairs = if nat_lt 1 (length (filter (λ (pair : Pair). bytes_eq pair.0 name) pairs)) then None else value_of name pairs
 
--- the logout token of a form; where there is none, or two, it is the empty text
+-- the logout token of a form; the empty text if there is none, or more than one
 abbrev pub logout_token_in : List ℕ → Text
 logout_token_in form = unwrap_or (only_value (codes "logout_token") (form_pairs form)) []
 
--- it is read under the secret
+-- the logout token is read under the secret
 abbrev pub logout_asked : Text → List ℕ → RpAsk
 logout_asked secret form = ask.Logout (logout_read secret (logout_token_in form))
 
@@ -75,33 +75,33 @@ asked_at secret types request (Some endpoint.Redirection) = redirected secret ty
 asked_at secret types request (Some endpoint.Leave) = ask.Leave request.second
 asked_at secret types request (Some endpoint.Logout) = logout_asked secret (posted request.body)
 
--- the path of the logout URI of the client that a party is, where it has one
+-- the path of the logout URI of a party's client, if it has one
 abbrev pub logout_path_of : Client → Option Text
 logout_path_of client = option_map (λ (url : WebUrl). url.path) client.logout_url
 
 abbrev pub logout_path : Configuration → Party → Option Text
 logout_path c party = option_and_then logout_path_of (client_at c party.client)
 
--- the endpoint that a request to the party of this number is to
+-- the endpoint of a request to the party with this number
 abbrev pub endpoint_at : Configuration → ℕ → Ask → Option Endpoint
 endpoint_at c n request = option_and_then (λ (party : Party). endpoint_asked party.redirect_url.path (logout_path c party) request) (party_at c n)
 
--- what a request asks of the party of this number
+-- the value of a request to the party with this number
 unfoldable pub prepared : Configuration → ℕ → Ask → RpAsk
 prepared c n request = asked_at (party_secret c n) (party_row c n).types request (endpoint_at c n request)
 
--- ---- a token endpoint's answer (Core 3.1.3.3)
+-- ---- a token response (Core 3.1.3.3)
 
 abbrev pub tokens_asked : Text → Word → Result Tokens TokensNo → RpAsk
 tokens_asked secret pending (Ok tokens) = ask.Tokens pending (Ok tokens) (Some (id_read secret tokens.id))
 tokens_asked secret pending (Err why) = ask.Tokens pending (Err why) None
 
--- what such an answer asks of the party of this number, in the exchange that waits for it under this word
+-- the value of such a response to the party with this number, in the exchange that is waiting for it under this word
 unfoldable pub tokens_prepared : Configuration → ℕ → Word → Answered → RpAsk
 tokens_prepared c n pending answer = tokens_asked (party_secret c n) pending (tokens_read answer)
 
--- ---- an answer of UserInfo (Core 5.3.2)
+-- ---- a UserInfo response (Core 5.3.2)
 
--- it needs no secret: what such an answer asks in the exchange that waits for it under this word
+-- the value of such a response, in the exchange that is waiting for it under this word; it needs no secret
 unfoldable pub info_prepared : Word → Answered → RpAsk
 info_prepared pending answer = ask.Info pending (info_read answer)

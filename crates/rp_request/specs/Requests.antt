@@ -1,4 +1,4 @@
--- What a request to a relying party is and what it asks, in plain words.
+-- Requests to a relying party and their values, stated literally.
 use Rattle.std.specs.Prelude.{◌≡◌, ◌⊎◌, ℕ, List, [], ◌∷◌, ◌++◌, IsFalse, Option, Some, None, Result, Ok, Err}
 use Rattle.sso_base.specs.Words.{Text}
 use Rattle.sso_base.specs.declared.http.Ask.{Ask}
@@ -20,20 +20,20 @@ use Rattle.rp_request.specs.declared.routes.Endpoint.TheVariants as endpoint
 use Rattle.rp_request.specs.Routes.{Route, routes_of}
 use Rattle.rp_request.specs.Prepared.{logout_path}
 
--- ---- where a request goes
+-- ---- endpoints
 
 abbrev pub IsListed : Route → List Route → Type 0
 IsListed route [] = ⊥
 IsListed route (first ∷ routes) = (first ≡ route) ⊎ IsListed route routes
 
--- the request is to this endpoint of the party of this number: its path is listed for its method, or is that of the party's
--- redirection URI or of its client's logout URI
+-- the request is to this endpoint of the party with this number: its path is listed for its method, or is that of the party's
+-- redirect URI or of its client's logout URI
 pub record IsTo (c : Configuration) (n : ℕ) (request : Ask) (e : Endpoint) : Type 0 where
   pub party : Party
   pub there : party_at c n ≡ Some party
   pub listed : IsListed (request.path, e) (routes_of request.method party.redirect_url.path (logout_path c party))
 
--- the endpoint to which an ask belongs
+-- the endpoint to which a value belongs
 abbrev pub own_endpoint : RpAsk → Option Endpoint
 own_endpoint (ask.Begin browser) = Some endpoint.Login
 own_endpoint ask.Fragment = Some endpoint.Redirection
@@ -45,8 +45,8 @@ own_endpoint other = None
 
 -- ---- ID Tokens
 
--- What was read of a text: the claims of the ID Token that it is under this secret, or a refusal where it is none. Nothing was
--- read exactly where there is no text.
+-- The reading of a text: the claims of the ID Token that it is under this secret, or an error if it is none. Nothing was read
+-- if and only if there is no text.
 abbrev pub IsOpened : Text → Option Text → Option (Result IdClaims IdNo) → Type 0
 IsOpened secret None None = Unit {0}
 IsOpened secret None (Some id) = ⊥
@@ -64,14 +64,14 @@ pub record StandsAlone (name value : Text) (pairs : List Pair) : Type 0 where
   pub none_before : IsFalse (has_name name before)
   pub none_after : IsFalse (has_name name after)
 
--- what was read of a text: the claims of the logout token that it is under this secret, or a refusal where it is none
+-- the reading of a text: the claims of the logout token that it is under this secret, or an error if it is none
 abbrev pub IsLogoutOpened : Text → Text → Result LogoutClaims LogoutNo → Type 0
 IsLogoutOpened secret text (Ok claims) = IsLogoutToken secret text claims
 IsLogoutOpened secret text (Err why) = (claims : LogoutClaims) → ¬ IsLogoutToken secret text claims
 
 -- ---- cookies
 
--- the ask has the words of the request's cookies: the first is the browser's, the second the session's
+-- the value has the words of the request's cookies: the first is the browser's, the second the session's
 abbrev pub HasCookies : Ask → RpAsk → Type 0
 HasCookies request (ask.Begin browser) = browser ≡ request.first
 HasCookies request (ask.Callback heard id browser) = browser ≡ request.first

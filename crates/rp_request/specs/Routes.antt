@@ -1,5 +1,5 @@
--- Which endpoint of a relying party a request is to, by its method and its path. The paths are this party's own, but for those of
--- its redirection URI and its logout URI.
+-- The endpoint of a request to a relying party, by its method and its path. The paths are fixed, except those of the party's
+-- redirect URI and logout URI.
 use Rattle.std.specs.Prelude.{List, [], ◌∷◌, Option, Some, None, if◌then◌else◌}
 use Rattle.std.specs.Str.{bytes_eq}
 use Rattle.sso_base.specs.Words.{Text}
@@ -16,7 +16,7 @@ Route = Text × Endpoint
 abbrev pub get_routes : Text → List Route
 get_routes redirection = (begin_path, Login) ∷ (home_path, Home) ∷ (redirection, Redirection) ∷ []
 
--- where the client of the party has a logout URI (OpenID Connect Back-Channel Logout 1.0, 2.2), by its path
+-- the route of the logout URI, if the party's client has one (OpenID Connect Back-Channel Logout 1.0, 2.2)
 abbrev pub logout_routes : Option Text → List Route
 logout_routes None = []
 logout_routes (Some logout) = (logout, Logout) ∷ []
@@ -29,11 +29,11 @@ routes_of Get redirection logout = get_routes redirection
 routes_of Post redirection logout = post_routes redirection logout
 routes_of Other redirection logout = []
 
--- the endpoint of this path
+-- the endpoint with this path
 abbrev pub endpoint_of : List Route → Text → Option Endpoint
 endpoint_of [] path = None
 endpoint_of (route ∷ routes) path = if bytes_eq path route.0 then Some route.1 else endpoint_of routes path
 
--- the endpoint that a request is to, where the redirection URI and the logout URI have these paths
+-- the endpoint of a request, if the redirect URI and the logout URI have these paths
 abbrev pub endpoint_asked : Text → Option Text → Ask → Option Endpoint
 endpoint_asked redirection logout request = endpoint_of (routes_of request.method redirection logout) request.path

@@ -1,4 +1,4 @@
-// What holds of the asks that requests and answers give.
+// Laws about the values that requests and responses produce.
 
 ghost use Rattle.std.specs.Prelude.{◌≡◌, ℕ, List, [], true, false, IsFalse, codes, Option, Some, None, option_map, Result, Ok, Err};
 ghost use Rattle.sso_base.specs.Words.{Word, Text};
@@ -34,24 +34,24 @@ ghost use Rattle.rp_request.specs.declared.routes.Endpoint.TheVariants as endpoi
 ghost use Rattle.rp_request.specs.Prepared.{wants_page, logout_token_in, prepared, tokens_prepared, info_prepared};
 ghost use Rattle.rp_request.specs.Requests.{IsTo, own_endpoint, IsOpened, IsLogoutOpened, StandsAlone, HasCookies};
 
-/// A request finds nothing here exactly where it is to no endpoint: its path is neither one that is listed for its method nor that of
-/// the redirection URI or of the logout URI. Any other ask is that of the endpoint that the request is to.
+/// A request gives `NotHere` if and only if it is to no endpoint: its path is not listed for its method, and is not that of the
+/// redirect URI or of the logout URI. Any other value belongs to the endpoint that the request is to.
 pub fn requests_are_told_by_method_and_path()
     ensures elsewhere { (c : Configuration) (n : ℕ) (request : Ask) → ((e : Endpoint) → ¬ IsTo c n request e) → prepared c n request ≡ ask.NotHere }
     ensures nothing { (c : Configuration) (n : ℕ) (request : Ask) (e : Endpoint) → prepared c n request ≡ ask.NotHere → ¬ IsTo c n request e }
     ensures own { (c : Configuration) (n : ℕ) (request : Ask) (e : Endpoint) → own_endpoint (prepared c n request) ≡ Some e → IsTo c n request e }
 {}
 
-/// The page of the fragment is asked for exactly by a GET of the redirection URI with an empty query, where the response type answers
-/// in the fragment (OpenID Connect Core 1.0, 3.2.2.5).
+/// The fragment page is requested by a GET of the redirect URI with an empty query, if the response is in the fragment for the
+/// response type, and by no other request (OpenID Connect Core 1.0, 3.2.2.5).
 pub fn the_page_is_asked_for_without_a_query()
     ensures wanted { (c : Configuration) (n : ℕ) (request : Ask) → prepared c n request ≡ ask.Fragment → IsTo c n request endpoint.Redirection × (wants_page (party_row c n).types request ≡ true) }
     ensures asked { (c : Configuration) (n : ℕ) (request : Ask) → IsRegistry c → IsTo c n request endpoint.Redirection → wants_page (party_row c n).types request ≡ true → prepared c n request ≡ ask.Fragment }
 {}
 
-/// Any other authorization response is the form in the query of a GET, or in the body of a POST, of the redirection URI. Its parts are
-/// heard exactly where no name of a part stands twice in the form, and it is refused with the first such name elsewhere (RFC 6749,
-/// 3.1).
+/// Any other authorization response is the form in the query of a GET, or in the body of a POST, of the redirect URI. It is
+/// accepted if and only if no parameter name of a response occurs twice in the form. Otherwise it is rejected with the first
+/// such name (RFC 6749, 3.1).
 pub fn callbacks_are_read_from_forms()
     ensures heard { (c : Configuration) (n : ℕ) (request : Ask) (heard : Heard) (id : Option (Result IdClaims IdNo)) (browser : Option Word) → prepared c n request ≡ ask.Callback (Ok heard) id browser → HasAnswer (form_of request.method request) heard }
     ensures hears { (c : Configuration) (n : ℕ) (request : Ask) (heard : Heard) → IsRegistry c → IsTo c n request endpoint.Redirection → wants_page (party_row c n).types request ≡ false → HasAnswer (form_of request.method request) heard → prepared c n request ≡ ask.Callback (Ok heard) (option_map (id_read (party_secret c n)) heard.id) request.first }
@@ -59,47 +59,47 @@ pub fn callbacks_are_read_from_forms()
     ensures refuses { (c : Configuration) (n : ℕ) (request : Ask) (why : AnswerNo) → IsRegistry c → IsTo c n request endpoint.Redirection → wants_page (party_row c n).types request ≡ false → RefusesAnswer (form_of request.method request) why → prepared c n request ≡ ask.Callback (Err why) None request.first }
 {}
 
-/// What is read of the ID Token in an authorization response are its claims, exactly where it is an ID Token under the secret of the
-/// client that the party is (OpenID Connect Core 1.0, 3.1.3.7, step 8; 10.1). Nothing is read exactly where there is none.
+/// The ID Token in an authorization response is read as its claims if and only if it is an ID Token under the secret of the
+/// party's client (OpenID Connect Core 1.0, 3.1.3.7, step 8; 10.1). Nothing is read if and only if there is none.
 pub fn id_tokens_are_opened_by_the_secret()
     ensures opened { (c : Configuration) (n : ℕ) (request : Ask) (heard : Heard) (id : Option (Result IdClaims IdNo)) (browser : Option Word) → prepared c n request ≡ ask.Callback (Ok heard) id browser → IsOpened (party_secret c n) heard.id id }
     ensures accepted { (c : Configuration) (n : ℕ) (request : Ask) (heard : Heard) (id : Option (Result IdClaims IdNo)) (browser : Option Word) (text : Text) (claims : IdClaims) → prepared c n request ≡ ask.Callback (Ok heard) id browser → heard.id ≡ Some text → IsIdToken (party_secret c n) text claims → id ≡ Some (Ok claims) }
 {}
 
-/// What the token endpoint answers is asked of the exchange that waits for it. Its tokens are those of a successful response, exactly
-/// where it is one (Core 3.1.3.3), and else it is refused for the first reason, with no ID Token.
+/// A token response is given to the exchange that is waiting for it. It is accepted, with its tokens, if and only if it is a
+/// successful token response (Core 3.1.3.3). Otherwise it is rejected for the first reason, without an ID Token.
 pub fn token_answers_are_read_for_their_exchange()
     ensures read { (c : Configuration) (n : ℕ) (pending w : Word) (answer : Answered) (tokens : Tokens) (id : Option (Result IdClaims IdNo)) → tokens_prepared c n pending answer ≡ ask.Tokens w (Ok tokens) id → (w ≡ pending) × HasTokens answer tokens }
     ensures reads { (c : Configuration) (n : ℕ) (pending : Word) (answer : Answered) (tokens : Tokens) → HasTokens answer tokens → tokens_prepared c n pending answer ≡ ask.Tokens pending (Ok tokens) (Some (id_read (party_secret c n) tokens.id)) }
     ensures refuses { (c : Configuration) (n : ℕ) (pending : Word) (answer : Answered) (why : TokensNo) → tokens_read answer ≡ Err why → tokens_prepared c n pending answer ≡ ask.Tokens pending (Err why) None }
 {}
 
-/// What is read of the ID Token among the tokens are its claims, exactly where it is an ID Token under the secret of the client that
-/// the party is.
+/// The ID Token in a token response is read as its claims if and only if it is an ID Token under the secret of the party's
+/// client.
 pub fn token_answers_have_opened_id_tokens()
     ensures opened { (c : Configuration) (n : ℕ) (pending w : Word) (answer : Answered) (tokens : Tokens) (id : Option (Result IdClaims IdNo)) → tokens_prepared c n pending answer ≡ ask.Tokens w (Ok tokens) id → IsOpened (party_secret c n) (Some tokens.id) id }
     ensures accepted { (c : Configuration) (n : ℕ) (pending w : Word) (answer : Answered) (tokens : Tokens) (id : Option (Result IdClaims IdNo)) (claims : IdClaims) → tokens_prepared c n pending answer ≡ ask.Tokens w (Ok tokens) id → IsIdToken (party_secret c n) tokens.id claims → id ≡ Some (Ok claims) }
 {}
 
-/// What UserInfo answers is asked of the exchange that waits for it. Its subject is that of a UserInfo response, exactly where it is
-/// one (Core 5.3.2), and else it is refused for the first reason.
+/// A UserInfo response is given to the exchange that is waiting for it. It is accepted, with its subject, if and only if it is
+/// a successful UserInfo response (Core 5.3.2). Otherwise it is rejected for the first reason.
 pub fn info_answers_are_read_for_their_exchange()
     ensures read { (pending w : Word) (answer : Answered) (sub : Text) → info_prepared pending answer ≡ ask.Info w (Ok sub) → (w ≡ pending) × IsUserInfo answer sub }
     ensures reads { (pending : Word) (answer : Answered) (sub : Text) → IsUserInfo answer sub → info_prepared pending answer ≡ ask.Info pending (Ok sub) }
     ensures refuses { (pending : Word) (answer : Answered) (why : InfoNo) → info_read answer ≡ Err why → info_prepared pending answer ≡ ask.Info pending (Err why) }
 {}
 
-/// What a logout request asks is what is read of the logout token in its form, under the secret of the client that the party
-/// is: the claims, exactly where it is a logout token under that secret, or why it is none (OpenID Connect Back-Channel Logout
-/// 1.0, 2.5 and 2.6).
+/// A logout request is read as the logout token in its form, under the secret of the party's client. The result is the claims,
+/// if and only if it is a logout token under that secret, or why it is none (OpenID Connect Back-Channel Logout 1.0, 2.5 and
+/// 2.6).
 pub fn logout_tokens_are_opened_by_the_secret()
     ensures reads { (c : Configuration) (n : ℕ) (request : Ask) → IsRegistry c → IsTo c n request endpoint.Logout → prepared c n request ≡ ask.Logout (logout_read (party_secret c n) (logout_token_in (posted request.body))) }
     ensures opened { (c : Configuration) (n : ℕ) (request : Ask) (claims : Result LogoutClaims LogoutNo) → prepared c n request ≡ ask.Logout claims → IsLogoutOpened (party_secret c n) (logout_token_in (posted request.body)) claims }
     ensures accepted { (c : Configuration) (n : ℕ) (request : Ask) (claims : LogoutClaims) → IsRegistry c → IsTo c n request endpoint.Logout → IsLogoutToken (party_secret c n) (logout_token_in (posted request.body)) claims → prepared c n request ≡ ask.Logout (Ok claims) }
 {}
 
-/// The logout token of a form is the value of the one pair with the name `logout_token`. Where no pair has that name, or
-/// several have it, it is the empty text, which is refused as it has not three parts (OpenID Connect Back-Channel Logout 1.0,
+/// The logout token of a form is the value of the only pair with the name `logout_token`. If no pair or several pairs have that
+/// name, it is the empty text, which is rejected because it does not have three parts (OpenID Connect Back-Channel Logout 1.0,
 /// 2.5; RFC 7515, 7.1).
 pub fn the_one_logout_token_is_read()
     ensures one { (form : List ℕ) (t : Text) → StandsAlone (codes "logout_token") t (form_pairs form) → logout_token_in form ≡ t }
@@ -108,13 +108,13 @@ pub fn the_one_logout_token_is_read()
     ensures empty { (k : Text) → logout_read k [] ≡ Err (logout_no.Jws jws_no.NotThreeParts) }
 {}
 
-/// An ask has the words of the request's cookies: the browser's is the first, the session's the second.
+/// The value has the words of the request's cookies: the browser's is the first, the session's the second.
 pub fn asks_have_the_cookies()
     ensures { (c : Configuration) (n : ℕ) (request : Ask) → HasCookies request (prepared c n request) }
 {}
 
-/// What is prepared is an ask that requests and answers give: something is read of an ID Token exactly where there is one, a logout
-/// token that was read names somebody, and no want of memory is inside.
+/// Reading requests and responses produces only possible values. An ID Token was read if and only if there is one, a logout
+/// token that was read names a user or a session, and there is no `NoMemory` inside.
 pub fn prepared_asks_are_given_by_requests()
     ensures request { (c : Configuration) (n : ℕ) (request : Ask) → is_prepared (prepared c n request) ≡ true }
     ensures answer { (c : Configuration) (n : ℕ) (pending : Word) (answer : Answered) → is_prepared (tokens_prepared c n pending answer) ≡ true }

@@ -1,13 +1,13 @@
-//! Requests to a relying party, and the answers of its provider's token endpoint and UserInfo endpoint, read as what they ask of it
-//! (OpenID Connect Core 1.0, 3.1.2.5, 3.1.3.3, 3.2.2.5 and 5.3.2; OpenID Connect Back-Channel Logout 1.0, 2.5). The MACs of ID
-//! Tokens and logout tokens are checked here, so that what is asked can be answered without the client's secret.
+//! Requests to a relying party, and token responses and UserInfo responses of its provider, read as values of `RpAsk` (OpenID
+//! Connect Core 1.0, 3.1.2.5, 3.1.3.3, 3.2.2.5 and 5.3.2; OpenID Connect Back-Channel Logout 1.0, 2.5). The MACs of ID Tokens
+//! and logout tokens are verified here. Later steps only get the claims, or why a token is rejected.
 //!
 //! | Module | What it has |
 //! |---|---|
-//! | `prepare` | [`prepare_rp`] reads a request, [`prepare_tokens`] a token endpoint's answer, [`prepare_info`] UserInfo's |
+//! | `prepare` | [`prepare_rp`] reads a request, [`prepare_tokens`] a token response, [`prepare_info`] a UserInfo response |
 //! | `logout` | a logout request, and [`logout_token_of`] one |
-//! | `routes` | which endpoint a request is to |
-//! | `law` | what holds of the asks that they give, for the crates above |
+//! | `routes` | the endpoint of a request |
+//! | `law` | laws about the values that they produce, for the crates above |
 #![tactic(auto)]
 
 mod law;

@@ -1,4 +1,4 @@
-// A logout request is read as what it asks (OpenID Connect Back-Channel Logout 1.0, 2.5).
+// Reading a logout request as a value of `RpAsk` (OpenID Connect Back-Channel Logout 1.0, 2.5).
 
 ghost use Rattle.std.specs.Prelude.{◌≡◌, IfOk, length, filter};
 ghost use Rattle.std.specs.Option.{option_copied};
@@ -14,7 +14,7 @@ use rp_exchange::RpAsk;
 use sso_base::{Ask, NoMemory, Text};
 use std::alloc::Global;
 
-// The name of the field that has the logout token.
+// The name of the field with the logout token.
 const LOGOUT_TOKEN: &str = "logout_token";
 
 // How many fields have the name.
@@ -30,7 +30,7 @@ fn count(fields: &[Pair], name: &str) -> usize
     count
 }
 
-// The value of the field that has the name, where only one has it.
+// The value of the field with this name, if exactly one has it.
 fn only_value<'a>(fields: &'a [Pair], name: &str) -> Option<&'a Text>
     ensures { option_copied result ≡ spec.only_value name.now fields.now }
 {
@@ -40,7 +40,7 @@ fn only_value<'a>(fields: &'a [Pair], name: &str) -> Option<&'a Text>
     value_of(fields, name)
 }
 
-// The logout token of a form; where there is none, or two, it is the empty text.
+// The logout token of a form; the empty text if there is none, or more than one.
 fn logout_token_in(alloc: Global, form: &[u8]) -> Result<Text, NoMemory>
     ensures { IfOk result (λ t. t ≡ spec.logout_token_in form.now) }
 {
@@ -51,14 +51,14 @@ fn logout_token_in(alloc: Global, form: &[u8]) -> Result<Text, NoMemory>
     }
 }
 
-/// The logout token of a logout request. Where its form has none, or more than one, it is the empty text.
+/// The logout token of a logout request; the empty text if its form has none, or more than one.
 pub fn logout_token_of(alloc: Global, ask: &Ask) -> Result<Text, NoMemory>
     ensures { IfOk result (λ t. t ≡ spec.logout_token_in (posted_form ask.now.body)) }
 {
     logout_token_in(alloc, posted(&ask.body))
 }
 
-// What is read of a logout token, which may be a refusal.
+// The claims of a logout token, or why it is rejected.
 fn read_as_logout(
     alloc: Global,
     secret: &[u8],
@@ -72,7 +72,7 @@ fn read_as_logout(
     }
 }
 
-// What a logout request asks, by its form.
+// The value for a logout request, from its form.
 pub(crate) fn logout_asked(alloc: Global, secret: &[u8], form: &[u8]) -> Result<RpAsk, NoMemory>
     ensures { IfOk result (λ asked. asked ≡ spec.logout_asked secret.now form.now) }
 {

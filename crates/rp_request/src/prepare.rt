@@ -1,4 +1,4 @@
-// A request to a relying party, and an answer of the token endpoint or of UserInfo, is read as what it asks.
+// Reading a request to a relying party, a token response or a UserInfo response as a value of `RpAsk`.
 
 ghost use Rattle.std.specs.Prelude.{◌≡◌, ◌<◌, length, IfOk, option_map};
 ghost use Rattle.std.specs.Option.{option_copied};
@@ -20,22 +20,22 @@ use std::alloc::Global;
 use token_endpoint::{TokensNo, read_tokens};
 use userinfo::{InfoNo, read_info};
 
-// What is read of an ID Token, which may be a refusal.
+// The claims of an ID Token, or why it is rejected.
 type IdRead = Result<IdClaims, IdNo>;
 
-// The secret of the client that the party is.
+// The secret of the party's client.
 #[tactic(auto, using(crate::proofs::Parties::known_client))]
 fn secret_of(registry: &Registry, party: u32) -> &[u8]
     requires { party < length registry.now.parties }
     ensures { result.now ≡ party_secret registry.now party }
 {
-    // A count says what every registry keeps: that the client of each of its parties is there.
+    // The contract of `parties` states the invariant of every registry: the client of each of its parties exists.
     let _parties = registry.parties();
     let client = registry.client(registry.party(party).client);
     client.secret.as_str().as_bytes()
 }
 
-// The response type that the party asks for.
+// The response type of the party's requests.
 #[tactic(auto, using(crate::proofs::Parties::row_there))]
 fn types_of(registry: &Registry, party: u32) -> &Types
     requires { party < length registry.now.parties }
@@ -44,7 +44,7 @@ fn types_of(registry: &Registry, party: u32) -> &Types
     &registry.party(party).types
 }
 
-// The path of the logout URI of the client that the party is, where it has one.
+// The path of the logout URI of the party's client, if it has one.
 fn logout_path<'a>(client: &'a Client) -> Option<&'a Text>
     ensures { option_copied result ≡ spec.logout_path_of client.now }
 {
@@ -54,20 +54,20 @@ fn logout_path<'a>(client: &'a Client) -> Option<&'a Text>
     }
 }
 
-// The endpoint that a request is to.
+// The endpoint of a request.
 #[tactic(auto, using(crate::proofs::Parties::known_client))]
 fn endpoint_of(registry: &Registry, party: u32, ask: &Ask) -> Option<Endpoint>
     requires { party < length registry.now.parties }
     ensures { result ≡ spec.endpoint_at registry.now party ask.now }
 {
-    // A count says what every registry keeps: that the client of each of its parties is there.
+    // The contract of `parties` states the invariant of every registry: the client of each of its parties exists.
     let _parties = registry.parties();
     let row = registry.party(party);
     let logout = logout_path(registry.client(row.client));
     endpoint_asked(&row.redirect_url.path, logout, ask)
 }
 
-// What is read of an ID Token.
+// Reads an ID Token.
 fn read_as_id(alloc: Global, secret: &[u8], text: &Text) -> Result<IdRead, NoMemory>
     ensures { IfOk result (λ id. id ≡ id_read secret.now text.now) }
 {
@@ -77,7 +77,7 @@ fn read_as_id(alloc: Global, secret: &[u8], text: &Text) -> Result<IdRead, NoMem
     }
 }
 
-// What is read of an ID Token, where it is there.
+// Reads an ID Token, if there is one.
 fn read_if_there(
     alloc: Global,
     secret: &[u8],
@@ -91,14 +91,14 @@ fn read_if_there(
     }
 }
 
-// Whether the page of the fragment is asked for.
+// Whether the fragment page is requested.
 fn wants_page(types: &Types, ask: &Ask) -> bool
     ensures { result ≡ spec.wants_page types.now ask.now }
 {
     matches!(ask.method, Method::Get) && ask.query.as_bytes().is_empty() && types.is_in_fragment()
 }
 
-// What an authorization response asks, by its form (OpenID Connect Core 1.0, 3.1.2.5 and 3.2.2.5).
+// The value for an authorization response, from its form (OpenID Connect Core 1.0, 3.1.2.5 and 3.2.2.5).
 fn callback(
     alloc: Global,
     secret: &[u8],
@@ -126,7 +126,7 @@ fn callback(
     })
 }
 
-// A request to the redirection URI: the page of the fragment, or an authorization response.
+// A request to the redirect URI: for the fragment page, or with an authorization response.
 fn redirected(alloc: Global, secret: &[u8], types: &Types, ask: &Ask) -> Result<RpAsk, NoMemory>
     ensures { IfOk result (λ asked. asked ≡ spec.redirected secret.now types.now ask.now) }
 {
@@ -136,24 +136,24 @@ fn redirected(alloc: Global, secret: &[u8], types: &Types, ask: &Ask) -> Result<
     callback(alloc, secret, ask.first, form_of(ask))
 }
 
-/// What a request asks of the relying party of this number in the registry. `first` of the request is the browser's cookie and
-/// `second` that of the session.
+/// Reads a request to the relying party with this number in the registry, as an [`RpAsk`]. `first` of the request is the
+/// browser's cookie and `second` the session's.
 ///
-/// | Request | Ask |
+/// | Request | Result |
 /// |---|---|
 /// | GET `/login` | [`RpAsk::Begin`] |
-/// | GET of the path of the redirection URI with an empty query, where the response type answers in the fragment | [`RpAsk::Fragment`] |
-/// | other GET or POST of that path | [`RpAsk::Callback`], by the query or by the posted form |
+/// | GET of the path of the redirect URI with an empty query, if the response is in the fragment | [`RpAsk::Fragment`] |
+/// | other GET or POST of that path | [`RpAsk::Callback`], from the query or the posted form |
 /// | GET `/` | [`RpAsk::Visit`] |
 /// | POST `/leave` | [`RpAsk::Leave`] |
-/// | POST of the path of the logout URI of the client that the party is | [`RpAsk::Logout`], by the posted form |
+/// | POST of the path of the logout URI of the party's client | [`RpAsk::Logout`], from the posted form |
 ///
-/// Any other request, also one by another method, is [`RpAsk::NotHere`]. A form that is absent is empty.
+/// Any other request, also one with another method, is [`RpAsk::NotHere`]. An absent form is empty.
 ///
-/// The parts of an authorization response are read as `read_answer` does, and an ID Token in it as `read_id` does, under the secret
-/// of the client that the party is: whether it is for this login at this moment is judged later (OpenID Connect Core 1.0, 3.1.3.7).
-/// The `logout_token` of a logout request is read as `read_logout` does, under the same secret; where there is none, or two, the empty
-/// text is read (OpenID Connect Back-Channel Logout 1.0, 2.5).
+/// The parts of an authorization response are read as in `read_answer`, and an ID Token in it as in `read_id`, under the secret
+/// of the party's client. Whether it is for this login at this moment is verified later (OpenID Connect Core 1.0, 3.1.3.7). The
+/// `logout_token` of a logout request is read as in `read_logout`, under the same secret. If there is none, or more than one,
+/// the empty text is read (OpenID Connect Back-Channel Logout 1.0, 2.5).
 #[tactic(auto, unfolding(crate::specs::Prepared::prepared))]
 pub fn prepare_rp(
     alloc: Global,
@@ -181,13 +181,13 @@ pub fn prepare_rp(
     }
 }
 
-/// What the token endpoint's answer asks of the relying party of this number, in the exchange that waits for it under the word
+/// Reads a token response to the relying party with this number, in the exchange that is waiting for it under the word
 /// `pending` (OpenID Connect Core 1.0, 3.1.3.3).
 ///
-/// It is [`RpAsk::Tokens`] of that word, with the tokens as `read_tokens` reads them, and the ID Token among them as `read_id` does
-/// under the secret of the client that the party is. Where the tokens are refused, no ID Token is read.
+/// Returns [`RpAsk::Tokens`] of that word, with the tokens as in `read_tokens`, and their ID Token as in `read_id`, under the
+/// secret of the party's client. If the response is rejected, no ID Token is read.
 ///
-/// The condition is that of [`prepare_rp`].
+/// The precondition is that of [`prepare_rp`].
 #[tactic(auto, unfolding(crate::specs::Prepared::tokens_prepared))]
 pub fn prepare_tokens(
     alloc: Global,
@@ -218,10 +218,10 @@ pub fn prepare_tokens(
     })
 }
 
-/// What UserInfo's answer asks of a relying party, in the exchange that waits for it under the word `pending` (OpenID Connect
-/// Core 1.0, 5.3.2).
+/// Reads a UserInfo response to a relying party, in the exchange that is waiting for it under the word `pending` (OpenID
+/// Connect Core 1.0, 5.3.2).
 ///
-/// It is [`RpAsk::Info`] of that word, with the subject as `read_info` reads it.
+/// Returns [`RpAsk::Info`] of that word, with the subject as in `read_info`.
 #[tactic(auto, unfolding(crate::specs::Prepared::info_prepared))]
 pub fn prepare_info(alloc: Global, pending: Word, answer: &Answered) -> Result<RpAsk, NoMemory>
     ensures { IfOk result (λ asked. asked ≡ spec.info_prepared pending answer.now) }

@@ -1,4 +1,4 @@
-// Which endpoint of a relying party a request is to.
+// The endpoint of a request to a relying party.
 
 ghost use Rattle.std.specs.Prelude.{◌≡◌};
 ghost use Rattle.std.specs.Option.{option_copied};
@@ -12,9 +12,9 @@ use sso_base::{Ask, Method, Text};
 pub(crate) enum Endpoint {
     // Where a login begins.
     Login,
-    // Where it is told who is logged in.
+    // Shows who is logged in.
     Home,
-    // The redirection URI.
+    // The redirect URI.
     Redirection,
     // Where a user leaves.
     Leave,
@@ -22,7 +22,7 @@ pub(crate) enum Endpoint {
     Logout,
 }
 
-// The endpoint that a GET of the path is to.
+// The endpoint of a GET of the path.
 fn got(redirection: &Text, path: &Text) -> Option<Endpoint>
     ensures { result ≡ spec.endpoint_of (spec.get_routes redirection.now) path.now }
 {
@@ -39,7 +39,7 @@ fn got(redirection: &Text, path: &Text) -> Option<Endpoint>
     None
 }
 
-// The endpoint where the path is that of the logout URI.
+// The logout endpoint, if the path is that of the logout URI.
 fn logged_out(logout: Option<&Text>, path: &Text) -> Option<Endpoint>
     ensures { result ≡ spec.endpoint_of (spec.logout_routes (option_copied logout.entry)) path.now }
 {
@@ -49,7 +49,7 @@ fn logged_out(logout: Option<&Text>, path: &Text) -> Option<Endpoint>
     }
 }
 
-// The endpoint that a POST to the path is to.
+// The endpoint of a POST to the path.
 fn posted_to(redirection: &Text, logout: Option<&Text>, path: &Text) -> Option<Endpoint>
     ensures { result ≡ spec.endpoint_of (spec.post_routes redirection.now (option_copied logout.entry)) path.now }
 {
@@ -62,7 +62,7 @@ fn posted_to(redirection: &Text, logout: Option<&Text>, path: &Text) -> Option<E
     logged_out(logout, path)
 }
 
-// The endpoint that a request is to, where the redirection URI and the logout URI have these paths.
+// The endpoint of a request, if the redirect URI and the logout URI have these paths.
 pub(crate) fn endpoint_asked(
     redirection: &Text,
     logout: Option<&Text>,

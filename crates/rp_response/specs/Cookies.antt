@@ -2,7 +2,7 @@
 use Rattle.std.specs.Prelude.{◌++◌, codes}
 use Rattle.sso_base.specs.Words.{Text}
 
--- the cookie of a browser that began a login at the party of this name, and that of a session there
+-- the cookie of a browser that began a login at the party with this name, and that of a session there
 abbrev pub browser_cookie : Text → Text
 browser_cookie party = party ++ codes "_b"
 

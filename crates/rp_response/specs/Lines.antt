@@ -1,4 +1,4 @@
--- The lines that tell a relying party's replies in the text of a replay. They tell no word, no token and no claim but the subject.
+-- The lines of a relying party's replies in the text of a replay. They show no word, no token and no claim except the subject.
 use Rattle.std.specs.Prelude.{ℕ, true, false, ◌++◌, codes}
 use Rattle.std.specs.Fmt.{decimal}
 use Rattle.sso_base.specs.Words.{Text}
@@ -6,7 +6,7 @@ use Rattle.rp_exchange.specs.declared.reply.RpReply.{RpReply}
 use Rattle.rp_exchange.specs.declared.reply.RpReply.TheVariants as reply
 use Rattle.rp_response.specs.Refusals.{refusal_line}
 
--- a logout that was accepted, and how many sessions it ended
+-- an accepted logout, with the number of sessions that ended
 abbrev pub ended : ℕ → Text
 ended count = codes "ended " ++ decimal count
 

@@ -1,6 +1,6 @@
--- The page at the redirection URI of a response type that answers in the fragment, in HTML (own). A user agent sends no fragment to
--- a server, so a script puts its parameters into a form and posts that to the page's own location (OpenID Connect Core 1.0, 3.2.2.5
--- and 15.5.3).
+-- The page at the redirect URI of a response type whose response is in the fragment, in HTML (our choice). A user agent sends
+-- no fragment to a server, so a script puts its parameters into a form and posts that to the page's own location (OpenID
+-- Connect Core 1.0, 3.2.2.5 and 15.5.3).
 use Rattle.std.specs.Prelude.{codes}
 use Rattle.sso_base.specs.Words.{Text}
 

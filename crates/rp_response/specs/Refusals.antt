@@ -1,5 +1,5 @@
--- How refusals are named: by their own name, and then by that of the refusal inside. What they carry is not told, but for the code
--- of the provider.
+-- The printed names of errors: the error's own name, then that of the wrapped error. The contents of an error are not shown,
+-- except the code of the provider.
 use Rattle.std.specs.Prelude.{◌++◌, codes}
 use Rattle.sso_base.specs.Words.{Text}
 use Rattle.jws_compact.specs.declared.no.JwsNo.{JwsNo}
@@ -18,7 +18,7 @@ use Rattle.oidc_words.specs.Errors.{error_text}
 use Rattle.rp_exchange.specs.declared.no.RpNo.{RpNo}
 use Rattle.rp_exchange.specs.declared.no.RpNo.TheVariants as no
 
--- ---- refusals inside others
+-- ---- wrapped errors
 
 abbrev pub claim_name : ClaimNo → Text
 claim_name claim_no.NoMemory = codes "NoMemory"
@@ -32,7 +32,7 @@ jws_words why = codes "Jws " ++ jws_name why
 abbrev pub claims_words : ClaimNo → Text
 claims_words why = codes "Claims " ++ claim_name why
 
--- ---- refusals of tokens and of responses
+-- ---- errors of tokens and of responses
 
 abbrev pub id_words : IdNo → Text
 id_words id_no.NoMemory = codes "NoMemory"
@@ -78,7 +78,7 @@ logout_words (logout_no.Expired exp) = codes "Expired"
 logout_words (logout_no.TooOld iat) = codes "TooOld"
 logout_words (logout_no.FromFuture iat) = codes "FromFuture"
 
--- ---- a relying party's refusals
+-- ---- a relying party's errors
 
 abbrev pub refusal_words : RpNo → Text
 refusal_words (no.Twice name) = codes "Twice"

@@ -1,5 +1,5 @@
--- A relying party's replies in HTTP (RFC 9110; OpenID Connect Core 1.0, 3.1.2.1 and 3.2.2.5; OpenID Connect Back-Channel Logout 1.0,
--- 2.8).
+-- A relying party's replies in HTTP (RFC 9110; OpenID Connect Core 1.0, 3.1.2.1 and 3.2.2.5; OpenID Connect Back-Channel Logout
+-- 1.0, 2.8).
 use Rattle.std.specs.Prelude.{ℕ, Bool, [], ◌∷◌, ◌++◌, codes}
 use Rattle.sso_base.specs.Words.{Word, Text}
 use Rattle.sso_base.specs.declared.http.HttpReply.{HttpReply}
@@ -16,7 +16,7 @@ use Rattle.rp_response.specs.Cookies.{browser_cookie, session_cookie}
 use Rattle.rp_response.specs.Page.{fragment_page}
 use Rattle.rp_response.specs.Refusals.{refusal_line}
 
--- ---- logins, at the party of a name
+-- ---- logins, at the party with a name
 
 abbrev pub asked : Bool → Text → Text → Word → HttpReply
 asked secure party to browser = sent_to to (cookie secure (browser_cookie party) browser ∷ [])
@@ -30,7 +30,7 @@ fragment = html [] fragment_page
 abbrev pub user : Text → HttpReply
 user sub = plain 200 (codes "user " ++ sub)
 
--- ---- refusals
+-- ---- errors
 
 abbrev pub refused_status : RpNo → ℕ
 refused_status (no.Full table) = 503
@@ -39,7 +39,7 @@ refused_status other = 400
 abbrev pub refused : RpNo → HttpReply
 refused why = plain (refused_status why) (refusal_line why)
 
--- ---- each reply, at the party of this number
+-- ---- each reply, at the party with this number
 
 unfoldable pub http_of : Configuration → ℕ → RpReply → HttpReply
 http_of c n (reply.Ask to browser) = asked c.secure (party_name c n) to browser

@@ -1,4 +1,4 @@
--- What a relying party's replies set and say, as a user agent reads it.
+-- The cookies and the contents of a relying party's replies, as a user agent reads them.
 use Rattle.std.specs.Prelude.{Bool, true, false, List, ◌++◌, Option, Some, None}
 use Rattle.sso_base.specs.Words.{Word, Text}
 use Rattle.http_reply.specs.Told.{Named, words_named}
@@ -10,21 +10,21 @@ use Rattle.rp_response.specs.Cookies.{browser_cookie, session_cookie}
 
 -- ---- words that a reply sets
 
--- the browser word of a login that begins
+-- the browser word at the start of a login
 abbrev pub browser_given : RpReply → Option Word
 browser_given (Ask to browser) = Some browser
 browser_given reply = None
 
--- the session word of a login that entered
+-- the session word of a new session
 abbrev pub session_given : RpReply → Option Word
 session_given (Entered session sub) = Some session
 session_given reply = None
 
--- the words that a reply of the party of this name sets
+-- the words that a reply of the party with this name sets
 abbrev pub words_set : Text → RpReply → List Named
 words_set party reply = words_named (browser_cookie party) (browser_given reply) ++ words_named (session_cookie party) (session_given reply)
 
--- ---- what sends on, and what refuses for want of room
+-- ---- redirects, and errors because a table is full
 
 abbrev pub sends_on : RpReply → Bool
 sends_on (Ask to browser) = true

@@ -8,7 +8,7 @@ use http_reply::{cookie, phrase};
 use sso_base::{NoMemory, Text, Texts, Word};
 use std::alloc::Global;
 
-// The cookie alone whose name is the party's and then this ending.
+// Only the cookie whose name is the party's with this ending.
 fn one_cookie(
     alloc: Global,
     secure: bool,
@@ -24,7 +24,7 @@ fn one_cookie(
     Ok(cookies)
 }
 
-// The browser's cookie alone, at the party of this name.
+// Only the browser's cookie, at the party with this name.
 pub(crate) fn browser_cookies(
     alloc: Global,
     secure: bool,
@@ -36,7 +36,7 @@ pub(crate) fn browser_cookies(
     one_cookie(alloc, secure, party, "_b", browser)
 }
 
-// The session's cookie alone, at the party of this name.
+// Only the session's cookie, at the party with this name.
 pub(crate) fn session_cookies(
     alloc: Global,
     secure: bool,

@@ -1,4 +1,4 @@
-// What holds of replies that are told.
+// Laws about the output of replies.
 
 ghost use Rattle.std.specs.Prelude.{◌≡◌, ◌++◌, ◌↔◌, ℕ, [], ◌∷◌, true, Some, is_some, codes, map};
 ghost use Rattle.std.specs.Str.Iter.{HasSubslice};
@@ -21,17 +21,17 @@ ghost use Rattle.rp_response.specs.Lines.{line_of};
 ghost use Rattle.http_reply.specs.Told.{kept, sets_cookie};
 ghost use Rattle.rp_response.specs.Told.{browser_given, session_given, words_set, sends_on, is_full};
 
-/// The cookies of a reply hold the words that it sets and no others: a login that begins that of its browser, and one that
-/// entered that of its session. A user agent reads each under its name as the word's text, for every path, `HttpOnly`,
-/// `SameSite=Lax` and, exactly where the issuer is https, `Secure` (RFC 6265, 5.2).
+/// The cookies of a reply hold exactly the words that it sets: the browser word when a login begins, and the session word when
+/// a session begins. A user agent reads each under its name as the word's text, for every path, `HttpOnly`, `SameSite=Lax` and,
+/// if and only if the issuer is https, `Secure` (RFC 6265, 5.2).
 pub fn cookies_hold_the_words_of_replies()
     ensures read { (c : Configuration) (n : ℕ) (r : RpReply) → IsRegistry c → map cookie_read (http_of c n r).cookies ≡ map (kept c.secure) (words_set (party_name c n) r) }
     ensures browser { (c : Configuration) (n : ℕ) (r : RpReply) → IsRegistry c → sets_cookie (browser_cookie (party_name c n)) (http_of c n r).cookies ≡ is_some (browser_given r) }
     ensures session { (c : Configuration) (n : ℕ) (r : RpReply) → IsRegistry c → sets_cookie (session_cookie (party_name c n)) (http_of c n r).cookies ≡ is_some (session_given r) }
 {}
 
-/// A login that begins, and one that entered, send the user agent on, with status 303: to the provider, and to where it is told who
-/// is logged in. No other reply does.
+/// When a login or a session begins, the reply redirects the user agent with status 303: to the provider, or to the page that
+/// shows who is logged in. No other reply does.
 pub fn logins_send_the_user_agent_on()
     ensures ask { (c : Configuration) (n : ℕ) (to : Text) (browser : Word) → (http_of c n (reply.Ask to browser)).location ≡ Some to }
     ensures entered { (c : Configuration) (n : ℕ) (session : Word) (sub : Text) → (http_of c n (reply.Entered session sub)).location ≡ Some home_path }
@@ -39,21 +39,21 @@ pub fn logins_send_the_user_agent_on()
     ensures status { (c : Configuration) (n : ℕ) (r : RpReply) → ((http_of c n r).status ≡ 303) ↔ (sends_on r ≡ true) }
 {}
 
-/// The body of a refusal is its line. Its status is 503 exactly where a table has no room, and else 400.
+/// The body of an error is its line. Its status is 503 if and only if a table has no room, and 400 otherwise.
 pub fn refusals_are_their_lines()
     ensures body { (c : Configuration) (n : ℕ) (why : RpNo) → (http_of c n (reply.Refused why)).body ≡ line_of (reply.Refused why) ++ 10 ∷ [] }
     ensures full { (c : Configuration) (n : ℕ) (why : RpNo) → ((http_of c n (reply.Refused why)).status ≡ 503) ↔ (is_full why ≡ true) }
     ensures others { (c : Configuration) (n : ℕ) (why : RpNo) → ¬ (is_full why ≡ true) → (http_of c n (reply.Refused why)).status ≡ 400 }
 {}
 
-/// A plain body is one line, and a reply of no kind has none.
+/// A plain body ends with a line feed, and a reply without a kind has an empty body.
 pub fn plain_bodies_are_lines()
     ensures plain { (c : Configuration) (n : ℕ) (r : RpReply) → (http_of c n r).kind ≡ kind.Plain → (line : Text) × ((http_of c n r).body ≡ line ++ 10 ∷ []) }
     ensures empty { (c : Configuration) (n : ℕ) (r : RpReply) → (http_of c n r).kind ≡ kind.Empty → (http_of c n r).body ≡ [] }
 {}
 
-/// A message to the provider, which has the client's secret or an access token, is told to no user agent and in no line, and nor is the
-/// word of its exchange.
+/// A message to the provider contains the client's secret or an access token. No reply to a user agent and no line shows the
+/// message or the word of its exchange.
 pub fn messages_are_not_told()
     ensures exchange { (c : Configuration) (n : ℕ) (v w : Word) (m k : Message) → http_of c n (reply.Exchange v m) ≡ http_of c n (reply.Exchange w k) }
     ensures fetch { (c : Configuration) (n : ℕ) (v w : Word) (m k : Message) → http_of c n (reply.Fetch v m) ≡ http_of c n (reply.Fetch w k) }
@@ -68,14 +68,14 @@ pub fn the_fragment_page_is_the_same_everywhere()
     ensures kind { (c : Configuration) (n : ℕ) → (http_of c n reply.Fragment).kind ≡ kind.Html }
 {}
 
-/// The line of a session, and that of a user, tell the subject, and the line of the provider's refusal its code.
+/// The line of a new session and that of a user determine the subject. The line of the provider's error determines its code.
 pub fn lines_tell_subjects_and_codes()
     ensures session { (v w : Word) (sub other : Text) → line_of (reply.Entered v sub) ≡ line_of (reply.Entered w other) → sub ≡ other }
     ensures user { (sub other : Text) → line_of (reply.User sub) ≡ line_of (reply.User other) → sub ≡ other }
     ensures code { (code other : AuthError) → line_of (reply.Refused (no.Provider code)) ≡ line_of (reply.Refused (no.Provider other)) → code ≡ other }
 {}
 
-/// No line tells a word, a location, the name that stood twice, or where a logout token was seen.
+/// No line shows a word, a location, a repeated name, or the number of an accepted logout token.
 pub fn lines_tell_no_words_and_no_values()
     ensures ask { (to other : Text) (v w : Word) → line_of (reply.Ask to v) ≡ line_of (reply.Ask other w) }
     ensures session { (v w : Word) (sub : Text) → line_of (reply.Entered v sub) ≡ line_of (reply.Entered w sub) }

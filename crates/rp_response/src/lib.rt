@@ -1,4 +1,4 @@
-//! A relying party's replies as they go out: in HTTP (RFC 9110; OpenID Connect Core 1.0, 3.1.2.1 and 3.2.2.5; OpenID Connect
+//! A relying party's replies as output: in HTTP (RFC 9110; OpenID Connect Core 1.0, 3.1.2.1 and 3.2.2.5; OpenID Connect
 //! Back-Channel Logout 1.0, 2.8), and as the lines of a replay.
 //!
 //! | Module | What it has |
@@ -7,8 +7,8 @@
 //! | `page` | the page that posts the fragment of its location |
 //! | `cookies` | the browser's cookie and the session's |
 //! | `lines` | [`rp_line`]: the line of a reply |
-//! | `refusals` | how refusals are named |
-//! | `law` | what holds of replies that are told, for the crates above |
+//! | `refusals` | the printed names of errors |
+//! | `law` | laws about the output of replies, for the crates above |
 #![tactic(auto)]
 
 mod cookies;

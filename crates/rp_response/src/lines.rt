@@ -1,4 +1,4 @@
-// The line that tells a reply is written.
+// Writing the line of a reply.
 
 ghost use Rattle.std.specs.Prelude.{◌≡◌, IfOk};
 ghost use Rattle.rp_response.specs.Lines as spec;
@@ -9,7 +9,7 @@ use rp_exchange::RpReply;
 use sso_base::{NoMemory, Text};
 use std::alloc::Global;
 
-// `ended` and how many sessions it ended.
+// `ended` and the number of sessions that ended.
 fn ended(alloc: Global, count: u32) -> Result<Text, NoMemory>
     ensures { IfOk result (λ t. t ≡ spec.ended count) }
 {
@@ -17,12 +17,14 @@ fn ended(alloc: Global, count: u32) -> Result<Text, NoMemory>
     phrase(alloc, "ended ", count.as_str())
 }
 
-/// The line that tells this reply in the text of a replay, without its place and its party: `ask`, `fragment`, `exchange`,
-/// `fetch`, `session` and the subject, `user` and the subject, `nobody`, `left`, `left nothing`, `ended` and the number of
-/// sessions, `refused` and the names of the refusal, or `nothing`.
+/// The line of this reply in the text of a replay, without its index and its party:
 ///
-/// A refusal is named from the outside in, as `refused Id Jws BadMac`; that of the provider by its code, as
-/// `refused Provider access_denied`. A line tells no word, token or claim but the subject.
+/// - `ask`, `fragment`, `exchange`, `fetch`;
+/// - `session` with the subject, `user` with the subject, `nobody`, `left`, `left nothing`;
+/// - `ended` with the number of sessions; `refused` with the names of the error; `nothing`.
+///
+/// The names of an error are written from the outermost to the innermost, as `refused Id Jws BadMac`. For the provider's error
+/// it is the code, as `refused Provider access_denied`. A line shows no word, token or claim except the subject.
 #[tactic(auto, unfolding(crate::specs::Lines::line_of))]
 pub fn rp_line(alloc: Global, reply: &RpReply) -> Result<Text, NoMemory>
     ensures { IfOk result (λ t. t ≡ spec.line_of reply.now) }

@@ -1,4 +1,4 @@
-// How refusals are named: by their own name, and then by that of the refusal inside.
+// The printed names of errors: the error's own name, then that of the wrapped error.
 
 ghost use Rattle.std.specs.Prelude.{◌≡◌, ◌++◌, IfOk};
 ghost use Rattle.rp_response.specs.Refusals as spec;
@@ -14,7 +14,7 @@ use std::alloc::Global;
 use token_endpoint::TokensNo;
 use userinfo::InfoNo;
 
-// The refusal of claims, inside another.
+// The name of an error of claims that is wrapped in another.
 fn claim_name(why: &ClaimNo) -> &'static str
     ensures { result.now ≡ spec.claim_name why.now }
 {
@@ -26,7 +26,7 @@ fn claim_name(why: &ClaimNo) -> &'static str
     }
 }
 
-// The refusal of an ID Token: its name, and that of the refusal inside. So with those that follow.
+// The name of an error of an ID Token, and that of the wrapped error. The same is true below.
 fn id_words(why: &IdNo) -> (&'static str, &'static str)
     ensures { result.0.now ++ result.1.now ≡ spec.id_words why.now }
 {
@@ -48,7 +48,7 @@ fn id_words(why: &IdNo) -> (&'static str, &'static str)
     }
 }
 
-// The refusal of a token response.
+// The names of an error of a token response.
 fn tokens_words(why: &TokensNo) -> (&'static str, &'static str)
     ensures { result.0.now ++ result.1.now ≡ spec.tokens_words why.now }
 {
@@ -61,7 +61,7 @@ fn tokens_words(why: &TokensNo) -> (&'static str, &'static str)
     }
 }
 
-// The refusal of a UserInfo response.
+// The names of an error of a UserInfo response.
 fn info_words(why: &InfoNo) -> (&'static str, &'static str)
     ensures { result.0.now ++ result.1.now ≡ spec.info_words why.now }
 {
@@ -73,7 +73,7 @@ fn info_words(why: &InfoNo) -> (&'static str, &'static str)
     }
 }
 
-// The refusal of a logout token.
+// The names of an error of a logout token.
 fn logout_words(why: &LogoutNo) -> (&'static str, &'static str)
     ensures { result.0.now ++ result.1.now ≡ spec.logout_words why.now }
 {
@@ -94,7 +94,7 @@ fn logout_words(why: &LogoutNo) -> (&'static str, &'static str)
     }
 }
 
-// A refusal, and the name of the one inside.
+// The name of an error, and that of the wrapped error.
 fn told(alloc: Global, first: &str, own: &str, inside: &str) -> Result<Text, NoMemory>
     ensures { IfOk result (λ t. t ≡ first.now ++ (own.now ++ inside.now)) }
 {
@@ -102,7 +102,7 @@ fn told(alloc: Global, first: &str, own: &str, inside: &str) -> Result<Text, NoM
     phrase(alloc, first, words.as_str())
 }
 
-// The line of a refusal.
+// The line of an error.
 pub(crate) fn refusal_line(alloc: Global, why: &RpNo) -> Result<Text, NoMemory>
     ensures { IfOk result (λ t. t ≡ spec.refusal_line why.now) }
 {

@@ -1,4 +1,4 @@
-// Replies are told in HTTP.
+// Replies in HTTP.
 
 ghost use Rattle.std.specs.Prelude.{◌≡◌, ◌<◌, length, IfOk};
 ghost use Rattle.rp_response.specs.Telling as spec;
@@ -47,7 +47,7 @@ fn user(alloc: Global, sub: &Text) -> Result<HttpReply, NoMemory>
     plain(alloc, 200, line.as_str())
 }
 
-// The status of a refusal.
+// The status of an error.
 fn refused_status(why: &RpNo) -> u16
     ensures { result ≡ spec.refused_status why.now }
 {
@@ -64,19 +64,20 @@ fn refused(alloc: Global, why: &RpNo) -> Result<HttpReply, NoMemory>
     plain(alloc, refused_status(why), line.as_str())
 }
 
-/// What this reply is in HTTP, at the party of this number in the registry.
+/// The HTTP reply for this reply of the party with this number in the registry.
 ///
-/// An authorization request and a session send the user agent on, with status 303, to the provider and to `/`. The former sets
-/// the browser's cookie `NAME_b` and the latter the session's `NAME_s`, where `NAME` is that of the party. A cookie is a word's
-/// text, for every path, `HttpOnly`, `SameSite=Lax` and, where the issuer is https, `Secure` (RFC 6265, 4.1).
+/// An authorization request and a new session redirect the user agent with status 303, to the provider and to `/`. The former
+/// sets the browser's cookie `NAME_b` and the latter the session's `NAME_s`, where `NAME` is the party's. A cookie is a word's
+/// text, for every path, `HttpOnly`, `SameSite=Lax` and, if the issuer is https, `Secure` (RFC 6265, 4.1).
 ///
-/// A fragment is read by a page in HTML, which posts it to its own location. A logout that was accepted is empty, with status
-/// 200 (OpenID Connect Back-Channel Logout 1.0, 2.8). Who is logged in, and that a session is over, is one line of text. A
-/// refusal is its line, with status 400, or 503 where a table is full. Where nothing is found, the status is 404.
+/// The fragment page is HTML; it reads the fragment and posts it to its own location. The reply to an accepted logout is empty,
+/// with status 200 (OpenID Connect Back-Channel Logout 1.0, 2.8). The replies that show who is logged in, and that a session is
+/// over, are one line of text. An error is its line, with status 400, or 503 if a table is full. An unknown path has status
+/// 404.
 ///
-/// What waits for an answer of the provider is told as one that is pending, with status 502, and without its message.
+/// A reply that is waiting for the provider has status 502, and does not show its message.
 ///
-/// The party's number is below the count of the registry's parties, as a condition.
+/// The party's number must be below the number of the registry's parties.
 #[tactic(auto, unfolding(crate::specs::Telling::http_of))]
 pub fn rp_http(
     alloc: Global,

@@ -1,9 +1,9 @@
--- The words that were drawn for the pairs of a past.
+-- The random words that were drawn for the pairs of a past.
 use Rattle.std.specs.Prelude.{◌≡◌, ◌<◌, ℕ, List, ◌∷◌, ◌++◌}
 use Rattle.sso_base.specs.Words.{Word, fresh_word}
 use Rattle.sso_base.specs.declared.history.Pair.{Pair}
 
--- the word is one of the four that were drawn for a pair of the past
+-- the word is one of the four that were drawn for some pair of the past
 pub record IsDrawn {A R : Type 0} (past : List (Pair A R)) (w : Word) : Type 0 where
   pub later : List (Pair A R)
   pub maker : Pair A R

@@ -1,7 +1,7 @@
--- Refusals in order: where several fit, the first is answered.
+-- Errors in order: if several conditions hold, the first one decides.
 use Rattle.std.specs.Prelude.{List, [], ◌∷◌, Bool, true, false, Option, Some, None, Result, Ok, Err, IsFalse, ⊤, if◌then◌else◌}
 
--- the refusal of the first condition that holds
+-- the error of the first condition that is true
 abbrev pub first_refusal : {E : Type 0} → List (Bool × E) → Result (Unit {0}) E
 first_refusal [] = Ok tt
 first_refusal (c ∷ cs) = if c.0 then Err c.1 else first_refusal cs
@@ -10,17 +10,17 @@ abbrev pub NoneHolds : {E : Type 0} → List (Bool × E) → Type 0
 NoneHolds [] = ⊤
 NoneHolds (c ∷ cs) = IsFalse c.0 × NoneHolds cs
 
--- what is found is handed on, and a refusal stays
+-- a value is passed on to the function, an error stays
 abbrev pub and_then : {A B E : Type 0} → Result A E → (A → Result B E) → Result B E
 and_then (Ok a) f = f a
 and_then (Err e) f = Err e
 
--- what must be there, or else this refusal
+-- the value, or this error if there is none
 abbrev pub demand : {A B E : Type 0} → E → Option A → (A → Result B E) → Result B E
 demand e None f = Err e
 demand e (Some a) f = f a
 
--- where the test is met, this refusal
+-- this error if the condition is true
 abbrev pub forbid : {B E : Type 0} → E → Bool → Result B E → Result B E
 forbid e true r = Err e
 forbid e false r = r

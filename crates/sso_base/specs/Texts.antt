@@ -12,6 +12,6 @@ is_ascii t = list_all (λ b. nat_lt b 128) t
 abbrev pub has_text : Text → List Text → Bool
 has_text t ts = list_any (bytes_eq t) ts
 
--- there is a text, and each is this one
+-- the list is not empty, and each text is equal to this one
 abbrev pub is_only : Text → List Text → Bool
 is_only t ts = not (length ts == 0) && list_all (λ s. bytes_eq s t) ts

@@ -1,5 +1,5 @@
--- What values of the types are: a definition takes any number and any list for them, and what is promised of texts that are
--- written, or of words that are drawn, needs these.
+-- The values of types. A definition takes any number and any list; contracts about printed texts or about drawn words need
+-- these bounds.
 use Rattle.std.specs.Prelude.{ℕ, ◌<◌, ◌^◌, List}
 use Rattle.std.specs.Str.{IsUtf8}
 use Rattle.std.specs.List.{AllByRecursion}
@@ -16,6 +16,6 @@ AreTexts texts = AllByRecursion IsUtf8 texts
 abbrev pub AreWords : List Word → Type 0
 AreWords words = AllByRecursion IsWord words
 
--- the latest moment, in seconds since the epoch: so a moment and all lives from it have 40 bits (own)
+-- the latest moment, in seconds since the epoch; a moment plus any lifetime fits into 40 bits (our choice)
 abbrev pub latest_moment : ℕ
 latest_moment = 1099511000000

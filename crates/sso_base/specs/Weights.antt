@@ -1,13 +1,13 @@
--- What texts weigh, in bytes.
+-- The weights of texts, in bytes.
 use Rattle.std.specs.Prelude.{ℕ, ◌-◌, ◌^◌, nat_lt, List, length, Option, Some, None, if◌then◌else◌}
 use Rattle.std.specs.List.{sum_by}
 use Rattle.sso_base.specs.Words.{Text}
 
--- a weight as it is told in 64 bits
+-- a weight, cut off at the greatest number of 64 bits
 abbrev pub told_weight : ℕ → ℕ
 told_weight n = if nat_lt n (2 ^ 64) then n else 2 ^ 64 - 1
 
--- what an ask weighs that holds no texts, and any ask at least
+-- the weight of a request that holds no texts; each request weighs at least this much
 abbrev pub empty_weight : ℕ
 empty_weight = 1024
 

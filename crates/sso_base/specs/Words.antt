@@ -25,11 +25,11 @@ word_text w = b64u w
 abbrev pub word_of_text : Text → Option Word
 word_of_text t = unb64u_32 t
 
--- a word was presented, and it is this one
+-- a word was presented, and it is equal to this one
 abbrev pub is_word : Option Word → Word → Bool
 is_word None w = false
 is_word (Some v) w = bytes_eq v w
 
--- the drawn word of this number, from 0
+-- the drawn word with this number, counted from 0
 abbrev pub fresh_word : List Word → ℕ → Word
 fresh_word fresh k = slice_index_or fresh k []

@@ -1,4 +1,4 @@
-// Requests to a server, and what it replies, as far as HTTP carries them (RFC 9110).
+// Requests to a server and its replies, as far as HTTP carries them (RFC 9110).
 
 use crate::text::{Blob, Text, Texts};
 use crate::word::Word;
@@ -18,11 +18,11 @@ pub struct Ask {
     pub method: Method,
     /// The target up to its first `?`.
     pub path: Text,
-    /// What follows that `?`, empty where there is none.
+    /// The query after that `?`; empty if there is none.
     pub query: Blob,
     /// The form that was posted, in `application/x-www-form-urlencoded`.
     pub body: Option<Blob>,
-    /// The first of the server's two cookies, where it is a word's text.
+    /// The first of the server's two cookies, if its value is the text of a word.
     pub first: Option<Word>,
     /// The second.
     pub second: Option<Word>,
@@ -30,10 +30,10 @@ pub struct Ask {
     pub auth: Option<Text>,
 }
 
-/// What the body of a reply is.
+/// The kind of a reply's body.
 #[derive(Clone, Copy, PartialEq, Eq)]
 pub enum Kind {
-    /// There is none.
+    /// No body.
     Empty,
     /// `text/plain; charset=utf-8`
     Plain,
@@ -56,7 +56,7 @@ pub struct HttpReply {
     pub cookies: Texts,
     /// The value of its `WWW-Authenticate` header (RFC 9110, 11.6.1).
     pub challenge: Option<Text>,
-    /// What its body is, and by which headers it is told.
+    /// The kind of its body, which decides the `Content-Type` header.
     pub kind: Kind,
     /// Its body.
     pub body: Blob,

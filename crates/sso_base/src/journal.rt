@@ -1,4 +1,4 @@
-//! What a core keeps of its history, beside its tables.
+//! The stored history of a core.
 
 ghost use Rattle.std.specs.Prelude.{◌≡◌, ℕ, ◌+◌, ◌<◌, ◌≤◌, List, [], ◌∷◌, ◌++◌, length, reverse, Err, IfOk, OnOk};
 ghost use Rattle.sso_base.specs.Legal.{last_moment};
@@ -13,20 +13,21 @@ use crate::word::Word;
 use std::alloc::Global;
 use std::marker::Model;
 
-// The weight that a history may have.
+// The greatest weight of a history.
 const MOST_WEIGHT: u64 = 268_435_456;
 
-/// An ask with a weight.
+/// A request with a weight.
 pub trait Weighed {
     /// The weight.
     ghost weighs: { Self → ℕ };
 
-    /// The weight, or the greatest number of 64 bits where that is less.
+    /// The weight, or the greatest number of 64 bits if the weight is greater.
     fn weight(&self) -> Result<u64, NoMemory>
         ensures { IfOk result (λ n. n ≡ told_weight (weighs self.now)) };
 }
 
-/// A history that weighs at most 268,435,456, seen as the list of its pairs, oldest first, and for how many it has memory.
+/// A history that weighs at most 268,435,456. Its model is the list of its pairs, oldest first, and the number of pairs it has
+/// memory for.
 #[derive(Drop)]
 pub struct Journal<A: Weighed + Drop, R: Drop> {
     pairs: Vec<Pair<A, R>>,
@@ -45,7 +46,7 @@ impl<A: Weighed + Drop, R: Drop> Model for Journal<A, R> {
 }
 
 impl<A: Weighed + Drop, R: Drop> Journal<A, R> {
-    /// No pair.
+    /// A journal with no pairs.
     pub fn new(alloc: Global) -> Journal<A, R>
         ensures { result.pairs ≡ [] }
     {
@@ -70,7 +71,7 @@ impl<A: Weighed + Drop, R: Drop> Journal<A, R> {
         &self.pairs
     }
 
-    // Whether an ask of this weight may be taken up; else the weight of the history.
+    // Whether a request of this weight fits into the history; otherwise the error holds the history's weight.
     fn room_for(&self, weight: u64) -> Result<(), CoreNo>
         ensures ok { OnOk result (spec.history_weight A.weighs self.now.pairs + weight ≤ spec.most_weight) }
         ensures full { (no : CoreNo) → result ≡ Err no → (no ≡ CoreNo.JournalFull (spec.history_weight A.weighs self.now.pairs)) × (spec.most_weight < spec.history_weight A.weighs self.now.pairs + weight) }
@@ -81,8 +82,8 @@ impl<A: Weighed + Drop, R: Drop> Journal<A, R> {
         Ok(())
     }
 
-    /// The weight of an ask that may be taken up: the history has room for it. Else the weight of the history, where memory
-    /// does not run out.
+    /// Returns the weight of a request if the history has room for it. Otherwise returns `JournalFull` with the weight of the
+    /// history.
     pub fn admit(&self, ask: &A) -> Result<u64, CoreNo>
         ensures weight { IfOk result (λ weight. weight ≡ A.weighs ask.now) }
         ensures room { OnOk result (spec.history_weight A.weighs self.now.pairs + A.weighs ask.now ≤ spec.most_weight) }
@@ -93,7 +94,7 @@ impl<A: Weighed + Drop, R: Drop> Journal<A, R> {
         Ok(weight)
     }
 
-    // The moment that the next entry holds: time never goes back.
+    // The moment of the next entry: time never goes back.
     fn moment_after(&self, at: Moment) -> Moment
         ensures { result ≡ spec.entry_moment self.now.pairs at }
     {
@@ -103,7 +104,7 @@ impl<A: Weighed + Drop, R: Drop> Journal<A, R> {
         }
     }
 
-    /// The entry of an ask at this moment or, where that is later, the last one's.
+    /// The entry of a request at this moment, or at the last entry's moment if that is later.
     pub fn entry(&self, at: Moment, fresh: [Word; 4], ask: A) -> Entry<A>
         ensures entry { result ≡ spec.entry_of self.now.pairs at fresh ask }
         ensures order { last_moment (reverse self.now.pairs) ≤ result.at }
@@ -115,7 +116,7 @@ impl<A: Weighed + Drop, R: Drop> Journal<A, R> {
         }
     }
 
-    /// Makes room for one more pair.
+    /// Makes room for one more pair. On `NoMemory` the pairs are unchanged.
     pub fn reserve(&mut self) -> Result<(), NoMemory>
         ensures pairs { self.new.pairs ≡ self.old.pairs }
         ensures room { OnOk result (length self.new.pairs < self.new.capacity) }
@@ -124,7 +125,7 @@ impl<A: Weighed + Drop, R: Drop> Journal<A, R> {
         Ok(())
     }
 
-    /// Adds a pair, for which room was made.
+    /// Adds a pair. Room was reserved for it.
     pub fn push(&mut self, pair: Pair<A, R>, weight: u64)
         requires reserved { length self.old.pairs < self.old.capacity }
         requires weight { weight ≡ A.weighs pair.entry.ask }

@@ -1,9 +1,9 @@
-//! Laws of the definitions, for what is proved above this crate.
+//! Laws of the definitions, for the crates above this one.
 
 ghost use Rattle.std.specs.Prelude.{◌≡◌, Some};
 ghost use Rattle.sso_base.specs.Words.{Word, Text, IsWord, word_text, word_of_text};
 
-/// A word has one text, and no other word has it.
+/// Each word has exactly one text, and each text is the text of at most one word.
 pub fn words_have_one_text()
     ensures read_back { (w : Word) → IsWord w → word_of_text (word_text w) ≡ Some w }
     ensures spelled { (t : Text) (w : Word) → word_of_text t ≡ Some w → (t ≡ word_text w) × IsWord w }

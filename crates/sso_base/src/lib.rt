@@ -1,18 +1,18 @@
-//! What every crate of the sign-on system stands on: texts, words and moments, histories with their named rows,
-//! and the outside, as traits that tell what they hold and how often they failed.
+//! The foundation of every crate of the sign-on system: texts, words and moments; histories and the named rows that follow from
+//! them; traits for the outside. These traits expose, as ghost values, what an object holds and how often it failed.
 //!
 //! | Module | What it has |
 //! |---|---|
-//! | `memory` | `NoMemory`, the one answer for want of memory |
+//! | `memory` | `NoMemory`, the error of every call that runs out of memory |
 //! | `text` | `Text`, `Blob`, `Texts` |
 //! | `word` | `Word`, 32 random bytes, and its text |
 //! | `moment` | `Moment`, a number of seconds |
 //! | `message`, `messages` | `Message`, `Messages` and `Answered`: what servers send each other |
 //! | `http` | `Ask` and `HttpReply`: requests and replies, as far as HTTP carries them |
-//! | `history` | `Entry` and `Pair`: what a core was asked, and what it replied |
-//! | `journal` | `Journal`: what a core keeps of its history, and what it may weigh |
-//! | `step` | `Core`: what takes asks one after another, and stores its history |
-//! | `values`, `weights` | what types say of their values, and what texts weigh |
+//! | `history` | `Entry` and `Pair`: a request to a core, and its reply |
+//! | `journal` | `Journal`: the stored history of a core, with a limit on its weight |
+//! | `step` | `Core`: a state machine that answers requests one after another and stores its history |
+//! | `values`, `weights` | facts that types give about their values, and how much texts weigh |
 //! | `rows` | rows with names, found, put and removed |
 //! | `sink`, `sink_memory` | where bytes are written to |
 //! | `shelf`, `shelf_memory` | where contents are fetched from |

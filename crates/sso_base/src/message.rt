@@ -1,4 +1,4 @@
-// What servers send each other.
+// Messages between servers.
 
 ghost use Rattle.std.specs.Prelude.{◌≡◌, IfOk, option_map};
 
@@ -6,10 +6,10 @@ use crate::memory::NoMemory;
 use crate::text::{Blob, Text};
 use std::alloc::Global;
 
-/// A request from one server to another: a POST of a form where it has a body, else a GET.
+/// A request from one server to another: a POST of a form if it has a body, otherwise a GET.
 #[derive(Drop)]
 pub struct Message {
-    /// The URL that it is sent to.
+    /// The URL it is sent to.
     pub to: Text,
     /// The value of its `Authorization` header (RFC 9110, 11.6.2).
     pub auth: Option<Text>,
@@ -18,7 +18,7 @@ pub struct Message {
 }
 
 impl Message {
-    /// An equal message.
+    /// A copy of the message.
     pub fn copy(&self, alloc: Global) -> Result<Message, NoMemory>
         ensures { IfOk result (λ m. m ≡ self.now) }
     {
@@ -34,7 +34,7 @@ impl Message {
     }
 }
 
-/// A server's answer to such a request.
+/// The response to such a request.
 #[derive(Drop)]
 pub struct Answered {
     /// The HTTP status.
@@ -42,7 +42,7 @@ pub struct Answered {
     pub body: Blob,
 }
 
-/// An equal text, where there is one.
+/// A copy of the text, if there is one.
 pub fn copied_text(alloc: Global, text: &Option<Text>) -> Result<Option<Text>, NoMemory>
     ensures { IfOk result (λ o. o ≡ text.now) }
 {
@@ -52,7 +52,7 @@ pub fn copied_text(alloc: Global, text: &Option<Text>) -> Result<Option<Text>, N
     }
 }
 
-/// The bytes of a text, where there is one.
+/// The bytes of the text, if there is one.
 pub fn bytes_if(text: &Option<Text>) -> Option<&[u8]>
     ensures { option_map (λ b. b.now) result ≡ text.now }
 {

@@ -7,7 +7,7 @@ use crate::message::Message;
 use std::alloc::Global;
 use std::marker::Model;
 
-/// Messages to other servers, seen as the list of them.
+/// Messages to other servers. The model is their list.
 #[derive(Drop)]
 pub struct Messages {
     items: Vec<Message>,
@@ -23,7 +23,7 @@ impl Model for Messages {
 }
 
 impl Messages {
-    /// No message.
+    /// An empty list.
     pub fn new(alloc: Global) -> Messages
         ensures { result ≡ [] }
     {
@@ -32,7 +32,7 @@ impl Messages {
         }
     }
 
-    /// Adds a message at the end.
+    /// Adds a message at the end. On `NoMemory` the list is unchanged.
     pub fn push(&mut self, message: Message) -> Result<(), NoMemory>
         ensures ok { OnOk result (self.new ≡ self.old ++ message ∷ []) }
         ensures err { OnErr result (self.new ≡ self.old) }
@@ -48,7 +48,7 @@ impl Messages {
         self.items.len()
     }
 
-    /// The message at this place, from 0.
+    /// The message at this index, counted from 0.
     pub fn at(&self, place: usize) -> &Message
         requires { place < length self.now }
         ensures { slice_get self.now place ≡ Some result.now }
@@ -56,7 +56,7 @@ impl Messages {
         &self.items[place]
     }
 
-    /// Equal messages, in the same order.
+    /// A copy of the messages, in the same order.
     pub fn copy(&self, alloc: Global) -> Result<Messages, NoMemory>
         ensures { IfOk result (λ m. m ≡ self.now) }
     {

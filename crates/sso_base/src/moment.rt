@@ -4,7 +4,7 @@ ghost use Rattle.sso_base.specs.Values.{latest_moment};
 
 use std::marker::Model;
 
-/// The latest moment, in seconds since the epoch: so a moment and all lives from it have 40 bits (own).
+/// The latest moment, in seconds since the epoch. So a moment plus any lifetime fits into 40 bits (our choice).
 pub const LATEST_MOMENT: u64 = 1_099_511_000_000;
 
 /// A number of seconds since the epoch, at most 1,099,511,000,000.
@@ -27,7 +27,7 @@ impl Model for Moment {
 }
 
 impl Moment {
-    /// The moment of this number of seconds; None exactly above 1,099,511,000,000.
+    /// The moment of this number of seconds; `None` if and only if it is above 1,099,511,000,000.
     pub fn new(seconds: u64) -> Option<Moment>
         ensures { SomeIff result (seconds ≤ latest_moment) seconds }
     {

@@ -1,4 +1,4 @@
-//! Tables of rows with names. They are plain lists: the order is the order of issue.
+//! Tables of named rows. A table is a plain list, in the order of issue.
 
 ghost use Rattle.std.specs.Prelude.{◌≡◌, ℕ, ◌+◌, ◌<◌, ◌≤◌, List, Some, vec_len};
 ghost use Rattle.std.specs.Option.{option_copied};
@@ -18,7 +18,7 @@ pub trait Named {
         ensures { result ≡ name self.now };
 }
 
-/// The row of a name; None exactly where no row has it.
+/// The row of a name; `None` if and only if no row has it.
 pub fn find_row<R: Named>(rows: &[R], word: Word) -> Option<&R>
     ensures { option_copied result ≡ row_of R.name word rows.now }
 {
@@ -30,7 +30,7 @@ pub fn find_row<R: Named>(rows: &[R], word: Word) -> Option<&R>
     None
 }
 
-/// Leaves the rows of other names.
+/// Removes the rows of this name.
 pub fn remove_row<R: Named + Drop>(rows: &mut Vec<R>, word: Word)
     ensures rows { rows.new.items ≡ without R.name word rows.old.items }
     ensures bound { vec_len rows.new ≤ vec_len rows.old }
@@ -39,7 +39,7 @@ pub fn remove_row<R: Named + Drop>(rows: &mut Vec<R>, word: Word)
     rows.retain(|row| row.name() != word);
 }
 
-/// Puts a row at the end, in place of one of its name. Room was reserved for it.
+/// Puts a row at the end, and removes the rows of its name. Room was reserved for it.
 pub fn put_row<R: Named + Drop>(rows: &mut Vec<R>, row: R)
     requires reserved { vec_len rows.old < vec_capacity rows.old }
     ensures rows { rows.new.items ≡ put R.name (Some row) rows.old.items }
@@ -50,7 +50,8 @@ pub fn put_row<R: Named + Drop>(rows: &mut Vec<R>, row: R)
     rows.push_reserved(row);
 }
 
-/// Whether what begins at one moment and lives for so many seconds is live at another: until its end, and no longer.
+/// Whether something that begins at one moment and lives for `life` seconds is live at another. At its end it is no longer
+/// live.
 pub fn is_live(life: u32, begun: Moment, at: Moment) -> bool
     ensures { result ≡ lives life begun at }
 {

@@ -11,7 +11,7 @@ use std::alloc::Global;
 pub enum ShelfNo {
     /// Memory ran out.
     NoMemory,
-    /// The shelf failed, or has no content of that name.
+    /// The shelf failed, or it has no content of that name.
     Failed,
 }
 
@@ -26,15 +26,15 @@ impl From<NoMemory> for ShelfNo {
     }
 }
 
-/// Where contents are fetched from by name.
+/// A source of contents, which are fetched by name.
 pub trait Shelf {
-    /// Its contents with their names, where it tells.
+    /// Its contents with their names, if they are known. A real file system gives `None`.
     ghost contents: { Self → Option (List Content) };
 
     /// How often it has failed.
     ghost faults: { Self → ℕ };
 
-    /// The first `most` bytes of the named content, or all if there are fewer. A name that is not there is a failure.
+    /// Returns the first `most` bytes of the named content, or all of them if there are fewer. An unknown name is a failure.
     fn fetch(&mut self, alloc: Global, name: &Text, most: usize) -> Result<Blob, ShelfNo>
         ensures found { IfOk result (λ bytes. Fetches (contents self.old) name.now most bytes) }
         ensures bound { IfOk result (λ bytes. length bytes ≤ most) }

@@ -11,13 +11,13 @@ use std::marker::Model;
 /// A name with its content.
 #[derive(Drop)]
 pub struct File {
-    /// By which it is asked for.
+    /// The name it is fetched by.
     pub name: Text,
     /// Its bytes.
     pub content: Blob,
 }
 
-/// A shelf in memory. It fails at a name that is not there, and nowhere else.
+/// A shelf in memory. It fails if and only if the name is unknown.
 #[derive(Drop)]
 pub struct MemoryShelf {
     files: Vec<File>,
@@ -34,7 +34,7 @@ impl Model for MemoryShelf {
 }
 
 impl MemoryShelf {
-    /// A shelf with these contents that never failed.
+    /// A shelf with these contents and no failures so far.
     pub fn new(files: Vec<File>) -> MemoryShelf
         ensures { result ≡ record { contents = map (λ f. (f.name, f.content)) files.items; faults = 0 } }
     {
@@ -89,7 +89,7 @@ impl Shelf for MemoryShelf {
     }
 }
 
-/// A shelf in memory whose calls of these numbers fail, from 1.
+/// A shelf in memory whose calls with these numbers fail. Calls are counted from 1.
 #[derive(Drop)]
 pub struct FaultyShelf {
     shelf: MemoryShelf,
@@ -106,7 +106,7 @@ impl Model for FaultyShelf {
 }
 
 impl FaultyShelf {
-    /// This shelf, whose calls of these numbers will fail.
+    /// This shelf, but its calls with these numbers will fail.
     pub fn new(shelf: MemoryShelf, failing: Vec<u64>) -> FaultyShelf
         ensures { result ≡ record { shelf = shelf; failing = failing.items; calls = 0 } }
     {

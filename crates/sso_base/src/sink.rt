@@ -2,20 +2,20 @@ ghost use Rattle.std.specs.Prelude.{◌≡◌, ℕ, ◌<◌, ◌≤◌, List, le
 ghost use Rattle.sso_base.specs.Faults.{Rose, HasCause};
 ghost use Rattle.sso_base.specs.Outside.{Takes, TakesFront};
 
-/// A sink did not take what it was given.
+/// A sink did not accept the bytes.
 #[derive(Clone, Copy, Debug, PartialEq, Eq)]
 pub struct SinkFault;
 
-/// Where bytes are written to.
+/// A destination for bytes.
 pub trait Sink {
-    /// The bytes that it took, where it tells.
+    /// The bytes that it accepted, if they are known. A real file gives `None`.
     ghost taken: { Self → Option (List ℕ) };
 
     /// How often it has failed.
     ghost faults: { Self → ℕ };
 
-    /// Takes a front of the piece, and answers its length in bytes. Where it takes nothing of a piece that is not empty,
-    /// it counts a fault.
+    /// Writes a prefix of the piece and returns the length of that prefix in bytes. If it writes nothing of a piece that is not
+    /// empty, its fault count rises.
     fn write_some(&mut self, piece: &[u8]) -> Result<usize, SinkFault>
         ensures bound { IfOk result (λ count. count ≤ length piece.now) }
         ensures taken { IfOk result (λ count. Takes (taken self.old) (taken self.new) (take count piece.now)) }
@@ -24,7 +24,7 @@ pub trait Sink {
         ensures stuck { IfOk result (λ count. count ≡ 0 → 0 < length piece.now → Rose (faults self.old) (faults self.new)) };
 }
 
-/// Writes all of the piece. After a fault a front of it was written.
+/// Writes the whole piece. After a fault, a prefix of the piece was written.
 pub fn write_whole<K: Sink>(sink: &mut K, piece: &[u8]) -> Result<(), SinkFault>
     ensures ok { OnOk result (Takes (K.taken sink.old) (K.taken sink.new) piece.now) }
     ensures err { OnErr result (TakesFront (K.taken sink.old) (K.taken sink.new) piece.now) }

@@ -7,7 +7,7 @@ use crate::sink::{Sink, SinkFault};
 use std::alloc::Global;
 use std::marker::Model;
 
-/// A sink in memory. It takes each piece whole. It fails where room for the bytes is refused, and nowhere else.
+/// A sink in memory. It writes each piece whole, and fails only if there is no memory for the bytes.
 #[derive(Drop)]
 pub struct MemorySink {
     bytes: Vec<u8>,
@@ -23,7 +23,7 @@ impl Model for MemorySink {
 }
 
 impl MemorySink {
-    /// A sink that took nothing and never failed.
+    /// A sink with no bytes and no failures so far.
     pub fn new(alloc: Global) -> MemorySink
         ensures { result ≡ record { bytes = []; faults = 0 } }
     {
@@ -33,7 +33,7 @@ impl MemorySink {
         }
     }
 
-    /// The bytes that it took.
+    /// The bytes that it accepted.
     pub fn bytes(&self) -> &[u8]
         ensures { result.now ≡ self.now.bytes }
     {
@@ -71,7 +71,7 @@ impl Sink for MemorySink {
     }
 }
 
-/// A sink in memory whose calls of these numbers fail, from 1.
+/// A sink in memory whose calls with these numbers fail. Calls are counted from 1.
 #[derive(Drop)]
 pub struct FaultySink {
     sink: MemorySink,
@@ -88,7 +88,7 @@ impl Model for FaultySink {
 }
 
 impl FaultySink {
-    /// A sink that took nothing and whose calls of these numbers will fail.
+    /// An empty sink whose calls with these numbers will fail.
     pub fn new(alloc: Global, failing: Vec<u64>) -> FaultySink
         ensures { result ≡ record { sink = record { bytes = []; faults = 0 }; failing = failing.items; calls = 0 } }
     {
@@ -99,7 +99,7 @@ impl FaultySink {
         }
     }
 
-    /// The bytes that it took.
+    /// The bytes that it accepted.
     pub fn bytes(&self) -> &[u8]
         ensures { result.now ≡ self.now.sink.bytes }
     {

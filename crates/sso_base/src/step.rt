@@ -8,12 +8,12 @@ use crate::moment::Moment;
 use crate::word::Word;
 use std::alloc::Global;
 
-/// Why a core took no step. All that it holds is as it was.
+/// Why a core took no step. Its state is unchanged.
 #[derive(Clone, Copy, Debug, PartialEq, Eq)]
 pub enum CoreNo {
     /// Memory ran out.
     NoMemory,
-    /// The history and the entry weigh more than 268,435,456 together. The number is the weight of the history.
+    /// The history and the entry together weigh more than 268,435,456. The number is the weight of the history.
     JournalFull(u64),
 }
 
@@ -28,29 +28,30 @@ impl From<NoMemory> for CoreNo {
     }
 }
 
-/// What takes asks, one after another, and stores them with its replies. What it replies is said by which histories are
-/// legal.
+/// A state machine that answers requests one after another, and stores them with its replies. Which histories are legal defines
+/// its replies.
 pub trait Core: Send + Drop {
     type Ask: Drop;
 
     type Reply: Drop;
 
-    /// The type of what it was set up with.
+    /// The type of its setup.
     ghost Setup: { Type 0 };
 
-    /// What it was set up with.
+    /// Its setup.
     ghost setup: { Self → Setup };
 
-    /// What it was asked and what it replied, oldest first.
+    /// Its requests and replies, oldest first.
     ghost history: { Self → List (Pair Self.Ask Self.Reply) };
 
-    /// The weight of an ask.
+    /// The weight of a request.
     ghost weighs: { Self.Ask → ℕ };
 
     /// Which histories are legal for a setup.
     ghost is_legal: { Setup → List (Pair Self.Ask Self.Reply) → Type 0 };
 
-    /// Replies to the ask, and stores both with the later of this moment and the last one, and with the drawn words.
+    /// Replies to the request and stores both. The stored moment is this one, or the last one if that is later. On an error
+    /// nothing changes.
     fn step(
         &mut self,
         alloc: Global,
@@ -65,7 +66,7 @@ pub trait Core: Send + Drop {
         ensures room { IfOk result (λ reply. history_weight weighs (history self.old) + weighs ask ≤ most_weight) }
         ensures full { (w : ℕ) → (result ≡ Err (CoreNo.JournalFull w)) → (w ≡ history_weight weighs (history self.old)) × (most_weight < w + weighs ask) };
 
-    /// The weight of an ask, or the greatest number of 64 bits where that is less.
+    /// The weight of a request, or the greatest number of 64 bits if the weight is greater.
     fn weight(ask: &Self::Ask) -> Result<u64, NoMemory>
         ensures { IfOk result (λ n. n ≡ told_weight (weighs ask.now)) };
 
@@ -74,12 +75,12 @@ pub trait Core: Send + Drop {
         ensures count { result ≡ length (history self.now) }
         ensures legal { is_legal (setup self.now) (history self.now) };
 
-    /// A legal history weighs no more than a history may.
+    /// A legal history weighs no more than the limit.
     ghost legal_is_light: { (s : Setup) (h : List (Pair Self.Ask Self.Reply)) → is_legal s h → history_weight weighs h ≤ most_weight };
 
-    /// Each beginning of a legal history is legal.
+    /// Each prefix of a legal history is legal.
     ghost beginnings_are_legal: { (s : Setup) (front rest : List (Pair Self.Ask Self.Reply)) → is_legal s (front ++ rest) → is_legal s front };
 
-    /// No ask weighs less than one that holds no texts.
+    /// No request weighs less than one that holds no texts.
     ghost least_weight: { (asked : Self.Ask) → empty_weight ≤ weighs asked };
 }

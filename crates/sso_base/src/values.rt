@@ -1,5 +1,5 @@
-//! What types say of their values, for the proofs: texts are UTF-8, words have 32 bytes, numbers their size. Each call does
-//! nothing.
+//! Facts that types give about their values, as lemmas for the proofs: texts are UTF-8, words have 32 bytes, numbers have their
+//! size. Each call does nothing.
 
 ghost use Rattle.std.specs.Prelude.{◌≡◌, ◌≤◌, length, IfSome};
 ghost use Rattle.std.specs.Str.{IsUtf8};
@@ -17,7 +17,7 @@ pub fn know_word(word: &Word)
     let _bytes = word.bytes();
 }
 
-/// So has one that may be there.
+/// The same for an optional word.
 pub fn know_word_if(word: &Option<Word>)
     ensures { IfSome word.now IsWord }
 {
@@ -26,7 +26,7 @@ pub fn know_word_if(word: &Option<Word>)
     }
 }
 
-/// A text that may be there is UTF-8.
+/// An optional text is UTF-8.
 pub fn know_text_if(text: &Option<Text>)
     ensures { IfSome text.now IsUtf8 }
 {
@@ -40,7 +40,7 @@ pub fn know_number(n: u64)
     ensures { IsWide n }
 {}
 
-/// So has one that may be there.
+/// The same for an optional number.
 pub fn know_number_if(n: Option<u64>)
     ensures { IfSome n IsWide }
 {
@@ -58,7 +58,7 @@ pub fn know_texts(texts: &Texts)
     }
 }
 
-/// So are those that may be there.
+/// The same for optional texts.
 pub fn know_texts_if(texts: &Option<Texts>)
     ensures { IfSome texts.now AreTexts }
 {

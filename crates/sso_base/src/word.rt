@@ -11,10 +11,10 @@ use std::marker::Model;
 // The length of a word's text, in characters.
 const TEXT_LEN: usize = 43;
 
-// The room, in bytes, that decoding so many characters asks for.
+// The size of the buffer, in bytes, that decoding this many characters needs.
 const DECODED_LEN: usize = 33;
 
-/// A random word of 32 bytes, seen as the list of them.
+/// A random word of 32 bytes. The model is the list of its bytes.
 #[derive(Clone, Copy, PartialEq, Eq)]
 pub struct Word {
     bytes: [u8; 32],
@@ -45,21 +45,21 @@ impl Word {
         self.bytes
     }
 
-    /// Its bytes, where they stand.
+    /// Its bytes, by reference.
     pub fn as_bytes(&self) -> &[u8]
         ensures { result.now ≡ self.now }
     {
         &self.bytes
     }
 
-    /// Whether its bytes are these.
+    /// Whether its bytes are equal to these.
     pub fn is(&self, bytes: &[u8]) -> bool
         ensures { result ≡ bytes_eq self.now bytes.now }
     {
         self.bytes.as_slice() == bytes
     }
 
-    /// Whether a word was presented, and it is this one.
+    /// Whether a word was presented and is equal to this one.
     pub fn is_presented(&self, presented: Option<Word>) -> bool
         ensures { result ≡ is_word presented self.now }
     {
@@ -79,7 +79,7 @@ impl Word {
         text
     }
 
-    /// Its text, copied.
+    /// Its text, as an owned `Text`.
     pub fn to_text(&self, alloc: Global) -> Result<Text, NoMemory>
         ensures { IfOk result (λ t. t ≡ word_text self.now) }
     {
@@ -88,8 +88,8 @@ impl Word {
         Text::new(alloc, text)
     }
 
-    /// The word that has this text. None exactly where the text is not strict base64url without padding
-    /// (RFC 4648, 5) or spells another number of bytes than 32: a word has one text.
+    /// The word that has this text. `None` if and only if the text is not strict base64url without padding (RFC 4648, 5) or
+    /// does not decode to 32 bytes. So a word has one text.
     pub fn read(text: &[u8]) -> Option<Word>
         ensures { result ≡ word_of_text text.now }
     {
@@ -107,7 +107,7 @@ impl Word {
     }
 }
 
-// The word of these bytes. That each is below 256 is said for the proof of `read`.
+// The word of these bytes. Its postcondition that each is below 256 is for the proof of `read`.
 fn word_of(bytes: [u8; 32]) -> Word
     ensures value { result ≡ bytes }
     ensures word { IsWord bytes }

@@ -21,7 +21,7 @@ use Rattle.token_endpoint.specs.declared.no.TokensNo.TheVariants.{Status, Claims
 
 -- ---- writing
 
--- the members of a response: the access token with its life, and the ID Token
+-- the members of a response: the access token with its type and its life, and the ID Token
 abbrev pub token_entries : Text → Text → List Entry
 token_entries access id =
     (codes "access_token", Some (string access))
@@ -35,7 +35,7 @@ tokens_text access id = claims_text (put_all (token_entries access id) no_member
 
 -- ---- reading
 
--- the members, as far as they are there; the first of another kind, by name, is refused
+-- the members, each of which may be absent; the first of another kind, by name, is an error
 unfoldable pub raw_in : Members → Result RawTokens ClaimNo
 raw_in ms =
     and_then (text_claim (codes "access_token") ms) (λ access.
@@ -43,7 +43,7 @@ raw_in ms =
     and_then (text_claim (codes "token_type") ms) (λ kind.
     Ok (record { access = access; id = id; kind = kind }))))
 
--- the members that must be there
+-- the required members
 unfoldable pub whole : RawTokens → Result Tokens TokensNo
 whole raw =
     demand (Missing (codes "access_token")) raw.access (λ access.
@@ -63,13 +63,13 @@ abbrev pub if_claims : Result Members ClaimNo → Result Tokens TokensNo
 if_claims (Ok ms) = tokens_in ms
 if_claims (Err e) = Err (Claims e)
 
--- the tokens that a response has, or the first refusal that fits
+-- the tokens in a response, or the first error that applies
 unfoldable pub tokens_read : Answered → Result Tokens TokensNo
 tokens_read answer = forbid (Status answer.status) (not (answer.status == 200)) (if_claims (claims_read answer.body))
 
--- ---- the same, literally
+-- ---- the same, stated literally
 
--- the response has these tokens: its status is 200, and its body a JSON object with both and the type of the former
+-- the response has these tokens: its status is 200, and its body is a JSON object with both and the type of the access token
 pub record HasTokens (answer : Answered) (tokens : Tokens) : Type 0 where
   pub status : answer.status ≡ 200
   pub members : Members
@@ -80,12 +80,12 @@ pub record HasTokens (answer : Answered) (tokens : Tokens) : Type 0 where
   pub token_type : get_member (codes "token_type") members ≡ Some (string kind)
   pub bearer : str_to_ascii_lowercase kind ≡ codes "bearer"
 
--- the type is there, and is not `Bearer`
+-- the type is present, and is not `Bearer`
 abbrev pub is_other_type : Option Text → Bool
 is_other_type None = false
 is_other_type (Some kind) = not (is_bearer kind)
 
--- the refusals of a body's members, in order: first those of another kind, by their names, then what is absent, then the type
+-- the errors of a body's members, in order: first members of another kind, by their names, then absent ones, then the type
 abbrev pub token_refusals : Members → List (Bool × TokensNo)
 token_refusals ms =
     another_kind Claims (codes "access_token") as_str ms
@@ -96,14 +96,14 @@ token_refusals ms =
     ∷ absent Missing (codes "id_token") ms
     ∷ (is_other_type (option_and_then as_str (get_member (codes "token_type") ms)), NotBearer) ∷ []
 
--- ---- want of memory
+-- ---- out of memory
 
--- it stands inside another refusal
+-- `NoMemory` is wrapped in another error
 abbrev pub hides_memory : TokensNo → Bool
 hides_memory (Claims claims.NoMemory) = true
 hides_memory e = false
 
--- a refusal of claims, as that of a response; want of memory is the response's own
+-- an error of claims, as an error of the response; `NoMemory` stays `NoMemory`
 abbrev pub as_claims : ClaimNo → TokensNo
 as_claims claims.NoMemory = NoMemory
 as_claims e = Claims e

@@ -1,5 +1,5 @@
--- HTTP Basic as clients use it: an `Authorization` header that shows a client's id and secret (RFC 7617, 2; RFC 6749, 2.3.1;
--- OpenID Connect Core 1.0, 9, `client_secret_basic`).
+-- HTTP Basic as clients use it: an `Authorization` header with a client's id and secret (RFC 7617, 2; RFC 6749, 2.3.1; OpenID
+-- Connect Core 1.0, 9, `client_secret_basic`).
 use Rattle.std.specs.Prelude.{◌≡◌, ℕ, Bool, IsFalse, List, ◌∷◌, ◌++◌, codes, Option, Some, None, option_map, option_and_then, if◌then◌else◌}
 use Rattle.std.specs.Str.{bytes_eq, str_to_ascii_lowercase}
 use Rattle.base64.specs.GeneralPurpose.{IsBytes}
@@ -17,33 +17,33 @@ use Rattle.token_endpoint.specs.Base64.{b64, unb64}
 abbrev pub is_basic_scheme : List ℕ → Bool
 is_basic_scheme scheme = bytes_eq (str_to_ascii_lowercase scheme) (codes "basic")
 
--- the header, where its scheme is `Basic`
+-- the header, if its scheme is `Basic`
 abbrev pub basic_header : Option (List ℕ) → Option (List ℕ)
 basic_header None = None
 basic_header (Some header) = if is_basic_scheme (scheme_of header) then Some header else None
 
--- an id and a secret that were written as a form writes them
+-- an id and a secret, decoded from form encoding
 abbrev pub decoded : List ℕ × List ℕ → Credentials
 decoded parts = record { id = text_of parts.0; secret = text_of parts.1 }
 
--- the id and the secret in bytes, with the first colon between
+-- the id and the secret in bytes, separated by the first colon
 abbrev pub divided : List ℕ → Option Credentials
 divided bytes = option_map decoded (cut 58 bytes)
 
--- the credentials that stand in a header after its first space, where they can be read
+-- the credentials after the first space of a header, if they can be read
 unfoldable pub basic_read : List ℕ → Option Credentials
 basic_read header = option_and_then (λ parts. option_and_then divided (unb64 parts.1)) (cut 32 header)
 
 -- ---- writing
 
--- the header that shows a client's id and secret
+-- the header with a client's id and secret
 unfoldable pub basic_auth : Client → Text
 basic_auth client = codes "Basic " ++ b64 (byte_serialize client.id ++ codes ":" ++ byte_serialize client.secret)
 
--- ---- the same, literally
+-- ---- the same, stated literally
 
--- the header is `Basic` in any case, one space, and the base64 of an id, a colon and a secret, each written as a form writes
--- it, and these are the credentials
+-- the header is `Basic` in any case, one space, and the base64 of an id, a colon and a secret, each in form encoding, and these
+-- are the credentials
 pub record IsBasic (header : List ℕ) (shown : Credentials) : Type 0 where
   pub scheme : List ℕ
   pub id : List ℕ

@@ -10,20 +10,20 @@ use Rattle.token_endpoint.specs.declared.no.GrantNo.TheVariants.{NoAuth, WrongCl
 use Rattle.token_endpoint.specs.declared.error.TokenError.{TokenError}
 use Rattle.token_endpoint.specs.declared.error.TokenError.TheVariants.{InvalidRequest, InvalidClient, InvalidGrant, UnsupportedGrantType}
 
--- the error that a refused request is answered with (want of memory is answered with none)
+-- the error code for a rejected request (there is none for `NoMemory`)
 abbrev pub token_error : GrantNo → TokenError
 token_error NoAuth = InvalidClient
 token_error WrongClient = InvalidClient
 token_error OtherGrant = UnsupportedGrantType
 token_error other = InvalidRequest
 
--- how an error is written
+-- the text of an error code
 abbrev pub error_code : TokenError → Text
 error_code InvalidRequest = oidc.error_text auth.InvalidRequest
 error_code InvalidClient = codes "invalid_client"
 error_code InvalidGrant = codes "invalid_grant"
 error_code UnsupportedGrantType = codes "unsupported_grant_type"
 
--- the body of a refusal
+-- the body of an error response
 unfoldable pub error_text : TokenError → Text
 error_text error = claims_text (put (codes "error") (string (error_code error)) no_members)

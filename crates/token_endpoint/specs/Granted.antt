@@ -1,5 +1,5 @@
--- What a token request is, in the standard's words, and why one is refused (RFC 6749, 2.3.1, 4.1.3 and 5.2; OpenID Connect Core
--- 1.0, 3.1.3.1 and 9).
+-- What a token request is, in the standard's words, and why a request is rejected (RFC 6749, 2.3.1, 4.1.3 and 5.2; OpenID
+-- Connect Core 1.0, 3.1.3.1 and 9).
 use Rattle.std.specs.Prelude.{◌≡◌, ◌≢◌, ◌⊎◌, ℕ, List, codes, Option, Some, None}
 use Rattle.sso_base.specs.Words.{Text}
 use Rattle.client_registry.specs.declared.records.Client.{Client}
@@ -13,13 +13,13 @@ use Rattle.token_endpoint.specs.declared.no.GrantNo.{GrantNo}
 use Rattle.token_endpoint.specs.declared.no.GrantNo.TheVariants.{BadForm, Twice, TwoAuths, NoAuth, WrongClient, OtherGrant, Missing, NoMemory}
 use Rattle.token_endpoint.specs.Basic.{IsBasic, basic_header}
 
--- ---- what is shown
+-- ---- credentials
 
 -- no parameter has the name
 abbrev pub HasNo : List Pair → Text → Type 0
 HasNo ps name = (value : Text) → ¬ Has ps (name, value)
 
--- the request shows the credentials by HTTP Basic and not among its parameters too, which name no other client
+-- the request shows the credentials by HTTP Basic only; its parameters have no secret and no other client
 pub record ShowsByBasic (auth : Option (List ℕ)) (ps : List Pair) (shown : Credentials) : Type 0 where
   pub header : List ℕ
   pub there : auth ≡ Some header
@@ -27,7 +27,7 @@ pub record ShowsByBasic (auth : Option (List ℕ)) (ps : List Pair) (shown : Cre
   pub no_secret : HasNo ps (codes "client_secret")
   pub no_other : (id : Text) → Has ps (codes "client_id", id) → id ≡ shown.id
 
--- the request shows the credentials among its parameters, and not by HTTP Basic too
+-- the request shows the credentials among its parameters, and not by HTTP Basic
 pub record ShowsByParameters (auth : Option (List ℕ)) (ps : List Pair) (shown : Credentials) : Type 0 where
   pub no_basic : basic_header auth ≡ None
   pub id : Has ps (codes "client_id", shown.id)
@@ -39,16 +39,16 @@ Shows auth ps shown = ShowsByBasic auth ps shown ⊎ ShowsByParameters auth ps s
 abbrev pub credentials_of : Client → Credentials
 credentials_of client = record { id = client.id; secret = client.secret }
 
--- the request shows the id and the secret of the client of this number
+-- the request shows the id and the secret of the client with this number
 pub record Authenticates (c : Configuration) (auth : Option (List ℕ)) (ps : List Pair) (n : ℕ) : Type 0 where
   pub client : Client
   pub there : client_at c n ≡ Some client
   pub shows : Shows auth ps (credentials_of client)
 
--- ---- what is granted
+-- ---- granted requests
 
--- the request is one of this client for a code: no parameter stands twice, the client shows its secret, and the grant type, the
--- code and the redirection URI are there
+-- the request is one of this client for a code: no parameter occurs twice, the client shows its secret, and the grant type, the
+-- code and the redirect URI are present
 pub record IsGrant (c : Configuration) (auth body : Option (List ℕ)) (grant : Grant) : Type 0 where
   pub form : List ℕ
   pub there : body ≡ Some form
@@ -58,7 +58,7 @@ pub record IsGrant (c : Configuration) (auth body : Option (List ℕ)) (grant : 
   pub code : Has (form_pairs form) (codes "code", grant.code)
   pub redirect : Has (form_pairs form) (codes "redirect_uri", grant.redirect)
 
--- ---- what is refused
+-- ---- rejected requests
 
 -- there is a header whose scheme is `Basic`
 abbrev pub IsByBasic : Option (List ℕ) → Type 0
@@ -72,7 +72,7 @@ IsFirstAbsent ps name =
     ⊎ (((name ≡ codes "code") × (¬ HasNo ps (codes "grant_type")))
     ⊎ ((name ≡ codes "redirect_uri") × (¬ HasNo ps (codes "grant_type")) × (¬ HasNo ps (codes "code")))))
 
--- the cause of a refusal of a request with these parameters
+-- the cause of each error of a request with these parameters
 abbrev pub CauseIn : Configuration → Option (List ℕ) → List Pair → GrantNo → Type 0
 CauseIn c auth ps BadForm = ⊥
 CauseIn c auth ps (Twice name) = RepeatsFirst ps name
@@ -83,7 +83,7 @@ CauseIn c auth ps OtherGrant = (kind : Text) × Has ps (codes "grant_type", kind
 CauseIn c auth ps (Missing name) = IsFirstAbsent ps name
 CauseIn c auth ps NoMemory = ⊥
 
--- the cause of a refusal
+-- the cause of each error
 abbrev pub Cause : Configuration → Option (List ℕ) → Option (List ℕ) → GrantNo → Type 0
 Cause c auth None e = e ≡ BadForm
 Cause c auth (Some form) e = CauseIn c auth (form_pairs form) e

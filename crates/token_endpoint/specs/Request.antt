@@ -19,7 +19,7 @@ use Rattle.token_endpoint.specs.Authentication.{is_other, client_refusals, clien
 abbrev pub absent : Text → List Pair → Bool × GrantNo
 absent name ps = (is_none (value_of name ps), Missing name)
 
--- the refusals of the parameters of a request whose client is known, in order
+-- the errors of the parameters of a request whose client is known, in order
 abbrev pub code_refusals : List Pair → List (Bool × GrantNo)
 code_refusals ps =
     (is_other (codes "authorization_code") (value_of (codes "grant_type") ps), OtherGrant)
@@ -32,15 +32,15 @@ grant_in ps client = record {
   redirect = unwrap_or (value_of (codes "redirect_uri") ps) [];
 }
 
--- what the client of this number asks for, or the first refusal that fits
+-- the request of the client with this number, or the first error that applies
 unfoldable pub code_read : List Pair → ℕ → Result Grant GrantNo
 code_read ps client = and_then (first_refusal (code_refusals ps)) (λ _. Ok (grant_in ps client))
 
--- all refusals of a request with these parameters, in order
+-- all errors of a request with these parameters, in order
 abbrev pub grant_refusals : Configuration → Option (List ℕ) → List Pair → List (Bool × GrantNo)
 grant_refusals c auth ps = client_refusals c (basic_header auth) ps ++ code_refusals ps
 
--- what a token request asks for, or the first refusal that fits
+-- the contents of a token request, or the first error that applies
 unfoldable pub grant_read : Configuration → Option (List ℕ) → Option (List ℕ) → Result Grant GrantNo
 grant_read c auth None = Err BadForm
 grant_read c auth (Some form) = and_then (client_read c auth (form_pairs form)) (code_read (form_pairs form))

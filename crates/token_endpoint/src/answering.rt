@@ -1,4 +1,4 @@
-// The bodies of a token endpoint's answers are written.
+// Writing the bodies of a token endpoint's responses.
 
 ghost use Rattle.std.specs.Prelude.{◌≡◌, IfOk};
 ghost use Rattle.sso_base.specs.Words.{word_text};
@@ -11,9 +11,8 @@ use oidc_words::{ACCESS_LIFE, BEARER};
 use sso_base::{Blob, NoMemory, Text, Word};
 use std::alloc::Global;
 
-/// The body of an answer to a granted request (RFC 6749, 5.1; OpenID Connect Core 1.0, 3.1.3.3): a JSON object on one line,
-/// with `access_token`, the text of the word, `expires_in`, its life in seconds, `id_token`, and `token_type`, which is
-/// `Bearer`.
+/// The body of a successful token response (RFC 6749, 5.1; OpenID Connect Core 1.0, 3.1.3.3): a JSON object on one line. It has
+/// `access_token`, the text of the word, `expires_in`, its life in seconds, `id_token`, and `token_type`, which is `Bearer`.
 #[tactic(auto, unfolding(crate::specs::Answer::tokens_text))]
 pub fn print_tokens(alloc: Global, access: &Word, id: &Text) -> Result<Blob, NoMemory>
     ensures { IfOk result (λ b. b ≡ tokens_text (word_text access.now) id.now) }
@@ -27,7 +26,7 @@ pub fn print_tokens(alloc: Global, access: &Word, id: &Text) -> Result<Blob, NoM
     write_claims(&set)
 }
 
-/// The body of an answer to a refused request (RFC 6749, 5.2): a JSON object on one line, with `error`, the code.
+/// The body of a token error response (RFC 6749, 5.2): a JSON object on one line, with `error`, the code.
 #[tactic(auto, unfolding(crate::specs::Errors::error_text))]
 pub fn print_token_error(alloc: Global, error: TokenError) -> Result<Blob, NoMemory>
     ensures { IfOk result (λ b. b ≡ error_text error) }

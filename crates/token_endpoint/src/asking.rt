@@ -1,4 +1,4 @@
-// A token request is written.
+// Writing a token request.
 
 ghost use Rattle.std.specs.Prelude.{◌≡◌, IfOk};
 ghost use Rattle.request_params.specs.Form.{form_text};
@@ -22,8 +22,8 @@ fn grant_form(alloc: Global, code: &Text, redirect: &Text) -> Result<Blob, NoMem
     Ok(Blob::from_vec(form.finish().into_bytes()))
 }
 
-/// A client's token request for a code (RFC 6749, 4.1.3; OpenID Connect Core 1.0, 3.1.3.1): a POST to the endpoint, with the
-/// client's id and secret by HTTP Basic (RFC 6749, 2.3.1), and `grant_type`, `code` and `redirect_uri` in the body.
+/// A client's token request for a code (RFC 6749, 4.1.3; OpenID Connect Core 1.0, 3.1.3.1). It is a POST to the endpoint, with
+/// the client's id and secret by HTTP Basic (RFC 6749, 2.3.1). Its body has `grant_type`, `code` and `redirect_uri`.
 #[tactic(auto, unfolding(crate::specs::Request::token_message))]
 pub fn print_grant(
     alloc: Global,

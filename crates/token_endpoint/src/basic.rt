@@ -14,7 +14,7 @@ use request_params::{cut, scheme_of};
 use sso_base::{NoMemory, Text};
 use std::alloc::Global;
 
-/// What is shown of a client: its id and its secret.
+/// The credentials of a client: its id and its secret.
 #[derive(Drop)]
 pub(crate) struct Credentials {
     pub(crate) id: Text,
@@ -28,7 +28,7 @@ fn is_basic(scheme: &[u8]) -> bool
     scheme.eq_ignore_ascii_case(b"basic")
 }
 
-/// The header, where its scheme is `Basic`.
+/// The header, if its scheme is `Basic`.
 pub(crate) fn basic_header(auth: Option<&[u8]>) -> Option<&[u8]>
     ensures { option_map (λ h. h.now) result ≡ basic_header_of (option_map (λ h. h.now) auth.entry) }
 {
@@ -40,14 +40,14 @@ pub(crate) fn basic_header(auth: Option<&[u8]>) -> Option<&[u8]>
     }
 }
 
-// The text that was written as a form writes it (the URL Standard, 5.1).
+// The text whose form encoding this is (the URL Standard, 5.1).
 fn decoded(alloc: Global, bytes: &[u8]) -> Result<Text, NoMemory>
     ensures { IfOk result (λ t. t ≡ text_of bytes.now) }
 {
     Ok(Text::from_string(decode(alloc, bytes)?.into_owned(alloc)?))
 }
 
-// The bytes that a text spells in base64.
+// The bytes that a text encodes in base64.
 fn spelled(alloc: Global, text: &[u8]) -> Result<Option<Vec<u8>>, NoMemory>
     ensures { IfOk result (λ o. option_map (λ v. v.items) o ≡ unb64 text.now) }
 {
@@ -58,7 +58,7 @@ fn spelled(alloc: Global, text: &[u8]) -> Result<Option<Vec<u8>>, NoMemory>
     }
 }
 
-// The id and the secret in bytes, with the first colon between.
+// The id and the secret in bytes, separated by the first colon.
 fn divided(alloc: Global, bytes: &[u8]) -> Result<Option<Credentials>, NoMemory>
     ensures { IfOk result (λ o. o ≡ divided_of bytes.now) }
 {
@@ -71,7 +71,7 @@ fn divided(alloc: Global, bytes: &[u8]) -> Result<Option<Credentials>, NoMemory>
     }))
 }
 
-/// The id and the secret in a header of the scheme `Basic`. None where it can't be read.
+/// The id and the secret in a header of the scheme `Basic`; `None` if they cannot be read.
 #[tactic(auto, unfolding(crate::specs::Basic::basic_read))]
 pub(crate) fn read_basic(alloc: Global, header: &[u8]) -> Result<Option<Credentials>, NoMemory>
     ensures { IfOk result (λ o. o ≡ basic_read header.now) }
@@ -85,7 +85,7 @@ pub(crate) fn read_basic(alloc: Global, header: &[u8]) -> Result<Option<Credenti
     }
 }
 
-// The text as a form writes it (the URL Standard, 5.2).
+// The form encoding of the text (the URL Standard, 5.2).
 fn encoded(alloc: Global, text: &Text) -> Result<String, NoMemory>
     ensures { IfOk result (λ s. string_bytes s ≡ byte_serialize text.now) }
 {
@@ -94,7 +94,7 @@ fn encoded(alloc: Global, text: &Text) -> Result<String, NoMemory>
     Ok(form.finish())
 }
 
-/// The header that shows a client's id and secret.
+/// The header with a client's id and secret.
 #[tactic(auto, unfolding(crate::specs::Basic::basic_auth, crate::specs::Base64::b64))]
 pub(crate) fn print_basic(alloc: Global, client: &Client) -> Result<Text, NoMemory>
     ensures { IfOk result (λ t. t ≡ basic_auth client.now) }

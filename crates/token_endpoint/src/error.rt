@@ -11,16 +11,16 @@ use oidc_words::{AuthError, error_text};
 pub enum TokenError {
     /// `invalid_request`: the request is malformed.
     InvalidRequest,
-    /// `invalid_client`: the client did not show that it is one.
+    /// `invalid_client`: the client is not authenticated.
     InvalidClient,
-    /// `invalid_grant`: the code is none that is good for the client and its redirection URI.
+    /// `invalid_grant`: the code is not valid for the client and its redirect URI.
     InvalidGrant,
-    /// `unsupported_grant_type`: it is not `authorization_code`.
+    /// `unsupported_grant_type`: the grant type is not `authorization_code`.
     UnsupportedGrantType,
 }
 
 impl TokenError {
-    /// How it is written.
+    /// The text of the code.
     pub fn as_str(self) -> &'static str
         ensures { result.now ≡ spec.error_code self }
     {
@@ -33,7 +33,7 @@ impl TokenError {
     }
 }
 
-/// The error that a refused token request is answered with (RFC 6749, 5.2). Want of memory is answered with none.
+/// The error code for a rejected token request (RFC 6749, 5.2). There is none for `NoMemory`.
 pub fn token_error(why: &GrantNo) -> TokenError
     requires { why.now ≢ GrantNo.NoMemory }
     ensures { result ≡ spec.token_error why.now }

@@ -1,4 +1,4 @@
-// A token request is read as a grant, or refused for the first reason that fits.
+// Reading a token request as a grant, or rejecting it for the first reason that applies.
 
 ghost use Rattle.std.specs.Prelude.{◌≡◌, ◌⊎◌, Ok, Err, IfOk, IfErr, option_map};
 ghost use Rattle.std.specs.Str.{IsUtf8};
@@ -12,18 +12,18 @@ use request_params::{Pair, read_pairs, value_of};
 use sso_base::Text;
 use std::alloc::Global;
 
-/// What a client asks tokens for (RFC 6749, 4.1.3).
+/// The contents of an authenticated token request for a code (RFC 6749, 4.1.3).
 #[derive(Drop)]
 pub struct Grant {
-    /// The number of the client in the registry, from 0. It showed its secret.
+    /// The number of the client in the registry, counted from 0. The request shows its secret.
     pub client: u32,
     /// The authorization code.
     pub code: Text,
-    /// The redirection URI of the authorization request, as the client says.
+    /// The `redirect_uri` of the token request.
     pub redirect: Text,
 }
 
-// What the client of this number asks for.
+// The request of the client with this number.
 #[tactic(auto, unfolding(crate::specs::Request::code_read))]
 fn read_code(alloc: Global, parameters: &[Pair], client: u32) -> Result<Grant, GrantNo>
     ensures ok { IfOk result (λ g. code_read parameters.now client ≡ Ok g) }
@@ -49,7 +49,7 @@ fn read_code(alloc: Global, parameters: &[Pair], client: u32) -> Result<Grant, G
     })
 }
 
-// What a token request asks for.
+// The contents of a token request.
 #[tactic(auto, unfolding(crate::specs::Request::grant_read))]
 fn granted(
     alloc: Global,
@@ -68,17 +68,21 @@ fn granted(
     read_code(alloc, &parameters, client)
 }
 
-/// Reads a token request for a code (RFC 6749, 4.1.3; OpenID Connect Core 1.0, 3.1.3.1), from its `Authorization` header and its
+/// Reads a token request for a code (RFC 6749, 4.1.3; OpenID Connect Core 1.0, 3.1.3.1) from its `Authorization` header and its
 /// body, a form.
 ///
-/// The client shows its secret in one of two ways (RFC 6749, 2.3.1; OpenID Connect Core 1.0, 9). By HTTP Basic, the header is
-/// `Basic` in any case, one space and strict base64 with padding of the id, `:` and the secret, each written as a form writes it;
-/// the first `:` divides. The scheme is what stands before the first space, or the whole header where there is none, and a header
-/// of another scheme is as if it were not there. By parameters, `client_id` and `client_secret` stand in the body. Other
-/// parameters are ignored, but no name may stand twice; a parameter with an empty value is there. In names and values `+` is a
-/// space and escapes are decoded, and what is then no UTF-8 becomes U+FFFD.
+/// The client shows its secret in one of two ways (RFC 6749, 2.3.1; OpenID Connect Core 1.0, 9).
 ///
-/// Exactly these requests are read. Of any other the first refusal that fits is answered, in the order of [`GrantNo`].
+/// - By HTTP Basic: the header is `Basic` in any case, one space, and strict base64 with padding of the id, `:` and the secret,
+///   each encoded as in a form. The first `:` separates them. The scheme is the text before the first space, or the whole
+///   header if there is none. A header of another scheme is ignored.
+/// - By parameters: `client_id` and `client_secret` are in the body.
+///
+/// Other parameters are ignored, but no name may occur twice; a parameter with an empty value is present. In names and values,
+/// `+` is a space, escapes are decoded, and invalid UTF-8 becomes U+FFFD.
+///
+/// Exactly these requests are accepted. For any other request the first error that applies is returned, in the order of
+/// [`GrantNo`].
 pub fn read_grant(
     alloc: Global,
     registry: &Registry,
@@ -93,7 +97,7 @@ pub fn read_grant(
     ensures refuses { IfErr result (λ e. (e ≡ GrantNo.NoMemory) ⊎ (grant_read registry.now (option_map (λ h. h.now) auth.entry) (option_map (λ b. b.now) body.entry) ≡ Err e)) }
     ensures cause { IfErr result (λ e. (e ≡ GrantNo.NoMemory) ⊎ Cause registry.now (option_map (λ h. h.now) auth.entry) (option_map (λ b. b.now) body.entry) e) }
 {
-    // A count says what every registry keeps: that no two of its clients have one id.
+    // The contract of `clients` states the invariant of every registry: no two of its clients have the same id.
     let _clients = registry.clients();
     granted(alloc, registry, auth, body)
 }

@@ -1,4 +1,4 @@
-// What holds of token requests and their answers, for the crates above.
+// Laws about token requests and responses, for the crates above.
 
 ghost use Rattle.std.specs.Prelude.{◌≡◌, ◌≢◌, ◌++◌, ℕ, List, Bool, true, false, codes, Option, Some, None, Ok, Err, IsOk};
 ghost use Rattle.std.specs.Str.{IsUtf8};
@@ -30,8 +30,8 @@ ghost use Rattle.token_endpoint.specs.Granted.{Shows, credentials_of, IsGrant, C
 ghost use Rattle.token_endpoint.specs.Errors.{error_code, error_text};
 ghost use Rattle.token_endpoint.specs.Answer.{tokens_text, tokens_read, HasTokens, token_refusals};
 
-/// A header is of the scheme `Basic` exactly where this, in any case, stands before its first space or is all of it. It shows
-/// an id and a secret exactly where they can be read literally.
+/// A header has the scheme `Basic` if and only if this word, in any case, is the text before its first space or the whole
+/// header. The id and the secret that are read are those that the header literally encodes, and every such header is read.
 pub fn headers_are_read_literally()
     ensures basic { (s h : List ℕ) → IsScheme s h → is_basic_scheme s ≡ true → basic_header (Some h) ≡ Some h }
     ensures other { (s h : List ℕ) → IsScheme s h → is_basic_scheme s ≡ false → basic_header (Some h) ≡ None }
@@ -39,21 +39,20 @@ pub fn headers_are_read_literally()
     ensures read { (h : List ℕ) (k : Credentials) → IsBasic h k → (basic_header (Some h) ≡ Some h) × (basic_read h ≡ Some k) }
 {}
 
-/// A request is read exactly where it is one of a client for a code, and as what it asks for. What is read is UTF-8.
+/// A request is accepted if and only if it is a client's request for a code, and the result is its contents, in UTF-8.
 pub fn requests_are_granted_literally()
     ensures grant { (c : Configuration) (auth body : Option (List ℕ)) (g : Grant) → grant_read c auth body ≡ Ok g → IsGrant c auth body g }
     ensures read { (c : Configuration) (auth body : Option (List ℕ)) (g : Grant) → IsRegistry c → IsGrant c auth body g → grant_read c auth body ≡ Ok g }
     ensures texts { (c : Configuration) (auth body : Option (List ℕ)) (g : Grant) → grant_read c auth body ≡ Ok g → IsUtf8 g.code × IsUtf8 g.redirect }
 {}
 
-/// Nobody gets a grant without the secret of the client that it is for: this is a client of the registry, and the request
-/// shows its id and its secret.
+/// A grant needs the secret of its client: the client is in the registry, and the request shows its id and its secret.
 pub fn granted_clients_show_their_secret()
     ensures { (c : Configuration) (auth body : Option (List ℕ)) (g : Grant) → grant_read c auth body ≡ Ok g → (client : Client) × (client_at c g.client ≡ Some client) × ((form : List ℕ) × (body ≡ Some form) × Shows auth (form_pairs form) (credentials_of client)) }
 {}
 
-/// A request without a body is `BadForm`. Any other is refused where one of the conditions `grant_refusals` holds, of which
-/// the first counts, and else it is read. Each refusal has its cause.
+/// A request without a body gives `BadForm`. Any other is rejected if one of the conditions `grant_refusals` is true, of which
+/// the first counts; otherwise it is accepted. Each error has its cause.
 pub fn refused_requests_have_a_cause()
     ensures no_body { (c : Configuration) (auth : Option (List ℕ)) → grant_read c auth None ≡ Err no.BadForm }
     ensures refused { (c : Configuration) (auth : Option (List ℕ)) (form : List ℕ) (e : GrantNo) → first_refusal (grant_refusals c auth (form_pairs form)) ≡ Err e → grant_read c auth (Some form) ≡ Err e }
@@ -61,30 +60,30 @@ pub fn refused_requests_have_a_cause()
     ensures cause { (c : Configuration) (auth body : Option (List ℕ)) (e : GrantNo) → IsRegistry c → grant_read c auth body ≡ Err e → Cause c auth body e }
 {}
 
-/// The request that is written for a client of a registry is granted to this client, for the same code and redirection URI.
+/// The request that is written for a client of a registry is granted to this client, for the same code and redirect URI.
 pub fn printed_requests_are_granted()
     ensures { (c : Configuration) (n : ℕ) (k : Client) (endpoint code redirect : Text) → IsRegistry c → client_at c n ≡ Some k → IsUtf8 code → IsUtf8 redirect → grant_read c (token_message k endpoint code redirect).auth (token_message k endpoint code redirect).body ≡ Ok (record { client = n; code = code; redirect = redirect }) }
 {}
 
-/// The body of the request that is written is this text.
+/// The text of the body of a written request.
 pub fn written_requests_have_their_text()
     ensures { (k : Client) (endpoint code redirect : Text) → (token_message k endpoint code redirect).body ≡ Some (codes "grant_type=authorization_code&code=" ++ (byte_serialize code ++ (codes "&redirect_uri=" ++ byte_serialize redirect))) }
 {}
 
-/// The bodies of answers are these texts.
+/// The texts of the bodies of responses.
 pub fn written_answers_have_their_text()
     ensures tokens { (access id : Text) → tokens_text access id ≡ codes "{\"access_token\":" ++ (quoted access ++ (codes ",\"expires_in\":3600,\"id_token\":" ++ (quoted id ++ codes ",\"token_type\":\"Bearer\"}"))) }
     ensures error { (e : TokenError) → error_text e ≡ codes "{\"error\":\"" ++ error_code e ++ codes "\"}" }
 {}
 
-/// An answer is read exactly where it has tokens, and as these.
+/// A response is accepted if and only if it has tokens, and the result is these tokens.
 pub fn answers_are_read_by_their_members()
     ensures has { (a : Answered) (t : Tokens) → tokens_read a ≡ Ok t → HasTokens a t }
     ensures read { (a : Answered) (t : Tokens) → HasTokens a t → tokens_read a ≡ Ok t }
 {}
 
-/// Any other answer is refused for the first reason: its status, its body, or a condition of `token_refusals` that holds of
-/// its members, of which the first counts.
+/// Any other response is rejected for the first reason: its status, its body, or the first condition of `token_refusals` that
+/// is true for its members.
 pub fn refused_answers_have_the_first_reason()
     ensures status { (a : Answered) → a.status ≢ 200 → tokens_read a ≡ Err (tokens_no.Status a.status) }
     ensures unread { (a : Answered) (e : ClaimNo) → a.status ≡ 200 → claims_read a.body ≡ Err e → tokens_read a ≡ Err (tokens_no.Claims e) }
@@ -92,7 +91,7 @@ pub fn refused_answers_have_the_first_reason()
     ensures accepted { (a : Answered) (ms : Members) → a.status ≡ 200 → Reads a.body ms → first_refusal (token_refusals ms) ≡ Ok tt → IsOk (tokens_read a) }
 {}
 
-/// The body that is written of an access token and an ID Token is read, with status 200, as these.
+/// Reading the body that is written for an access token and an ID Token, with status 200, returns these.
 pub fn printed_tokens_are_read()
     ensures texts { (access id : Text) → IsUtf8 access → IsUtf8 id → tokens_read (record { status = 200; body = tokens_text access id }) ≡ Ok (record { access = access; id = id }) }
     ensures words { (w : Word) (id : Text) → IsUtf8 id → tokens_read (record { status = 200; body = tokens_text (word_text w) id }) ≡ Ok (record { access = word_text w; id = id }) }

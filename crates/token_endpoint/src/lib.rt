@@ -1,8 +1,8 @@
-//! The token endpoint's formats: token requests for a code, and their answers, each read and written (RFC 6749, 4.1.3, 5.1 and
-//! 5.2; OpenID Connect Core 1.0, 3.1.3).
+//! The formats of the token endpoint: token requests for a code, and responses to them, each read and written (RFC 6749, 4.1.3,
+//! 5.1 and 5.2; OpenID Connect Core 1.0, 3.1.3).
 //!
 //! A client shows its secret by HTTP Basic or by parameters of the request (RFC 6749, 2.3.1; OpenID Connect Core 1.0, 9,
-//! `client_secret_basic` and `client_secret_post`). No request is granted without the secret of the client that it is granted to.
+//! `client_secret_basic` and `client_secret_post`). A request is granted to a client only with the secret of that client.
 //!
 //! | Module | What it has |
 //! |---|---|
@@ -11,11 +11,11 @@
 //! | `authentication` | which client a request authenticates |
 //! | `granting` | [`read_grant`] reads a token request, as a [`Grant`] |
 //! | `asking` | [`print_grant`] writes a token request |
-//! | `error` | [`TokenError`], the error codes of the endpoint, and which a refused request is answered with |
-//! | `answering` | [`print_tokens`] and [`print_token_error`] write the bodies of answers |
-//! | `reading` | [`read_tokens`] reads an answer, as [`Tokens`] |
-//! | `no` | [`GrantNo`] and [`TokensNo`], why a request and an answer are refused |
-//! | `law` | what holds of requests and answers, for the crates above |
+//! | `error` | [`TokenError`], the error codes of the endpoint, and the code for each rejected request |
+//! | `answering` | [`print_tokens`] and [`print_token_error`] write the bodies of responses |
+//! | `reading` | [`read_tokens`] reads a response, as [`Tokens`] |
+//! | `no` | [`GrantNo`] and [`TokensNo`], why a request and a response are rejected |
+//! | `law` | laws about requests and responses, for the crates above |
 #![tactic(auto)]
 
 mod answering;

@@ -1,23 +1,23 @@
-// Why token requests and their answers are refused.
+// Why token requests and responses are rejected.
 
 use claim_set::ClaimNo;
 use sso_base::{NoMemory, Text};
 
-/// Why a token request is refused, or memory ran out. Where several of the former fit, the first in this order is answered.
+/// Why a token request is rejected, or `NoMemory`. If several reasons apply, the first in this order is returned.
 #[derive(Drop)]
 pub enum GrantNo {
     /// There is no body.
     BadForm,
-    /// A parameter of this name stands twice: the first name that stands again, whatever the values (RFC 6749, 3.2).
+    /// A parameter of this name occurs twice: the first name that is repeated, with any values (RFC 6749, 3.2).
     Twice(Text),
     /// There is a `Basic` header and `client_secret`: the client shows its secret in two ways (RFC 6749, 2.3).
     TwoAuths,
     /// There is neither a `Basic` header nor both of `client_id` and `client_secret`.
     NoAuth,
-    /// What is shown is not the id and the secret of a client: a `Basic` header cannot be read, no client has the id, the
-    /// secret is another, or `client_id` beside a `Basic` header names another client (RFC 6749, 2.3.1).
+    /// The shown id and secret are not those of a client (RFC 6749, 2.3.1). A `Basic` header cannot be read, no client has the
+    /// id, the secret differs, or `client_id` differs from the id in the `Basic` header.
     WrongClient,
-    /// `grant_type` is there and not `authorization_code` (RFC 6749, 4.1.3).
+    /// `grant_type` is present and is not `authorization_code` (RFC 6749, 4.1.3).
     OtherGrant,
     /// A parameter is absent: the first of `grant_type`, `code` and `redirect_uri` (OpenID Connect Core 1.0, 3.1.3.1).
     Missing(Text),
@@ -36,14 +36,13 @@ impl From<NoMemory> for GrantNo {
     }
 }
 
-/// Why an answer to a token request is refused, or memory ran out. Where several of the former fit, the first in this order is
-/// answered.
+/// Why a token response is rejected, or `NoMemory`. If several reasons apply, the first in this order is returned.
 #[derive(Drop)]
 pub enum TokensNo {
     /// Its status, which is not 200 (RFC 6749, 5.1).
     Status(u16),
-    /// Its body is no JSON object of whole numbers in UTF-8, for this reason, or a member is not a string: the first of
-    /// `access_token`, `id_token` and `token_type`. It is never [`ClaimNo::NoMemory`].
+    /// Its body is not the text in UTF-8 of a JSON object whose numbers are integers, or a member is not a string: the first of
+    /// `access_token`, `id_token` and `token_type`. The reason is never [`ClaimNo::NoMemory`].
     Claims(ClaimNo),
     /// A member is absent: the first of `access_token`, `token_type` and `id_token` (OpenID Connect Core 1.0, 3.1.3.3).
     Missing(Text),

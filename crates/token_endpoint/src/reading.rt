@@ -1,4 +1,4 @@
-// An answer to a token request is read, or refused for the first reason that fits.
+// Reading a token response, or rejecting it for the first reason that applies.
 
 ghost use Rattle.std.specs.Prelude.{◌≡◌, ◌⊎◌, Ok, Err, IfOk, IfErr, IsFalse};
 ghost use Rattle.request_params.specs.Scheme.{is_bearer as is_bearer_type};
@@ -9,16 +9,16 @@ use claim_set::{ClaimNo, ClaimSet, read_claims};
 use sso_base::{Answered, Text};
 use std::alloc::Global;
 
-/// The tokens of a successful answer to a token request (OpenID Connect Core 1.0, 3.1.3.3).
+/// The tokens of a successful token response (OpenID Connect Core 1.0, 3.1.3.3).
 #[derive(Drop)]
 pub struct Tokens {
     /// The access token, of the type `Bearer`.
     pub access: Text,
-    /// The ID Token, which has not been opened.
+    /// The ID Token, which is not yet verified.
     pub id: Text,
 }
 
-// The members, as far as they are there.
+// The members; each may be absent.
 #[derive(Drop)]
 struct RawTokens {
     access: Option<Text>,
@@ -26,8 +26,7 @@ struct RawTokens {
     kind: Option<Text>,
 }
 
-// The members, as far as they are there. They are asked for in the order of their names, so that the first of another kind is
-// the one that is refused.
+// Reads the members, each of which may be absent, in the order of their names. So the first one of another kind decides.
 #[tactic(auto, unfolding(crate::specs::Answer::raw_in))]
 fn raw_tokens(claims: &ClaimSet) -> Result<RawTokens, ClaimNo>
     ensures ok { IfOk result (λ r. raw_in claims.now ≡ Ok r) }
@@ -46,7 +45,7 @@ fn is_bearer(kind: &Text) -> bool
     kind.as_str().eq_ignore_ascii_case("bearer")
 }
 
-// The tokens, where the members that must be there are.
+// The tokens, if the required members are present.
 #[tactic(auto, unfolding(crate::specs::Answer::whole))]
 fn whole_tokens(alloc: Global, raw: RawTokens) -> Result<Tokens, TokensNo>
     ensures ok { IfOk result (λ t. whole raw ≡ Ok t) }
@@ -80,7 +79,7 @@ fn claimed_tokens(alloc: Global, claims: &ClaimSet) -> Result<Tokens, TokensNo>
     whole_tokens(alloc, raw)
 }
 
-// The tokens that an answer has.
+// The tokens in a response.
 #[tactic(auto, unfolding(crate::specs::Answer::tokens_read))]
 fn answered_tokens(alloc: Global, answer: &Answered) -> Result<Tokens, TokensNo>
     ensures ok { IfOk result (λ t. tokens_read answer.now ≡ Ok t) }
@@ -94,11 +93,11 @@ fn answered_tokens(alloc: Global, answer: &Answered) -> Result<Tokens, TokensNo>
     claimed_tokens(alloc, &claims)
 }
 
-/// The tokens that an answer to a token request has (RFC 6749, 5.1; OpenID Connect Core 1.0, 3.1.3.3).
+/// The tokens in a token response (RFC 6749, 5.1; OpenID Connect Core 1.0, 3.1.3.3).
 ///
-/// Exactly the answers with status 200 are read whose body is a JSON object of whole numbers with the strings `access_token`,
-/// `id_token` and `token_type`, where the last is `Bearer` in any case. Other members are ignored. Of any other answer the first
-/// refusal that fits is answered, in the order of [`TokensNo`].
+/// A response is accepted if and only if its status is 200 and its body is a JSON object whose numbers are integers, with the
+/// strings `access_token`, `id_token` and `token_type`. The last must be `Bearer`, in any case. Other members are ignored. For
+/// any other response the first error that applies is returned, in the order of [`TokensNo`].
 pub fn read_tokens(alloc: Global, answer: &Answered) -> Result<Tokens, TokensNo>
     ensures answers { IfOk result (λ t. tokens_read answer.now ≡ Ok t) }
     ensures tokens { IfOk result (λ t. HasTokens answer.now t) }

@@ -1,5 +1,5 @@
--- The parameters of an authorization request whose names no claim of an ID Token has (OpenID Connect Core 1.0, 2 and
--- 3.1.2.1): all but `nonce`.
+-- The parameters of an authorization request whose names are not claims of an ID Token (OpenID Connect Core 1.0, 2 and
+-- 3.1.2.1): all except `nonce`.
 use Rattle.std.specs.Prelude.{ℕ, List, [], ◌∷◌, codes}
 
 abbrev pub parameter_names : List (List ℕ)

@@ -1,8 +1,11 @@
-//! The kinds of sealed text are apart: no logout token is accepted as an ID Token, and no ID Token is read as a logout
-//! token (OpenID Connect Back-Channel Logout 1.0, 2.4); no request object of a client is accepted as either, and neither
-//! token of a provider is read as a request object (OpenID Connect Core 1.0, 6.1), since a request object is issued by
-//! the client and a token by the provider. These are laws over the definitions that the contracts of `id_token`,
-//! `logout_token` and `request_object` cite.
+//! The kinds of sealed text are distinct:
+//!
+//! - No logout token is accepted as an ID Token, and no ID Token is read as a logout token (OpenID Connect Back-Channel Logout
+//!   1.0, 2.4).
+//! - No request object of a client is accepted as either, and neither token of a provider is read as a request object. The
+//!   reason is that a request object is issued by the client and a token by the provider (OpenID Connect Core 1.0, 6.1).
+//!
+//! These are laws about the definitions in the contracts of `id_token`, `logout_token` and `request_object`.
 //!
 //! | Module | What it has |
 //! |---|---|

@@ -1,4 +1,4 @@
-// No request object passes as a token, and no token as a request object.
+// No request object is accepted as a token, and no token as a request object.
 
 ghost use Rattle.std.specs.Prelude.{◌≡◌, ℕ, List, Ok, Err, codes};
 ghost use Rattle.claim_set.specs.Building.{HasNone};
@@ -25,9 +25,9 @@ ghost use Rattle.request_object.specs.Reading.{request_read};
 ghost use Rattle.request_object.specs.Object.{IsRequestObject};
 ghost use Rattle.token_kinds.specs.Parameters.{parameter_names};
 
-/// A text that is a request object of a client is no good ID Token of an issuer that is not named as the client, under
-/// whatever keys and rules and at whatever moment: where it has an issuer, that is the client. What was sealed as a
-/// request object is not even read as an ID Token, whatever the key: it has no subject.
+/// A request object of a client is not a good ID Token of any issuer whose name differs from the client's id, for any keys,
+/// rules and moment. The reason is its `iss`, which is the client if it is present. A text sealed as a request object is not
+/// even read as an ID Token, for any key, because it has no `sub`.
 pub fn request_objects_are_no_id_tokens()
     ensures apart { (client : Client) (issuer l t : List ℕ) (p : Params) (x : IdClaims) (rules : IdRules) (at : ℕ) → ¬ (rules.issuer ≡ client.id) → IsRequestObject client issuer t p → IsIdToken l t x → IsGoodIdToken rules x at → ⊥ }
     ensures read { (client : Client) (issuer l t : List ℕ) (p : Params) (x : IdClaims) (rules : IdRules) (at : ℕ) → ¬ (rules.issuer ≡ client.id) → request_read client issuer t ≡ Ok p → id_read l t ≡ Ok x → IsGoodIdToken rules x at → ⊥ }
@@ -35,9 +35,9 @@ pub fn request_objects_are_no_id_tokens()
     ensures refused { (client : Client) (issuer : List ℕ) (p : Params) → request.IsSealable client issuer p → id_read client.secret (request_text client issuer p) ≡ Err (id_no.Missing (codes "sub")) }
 {}
 
-/// A text that is a request object of a client is no good logout token of an issuer that is not named as the client,
-/// under whatever keys, for whomever and at whatever moment: where it has an issuer, that is the client. What was sealed
-/// as a request object is not even read as a logout token, whatever the key: it has neither `iat` nor `jti`.
+/// A request object of a client is not a good logout token of any issuer whose name differs from the client's id, for any keys,
+/// recipient and moment. The reason is its `iss`, which is the client if it is present. A text sealed as a request object is
+/// not even read as a logout token, for any key, because it has neither `iat` nor `jti`.
 pub fn request_objects_are_no_logout_tokens()
     ensures apart { (client : Client) (issuer l t : List ℕ) (p : Params) (y : LogoutClaims) (from whom : List ℕ) (at : ℕ) → ¬ (from ≡ client.id) → IsRequestObject client issuer t p → IsLogoutToken l t y → IsGoodLogoutToken from whom y at → ⊥ }
     ensures read { (client : Client) (issuer l t : List ℕ) (p : Params) (y : LogoutClaims) (from whom : List ℕ) (at : ℕ) → ¬ (from ≡ client.id) → request_read client issuer t ≡ Ok p → logout_read l t ≡ Ok y → IsGoodLogoutToken from whom y at → ⊥ }
@@ -45,9 +45,9 @@ pub fn request_objects_are_no_logout_tokens()
     ensures refused { (client : Client) (issuer : List ℕ) (p : Params) → request.IsSealable client issuer p → logout_read client.secret (request_text client issuer p) ≡ Err (logout_no.Missing (codes "iat")) }
 {}
 
-/// A text that is an ID Token of an issuer that is not named as the client is no request object of that client, under
-/// whatever key the token is. What was sealed as such an ID Token under the client's secret, with no parameter of a
-/// request among its other claims, is refused for its issuer.
+/// An ID Token of an issuer whose name differs from the client's id is no request object of that client, for any key of the
+/// token. If it is sealed under the client's secret, and no request parameter is among its other claims, it is rejected for its
+/// issuer.
 pub fn id_tokens_are_no_request_objects()
     ensures apart { (client : Client) (issuer k t : List ℕ) (x : IdClaims) (p : Params) → ¬ (x.iss ≡ client.id) → IsIdToken k t x → IsRequestObject client issuer t p → ⊥ }
     ensures read { (client : Client) (issuer k t : List ℕ) (x : IdClaims) (p : Params) → ¬ (x.iss ≡ client.id) → id_read k t ≡ Ok x → request_read client issuer t ≡ Ok p → ⊥ }
@@ -55,8 +55,8 @@ pub fn id_tokens_are_no_request_objects()
     ensures refused { (client : Client) (issuer : List ℕ) (x : IdClaims) → ¬ (x.iss ≡ client.id) → id.IsSealable x → HasNone parameter_names x.more → request_read client issuer (id_text client.secret x) ≡ Err obj_no.Issuer }
 {}
 
-/// A text that is a logout token of an issuer that is not named as the client is no request object of that client, under
-/// whatever key the token is. What was sealed as such a logout token under the client's secret is refused for its issuer.
+/// A logout token of an issuer whose name differs from the client's id is no request object of that client, for any key of the
+/// token. If it is sealed under the client's secret, it is rejected for its issuer.
 pub fn logout_tokens_are_no_request_objects()
     ensures apart { (client : Client) (issuer k t : List ℕ) (y : LogoutClaims) (p : Params) → ¬ (y.iss ≡ client.id) → IsLogoutToken k t y → IsRequestObject client issuer t p → ⊥ }
     ensures read { (client : Client) (issuer k t : List ℕ) (y : LogoutClaims) (p : Params) → ¬ (y.iss ≡ client.id) → logout_read k t ≡ Ok y → request_read client issuer t ≡ Ok p → ⊥ }

@@ -24,23 +24,23 @@ abbrev pub if_claims : Result Members ClaimNo → Result (List ℕ) InfoNo
 if_claims (Ok ms) = sub_in ms
 if_claims (Err e) = Err (Claims e)
 
--- the subject that an answer names, or the first refusal that fits
+-- the subject in a response, or the first error that applies
 unfoldable pub info_read : Answered → Result (List ℕ) InfoNo
 info_read a = forbid (Status a.status) (not (a.status == 200)) (if_claims (claims_read a.body))
 
--- the answer is a UserInfo response about this subject: status 200, and claims with this `sub`
+-- the response is a UserInfo response about this subject: status 200, and claims with this `sub`
 pub record IsUserInfo (a : Answered) (sub : List ℕ) : Type 0 where
   pub status : a.status ≡ 200
   pub claims : Members
   pub reads : Reads a.body claims
   pub names : get_member (codes "sub") claims ≡ Some (string sub)
 
--- want of memory stands inside another refusal
+-- `NoMemory` is wrapped in another error
 abbrev pub hides_memory : InfoNo → Bool
 hides_memory (Claims claims.NoMemory) = true
 hides_memory e = false
 
--- a refusal of claims, as that of an answer; want of memory is the answer's own
+-- an error of claims, as an error of the response; `NoMemory` stays `NoMemory`
 abbrev pub as_claims : ClaimNo → InfoNo
 as_claims claims.NoMemory = NoMemory
 as_claims e = Claims e

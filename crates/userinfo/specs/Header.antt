@@ -10,19 +10,19 @@ abbrev pub if_word : Option Word → Bearer
 if_word None = Unreadable
 if_word (Some w) = Given w
 
--- the word of which the text stands after the first space
+-- the word whose text follows the first space
 abbrev pub word_after : List ℕ → Option Word
 word_after h = option_and_then (λ parts. word_of_text parts.1) (cut 32 h)
 
 abbrev pub header_read : List ℕ → Bearer
 header_read h = if is_bearer (scheme_of h) then if_word (word_after h) else Absent
 
--- the bearer token of a header, where there is one
+-- the bearer token of a header, if there is one
 unfoldable pub bearer_read : Option (List ℕ) → Bearer
 bearer_read None = Absent
 bearer_read (Some h) = header_read h
 
--- ---- the same, literally
+-- ---- the same, stated literally
 
 -- h is `Bearer` in any case, one space and the text of the word w
 pub record IsBearer (h : List ℕ) (w : Word) : Type 0 where

@@ -1,4 +1,4 @@
--- The claims that are told of a user (OpenID Connect Core 1.0, 5.1, 5.3.2, 5.4 and 5.5).
+-- The claims that are returned about a user (OpenID Connect Core 1.0, 5.1, 5.3.2, 5.4 and 5.5).
 use Rattle.std.specs.Prelude.{ℕ, ◌&&◌, ◌||◌, Bool, List, codes, Option, Some, None, Result, Ok, Err, if◌then◌else◌}
 use Rattle.serde_json.specs.Data.{string, Members, no_members, member, put}
 use Rattle.claim_set.specs.declared.no.ClaimNo.{ClaimNo}
@@ -10,7 +10,7 @@ use Rattle.oidc_words.specs.declared.scopes.Scopes.{Scopes}
 use Rattle.oidc_words.specs.Words.{is_one_of}
 use Rattle.oidc_words.specs.Claims.{is_claim_of, is_standard_claim}
 
--- a claim is wanted: a scope value asks for it, or it is a standard claim and asked for by its name
+-- a claim is wanted: a scope value requests it, or it is a standard claim and requested by name
 abbrev pub is_wanted : Scopes → List (List ℕ) → List ℕ → Bool
 is_wanted scopes asked name = is_claim_of scopes name || (is_standard_claim name && is_one_of asked name)
 
@@ -23,7 +23,7 @@ abbrev pub members_or_none : Result Members ClaimNo → Members
 members_or_none (Ok ms) = ms
 members_or_none (Err e) = no_members
 
--- the claims of which the bytes are the text
+-- the claims whose text the bytes are
 unfoldable pub text_claims : List ℕ → Members
 text_claims b = members_or_none (claims_read b)
 
@@ -31,14 +31,14 @@ abbrev pub claims_of : Option User → Members
 claims_of None = no_members
 claims_of (Some u) = text_claims u.claims
 
--- the claims that the user of this number holds
+-- the claims of the user with this number
 unfoldable pub user_claims : Configuration → ℕ → Members
 user_claims c user = claims_of (user_at c user)
 
--- the user's claims that are wanted
+-- the user's wanted claims
 unfoldable pub held_members : Configuration → ℕ → Scopes → List (List ℕ) → Members
 held_members c user scopes asked = members_with (is_wanted scopes asked) (user_claims c user)
 
--- what UserInfo tells a client of a user: the user's subject there, and the user's claims that are wanted
+-- the UserInfo claims of a user for a client: the user's subject there, and the user's wanted claims
 unfoldable pub info_members : Configuration → ℕ → ℕ → Scopes → List (List ℕ) → Members
 info_members c client user scopes asked = put (codes "sub") (string (subject_at c client user)) (held_members c user scopes asked)

@@ -1,4 +1,4 @@
-// The request for UserInfo, and its answer.
+// The UserInfo request and response.
 
 ghost use Rattle.std.specs.Prelude.{◌≡◌, ◌⊎◌, ℕ, List, Ok, Err, IfOk, IfErr, IsFalse};
 ghost use Rattle.userinfo.specs.Request.{info_message};
@@ -36,7 +36,7 @@ fn subject_in(claims: &ClaimSet) -> Result<Text, InfoNo>
     }
 }
 
-// The subject that an answer names, or the first refusal that fits.
+// The subject in a response, or the first error that applies.
 #[tactic(auto, unfolding(crate::specs::Answer::info_read))]
 fn subject_of(alloc: Global, answer: &Answered) -> Result<Text, InfoNo>
     ensures ok { IfOk result (λ t. info_read answer.now ≡ Ok t) }
@@ -50,10 +50,10 @@ fn subject_of(alloc: Global, answer: &Answered) -> Result<Text, InfoNo>
     subject_in(&claims)
 }
 
-/// The subject that a UserInfo answer names (OpenID Connect Core 1.0, 5.3.2 and 5.3.4).
+/// The subject in a UserInfo response (OpenID Connect Core 1.0, 5.3.2 and 5.3.4).
 ///
-/// Exactly the answers with status 200 whose body is a claim set with a `sub` that is a string are read. Of any other the
-/// first refusal that fits is answered, in the order of [`InfoNo`].
+/// A response is accepted if and only if its status is 200 and its body is a claim set whose `sub` is a string. For any other
+/// response the first error that applies is returned, in the order of [`InfoNo`].
 pub fn read_info(alloc: Global, answer: &Answered) -> Result<Text, InfoNo>
     ensures answers { IfOk result (λ t. info_read answer.now ≡ Ok t) }
     ensures info { IfOk result (λ t. IsUserInfo answer.now t) }

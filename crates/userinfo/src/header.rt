@@ -13,9 +13,9 @@ use sso_base::Word;
 pub enum Bearer {
     /// There is no header, or it is of another scheme.
     Absent,
-    /// The scheme is `Bearer`, and what follows it is not one space and the text of a word.
+    /// The scheme is `Bearer`, but one space and the text of a word do not follow.
     Unreadable,
-    /// The word that stands in the header.
+    /// The word in the header.
     Given(Word),
 }
 
@@ -36,7 +36,7 @@ fn read_word(text: &[u8]) -> Bearer
     }
 }
 
-// The bearer token of a header that is there.
+// The bearer token of a present header.
 fn read_header(header: &[u8]) -> Bearer
     ensures { result ≡ header_read header.now }
 {
@@ -49,9 +49,9 @@ fn read_header(header: &[u8]) -> Bearer
     }
 }
 
-/// The bearer token of an `Authorization` header: `Bearer` in any case, one space and the text of a word, and nothing
-/// else (RFC 6750, 2.1; RFC 9110, 11.1). The scheme is what stands before the first space, or the whole header where
-/// there is none. It takes no memory.
+/// The bearer token of an `Authorization` header: `Bearer` in any case, one space and the text of a word, and nothing else (RFC
+/// 6750, 2.1; RFC 9110, 11.1). The scheme is the text before the first space, or the whole header if there is none. It
+/// allocates nothing.
 #[tactic(auto, unfolding(crate::specs::Header::bearer_read))]
 pub fn read_bearer(auth: Option<&[u8]>) -> Bearer
     ensures { result ≡ bearer_read (option_map (λ h. h.now) auth.entry) }

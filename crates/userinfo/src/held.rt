@@ -1,4 +1,4 @@
-// The claims that are told of a user.
+// The claims that are returned about a user.
 
 ghost use Rattle.std.specs.Prelude.{◌≡◌, ◌<◌, length, Ok, IfOk};
 ghost use Rattle.claim_set.specs.Claims.{member_names};
@@ -19,7 +19,7 @@ fn is_wanted(scopes: Scopes, asked: &Texts, name: &str) -> bool
     scopes.ask_for(name) || (is_standard_claim(name) && asked.has(name))
 }
 
-// Want of memory, where this is why claims were not read.
+// The only error is `NoMemory`.
 fn as_memory(error: ClaimNo) -> NoMemory
     requires { error ≡ ClaimNo.NoMemory }
 {
@@ -39,7 +39,7 @@ fn text_claims(alloc: Global, text: &Blob) -> Result<ClaimSet, NoMemory>
     }
 }
 
-// Takes out what is not wanted of claims that have these names.
+// Removes the unwanted claims, given the names of all claims.
 #[tactic(auto, using(sso_base::proofs::ListSteps::drop_at, crate::proofs::Sifting::sifted_all))]
 fn take_unwanted(claims: &mut ClaimSet, names: &Texts, scopes: Scopes, asked: &Texts)
     requires same { names.now ≡ member_names claims.old }
@@ -54,7 +54,7 @@ fn take_unwanted(claims: &mut ClaimSet, names: &Texts, scopes: Scopes, asked: &T
     }
 }
 
-// What is wanted of the claims of a user's text.
+// The wanted claims in a user's text.
 #[tactic(auto, using(crate::proofs::UserTexts::in_order))]
 fn wanted_claims(
     alloc: Global,
@@ -71,9 +71,9 @@ fn wanted_claims(
     Ok(claims)
 }
 
-/// The user's claims that are wanted: those that a scope value asks for (OpenID Connect Core 1.0, 5.4), and those that
-/// are asked for by name (5.5). A claim that the user does not hold is left out. Names that are no standard claims add
-/// nothing, so the set has none of the names of a token's own claims, as `sub`.
+/// The user's wanted claims: those that a scope value requests (OpenID Connect Core 1.0, 5.4), and those that are requested by
+/// name (5.5). A claim that the user does not have is left out. Only standard claims are included. So the set has none of a
+/// token's own claims, such as `sub`.
 #[tactic(auto, unfolding(crate::specs::Held::held_members, crate::specs::Held::user_claims))]
 pub fn held_claims(
     alloc: Global,
@@ -85,13 +85,13 @@ pub fn held_claims(
     requires { user < length registry.now.users }
     ensures { IfOk result (λ c. c ≡ held_members registry.now user scopes.now asked.now) }
 {
-    // A count says what every registry keeps: that its users' texts are claims.
+    // The contract of `users` states the invariant of every registry: its users' texts are claims.
     let _users = registry.users();
     wanted_claims(alloc, &registry.user(user).claims, *scopes, asked)
 }
 
-/// What UserInfo tells a client of a user (OpenID Connect Core 1.0, 5.3.2): `sub`, which is the user's subject at the
-/// client, and the user's claims that are wanted, as [`held_claims`] has them.
+/// The UserInfo claims of a user for a client (OpenID Connect Core 1.0, 5.3.2): `sub`, the user's subject at the client, and
+/// the user's wanted claims, as in [`held_claims`].
 #[tactic(auto, unfolding(crate::specs::Held::info_members))]
 pub fn info_claims(
     alloc: Global,

@@ -1,4 +1,4 @@
-// What holds of claims, requests and answers, for the crates above.
+// Laws about claims, requests and responses, for the crates above.
 
 ghost use Rattle.std.specs.Prelude.{◌≡◌, ◌≢◌, ◌<◌, ◌≤◌, ℕ, List, length, Bool, true, false, codes, Option, Some, None, Ok, Err};
 ghost use Rattle.serde_json.specs.Data.{Data, string, Members};
@@ -27,8 +27,8 @@ ghost use Rattle.userinfo.specs.Header.{bearer_read, IsBearer};
 ghost use Rattle.userinfo.specs.Request.{info_message};
 ghost use Rattle.userinfo.specs.Answer.{info_read, IsUserInfo};
 
-/// A user's claims stand in the user's text. A wanted claim has the value that the user holds, and is absent where the
-/// user holds none; one that is not wanted is absent, and so is every name that is no standard claim.
+/// A user's claims are those in the user's text. A wanted claim has the user's value, or is absent if the user has none. An
+/// unwanted claim is absent, and so is every name that is no standard claim.
 pub fn held_claims_are_wanted()
     ensures read { (c : Configuration) (n : ℕ) (u : User) → IsRegistry c → user_at c n ≡ Some u → Reads u.claims (user_claims c n) }
     ensures wanted { (c : Configuration) (n : ℕ) (s : Scopes) (asked : List (List ℕ)) (k : List ℕ) → is_wanted s asked k ≡ true → get_member k (held_members c n s asked) ≡ get_member k (user_claims c n) }
@@ -36,23 +36,23 @@ pub fn held_claims_are_wanted()
     ensures standard { (c : Configuration) (n : ℕ) (s : Scopes) (asked : List (List ℕ)) (k : List ℕ) → is_standard_claim k ≡ false → get_member k (held_members c n s asked) ≡ None }
 {}
 
-/// The users of a registry hold standard claims alone, each of its kind, so nothing that a user holds is kept back for not
-/// being one. A configuration gives users no others.
+/// The users of a registry have only standard claims, each of its kind. So no claim of a user is withheld because it is not
+/// standard. A configuration cannot give a user other claims.
 pub fn configured_claims_are_standard()
     ensures held { (c : Configuration) (n : ℕ) (k : List ℕ) → IsRegistry c → is_standard_claim k ≡ false → get_member k (user_claims c n) ≡ None }
     ensures kind { (c : Configuration) (n : ℕ) (k : List ℕ) (d : Data) → IsRegistry c → get_member k (user_claims c n) ≡ Some d → has_kind (kind_of k) d ≡ true }
     ensures configured { (d : toml.Data) (ms : Members) (k : List ℕ) → claims_in d ≡ Some ms → is_standard_claim k ≡ false → get_member k ms ≡ None }
 {}
 
-/// UserInfo has the user's subject at the client as `sub`, and of every other name what the user's wanted claims have.
+/// UserInfo has the user's subject at the client as `sub`, and for every other name the user's wanted claim.
 pub fn info_is_the_subject_and_held_claims()
     ensures subject { (c : Configuration) (client n : ℕ) (s : Scopes) (asked : List (List ℕ)) → get_member (codes "sub") (info_members c client n s asked) ≡ Some (string (subject_at c client n)) }
     ensures wanted { (c : Configuration) (client n : ℕ) (s : Scopes) (asked : List (List ℕ)) (k : List ℕ) → k ≢ codes "sub" → is_wanted s asked k ≡ true → get_member k (info_members c client n s asked) ≡ get_member k (user_claims c n) }
     ensures unwanted { (c : Configuration) (client n : ℕ) (s : Scopes) (asked : List (List ℕ)) (k : List ℕ) → k ≢ codes "sub" → is_wanted s asked k ≡ false → get_member k (info_members c client n s asked) ≡ None }
 {}
 
-/// The claims that are told of a user of a registry fit, and their text is at most that of all the user's claims, and of
-/// the subject.
+/// The claims that are returned about a user of a registry fit. Their text has at most 2,048 bytes, and with the subject, as
+/// UserInfo, at most 3,587 bytes.
 pub fn told_claims_fit()
     ensures held { (c : Configuration) (n : ℕ) (s : Scopes) (asked : List (List ℕ)) → IsRegistry c → ClaimsFit (held_members c n s asked) }
     ensures info { (c : Configuration) (client n : ℕ) (s : Scopes) (asked : List (List ℕ)) → IsRegistry c → ClaimsFit (info_members c client n s asked) }
@@ -60,8 +60,8 @@ pub fn told_claims_fit()
     ensures info_length { (c : Configuration) (client n : ℕ) (s : Scopes) (asked : List (List ℕ)) → IsRegistry c → length (claims_text (info_members c client n s asked)) ≤ 3587 }
 {}
 
-/// A header has one scheme. It gives a word exactly where it is `Bearer` in any case, one space and the text of the word;
-/// any other header whose scheme is `Bearer` in any case is unreadable, and all others count as absent.
+/// Each header has exactly one scheme. It gives a word if and only if it is `Bearer` in any case, one space and the text of the
+/// word. Any other header with the scheme `Bearer` is unreadable, and all others count as absent.
 pub fn headers_are_read_by_their_scheme()
     ensures one_scheme { (s t h : List ℕ) → IsScheme s h → IsScheme t h → s ≡ t }
     ensures scheme { (h : List ℕ) → (s : List ℕ) × IsScheme s h }
@@ -77,13 +77,13 @@ pub fn printed_requests_are_read()
     ensures { (endpoint : List ℕ) (w : Word) → IsWord w → bearer_read (info_message endpoint (word_text w)).auth ≡ Given w }
 {}
 
-/// An answer is read exactly where it is a UserInfo response, and as its subject.
+/// A response is accepted if and only if it is a UserInfo response, and the result is its subject.
 pub fn read_answers_are_user_info()
     ensures info { (a : Answered) (t : List ℕ) → info_read a ≡ Ok t → IsUserInfo a t }
     ensures read { (a : Answered) (t : List ℕ) → IsUserInfo a t → info_read a ≡ Ok t }
 {}
 
-/// Any other answer is refused for the first reason: its status, its body, the kind of its `sub`, or that it has none.
+/// Any other response is rejected for the first reason: its status, its body, the kind of its `sub`, or that `sub` is absent.
 pub fn refused_answers_have_the_first_reason()
     ensures status { (a : Answered) → a.status ≢ 200 → info_read a ≡ Err (no.Status a.status) }
     ensures unread { (a : Answered) (e : ClaimNo) → a.status ≡ 200 → claims_read a.body ≡ Err e → info_read a ≡ Err (no.Claims e) }
@@ -91,8 +91,7 @@ pub fn refused_answers_have_the_first_reason()
     ensures no_sub { (a : Answered) (ms : Members) → a.status ≡ 200 → Reads a.body ms → get_member (codes "sub") ms ≡ None → info_read a ≡ Err no.NoSub }
 {}
 
-/// The written claims that UserInfo tells of a user of a registry are read, with status 200, as the user's subject at the
-/// client.
+/// Reading the written UserInfo claims of a user of a registry, with status 200, returns the user's subject at the client.
 pub fn written_claims_name_the_subject()
     ensures { (c : Configuration) (client n : ℕ) (s : Scopes) (asked : List (List ℕ)) → IsRegistry c → info_read (record { status = 200; body = claims_text (info_members c client n s asked) }) ≡ Ok (subject_at c client n) }
 {}

@@ -1,12 +1,13 @@
-//! UserInfo: what a provider tells a client of a user, the request for it, and its answer (OpenID Connect Core 1.0, 5.3).
+//! UserInfo: the claims that a provider returns to a client about a user, the request for them, and the response (OpenID
+//! Connect Core 1.0, 5.3).
 //!
 //! | Module | What it has |
 //! |---|---|
-//! | `held` | [`info_claims`] and [`held_claims`], the claims that are told of a user |
+//! | `held` | [`info_claims`] and [`held_claims`], the claims that are returned about a user |
 //! | `header` | [`read_bearer`] reads the bearer token of a request, a [`Bearer`] |
-//! | `exchange` | [`print_info`] writes the request, [`read_info`] reads the answer |
-//! | `no` | [`InfoNo`], why an answer is refused |
-//! | `law` | what holds of claims, requests and answers, for the crates above |
+//! | `exchange` | [`print_info`] writes the request, [`read_info`] reads the response |
+//! | `no` | [`InfoNo`], why a response is rejected |
+//! | `law` | laws about claims, requests and responses, for the crates above |
 #![tactic(auto)]
 
 mod exchange;

@@ -1,17 +1,16 @@
-// Why a UserInfo answer is refused.
+// Why a UserInfo response is rejected.
 
 use claim_set::ClaimNo;
 use sso_base::NoMemory;
 
-/// Why a UserInfo answer is refused, or memory ran out. Where several of the former fit, the first in this order is
-/// answered.
+/// Why a UserInfo response is rejected, or `NoMemory`. If several reasons apply, the first in this order is returned.
 #[derive(Drop)]
 pub enum InfoNo {
     /// Memory ran out.
     NoMemory,
-    /// The status is this one, and not 200 (OpenID Connect Core 1.0, 5.3.3).
+    /// The status, which is not 200 (OpenID Connect Core 1.0, 5.3.3).
     Status(u16),
-    /// The body is no claim set, or `sub` is there and not a string. It is never [`ClaimNo::NoMemory`].
+    /// The body is no claim set, or `sub` is present and not a string. The reason is never [`ClaimNo::NoMemory`].
     Claims(ClaimNo),
     /// `sub` is absent (OpenID Connect Core 1.0, 5.3.2).
     NoSub,
