@@ -10,10 +10,9 @@ pub mod Decided
 pub mod ListSteps
 pub mod WordTexts
 pub mod WordUtf8
-pub mod TextsSoFar
-pub mod Told
 pub mod Histories
 pub mod DrawnWords
 pub mod Answering
 pub mod Utf8Bytes
+pub mod TextBuffers
 mod Samples

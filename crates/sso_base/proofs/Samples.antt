@@ -10,6 +10,8 @@ use Rattle.sso_base.proofs.Spelling.{IsBytes-from_all_bytes}
 use Rattle.sso_base.specs.Faults.{Rose, HasCause}
 use Rattle.sso_base.specs.Outside.{Content, Takes, TakesFront, content_of, Fetches}
 use Rattle.sso_base.specs.Texts.{is_ascii, has_text, is_only}
+use Rattle.sso_base.specs.TextBuffer.{buffer_of, texts_in, IsBuffer}
+use Rattle.sso_base.proofs.Utf8Bytes.{IsUtf8-are_ascii}
 use Rattle.sso_base.specs.Values.{AreWords}
 use Rattle.sso_base.specs.Weights.{told_weight, texts_bytes}
 use Rattle.sso_base.specs.Journal.{IsLegalHistoryBy, entry_moment, extended, history_weight}
@@ -431,6 +433,20 @@ has_text-the_second = refl
 
 has_text-not_a_part : has_text (codes "a") (codes "ab" ∷ []) ≡ false
 has_text-not_a_part = refl
+
+-- ---- texts in one buffer
+
+buffer-of_two : buffer_of (codes "ab" ∷ [] ∷ []) ≡ 97 ∷ 98 ∷ 255 ∷ 255 ∷ []
+buffer-of_two = refl
+
+texts_in-a_buffer : texts_in (97 ∷ 98 ∷ 255 ∷ 255 ∷ []) ≡ codes "ab" ∷ [] ∷ []
+texts_in-a_buffer = refl
+
+is_buffer-of_two : IsBuffer (97 ∷ 98 ∷ 255 ∷ 255 ∷ [])
+is_buffer-of_two = record { texts = (IsUtf8-are_ascii (codes "ab") refl, (IsUtf8-are_ascii [] refl, tt)); whole = refl }
+
+is_buffer-not_without_its_end : IsBuffer (97 ∷ []) → ⊥
+is_buffer-not_without_its_end h = (let longer : 97 ∷ 255 ∷ [] ≡ 97 ∷ [] = h.whole in cc)
 
 last_moment-of_the_newest_pair : last_moment (pair 8 1 ∷ pair 7 0 ∷ []) ≡ 8
 last_moment-of_the_newest_pair = refl

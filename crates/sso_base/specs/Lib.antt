@@ -4,6 +4,7 @@ pub mod Journal
 pub mod Drawn
 pub mod Legal
 pub mod Texts
+pub mod TextBuffer
 pub mod Values
 pub mod Weights
 pub mod Outside

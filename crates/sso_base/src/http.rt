@@ -1,6 +1,7 @@
 // Requests to a server and its replies, as far as HTTP carries them (RFC 9110).
 
-use crate::text::{Blob, Text, Texts};
+use crate::text::{Blob, Text};
+use crate::texts::Texts;
 use crate::word::Word;
 
 /// The method of a request (RFC 9110, 9.3).

@@ -4,7 +4,7 @@
 //! | Module | What it has |
 //! |---|---|
 //! | `memory` | `NoMemory`, the error of every call that runs out of memory |
-//! | `text` | `Text`, `Blob`, `Texts` |
+//! | `text`, `texts` | `Text`, `Blob`, and `Texts`: many texts in one buffer |
 //! | `word` | `Word`, 32 random bytes, and its text |
 //! | `moment` | `Moment`, a number of seconds |
 //! | `message`, `messages` | `Message`, `Messages` and `Answered`: what servers send each other |
@@ -34,6 +34,7 @@ mod sink;
 mod sink_memory;
 mod step;
 mod text;
+mod texts;
 mod values;
 mod weights;
 mod word;
@@ -52,7 +53,8 @@ pub use shelf_memory::{FaultyShelf, File, MemoryShelf};
 pub use sink::{Sink, SinkFault, write_whole};
 pub use sink_memory::{FaultySink, MemorySink};
 pub use step::{Core, CoreNo};
-pub use text::{Blob, Text, Texts};
+pub use text::{Blob, Text};
+pub use texts::{Texts, TextsLeft};
 pub use values::{
     know_entry, know_number, know_number_if, know_text_if, know_texts, know_texts_if, know_word,
     know_word_if,

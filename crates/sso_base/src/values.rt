@@ -7,7 +7,8 @@ ghost use Rattle.sso_base.specs.Words.{IsWord};
 ghost use Rattle.sso_base.specs.Values.{IsWide, AreTexts, AreWords, latest_moment};
 
 use crate::history::Entry;
-use crate::text::{Text, Texts};
+use crate::text::Text;
+use crate::texts::Texts;
 use crate::word::Word;
 
 /// A word has 32 bytes.
@@ -53,9 +54,7 @@ pub fn know_number_if(n: Option<u64>)
 pub fn know_texts(texts: &Texts)
     ensures { AreTexts texts.now }
 {
-    for place in 0..texts.count() {
-        let _text = texts.at(place).as_str();
-    }
+    texts.know();
 }
 
 /// The same for optional texts.

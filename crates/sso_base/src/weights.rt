@@ -3,7 +3,8 @@
 ghost use Rattle.std.specs.Prelude.{◌≡◌, ◌+◌, length};
 ghost use Rattle.sso_base.specs.Weights as spec;
 
-use crate::text::{Text, Texts};
+use crate::text::Text;
+use crate::texts::Texts;
 
 /// What an ask weighs that holds no texts, and any ask at least.
 pub const EMPTY_WEIGHT: u64 = 1024;
@@ -18,22 +19,11 @@ pub fn text_bytes(text: &Option<Text>) -> u64
     }
 }
 
-// These bytes, and those of one more text.
-fn with_text(bytes: u64, text: &Text) -> u64
-    ensures { result ≡ spec.told_weight (bytes + length text.now) }
-{
-    bytes.saturating_add(text.as_str().len() as u64)
-}
-
 /// The bytes of texts.
 pub fn texts_bytes(texts: &Texts) -> u64
     ensures { result ≡ spec.told_weight (spec.texts_bytes texts.now) }
 {
-    let mut bytes: u64 = 0;
-    for place in 0..texts.count() {
-        bytes = with_text(bytes, texts.at(place));
-    }
-    bytes
+    texts.byte_count() as u64
 }
 
 /// The bytes of texts that may be there.
