@@ -5,4 +5,5 @@ pub mod Wishes
 pub mod Fragments
 pub mod Judgements
 pub mod AskedNames
+pub mod NamedSubjects
 mod Samples

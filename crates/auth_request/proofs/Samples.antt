@@ -18,6 +18,7 @@ use Rattle.oidc_words.specs.declared.errors.AuthError.TheVariants.{InvalidReques
 use Rattle.auth_request.specs.declared.wish.PageNo.TheVariants.{Client as NoClient, Redirect as NoRedirect}
 use Rattle.auth_request.specs.declared.wish.Verdict.{Verdict}
 use Rattle.auth_request.specs.declared.wish.Verdict.TheVariants.{Page, Refuse, Grant}
+use Rattle.auth_request.specs.NamedSubjects.{names_subject}
 use Rattle.auth_request.specs.ClaimsParameter.{is_claim_request, are_claim_requests, is_part, is_claims_request, standard_names, names_at, item_texts, value_texts, values_texts, subs_of, subs_in, nothing, claims_of}
 use Rattle.auth_request.specs.Parameters.{type_of, age_in, age_of, asking_of}
 use Rattle.auth_request.specs.Judgement.{client_number, redirect_of, may_ask, is_other_mode, is_bad_nonce, errors, wish_of, judgement}
@@ -61,6 +62,15 @@ names-at_no_member = refl
 
 texts-among_items : item_texts (item (string (codes "a")) (item (number (unsigned 1)) (item (string (codes "b")) no_items))) ≡ codes "a" ∷ codes "b" ∷ []
 texts-among_items = refl
+
+texts-without_empty_ones : item_texts (item (string []) (item (string (codes "b")) no_items)) ≡ codes "b" ∷ []
+texts-without_empty_ones = refl
+
+names_subject-an_element_of_values : names_subject (codes "b") (object (member (codes "value") (string (codes "a")) (member (codes "values") (array (item (string (codes "b")) no_items)) no_members))) ≡ true
+names_subject-an_element_of_values = refl
+
+names_subject-no_other : names_subject (codes "c") (object (member (codes "value") (string (codes "a")) (member (codes "values") (array (item (string (codes "b")) no_items)) no_members))) ≡ false
+names_subject-no_other = refl
 
 texts-not_of_an_array_in_value : value_texts (object (member (codes "value") (array (item (string (codes "a")) no_items)) no_members)) ≡ []
 texts-not_of_an_array_in_value = refl

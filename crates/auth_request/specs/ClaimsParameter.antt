@@ -5,6 +5,7 @@ use Rattle.serde_json.specs.Data.{Data, Items, no_items, item, Members, no_membe
 use Rattle.serde_json.specs.Find.{get, as_null, as_object, as_str, as_array}
 use Rattle.serde_json.specs.Read.{read}
 use Rattle.oidc_words.specs.Claims.{is_standard_claim}
+use Rattle.oidc_words.specs.Words.{is_filled}
 use Rattle.auth_request.specs.declared.claims_parameter.Asked.{Asked}
 
 -- ---- its form
@@ -43,10 +44,14 @@ names_of (Some ms) = standard_names ms
 abbrev pub names_at : List ℕ → Data → List (List ℕ)
 names_at name d = names_of (option_and_then as_object (get name d))
 
+-- the text, unless it is empty: no subject is empty (OpenID Connect Core 1.0, 2)
+abbrev pub if_filled : List ℕ → List (List ℕ)
+if_filled t = if is_filled t then t ∷ [] else []
+
 -- the text, where it is one
 abbrev pub one_text : Option (List ℕ) → List (List ℕ)
 one_text None = []
-one_text (Some t) = t ∷ []
+one_text (Some t) = if_filled t
 
 -- the texts among the elements
 abbrev pub item_texts : Items → List (List ℕ)

@@ -99,13 +99,23 @@ fn names_at(alloc: Global, claims: &Value, name: &str) -> Result<Texts, NoMemory
     }
 }
 
+// Adds the text, unless it is empty: that is no user's subject, and weighs nothing.
+fn push_filled(alloc: Global, texts: &mut Texts, text: &str) -> Result<(), NoMemory>
+    ensures { OnOk result (texts.new ≡ texts.old ++ spec.if_filled text.now) }
+{
+    if text.is_empty() {
+        return Ok(());
+    }
+    texts.push(Text::new(alloc, text)?)
+}
+
 // Adds the text, where the value is one.
 fn push_text(alloc: Global, texts: &mut Texts, value: &Value) -> Result<(), NoMemory>
     ensures { OnOk result (texts.new ≡ texts.old ++ spec.one_text (as_str (view value.now))) }
 {
     match value.as_str() {
         None => Ok(()),
-        Some(text) => texts.push(Text::new(alloc, text)?),
+        Some(text) => push_filled(alloc, texts, text),
     }
 }
 
@@ -153,6 +163,7 @@ fn subs_of(alloc: Global, sub: &Value) -> Result<Option<Texts>, NoMemory>
     let mut subs = Texts::new(alloc);
     push_value(alloc, &mut subs, sub)?;
     push_values(alloc, &mut subs, sub)?;
+    subs.shrink_to_fit();
     Ok(Some(subs))
 }
 

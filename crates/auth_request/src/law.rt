@@ -1,6 +1,6 @@
 // Laws about validation, for the crates above.
 
-ghost use Rattle.std.specs.Prelude.{◌≡◌, ◌⊎◌, ◌↔◌, ◌&&◌, ℕ, Bool, true, List, codes, Some, is_some, option_and_then};
+ghost use Rattle.std.specs.Prelude.{◌≡◌, ◌⊎◌, ◌↔◌, ◌&&◌, ◌||◌, ℕ, Bool, true, List, codes, Some, is_some, option_and_then, IfSome};
 ghost use Rattle.serde_json.specs.Data.{Data};
 ghost use Rattle.serde_json.specs.Find.{get};
 ghost use Rattle.serde_json.specs.Read.{read};
@@ -9,7 +9,9 @@ ghost use Rattle.sso_base.specs.Texts.{has_text};
 ghost use Rattle.client_registry.specs.declared.records.Client.{Client};
 ghost use Rattle.client_registry.specs.Configuration.{Configuration};
 ghost use Rattle.client_registry.specs.Numbers.{client_at};
+ghost use Rattle.client_registry.specs.Registered.{IsSubject};
 ghost use Rattle.oidc_words.specs.Claims.{is_standard_claim};
+ghost use Rattle.oidc_words.specs.Words.{is_filled};
 ghost use Rattle.request_params.specs.declared.params.Params.{Params};
 ghost use Rattle.auth_request.specs.declared.wish.Wish.{Wish};
 ghost use Rattle.oidc_words.specs.declared.errors.Refusal.{Refusal};
@@ -17,6 +19,7 @@ ghost use Rattle.auth_request.specs.declared.wish.PageNo.{PageNo};
 ghost use Rattle.auth_request.specs.declared.wish.PageNo.TheVariants as page;
 ghost use Rattle.auth_request.specs.declared.wish.Verdict.TheVariants as verdict;
 ghost use Rattle.auth_request.specs.ClaimsParameter.{is_claims_request, claims_of};
+ghost use Rattle.auth_request.specs.NamedSubjects.{names_subject};
 ghost use Rattle.auth_request.specs.Parameters.{asking_of};
 ghost use Rattle.auth_request.specs.Judgement.{judgement, errors, wish_of};
 ghost use Rattle.auth_request.specs.Granted.{ClientsAreApart, IsRegistered, AnswersInFragment, IsWish, IsWishOf};
@@ -53,4 +56,13 @@ pub fn requests_without_errors_are_granted()
 pub fn asked_claims_are_standard_members()
     ensures id_asked { (t : List ℕ) (d : Data) (q : List ℕ) → read t ≡ Some d → is_claims_request d ≡ true → has_text q (claims_of (Some t)).id_asked ≡ (is_standard_claim q && is_some (option_and_then (get q) (get (codes "id_token") d))) }
     ensures info_asked { (t : List ℕ) (d : Data) (q : List ℕ) → read t ≡ Some d → is_claims_request d ≡ true → has_text q (claims_of (Some t)).info_asked ≡ (is_standard_claim q && is_some (option_and_then (get q) (get (codes "userinfo") d))) }
+{}
+
+/// A `claims` parameter of its form that asks for the claim `sub` in the ID Token names subjects exactly where it has `value`
+/// or `values` there; and a text that is not empty is among those that are kept exactly where `value` is it, or an element of
+/// `values` is (OpenID Connect Core 1.0, 5.5.1). No subject of a registry is empty.
+pub fn named_subjects_are_kept()
+    ensures there { (t : List ℕ) (d sub : Data) → read t ≡ Some d → is_claims_request d ≡ true → option_and_then (get (codes "sub")) (get (codes "id_token") d) ≡ Some sub → is_some (claims_of (Some t)).subs ≡ (is_some (get (codes "value") sub) || is_some (get (codes "values") sub)) }
+    ensures named { (t : List ℕ) (d sub : Data) (q : List ℕ) → read t ≡ Some d → is_claims_request d ≡ true → option_and_then (get (codes "sub")) (get (codes "id_token") d) ≡ Some sub → is_filled q ≡ true → IfSome (claims_of (Some t)).subs (λ subs. has_text q subs ≡ names_subject q sub) }
+    ensures subjects { (t : List ℕ) → IsSubject t → is_filled t ≡ true }
 {}

@@ -20,7 +20,7 @@ mod wish;
 pub use judging::{is_short_nonce, judge};
 pub use law::{
     answers_go_to_registered_uris, asked_claims_are_standard_members,
-    granted_wishes_are_the_requests, refusals_answer_as_the_type_does,
+    granted_wishes_are_the_requests, named_subjects_are_kept, refusals_answer_as_the_type_does,
     requests_without_errors_are_granted,
 };
 pub use wish::{PageNo, Verdict, Wish};

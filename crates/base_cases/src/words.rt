@@ -1,7 +1,7 @@
 // Texts, bytes, moments, and words with their texts.
 
 use case_lines::{as_text, bytes, given_texts, in_32, moment, told, told_hex, told_texts};
-use sso_base::{Blob, Moment, NoMemory, Text, Word, is_live};
+use sso_base::{Blob, Moment, NoMemory, Text, Word, is_live, texts_bytes};
 use std::alloc::Global;
 
 /// The answer of a call of this module.
@@ -11,6 +11,8 @@ pub fn answer(alloc: Global, fields: &[&str]) -> Result<String, NoMemory> {
         ["texts", texts] => copied_texts(alloc, texts),
         ["equals", text, other] => equals(alloc, text, other),
         ["is only", texts, text] => is_only(alloc, texts, text),
+        ["has", texts, text] => has(alloc, texts, text),
+        ["at", texts, place] => text_at(alloc, texts, place),
         ["bytes", field] => copied_bytes(alloc, field),
         ["moment", field] => seconds(alloc, field),
         ["live", life, begun, at] => live(alloc, life, begun, at),
@@ -29,11 +31,28 @@ fn copied_text(alloc: Global, text: &str) -> Result<String, NoMemory> {
     Ok(format!(in alloc; "{text}, {copied}, {taken}")?)
 }
 
-// `texts|TEXT,TEXT`: the number of texts in the list, and those of a copy.
+// `texts|TEXT,TEXT`: how many texts the list has, their bytes, and the texts of a copy.
 fn copied_texts(alloc: Global, texts: &str) -> Result<String, NoMemory> {
-    let texts = given_texts(alloc, texts, ',')?;
+    let mut texts = given_texts(alloc, texts, ',')?;
+    texts.shrink_to_fit();
     let copied = told_texts(alloc, &texts.copy(alloc)?)?;
-    Ok(format!(in alloc; "{}: {copied}", texts.count())?)
+    let (count, bytes) = (texts.count(), texts_bytes(&texts));
+    Ok(format!(in alloc; "{count}, {bytes} bytes: {copied}")?)
+}
+
+// `has|TEXT,TEXT|TEXT`: whether the text is one of these.
+fn has(alloc: Global, texts: &str, text: &str) -> Result<String, NoMemory> {
+    let has = given_texts(alloc, texts, ',')?.has(text);
+    Ok(format!(in alloc; "{has}")?)
+}
+
+// `at|TEXT,TEXT|PLACE`: the text at this place, from 0.
+fn text_at(alloc: Global, texts: &str, place: &str) -> Result<String, NoMemory> {
+    let texts = given_texts(alloc, texts, ',')?;
+    match place.parse::<usize>().ok() {
+        Some(place) if place < texts.count() => Ok(format!(in alloc; "{:?}", texts.at(place))?),
+        _ => told(alloc, "no text"),
+    }
 }
 
 // `equals|TEXT|OTHER`: whether two texts are equal.

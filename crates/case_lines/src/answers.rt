@@ -104,7 +104,7 @@ pub fn or_else(mut list: String, empty: &str) -> Result<String, NoMemory> {
 pub fn told_words(alloc: Global, texts: &Texts) -> Result<String, NoMemory> {
     let mut list = String::new(alloc);
     for place in 0..texts.count() {
-        push_part(&mut list, " ", texts.at(place).as_str())?;
+        push_part(&mut list, " ", texts.at(place))?;
     }
     or_else(list, "-")
 }
@@ -113,7 +113,7 @@ pub fn told_words(alloc: Global, texts: &Texts) -> Result<String, NoMemory> {
 pub fn told_texts(alloc: Global, texts: &Texts) -> Result<String, NoMemory> {
     let mut list = String::new(alloc);
     for place in 0..texts.count() {
-        let text = format!(in alloc; "{:?}", texts.at(place).as_str())?;
+        let text = format!(in alloc; "{:?}", texts.at(place))?;
         push_part(&mut list, ", ", text.as_str())?;
     }
     or_else(list, "-")

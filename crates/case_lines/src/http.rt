@@ -20,7 +20,7 @@ fn push_if(out: &mut String, name: &str, value: &Option<Text>) -> Result<(), All
 
 fn push_cookies(out: &mut String, cookies: &Texts) -> Result<(), AllocError> {
     for place in 0..cookies.count() {
-        push_field(out, "Set-Cookie: ", cookies.at(place).as_str())?;
+        push_field(out, "Set-Cookie: ", cookies.at(place))?;
     }
     Ok(())
 }

@@ -174,7 +174,7 @@ impl ClaimSet {
         ensures err { OnErr result (self.new ≡ self.old) }
     {
         if value.count() == 1 {
-            self.put_text("aud", value.at(0).as_str())
+            self.put_text("aud", value.at(0))
         } else {
             self.put_texts("aud", value)
         }

@@ -148,7 +148,7 @@ pub(crate) fn items_of_texts(alloc: Global, texts: &Texts) -> Result<Vec<Value>,
 {
     let mut items = Vec::new(alloc);
     for i in 0..texts.count() {
-        items.push(Value::try_from_str(alloc, texts.at(i).as_str())?)?;
+        items.push(Value::try_from_str(alloc, texts.at(i))?)?;
     }
     Ok(items)
 }

@@ -14,12 +14,12 @@ use crate::records::{Client, Party, User};
 use crate::registry::Registry;
 use crate::rows::{clients_of, parties_of, provider_of, url_in, users_of, without_slash};
 use crate::rules::judge_records;
-use crate::subjects::subjects_of;
+use crate::subjects::{Subjects, subjects_of};
 use configuration_rows::RegNo;
 use configuration_rows::refusals::Refusals;
 use configuration_rows::values::{hex_at, natural_at, rows_at, table_at, text_or};
 use configuration_rows::version1::judge_rows;
-use sso_base::{NoMemory, Text, Texts};
+use sso_base::{NoMemory, Text};
 use std::alloc::Global;
 use toml::{Table, Value};
 
@@ -96,7 +96,7 @@ fn judge_rules(alloc: Global, issuer: &str, rows: &Rows) -> Result<(), RegNo>
 }
 
 // The subjects of the users at each client, where those at one client differ.
-fn judged_subjects(alloc: Global, salt: &[u8], rows: &Rows) -> Result<Vec<Texts>, RegNo>
+fn judged_subjects(alloc: Global, salt: &[u8], rows: &Rows) -> Result<Vec<Subjects>, RegNo>
     ensures ok { IfOk result (λ v. v.items ≡ map (subjects_at salt.now rows.now.users.items) rows.now.clients.items) }
     ensures none { IfOk result (λ v. subjects_refusals salt.now rows.now.users.items rows.now.clients.items ≡ []) }
     ensures err { IfErr result (λ e. (e ≡ RegNo.NoMemory) ⊎ (least (subjects_refusals salt.now rows.now.users.items rows.now.clients.items) ≡ Some e)) }
@@ -114,7 +114,7 @@ fn registry_of(
     root: &Value,
     provider: &Value,
     rows: Rows,
-    subjects: Vec<Texts>,
+    subjects: Vec<Subjects>,
 ) -> Result<Registry, NoMemory>
     requires provider { view provider.now ≡ provider_table (view root.now) }
     requires users { rows.users.items ≡ spec.users_of (view root.now) }

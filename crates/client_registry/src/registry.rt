@@ -10,7 +10,8 @@ ghost use Rattle.client_registry.specs.Rules.{user_place, redirect_place, party_
 use crate::places::{party_place, redirect_place, user_place};
 use crate::records::{Client, Party, Provider, User};
 use crate::rows::client_place;
-use sso_base::{NoMemory, Text, Texts};
+use crate::subjects::Subjects;
+use sso_base::{NoMemory, Text};
 use std::alloc::Global;
 use std::marker::Model;
 
@@ -25,7 +26,7 @@ pub struct Registry {
     pub(crate) users: Vec<User>,
     pub(crate) clients: Vec<Client>,
     pub(crate) parties: Vec<Party>,
-    pub(crate) subjects: Vec<Texts>,
+    pub(crate) subjects: Vec<Subjects>,
 }
 
 impl Model for Registry {
@@ -206,7 +207,7 @@ fn copied_parties(alloc: Global, parties: &[Party]) -> Result<Vec<Party>, NoMemo
     Ok(copied)
 }
 
-fn copied_subjects(alloc: Global, subjects: &[Texts]) -> Result<Vec<Texts>, NoMemory>
+fn copied_subjects(alloc: Global, subjects: &[Subjects]) -> Result<Vec<Subjects>, NoMemory>
     ensures { IfOk result (λ v. v.items ≡ subjects.now) }
 {
     let mut copied = Vec::new(alloc);

@@ -14,13 +14,13 @@ use registered_url::WebUrl;
 use sso_base::{NoMemory, Text, Texts};
 
 // Notes that the name occurs twice, if it does.
-fn note_twice(refusals: &mut Refusals, name: &Text, twice: bool) -> Result<(), NoMemory>
+fn note_twice(refusals: &mut Refusals, name: &str, twice: bool) -> Result<(), NoMemory>
     ensures { OnOk result (refusals.new ≡ refusals.old ++ note_if twice (no.Twice name.now)) }
 {
     if !twice {
         return Ok(());
     }
-    let name = name.copy(refusals.alloc())?;
+    let name = Text::new(refusals.alloc(), name)?;
     refusals.note(RegNo::Twice(name))
 }
 
@@ -40,7 +40,7 @@ fn users_twice(refusals: &mut Refusals, users: &[User]) -> Result<(), NoMemory>
 {
     for (place, user) in users.iter().enumerate() {
         let first = user_place(users, user.id.as_str().as_bytes());
-        note_twice(refusals, &user.id, is_again(place, first))?;
+        note_twice(refusals, user.id.as_str(), is_again(place, first))?;
     }
     Ok(())
 }
@@ -56,7 +56,7 @@ fn redirects_twice(
 {
     for number in 0..uris.count() {
         let uri = uris.at(number);
-        let first = redirect_place(clients, uri.as_str());
+        let first = redirect_place(clients, uri);
         note_twice(refusals, uri, is_again(place, first))?;
     }
     Ok(())
@@ -73,9 +73,9 @@ fn client_twice(
 {
     let id = client.id.as_str();
     let first = client_place(clients, id.as_bytes());
-    note_twice(refusals, &client.id, is_again(place, first) || id == issuer)?;
+    note_twice(refusals, id, is_again(place, first) || id == issuer)?;
     let first_secret = secret_place(clients, client.secret.as_str());
-    note_twice(refusals, &client.id, is_again(place, first_secret))?;
+    note_twice(refusals, id, is_again(place, first_secret))?;
     redirects_twice(refusals, clients, place, &client.redirects)
 }
 
@@ -101,7 +101,7 @@ fn use_twice(
     match clients.get(number as usize) {
         Some(client) => {
             let first = use_place(parties, number);
-            note_twice(refusals, &client.id, is_again(place, first))
+            note_twice(refusals, client.id.as_str(), is_again(place, first))
         }
         None => Ok(()),
     }
@@ -118,11 +118,7 @@ fn party_twice(
 {
     let name = party.name.as_str();
     let first = party_place(parties, name.as_bytes());
-    note_twice(
-        refusals,
-        &party.name,
-        is_again(place, first) || name == "op",
-    )?;
+    note_twice(refusals, name, is_again(place, first) || name == "op")?;
     use_twice(refusals, clients, parties, place, party.client)
 }
 

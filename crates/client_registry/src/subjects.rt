@@ -1,6 +1,6 @@
 // The subjects of users at clients (OpenID Connect Core 1.0, 8).
 
-ghost use Rattle.std.specs.Prelude.{◌≡◌, ◌∷◌, ◌++◌, map, IfOk, OnOk, slice_get};
+ghost use Rattle.std.specs.Prelude.{◌≡◌, ◌<◌, [], ◌∷◌, ◌++◌, length, map, IfOk, OnOk, slice_get, Some};
 ghost use Rattle.sha2.specs.Sha256.{sha256};
 ghost use Rattle.sso_base.specs.Base64Url.{b64u};
 ghost use Rattle.client_registry.specs.Rules as spec;
@@ -12,8 +12,66 @@ use base64::engine::general_purpose::URL_SAFE_NO_PAD;
 use configuration_rows::RegNo;
 use configuration_rows::refusals::Refusals;
 use sha2::{Digest, Sha256};
-use sso_base::{NoMemory, Text, Texts};
+use sso_base::{NoMemory, Text};
 use std::alloc::Global;
+use std::marker::Model;
+
+// The subjects of the users at one client, in order, seen as the list of them. They are many, and each is asked for by its
+// place.
+#[derive(Drop)]
+pub(crate) struct Subjects {
+    texts: Vec<Text>,
+}
+
+impl Model for Subjects {
+    ghost use Rattle.std.specs.Prelude.{List, ℕ};
+
+    ghost Value = { List (List ℕ) };
+
+    ghost view = { λ s. s.texts.items };
+}
+
+impl Subjects {
+    fn new(alloc: Global) -> Subjects
+        ensures { result ≡ [] }
+    {
+        Subjects {
+            texts: Vec::new(alloc),
+        }
+    }
+
+    fn push(&mut self, subject: Text) -> Result<(), NoMemory>
+        ensures { OnOk result (self.new ≡ self.old ++ subject ∷ []) }
+    {
+        self.texts.push(subject)?;
+        Ok(())
+    }
+
+    fn count(&self) -> usize
+        ensures { result ≡ length self.now }
+    {
+        self.texts.len()
+    }
+
+    // The subject at this place, from 0.
+    pub(crate) fn at(&self, place: usize) -> &Text
+        requires { place < length self.now }
+        ensures { slice_get self.now place ≡ Some result.now }
+    {
+        &self.texts[place]
+    }
+
+    // Equal subjects.
+    pub(crate) fn copy(&self, alloc: Global) -> Result<Subjects, NoMemory>
+        ensures { IfOk result (λ s. s ≡ self.now) }
+    {
+        let mut copied = Subjects::new(alloc);
+        for text in &self.texts {
+            copied.push(text.copy(alloc)?)?;
+        }
+        Ok(copied)
+    }
+}
 
 // The SHA-256 of the sector, the user's id and the salt, with a zero byte between.
 fn digest_of(salt: &[u8], sector: &str, id: &str) -> [u8; 32]
@@ -62,10 +120,10 @@ fn subjects_at(
     salt: &[u8],
     users: &[User],
     client: &Client,
-) -> Result<Texts, NoMemory>
+) -> Result<Subjects, NoMemory>
     ensures { IfOk result (λ t. t ≡ spec.subjects_at salt.now users.now client.now) }
 {
-    let mut subjects = Texts::new(alloc);
+    let mut subjects = Subjects::new(alloc);
     for user in users {
         subjects.push(subject_of(alloc, salt, client, user)?)?;
     }
@@ -74,7 +132,7 @@ fn subjects_at(
 
 // The first place at which the text stands.
 #[tactic(auto, using(sso_base::proofs::ListSteps::drop_at))]
-fn text_place(texts: &Texts, text: &str) -> Option<usize>
+fn text_place(texts: &Subjects, text: &str) -> Option<usize>
     ensures { result ≡ spec.text_place text.now texts.now }
 {
     for place in 0..texts.count() {
@@ -124,7 +182,7 @@ fn judge_subjects(
     refusals: &mut Refusals,
     client: &Client,
     users: &[User],
-    subjects: &Texts,
+    subjects: &Subjects,
 ) -> Result<(), NoMemory>
     ensures { OnOk result (refusals.new ≡ refusals.old ++ spec.clashes client.now users.now subjects.now) }
 {
@@ -142,7 +200,7 @@ pub(crate) fn subjects_of(
     salt: &[u8],
     users: &[User],
     clients: &[Client],
-) -> Result<Vec<Texts>, NoMemory>
+) -> Result<Vec<Subjects>, NoMemory>
     ensures subjects { IfOk result (λ v. v.items ≡ map (spec.subjects_at salt.now users.now) clients.now) }
     ensures refusals { OnOk result (refusals.new ≡ refusals.old ++ spec.subjects_refusals salt.now users.now clients.now) }
 {

@@ -77,7 +77,7 @@ fn has_answer_name(names: &Texts) -> bool
     ensures { result ≡ list_any (λ name. has_text name spec.answer_names) names.now }
 {
     for place in 0..names.count() {
-        if is_answer_name(names.at(place).as_str()) {
+        if is_answer_name(names.at(place)) {
             return true;
         }
     }

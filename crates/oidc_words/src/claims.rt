@@ -99,7 +99,7 @@ impl Scopes {
     {
         let mut scopes = Scopes::none();
         for place in 0..names.count() {
-            scopes = scopes.joined(Scopes::with_claim(names.at(place).as_str()));
+            scopes = scopes.joined(Scopes::with_claim(names.at(place)));
         }
         scopes
     }

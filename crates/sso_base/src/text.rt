@@ -84,10 +84,11 @@ impl Blob {
         })
     }
 
-    /// These bytes, taken over.
-    pub fn from_vec(bytes: Vec<u8>) -> Blob
+    /// These bytes, taken over. They give back what was reserved for more.
+    pub fn from_vec(mut bytes: Vec<u8>) -> Blob
         ensures { result ≡ bytes.items }
     {
+        bytes.shrink_to_fit();
         Blob { bytes }
     }
 

@@ -60,7 +60,7 @@ fn put_cookies(out: &mut String, cookies: &Texts) -> Result<(), NoMemory>
     ensures { OnOk result (string_bytes out.new ≡ string_bytes out.old ++ spec.cookie_lines cookies.now) }
 {
     for i in 0..cookies.count() {
-        put_field(out, "Set-Cookie", cookies.at(i).as_str())?;
+        put_field(out, "Set-Cookie", cookies.at(i))?;
     }
     Ok(())
 }

@@ -47,7 +47,7 @@ fn take_unwanted(claims: &mut ClaimSet, names: &Texts, scopes: Scopes, asked: &T
     ensures { claims.new ≡ members_with (is_wanted_claim scopes asked.now) claims.old }
 {
     for place in 0..names.count() {
-        let name = names.at(place).as_str();
+        let name = names.at(place);
         if !is_wanted(scopes, asked, name) {
             claims.remove(name);
         }

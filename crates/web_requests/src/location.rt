@@ -43,7 +43,7 @@ fn place_of(texts: &Texts, text: &str) -> Option<usize>
     ensures { result ≡ position_from (λ t. bytes_eq t text.now) 0 texts.now }
 {
     for place in 0..texts.count() {
-        if texts.at(place).equals(text) {
+        if texts.at(place) == text {
             return Some(place);
         }
     }
