@@ -79,6 +79,7 @@ claims_are_values t spelled = record {
   sid = IsUtf8-are_ascii (codes "sid") refl;
   at_hash = tt;
   c_hash = tt;
+  more = ClaimsFit-none;
 }
 
 visit_is_legal : (t : Text) → IsUtf8 t → bytes_eq t (word_text (word 3)) ≡ true → IsLegalRp shop_setup (past_entered t)

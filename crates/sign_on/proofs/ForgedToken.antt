@@ -120,6 +120,7 @@ asks = (
     sid = IsUtf8-are_ascii (codes "sid") refl;
     at_hash = IsUtf8-are_ascii hash_text refl;
     c_hash = tt;
+    more = ClaimsFit-none;
   },
   drawn_word (word 1) refl refl,
 )
