@@ -85,8 +85,8 @@ the_login_page_came =
     (login_page_leads sample [] authorize_entry authorize_entry.ask (word 6) (word 5) false) a_login_page_comes
 
 -- no request gives a login form of a third user
-no_reply_where_no_request_asks : (told : OpReply) (Why : Type 0) → Comes sample past_login (entry_at 1000 9 (ask.Login None (Some 2) None None)) told Why → ⊥
-no_reply_where_no_request_asks told Why h = (let k : false ≡ true = h.prepared in cc)
+no_reply_where_no_request_asks : (told : OpReply) (Cause : Type 0) → Comes sample past_login (entry_at 1000 9 (ask.Login None (Some 2) None None)) told Cause → ⊥
+no_reply_where_no_request_asks told Cause h = (let k : false ≡ true = h.prepared in cc)
 
 -- ---- the turn, the session and the code that these are about
 

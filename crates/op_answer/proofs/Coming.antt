@@ -20,12 +20,12 @@ module _ (c : Configuration) (past : OpPast) (e : Entry OpAsk) (told : OpReply) 
   room_by true is told_is placed = absurd (placed (lacks_place c past e told told_is is))
   room_by false is told_is placed = is
 
-  pub comes : is_own told ≡ true → (Why : Type 0) → (op_answer c past e ≡ told → Why) → op_answer c past e ≡ told → Comes c past e told Why
-  comes own Why leads h =
+  pub comes : is_own told ≡ true → (Cause : Type 0) → (op_answer c past e ≡ told → Cause) → op_answer c past e ≡ told → Comes c past e told Cause
+  comes own Cause leads h =
       let stood = own_replies_stand c past e told own h in
       record { prepared = stood.prepared; placed = has_places stood; why = leads h }
 
-  pub came : (Why : Type 0) → (Why → op_reply c past e e.ask ≡ told) → Comes c past e told Why → op_answer c past e ≡ told
-  came Why leads h =
+  pub came : (Cause : Type 0) → (Cause → op_reply c past e e.ask ≡ told) → Comes c past e told Cause → op_answer c past e ≡ told
+  came Cause leads h =
       let told_is = leads h.why in
       standing_is_the_answer c past e told (record { prepared = h.prepared; room = room_by (lacks_room past e told) refl told_is h.placed; reply_is = told_is })

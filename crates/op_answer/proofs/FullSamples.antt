@@ -43,8 +43,8 @@ turns_have_no_place : FullCause sample past_login turn_again
 turns_have_no_place = record { prepared = refl; no_place = inl turn_has_no_place }
 
 -- so the page does not come, whatever its cause
-no_page_without_a_place : (Why : Type 0) → Comes sample past_login turn_again (op_reply sample past_login turn_again turn_again.ask) Why → ⊥
-no_page_without_a_place Why h = h.placed (inl turn_has_no_place)
+no_page_without_a_place : (Cause : Type 0) → Comes sample past_login turn_again (op_reply sample past_login turn_again turn_again.ask) Cause → ⊥
+no_page_without_a_place Cause h = h.placed (inl turn_has_no_place)
 
 -- ---- a session: its word is that of the presented one, which stays then
 

@@ -4,6 +4,7 @@ use Rattle.sso_base.specs.Words.{Word, Text, fresh_word, word_of_text}
 use Rattle.client_registry.specs.ClientSets.{no_clients}
 use Rattle.oidc_words.specs.declared.errors.AuthError.TheVariants.{LoginRequired}
 use Rattle.op_exchange.specs.declared.reply.OpReply.TheVariants.{Refused}
+use Rattle.token_endpoint.specs.declared.granting.Grant.{Grant}
 use Rattle.op_exchange.specs.declared.ask.OpAsk.TheVariants.{Token}
 use Rattle.code_grant.specs.declared.rows.SessionRow.{SessionRow}
 use Rattle.code_grant.specs.declared.rows.CodeRow.{CodeRow}
@@ -116,10 +117,11 @@ page_is_about_no_session session h = (let k : None ≡ Some session = h.session_
 -- a token for the first code is not for a second client
 code_is_of_the_first_client : (t : Text) → word_of_text t ≡ Some (word 15) → ForCode past_code (pair_of (token_entry 1000 t) (tokens_reply 1000)) (record first_access { client = 1 }) → ⊥
 code_is_of_the_first_client t spells h =
-    let named : t ≡ h.grant.code = (let k : Token (Ok (record { client = 0; code = t; redirect = callback_uri })) ≡ Token (Ok h.grant) = h.asked in cc) in
-    let H : Text → Option CodeRow = λ c. held_code past_code 1000 (word_of_text c) in
-    let held : Some first_code ≡ Some h.code = sym (rw spells refl) ∙ ap H named ∙ h.held in
-    let same : first_code ≡ h.code = cc in
+    let granted : Grant = record { client = 0; code = t; redirect = callback_uri } in
+    let asked : granted ≡ h.grant = (let k : Token (Ok granted) ≡ Token (Ok h.grant) = h.asked in cc) in
+    let T : Grant → Option CodeRow = λ g. held_code past_code 1000 (word_of_text g.code) in
+    let first : T granted ≡ Some first_code = rw spells refl in
+    let same : first_code ≡ h.code = (let k : Some first_code ≡ Some h.code = sym first ∙ (ap T asked ∙ h.held) in cc) in
     let C : CodeRow → ℕ = λ code. code.wish.client in
     let k : ◌≡◌ {A = ℕ} 1 0 = h.of_wish.client_is ∙ sym (ap C same) in
     absurd (omega (arith, k))

@@ -63,10 +63,10 @@ pub record Stood (c : Configuration) (past : OpPast) (e : Entry OpAsk) (reply : 
   pub reply_is : op_reply c past e e.ask ≡ reply
 
 -- A request gives the ask, each row that the reply makes has a place in its table, and this is why it comes.
-pub record Comes (c : Configuration) (past : OpPast) (e : Entry OpAsk) (reply : OpReply) (Why : Type 0) : Type 0 where
+pub record Comes (c : Configuration) (past : OpPast) (e : Entry OpAsk) (reply : OpReply) (Cause : Type 0) : Type 0 where
   pub prepared : is_prepared c e.ask ≡ true
   pub placed : LacksPlace past e reply → ⊥
-  pub why : Why
+  pub why : Cause
 
 -- ---- what the replies have in common
 

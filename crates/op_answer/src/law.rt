@@ -69,7 +69,7 @@ pub fn rows_stand()
 /// Why each reply of the provider comes. A reply with these parts comes exactly where a request gives the ask, each row that
 /// the reply makes has a place in its table, and the past and the ask are as its cause says. A UserInfo request and a sign-out
 /// are always given by a request and make nothing, so their replies come exactly where the cause says. `Full` has its own law,
-/// below.
+/// below. The metadata, the keys and `NotHere` say nothing of the past.
 pub fn replies_have_a_cause()
     ensures own { (c : Configuration) (past : OpPast) (e : Entry OpAsk) (r : OpReply) → is_own r ≡ true → (op_answer c past e ≡ r) ↔ Stood c past e r }
     ensures login_pages { (c : Configuration) (past : OpPast) (e : Entry OpAsk) (turn browser : Word) (again : Bool) → (op_answer c past e ≡ reply.LoginPage turn browser again) ↔ Comes c past e (reply.LoginPage turn browser again) (LoginPageCause c past e e.ask turn browser again) }

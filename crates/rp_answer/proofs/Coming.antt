@@ -31,13 +31,13 @@ module _ (s : PartySetup) (past : RpPast) (e : Entry RpAsk) where
   room_by told (Some found) is prepared told_is placed = absurd (placed found (lacks_place s past e told found prepared told_is is))
   room_by told None is prepared told_is placed = is
 
-  pub comes : (told : RpReply) → is_own told ≡ true → (Why : Type 0) → (rp_answer s past e ≡ told → Why) → rp_answer s past e ≡ told → Comes s past e told Why
-  comes told own Why leads h =
+  pub comes : (told : RpReply) → is_own told ≡ true → (Cause : Type 0) → (rp_answer s past e ≡ told → Cause) → rp_answer s past e ≡ told → Comes s past e told Cause
+  comes told own Cause leads h =
       let stood = own_replies_stand s past e told own h in
       record { prepared = stood.prepared; placed = has_place told stood; why = leads h }
 
-  pub came : (told : RpReply) (Why : Type 0) → (Why → rp_reply s past e e.ask ≡ told) → Comes s past e told Why → rp_answer s past e ≡ told
-  came told Why leads h =
+  pub came : (told : RpReply) (Cause : Type 0) → (Cause → rp_reply s past e e.ask ≡ told) → Comes s past e told Cause → rp_answer s past e ≡ told
+  came told Cause leads h =
       let told_is = leads h.why in
       standing_is_the_answer s past e told (record { prepared = h.prepared; room = room_by told (lacking told) refl h.prepared told_is h.placed; reply_is = told_is })
 

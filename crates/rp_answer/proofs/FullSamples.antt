@@ -39,8 +39,8 @@ state_is_drawn_again : rp_answer shop_setup past_begin begin_entry ≡ Refused (
 state_is_drawn_again = cause_makes_full shop_setup past_begin begin_entry table.Logins logins_have_no_place
 
 -- so the request does not come, whatever its cause
-no_request_without_a_place : (Why : Type 0) → Comes shop_setup past_begin begin_entry asked Why → ⊥
-no_request_without_a_place Why h = h.placed table.Logins state_has_no_place
+no_request_without_a_place : (Cause : Type 0) → Comes shop_setup past_begin begin_entry asked Cause → ⊥
+no_request_without_a_place Cause h = h.placed table.Logins state_has_no_place
 
 exchange_has_no_place : NoPendingPlace only_code past_callback (callback_entry 1000 (word 1)) exchange
 exchange_has_no_place = record { word = word 17; message = _; sent = inl refl; full = inr (waiting, refl) }

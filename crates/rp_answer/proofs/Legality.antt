@@ -12,6 +12,7 @@ use Rattle.sso_base.proofs.RowLaws.{bytes_same}
 use Rattle.sso_base.proofs.WordUtf8.{IsUtf8-word_text}
 use Rattle.sso_base.specs.declared.history.Entry.{Entry}
 use Rattle.sso_base.proofs.Spelling.{IsBytes-from_all_bytes}
+use Rattle.claim_set.proofs.Fitting.{ClaimsFit-none}
 use Rattle.id_token.specs.HalfHash.{half_hash_of}
 use Rattle.token_endpoint.specs.Request.{token_message}
 use Rattle.login_request.specs.Request.{login_location}

@@ -59,10 +59,10 @@ pub record Stood (s : PartySetup) (past : RpPast) (e : Entry RpAsk) (reply : RpR
   pub reply_is : rp_reply s past e e.ask ≡ reply
 
 -- A request gives the ask, the row that the reply makes has a place in its table, and this is why it comes.
-pub record Comes (s : PartySetup) (past : RpPast) (e : Entry RpAsk) (reply : RpReply) (Why : Type 0) : Type 0 where
+pub record Comes (s : PartySetup) (past : RpPast) (e : Entry RpAsk) (reply : RpReply) (Cause : Type 0) : Type 0 where
   pub prepared : is_prepared e.ask ≡ true
   pub placed : (table : RpTable) → LacksPlace (party_of s).types past e reply table → ⊥
-  pub why : Why
+  pub why : Cause
 
 -- ---- what the replies to authorization responses have in common
 

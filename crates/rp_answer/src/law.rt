@@ -53,7 +53,7 @@ pub fn rows_stand()
 
 /// Why each reply of a relying party comes. A reply with these parts comes exactly where a request gives the ask, the row that
 /// the reply makes has a place in its table, and the past and the ask are as its cause says. The cause of the refusal `Full` is
-/// that a table is full, which has its own law, below.
+/// that a table is full, which has its own law, below. `NotHere` says nothing of the past.
 pub fn replies_have_a_cause()
     ensures own { (s : PartySetup) (past : RpPast) (e : Entry RpAsk) (r : RpReply) → is_own r ≡ true → (rp_answer s past e ≡ r) ↔ Stood s past e r }
     ensures asks { (s : PartySetup) (past : RpPast) (e : Entry RpAsk) (to : Text) (browser : Word) → (rp_answer s past e ≡ reply.Ask to browser) ↔ Comes s past e (reply.Ask to browser) (AskCause s past e e.ask to browser) }
