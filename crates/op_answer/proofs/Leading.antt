@@ -1,5 +1,5 @@
 -- What each cause leads to: the reply that there is, were there always room.
-use Rattle.std.proofs.Common.{◌≡◌, ℕ, ◌==◌, Bool, true, false, not, ◌||◌, cond, Option, Some, None, Ok, Err, refl, sym, ◌∙◌, ap, inl, inr}
+use Rattle.std.proofs.Common.{◌≡◌, ℕ, ◌==◌, Bool, true, false, not, ◌||◌, cond, Option, Some, None, Ok, Err, refl, sym, ◌∙◌, ap, ◌⊎◌, inl, inr}
 use Rattle.std.specs.Str.{bytes_eq}
 use Rattle.std.proofs.lemmas.Bool.Decides.{eqb_tells}
 use Rattle.std.proofs.lemmas.Slice.Eq.{bytes_eq-Decides}
@@ -71,6 +71,14 @@ redeems client spent usable uri own unspent lasts same = rw (own, unspent, lasts
 or_true : (b : Bool) → (b || true) ≡ true
 or_true true = refl
 or_true false = refl
+
+-- another browser or another session is shown the error page
+other_shown : (same own : Bool) (rest : OpReply) → (same ≡ false) ⊎ (own ≡ false) → cond (not same || not own) (ErrorPage page.Browser) rest ≡ ErrorPage page.Browser
+other_shown same own rest (inl browsers) = let B : Bool → OpReply = λ b. cond (not b || not own) (ErrorPage page.Browser) rest in ap B browsers
+other_shown same own rest (inr sessions) =
+    let T : Bool → OpReply = λ b. cond (not same || not b) (ErrorPage page.Browser) rest in
+    let C : Bool → OpReply = λ b. cond b (ErrorPage page.Browser) rest in
+    ap T sessions ∙ ap C (or_true (not same))
 
 module _ (c : Configuration) (past : OpPast) (e : Entry OpAsk) where
   -- ---- what the forms have in common
@@ -201,12 +209,8 @@ module _ (c : Configuration) (past : OpPast) (e : Entry OpAsk) where
   other_at_consent turn agree browser presented o =
       let L : Option TurnRow → OpReply = λ x. consent c past e x agree browser presented in
       let S : Option SessionRow → OpReply = λ x. consent_in c past e o.row x agree browser presented in
-      let same = is_word browser o.row.browser in
-      let own = is_turns presented o.row.session in
-      let C : Bool → OpReply = λ b. cond b (ErrorPage page.Browser) (decided c past e o.row o.session agree) in
-      let B : Bool → Bool = λ b. not b || not own in
-      let T : Bool → Bool = λ b. not same || not b in
-      ap L o.live ∙ (ap S o.standing ∙ elim o.other [ inl browsers ↦ ap C (ap B browsers) | inr sessions ↦ ap C (ap T sessions ∙ or_true (not same)) ])
+      let shown = other_shown (is_word browser o.row.browser) (is_turns presented o.row.session) (decided c past e o.row o.session agree) o.other in
+      ap L o.live ∙ (ap S o.standing ∙ shown)
 
   pub error_page_leads : (asked : OpAsk) (why : PageNo) → ErrorPageCause past e asked why → op_reply c past e asked ≡ ErrorPage why
   error_page_leads (ask.Authorize (verdict.Page judged) browser presented) why cause = let P : PageNo → OpReply = λ x. ErrorPage x in ap P cause

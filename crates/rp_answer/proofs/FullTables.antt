@@ -30,9 +30,9 @@ use Rattle.rp_answer.proofs.Caused.{Caused}
 use Rattle.rp_answer.proofs.Answers.{replies_caused}
 
 -- a table that lacks room is this one, and is full
-lacks : (of found : RpTable) (full : Bool) → if_full of full ≡ Some found → (of ≡ found) × (full ≡ true)
-lacks of found true h = (cc, refl)
-lacks of found false h = cc
+lacks : (this found : RpTable) (full : Bool) → if_full this full ≡ Some found → (this ≡ found) × (full ≡ true)
+lacks this found true h = (cc, refl)
+lacks this found false h = cc
 
 module _ (s : PartySetup) (past : RpPast) (e : Entry RpAsk) where
   abbrev lacking : RpReply → Option RpTable
