@@ -38,12 +38,18 @@ pub enum Location {
 
 // ---- redirection URIs, as they are registered
 
+fn is_same(one: &str, other: &str) -> bool
+    ensures { result ≡ bytes_eq one.now other.now }
+{
+    one == other
+}
+
 // The place of a text in a list, from 0.
 fn place_of(texts: &Texts, text: &str) -> Option<usize>
     ensures { result ≡ position_from (λ t. bytes_eq t text.now) 0 texts.now }
 {
     for place in 0..texts.count() {
-        if texts.at(place) == text {
+        if is_same(texts.at(place), text) {
             return Some(place);
         }
     }
