@@ -1,6 +1,6 @@
 // MACs, and the proofs of passwords.
 
-use case_lines::{bytes, in_32, told, told_hex};
+use case_lines::{bytes, told, told_hex};
 use sso_base::NoMemory;
 use std::alloc::Global;
 
@@ -45,14 +45,9 @@ fn proof(alloc: Global, password: &str, salt: &str, rounds: &str) -> Result<Stri
     }
 }
 
-// `same|MAC|MAC`: whether two MACs are equal.
+// `same|BYTES|BYTES`: whether two MACs, or two secrets, are equal.
 fn same(alloc: Global, left: &str, right: &str) -> Result<String, NoMemory> {
     let (left, right) = (bytes(alloc, left)?, bytes(alloc, right)?);
-    match (in_32(left.as_slice()), in_32(right.as_slice())) {
-        (Some(left), Some(right)) => {
-            let same = hmac256::same(&left, &right);
-            Ok(format!(in alloc; "{same}")?)
-        }
-        _ => told(alloc, "no MACs"),
-    }
+    let same = hmac256::same(left.as_slice(), right.as_slice());
+    Ok(format!(in alloc; "{same}")?)
 }

@@ -1,6 +1,7 @@
 pub mod Joined
 pub mod Spelled
 pub mod Lookups
+mod NameSets
 pub mod Clients
 pub mod Headers
 pub mod Authenticating

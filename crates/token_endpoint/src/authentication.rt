@@ -7,6 +7,7 @@ use crate::basic::{Credentials, basic_header, read_basic};
 use crate::no::GrantNo;
 use crate::parameters::first_repeated;
 use client_registry::Registry;
+use hmac256::same;
 use request_params::{Pair, value_of};
 use sso_base::{NoMemory, Text};
 use std::alloc::Global;
@@ -28,14 +29,20 @@ pub(crate) fn is_other(text: &str, given: Option<&Text>) -> bool
     }
 }
 
-// The number of the client that has this id and this secret.
+// The number of the client that has this id and this secret. The time does not tell where secrets differ. For an id that no client
+// has, the first client's secret is compared.
 #[tactic(auto, using(crate::proofs::Clients::place_within))]
 fn client_with(registry: &Registry, id: &Text, secret: &Text) -> Option<u32>
     ensures { result ≡ spec.client_with registry.now (record { id = id.now; secret = secret.now }) }
 {
-    let client = registry.find_client(id.as_str().as_bytes())?;
-    if registry.client(client).secret.equals(secret.as_str()) {
-        Some(client)
+    let found = registry.find_client(id.as_str().as_bytes());
+    let compared = found.unwrap_or(0);
+    if compared >= registry.clients() {
+        return None;
+    }
+    let kept = &registry.client(compared).secret;
+    if same(kept.as_str().as_bytes(), secret.as_str().as_bytes()) {
+        found
     } else {
         None
     }
@@ -90,7 +97,7 @@ pub(crate) fn read_client(
     ensures ok { IfOk result (λ n. spec.client_read registry.now (option_map (λ h. h.now) auth.entry) parameters.now ≡ Ok n) }
     ensures err { IfErr result (λ e. (e ≡ GrantNo.NoMemory) ⊎ (spec.client_read registry.now (option_map (λ h. h.now) auth.entry) parameters.now ≡ Err e)) }
 {
-    if let Some(name) = first_repeated(parameters) {
+    if let Some(name) = first_repeated(alloc, parameters)? {
         return Err(GrantNo::Twice(name.copy(alloc)?));
     }
     let basic = basic_header(auth);

@@ -1,28 +1,22 @@
 // The parameters of a request's body: the pairs of a form (RFC 6749, 4.1.3; the URL Standard, 5.1).
 
-ghost use Rattle.std.specs.Prelude.{◌≡◌, option_map};
-ghost use Rattle.request_params.specs.Reading.{has_name as has_name_of, first_repeated as first_repeated_of};
+ghost use Rattle.std.specs.Prelude.{◌≡◌, IfOk, option_map};
+ghost use Rattle.request_params.specs.Reading.{first_repeated as first_repeated_of};
 
 use request_params::Pair;
-use sso_base::Text;
+use sso_base::{NoMemory, Text};
+use std::alloc::Global;
+use std::collections::BTreeSet;
 
-// Whether one of the parameters has the name.
-fn has_name(parameters: &[Pair], name: &str) -> bool
-    ensures { result ≡ has_name_of name.now parameters.now }
+/// The first name that stands again. A set has the names so far, so a body of many names costs no square of their number.
+pub(crate) fn first_repeated(alloc: Global, parameters: &[Pair]) -> Result<Option<&Text>, NoMemory>
+    ensures { IfOk result (λ o. option_map (λ t. t.now) o ≡ first_repeated_of parameters.now) }
 {
-    parameters
-        .iter()
-        .any(|parameter| parameter.0.as_str() == name)
-}
-
-/// The first name that stands again.
-pub(crate) fn first_repeated(parameters: &[Pair]) -> Option<&Text>
-    ensures { option_map (λ t. t.now) result ≡ first_repeated_of parameters.now }
-{
-    for (place, parameter) in parameters.iter().enumerate() {
-        if has_name(&parameters[..place], parameter.0.as_str()) {
-            return Some(&parameter.0);
+    let mut names = BTreeSet::new(alloc);
+    for parameter in parameters {
+        if !names.insert(parameter.0.as_str())? {
+            return Ok(Some(&parameter.0));
         }
     }
-    None
+    Ok(None)
 }
