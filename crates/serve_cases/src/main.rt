@@ -3,50 +3,59 @@
 //!
 //! The file `stdin` has the cases, and `stdout` the same with their answers. `case_lines` says how a line is read, and the comments
 //! there where the expected answers come from. `desks` says how a desk is written, `$sample$` is a configuration with all roles,
-//! `$form$` the field of a request that has a form, `$header$` the first line of a trace, and `$provider$` and `$alice$` are rows of
-//! other configurations.
+//! `$form$` the field of a request that has a form, `$header$` the first line of a trace, `$feed$` a line feed, and `$provider$` and
+//! `$alice$` are rows of other configurations.
 //!
 //! | Call | Answer |
 //! |---|---|
 //! | `file|NAME|BYTES`, `lines|NAME|LINES` | these bytes, or lines with `/` between them, stand under the name from now on |
 //! | `ends|DESK` | how each connection of one desk is served, by one worker |
+//! | `reads|BYTES` | how many reads a request has, any of which ends its connection if it fails, and how it is served if none does |
 //! | `work|DESK` | how one worker ends at one desk |
 //! | `serve|DESK|..` | what the server tells, and each desk |
 //! | `calls|MORE|..` | what a store of one pass answers to these asks, each `REPLY at PLACE`, `full at WEIGHT` or `no memory`, and its places at the end |
 //! | `two threads` | what came of 2,000 calls of a store by two threads at the same time |
 //! | `sso|SHELF|SINK|WORDS|DESK|..` | the status of the words, the text, and each desk |
 //! | `sso|SHELF|SINK|WORDS|two logins` or `two keys` | the same for two desks that wait for each other |
+//! | `sso|SHELF|SINK|WORDS|late|DESK` | the same for a desk at which connections take nothing before calls of its link |
+//! | `last|SHELF|SINK|WORDS` | the status of the words with no desk, how many lines the text has, and the last of them |
 //! | `writer|CALL` | what a writer, of which this call fails, takes as a sink |
 //! | `words|NAME|WORD|..` | the words of a process |
+//! | `tries|ADDRESS|..` | to which of these addresses a link tries to connect, over a network in memory |
 //! | `machine|CALL` | what the clock, the random words, a door, a link or the desk of this machine answer |
 //!
 //! `ends`, `work` and `serve` are over a role of their own, whose core is full after one ask, and `calls` and `two threads` over the core
 //! alone, which replies with the number of the entries before. The provider and the parties are served by the top call. SHELF and SINK are
-//! the numbers of the calls that fail, and 0 is none.
+//! the numbers of the calls that fail, and 0 is none; a sink `slow CALL` takes one byte at a call.
 //!
 //! | Module | What it has |
 //! |---|---|
-//! | `sources` | sources that give few bytes at a call |
+//! | `sources`, `sinks` | sources that give and sinks that take few bytes at a call |
 //! | `desks` | desks in memory, read of a field, and what is told of them |
 //! | `tick`, `tally`, `tally_role` | the core that counts its asks, and the role over it |
 //! | `passes`, `one_pass`, `two_passes` | the calls `calls` and `two threads`: a store over that core |
-//! | `workers` | the calls `ends` and `work`: one worker over a store of its own |
+//! | `workers` | the calls `ends`, `reads` and `work`: one worker over a store of its own |
 //! | `servers` | the call `serve` |
-//! | `files`, `top` | the calls `file`, `lines` and `sso` |
+//! | `files`, `top` | the calls `file`, `lines`, `sso` and `last` |
 //! | `meeting`, `login_door`, `two` | desks that wait for each other |
+//! | `late` | a desk at which connections take nothing before calls of its link |
 //! | `process` | the calls `writer` and `words` |
+//! | `network` | the call `tries`: a link over a network in memory |
 //! | `this_machine`, `loopback` | the call `machine` |
 #![tactic(auto)]
 
 mod desks;
 mod files;
+mod late;
 mod login_door;
 mod loopback;
 mod meeting;
+mod network;
 mod one_pass;
 mod passes;
 mod process;
 mod servers;
+mod sinks;
 mod sources;
 mod tally;
 mod tally_role;
@@ -81,6 +90,7 @@ impl Cases for ServeCases {
             ["lines", name, lines] => files::put_lines(alloc, &mut self.files, name, lines),
             ["writer", call] => process::writer(alloc, call),
             ["words", words @ ..] => process::words(alloc, words),
+            ["tries", addresses @ ..] => network::tries(alloc, addresses),
             _ => told(alloc, "no such call"),
         }
     }
@@ -88,6 +98,7 @@ impl Cases for ServeCases {
     fn text(&self, name: &str) -> Option<&str> {
         match name {
             "form" => Some("Content-Type: application/x-www-form-urlencoded"),
+            "feed" => Some("\n"),
             "header" => Some("sso-trace 1 000102030405060708090a0b0c0d0e0f1011121314151617"),
             "provider" => Some(PROVIDER),
             "alice" => Some(ALICE),
@@ -116,7 +127,12 @@ where
             let call = top::Call { shelf, sink, words };
             top::answer(rt, alloc, cases.files.as_slice(), &call, desks)
         }
+        ["last", shelf, sink, words] => {
+            let call = top::Call { shelf, sink, words };
+            top::last(rt, alloc, cases.files.as_slice(), &call)
+        }
         [call @ ("ends" | "work"), desk] => workers::answer(rt, alloc, call, desk),
+        ["reads", bytes] => workers::reads(rt, alloc, bytes),
         ["serve", desks @ ..] => servers::answer(rt, alloc, desks),
         ["calls", asks @ ..] => one_pass::answer(rt, alloc, asks),
         ["two threads"] => two_passes::answer(rt, alloc),
