@@ -13,6 +13,7 @@
 //! | `traces` | the calls `trace`, `whole`, `long` and `seed` of the table `lines`: a trace is read |
 //! | `lines` | how lines are told |
 //! | `plays` | the calls `play`, `whole` and `end` of the table `plays`: a trace is played |
+//! | `fronts` | the call `fronts` of the table `plays`: the bytes of a trace end after each of them |
 //! | `among` | the call `among` of the table `plays`: logins are played alone and among other lines, and compared |
 //! | `configurations` | the configurations |
 //! | `texts` | the texts that names in a line stand for |
@@ -20,6 +21,7 @@
 
 mod among;
 mod configurations;
+mod fronts;
 mod lines;
 mod plays;
 mod texts;
@@ -68,6 +70,7 @@ fn of_plays(alloc: Global, fields: &[&str]) -> Result<String, NoMemory> {
         ["play", name, lines] => plays::play(alloc, name, lines),
         ["whole", name, lines] => plays::whole(alloc, name, lines),
         ["end", name, lines] => plays::end(alloc, name, lines),
+        ["fronts", name, lines] => fronts::fronts(alloc, name, lines),
         ["among", name, lines, logins @ ..] => among::among(alloc, name, lines, logins),
         _ => told(alloc, "no such call"),
     }
