@@ -10,7 +10,7 @@
 //! | `desks` | [`desk`], a desk over this machine |
 //! | `door` | [`TcpDoor`], a TCP listener as a door |
 //! | `connection` | a TCP connection as a source and a sink |
-//! | `link` | [`TcpLink`], TCP as a link |
+//! | `link` | [`TcpLink`], TCP as a link, to loopback addresses only |
 //! | `clock` | [`SystemClock`], the machine's clock as a clock |
 //! | `draw` | [`RandomDraw`], a random generator as a draw |
 //! | `wire` | bytes over a TCP stream, within limits in time |

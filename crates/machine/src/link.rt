@@ -1,6 +1,7 @@
-//! TCP as a link.
+//! TCP as a link, to this machine alone.
 
-ghost use Rattle.std.specs.Prelude.{◌≡◌, ◌≤◌, IfSome, length};
+ghost use Rattle.std.specs.Prelude.{◌≡◌, ◌↔◌, ◌≤◌, IsTrue, IfSome, length};
+ghost use Rattle.machine.specs.Addresses.{IsLoopback};
 ghost use Rattle.server_desk.specs.Links.{untold_link};
 
 use crate::connection::connection_over;
@@ -8,13 +9,14 @@ use crate::limit::Limit;
 use server_desk::{Link, LinkNo, read_whole};
 use sso_base::{Blob, Text, write_whole};
 use std::alloc::Global;
-use std::net::{Net, TcpStream, ToSocketAddrs};
-use std::time::Clock;
+use std::net::{Net, SocketAddr, TcpStream, ToSocketAddrs};
+use std::time::{Clock, Duration};
 
 /// How many seconds an exchange may take in all.
 const EXCHANGE: u64 = 10;
 
-/// TCP connections, one for each exchange. It does not tell what was exchanged.
+/// TCP connections, one for each exchange, to loopback addresses only: what is sent is not encrypted, and may have a client's secret in
+/// it. It does not tell what was exchanged.
 #[derive(Drop)]
 pub struct TcpLink<'a, R: Net<Stream = TcpStream> + Clock> {
     rt: &'a R,
@@ -42,15 +44,36 @@ impl<'a, R: Net<Stream = TcpStream> + Clock + Sync + AllocGlobal> TcpLink<'a, R>
     }
 }
 
-// A stream to the first address of this place that takes one.
+// Whether this is a loopback address.
+fn is_loopback(address: &SocketAddr) -> bool
+    ensures { IsTrue result ↔ IsLoopback address.now }
+{
+    address.ip().is_loopback()
+}
+
+// A stream to this address, if it takes one in so much time. No other call here connects.
+fn connect_to<R: Net<Stream = TcpStream>>(
+    rt: &R,
+    address: &SocketAddr,
+    left: Duration,
+) -> Option<TcpStream>
+    requires { IsLoopback address.now }
+{
+    TcpStream::connect_timeout(rt, address, left).ok()
+}
+
+// A stream to the first loopback address of this place that takes one. Other addresses are skipped.
 fn connect<R: Net<Stream = TcpStream> + Clock>(
     rt: &R,
     to: &str,
     limit: &Limit,
 ) -> Option<TcpStream> {
     for address in to.to_socket_addrs(rt).ok()? {
+        if !is_loopback(&address) {
+            continue;
+        }
         let left = limit.left(rt, EXCHANGE)?;
-        if let Ok(stream) = TcpStream::connect_timeout(rt, &address, left) {
+        if let Some(stream) = connect_to(rt, &address, left) {
             return Some(stream);
         }
     }

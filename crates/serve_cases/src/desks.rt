@@ -4,6 +4,7 @@
 //
 // - `answer BYTES`: the next answer over its link;
 // - `cut MOST BYTES`: a connection that gives at most MOST of its bytes at a call;
+// - `fault CALL BYTES`: a connection that gives one of its bytes at a call, and whose read number CALL fails;
 // - `deaf BYTES`: a connection whose first write fails;
 // - `BYTES`: a connection with these bytes.
 //
@@ -16,8 +17,8 @@ ghost use Rattle.std.specs.List.{All};
 use crate::sources::SlowSource;
 use case_lines::{as_text, bytes, field, number, push_field, told_quoted};
 use server_desk::{
-    Connection, Desk, Door, Exchanged, FaultyDoor, FaultyLink, MemoryClock, MemoryDoor, MemoryDraw,
-    MemoryLink, MemorySource,
+    Connection, Desk, Door, Exchanged, FaultyDoor, FaultyLink, FaultySource, MemoryClock,
+    MemoryDoor, MemoryDraw, MemoryLink,
 };
 use sso_base::{Blob, FaultySink, Moment, NoMemory};
 use std::alloc::Global;
@@ -30,8 +31,8 @@ pub type CaseDesk = Desk<CaseDoor, FaultyLink, MemoryClock, MemoryDraw>;
 
 // ---- reading
 
-// The bytes of a text in which `\r` and `\n` are the two bytes of a line end.
-fn line_bytes(alloc: Global, text: &str) -> Result<Vec<u8>, NoMemory> {
+/// The bytes of a text in which `\r` and `\n` are the two bytes of a line end.
+pub fn line_bytes(alloc: Global, text: &str) -> Result<Vec<u8>, NoMemory> {
     let ends = text.replace(alloc, "\\n", "\n")?;
     let text = ends.as_str().replace(alloc, "\\r", "\r")?;
     Ok(bytes(alloc, text.as_str())?)
@@ -42,24 +43,53 @@ pub fn failing(alloc: Global, call: u32) -> Result<Vec<u64>, NoMemory> {
     Ok(vec![in alloc; u64::from(call)]?)
 }
 
-// A connection with these bytes, of which at most `most` are given at a call, and whose write with this number fails.
+// The numbers of the failing read and write of a connection; 0 is none.
+#[derive(Clone, Copy)]
+struct Faults {
+    read: u32,
+    write: u32,
+}
+
+// A connection with these bytes, of which at most `most` are given at a call, and whose calls with these numbers fail.
 fn connection(
     alloc: Global,
     text: &str,
     most: usize,
-    fails: u32,
+    faults: Faults,
 ) -> Result<CaseConnection, NoMemory> {
+    let bytes = line_bytes(alloc, text)?;
     let source = SlowSource {
-        source: MemorySource::new(line_bytes(alloc, text)?),
+        source: FaultySource::new(bytes, failing(alloc, faults.read)?),
         most,
     };
-    let sink = FaultySink::new(alloc, failing(alloc, fails)?);
+    let sink = FaultySink::new(alloc, failing(alloc, faults.write)?);
     Ok(Connection { source, sink })
 }
 
+// A connection of whose bytes at most so many are given at a call.
 fn cut_connection(alloc: Global, text: &str) -> Result<CaseConnection, NoMemory> {
     let (most, text) = text.split_once(' ').unwrap_or(("-", text));
-    connection(alloc, text, number(most) as usize, 0)
+    let faults = Faults { read: 0, write: 0 };
+    connection(alloc, text, number(most) as usize, faults)
+}
+
+// A connection that gives a byte at a call, and whose read of this number fails.
+fn faulty_connection(alloc: Global, text: &str) -> Result<CaseConnection, NoMemory> {
+    let (call, text) = text.split_once(' ').unwrap_or(("-", text));
+    let read = number(call);
+    connection(alloc, text, 1, Faults { read, write: 0 })
+}
+
+fn connection_in(alloc: Global, part: &str) -> Result<CaseConnection, NoMemory> {
+    if let Some(text) = part.strip_prefix("cut ") {
+        cut_connection(alloc, text)
+    } else if let Some(text) = part.strip_prefix("fault ") {
+        faulty_connection(alloc, text)
+    } else if let Some(text) = part.strip_prefix("deaf ") {
+        connection(alloc, text, usize::MAX, Faults { read: 0, write: 1 })
+    } else {
+        connection(alloc, part, usize::MAX, Faults { read: 0, write: 0 })
+    }
 }
 
 // The connections and the answers that come to a desk.
@@ -74,14 +104,7 @@ fn push_part(alloc: Global, coming: &mut Coming, part: &str) -> Result<(), NoMem
         let answer = Blob::from_vec(line_bytes(alloc, text)?);
         return Ok(coming.answers.push(answer)?);
     }
-    let connection = if let Some(text) = part.strip_prefix("cut ") {
-        cut_connection(alloc, text)?
-    } else if let Some(text) = part.strip_prefix("deaf ") {
-        connection(alloc, text, usize::MAX, 1)?
-    } else {
-        connection(alloc, part, usize::MAX, 0)?
-    };
-    Ok(coming.connections.push(connection)?)
+    Ok(coming.connections.push(connection_in(alloc, part)?)?)
 }
 
 fn coming_in(alloc: Global, parts: &str) -> Result<Coming, NoMemory> {

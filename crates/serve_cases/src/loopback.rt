@@ -8,12 +8,13 @@ use machine::{TcpDoor, TcpLink, desk};
 use server_desk::{Door, Link, LinkNo, Source, read_whole};
 use sso_base::{Blob, File, NoMemory, Text, write_whole};
 use std::alloc::{AllocGlobal, Global};
+use std::io;
 use std::io::{Read, Write};
 use std::net::{Net, TcpListener, TcpStream};
 use std::random::RandomSource;
 use std::sync::Wait;
 use std::thread::{Threads, join, sleep};
-use std::time::{Clock, Duration};
+use std::time::{Clock, Duration, Instant};
 
 /// The number of seconds that a client waits for a byte.
 const WAITING: u64 = 5;
@@ -190,8 +191,8 @@ fn told_answer(alloc: Global, answer: &Result<Blob, LinkNo>) -> Result<String, N
     }
 }
 
-// The answer of the link if nobody listens, and how often the link has failed.
-fn told_closed<R>(
+/// The answer of the link if nobody listens, and how often it has failed before and after.
+pub fn told_closed<R>(
     alloc: Global,
     link: &mut TcpLink<'_, R>,
     place: &Text,
@@ -224,6 +225,83 @@ where
     let (read, back) = (told_came(alloc, &read)?, told_answer(alloc, &back)?);
     let closed = told_closed(alloc, &mut link, &place)?;
     Ok(format!(in alloc; "{read}, {back} / {closed}")?)
+}
+
+// The same for this address, and whether it took much less time than an exchange may.
+fn told_at_once<R>(
+    rt: &R,
+    alloc: Global,
+    link: &mut TcpLink<'_, R>,
+    place: &str,
+) -> Result<String, NoMemory>
+where
+    R: Net<Stream = TcpStream> + Clock + Sync + AllocGlobal,
+{
+    let place = Text::new(alloc, place)?;
+    let start = Instant::now(rt);
+    let told = told_closed(alloc, link, &place)?;
+    let when = if is_soon(rt, &start) {
+        "at once"
+    } else {
+        "late"
+    };
+    Ok(format!(in alloc; "{}, {when}", told.as_str())?)
+}
+
+// Whether this was a moment ago.
+fn is_soon<R: Clock>(rt: &R, start: &io::Result<Instant>) -> bool {
+    let Ok(start) = start else {
+        return false;
+    };
+    matches!(start.elapsed(rt), Ok(gone) if gone < Duration::from_secs(WAITING))
+}
+
+// Whether a client comes to the listener within 20 looks.
+fn is_asked<R: Clock>(rt: &R, listener: &TcpListener) -> bool {
+    if listener.set_nonblocking(true).is_err() {
+        return false;
+    }
+    for _ in 0..20u32 {
+        if listener.accept().is_ok() {
+            return true;
+        }
+        sleep(rt, Duration::from_millis(BETWEEN / 20));
+    }
+    false
+}
+
+fn told_asked(is_asked: bool) -> &'static str {
+    if is_asked {
+        "a client came"
+    } else {
+        "nobody came"
+    }
+}
+
+/// `machine|elsewhere`: the answers of a link for two addresses that are no loopback addresses: one of a network for documentation
+/// (RFC 5737), and 0.0.0.0, by which other clients of this machine reach a listener there. Then who came to that listener.
+pub fn elsewhere<R>(rt: &R, alloc: Global) -> Result<String, NoMemory>
+where
+    R: Net<Listener = TcpListener, Stream = TcpStream> + Clock + Sync + AllocGlobal,
+{
+    let Ok(listener) = TcpListener::bind(rt, "127.0.0.1:0") else {
+        return told(alloc, "no port is free");
+    };
+    let Ok(address) = listener.local_addr() else {
+        return told(alloc, "no port");
+    };
+    let place = format!(in alloc; "0.0.0.0:{}", address.port())?;
+    let mut link = TcpLink::new(rt);
+    let far = told_at_once(rt, alloc, &mut link, "192.0.2.1:80")?;
+    let near = told_at_once(rt, alloc, &mut link, place.as_str())?;
+    let by_link = told_asked(is_asked(rt, &listener));
+    let client = TcpStream::connect(rt, place.as_str());
+    let by_client = told_asked(client.is_ok() && is_asked(rt, &listener));
+    Ok(format!(in alloc;
+        "{} / {}, {by_link} / {by_client}",
+        far.as_str(),
+        near.as_str()
+    )?)
 }
 
 // A configuration whose provider listens at this address.

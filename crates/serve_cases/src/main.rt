@@ -4,49 +4,58 @@
 //! The file `stdin` has the cases, and `stdout` has them with their answers. The crate `case_lines` documents how a line is
 //! read. The comments in the table name the source of the expected answers. `desks` documents how a desk is written. `$sample$`
 //! is a configuration with all roles, `$form$` the field of a request that has a form, and `$header$` the first line of a
-//! trace. `$provider$` and `$alice$` are parts of other configurations.
+//! trace, `$feed$` a line feed. `$provider$` and `$alice$` are parts of other configurations.
 //!
 //! | Call | Answer |
 //! |---|---|
 //! | `file|NAME|BYTES`, `lines|NAME|LINES` | from now on, the file with this name has these bytes, or these lines, which are separated by `/` |
 //! | `ends|DESK` | how each connection of one desk is served, by one worker |
+//! | `reads|BYTES` | how many reads a request has, any of which ends its connection if it fails, and how it is served if none does |
 //! | `work|DESK` | how one worker ends at one desk |
 //! | `serve|DESK|..` | the summary of the server, and each desk |
 //! | `calls|MORE|..` | the answers of a store with one pass to these requests, each `REPLY at PLACE`, `full at WEIGHT` or `no memory`, and its places at the end |
 //! | `two threads` | the result of 2,000 calls of a store by two threads at the same time |
 //! | `sso|SHELF|SINK|WORDS|DESK|..` | the exit status for the words, the text, and each desk |
 //! | `sso|SHELF|SINK|WORDS|two logins` or `two keys` | the same for two desks that wait for each other |
+//! | `sso|SHELF|SINK|WORDS|late|DESK` | the same for a desk at which connections take nothing before calls of its link |
+//! | `last|SHELF|SINK|WORDS` | the exit status for the words with no desk, how many lines the text has, and the last of them |
 //! | `writer|CALL` | the bytes that a writer takes as a sink, if its call CALL fails |
 //! | `words|NAME|WORD|..` | the words of a process |
+//! | `tries|ADDRESS|..` | to which of these addresses a link tries to connect, over a network in memory |
 //! | `machine|CALL` | the answers of the clock, the random words, a door, a link or the desk of this machine |
 //!
 //! `ends`, `work` and `serve` use their own role, whose core is full after one request. `calls` and `two threads` use only that
 //! core, which replies with the number of the entries before. The top call serves the provider and the parties. SHELF and SINK
-//! are the numbers of the failing calls, and 0 is none.
+//! are the numbers of the failing calls, and 0 is none. A sink `slow CALL` takes one byte at a call.
 //!
 //! | Module | What it has |
 //! |---|---|
-//! | `sources` | sources that give few bytes at a call |
+//! | `sources`, `sinks` | sources that give and sinks that take few bytes at a call |
 //! | `desks` | desks in memory: reads them from a field, and prints them |
 //! | `tick`, `tally`, `tally_role` | the core that counts its requests, and the role over it |
 //! | `passes`, `one_pass`, `two_passes` | the calls `calls` and `two threads`: a store over that core |
-//! | `workers` | the calls `ends` and `work`: one worker over its own store |
+//! | `workers` | the calls `ends`, `reads` and `work`: one worker over its own store |
 //! | `servers` | the call `serve` |
-//! | `files`, `top` | the calls `file`, `lines` and `sso` |
+//! | `files`, `top` | the calls `file`, `lines`, `sso` and `last` |
 //! | `meeting`, `login_door`, `two` | desks that wait for each other |
+//! | `late` | a desk at which connections take nothing before calls of its link |
 //! | `process` | the calls `writer` and `words` |
+//! | `network` | the call `tries`: a link over a network in memory |
 //! | `this_machine`, `loopback` | the call `machine` |
 #![tactic(auto)]
 
 mod desks;
 mod files;
+mod late;
 mod login_door;
 mod loopback;
 mod meeting;
+mod network;
 mod one_pass;
 mod passes;
 mod process;
 mod servers;
+mod sinks;
 mod sources;
 mod tally;
 mod tally_role;
@@ -81,6 +90,7 @@ impl Cases for ServeCases {
             ["lines", name, lines] => files::put_lines(alloc, &mut self.files, name, lines),
             ["writer", call] => process::writer(alloc, call),
             ["words", words @ ..] => process::words(alloc, words),
+            ["tries", addresses @ ..] => network::tries(alloc, addresses),
             _ => told(alloc, "no such call"),
         }
     }
@@ -88,6 +98,7 @@ impl Cases for ServeCases {
     fn text(&self, name: &str) -> Option<&str> {
         match name {
             "form" => Some("Content-Type: application/x-www-form-urlencoded"),
+            "feed" => Some("\n"),
             "header" => Some("sso-trace 1 000102030405060708090a0b0c0d0e0f1011121314151617"),
             "provider" => Some(PROVIDER),
             "alice" => Some(ALICE),
@@ -116,7 +127,12 @@ where
             let call = top::Call { shelf, sink, words };
             top::answer(rt, alloc, cases.files.as_slice(), &call, desks)
         }
+        ["last", shelf, sink, words] => {
+            let call = top::Call { shelf, sink, words };
+            top::last(rt, alloc, cases.files.as_slice(), &call)
+        }
         [call @ ("ends" | "work"), desk] => workers::answer(rt, alloc, call, desk),
+        ["reads", bytes] => workers::reads(rt, alloc, bytes),
         ["serve", desks @ ..] => servers::answer(rt, alloc, desks),
         ["calls", asks @ ..] => one_pass::answer(rt, alloc, asks),
         ["two threads"] => two_passes::answer(rt, alloc),

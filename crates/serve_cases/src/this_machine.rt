@@ -49,6 +49,7 @@ where
         "door" => loopback::door(rt, alloc),
         "unread" => loopback::unread(rt, alloc),
         "link" => loopback::link(rt, alloc),
+        "elsewhere" => loopback::elsewhere(rt, alloc),
         "keys" => loopback::keys(rt, alloc),
         _ => told(alloc, "no such call"),
     }

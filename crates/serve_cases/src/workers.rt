@@ -7,7 +7,7 @@ use crate::desks::{CaseDesk, CaseDoor, desk_in, push_bytes, push_sent};
 use crate::passes::take_pass;
 use crate::tally::Tally;
 use crate::tally_role::TallyRole;
-use case_lines::push_part;
+use case_lines::{push_part, told};
 use server_desk::Door;
 use serving::{Role, ServedEnd, serve_connection, serve_desk};
 use sso_base::{Core, NoMemory};
@@ -120,4 +120,23 @@ fn at_desk<R: Wait, X: Role>(
 pub fn answer<R: Wait>(rt: &R, alloc: Global, call: &str, text: &str) -> Result<String, NoMemory> {
     let mut desk = desk_in(alloc, text, 0)?;
     at_desk(rt, alloc, call, &TallyRole, Tally::new(alloc), &mut desk)
+}
+
+/// More reads than one request has.
+const MOST_READS: u32 = 100_000;
+
+/// What `ends` answers of a connection that failed as its request was read: no step was made and nothing was written.
+const READ_FAULT: &str = "Http(ReadFault) 0 / \"\"";
+
+/// `reads|BYTES`: how many reads there are, each of one byte, of which any that fails ends the connection with `Http(ReadFault)`, no step
+/// and nothing written; and how it is served if none fails.
+pub fn reads<R: Wait>(rt: &R, alloc: Global, text: &str) -> Result<String, NoMemory> {
+    for count in 0..MOST_READS {
+        let desk = format!(in alloc; "1 > fault {} {text}", count + 1)?;
+        let ends = answer(rt, alloc, "ends", desk.as_str())?;
+        if ends.as_str() != READ_FAULT {
+            return Ok(format!(in alloc; "{count} reads, else {}", ends.as_str())?);
+        }
+    }
+    told(alloc, "no end")
 }

@@ -1,4 +1,4 @@
-// Messages are sent over a link.
+// Messages are sent over a link, and the notices of a page before it can be written.
 
 ghost use Rattle.std.specs.Prelude.{◌≡◌, List, map, IfOk};
 ghost use Rattle.server_desk.specs.Links.{TookCall};
@@ -49,12 +49,54 @@ pub fn send<L: Link>(alloc: Global, link: &mut L, sending: &Sending) -> Result<B
     link.exchange(alloc, &sending.to, sending.bytes.as_bytes(), MOST_ANSWER)
 }
 
-/// Sends each message once, in their order, by a call of the link for each. What comes back is of no interest, nor whether anything
-/// does.
-pub fn send_all<L: Link>(alloc: Global, link: &mut L, all: &[Sending])
+// Sends each message once, in their order, by a call of the link for each. What comes back is of no interest, nor whether anything
+// does.
+fn send_all<L: Link>(alloc: Global, link: &mut L, all: &[Sending])
     ensures { (calls : List LinkCall) × (sent_by calls ≡ all.now) × TookCalls (L.state link.old) (L.state link.new) calls }
 {
     for sending in all {
         let _ = send(alloc, link, sending);
+    }
+}
+
+/// A reply as it goes out, and the notices that go before it. Its bytes are not to be had before they were sent.
+#[derive(Drop)]
+pub struct Page {
+    notices: Vec<Sending>,
+    bytes: Blob,
+}
+
+/// A page whose notices were sent. Nothing but [`Page::send`] makes one, and so the first byte of a page is written after its notices
+/// were sent.
+#[derive(Drop)]
+pub struct SentPage {
+    bytes: Blob,
+}
+
+impl Page {
+    /// A page with these notices and these bytes.
+    pub fn new(notices: Vec<Sending>, bytes: Blob) -> Page
+        ensures notices { result.notices ≡ notices }
+        ensures bytes { result.bytes ≡ bytes }
+    {
+        Page { notices, bytes }
+    }
+
+    /// Sends each notice once, in their order, by a call of the link for each.
+    pub fn send<L: Link>(self, alloc: Global, link: &mut L) -> SentPage
+        ensures sent { (calls : List LinkCall) × (sent_by calls ≡ self.notices.items) × TookCalls (L.state link.old) (L.state link.new) calls }
+        ensures bytes { result.bytes ≡ self.bytes }
+    {
+        send_all(alloc, link, self.notices.as_slice());
+        SentPage { bytes: self.bytes }
+    }
+}
+
+impl SentPage {
+    /// Its bytes.
+    pub fn as_bytes(&self) -> &[u8]
+        ensures { result.now ≡ self.now.bytes }
+    {
+        self.bytes.as_bytes()
     }
 }

@@ -13,9 +13,9 @@ ghost use Rattle.serving.specs.Writing.{Wrote};
 use crate::ends::{Served, ServedEnd};
 use crate::no_reply::NoReply;
 use crate::role::Role;
-use crate::sending::{Sending, printed, printed_all, send, send_all};
+use crate::sending::{Page, printed, printed_all, send};
 use crate::step::step;
-use crate::writing::{write_end, write_without};
+use crate::writing::{write_page, write_without};
 use server_desk::{Clock, Connection, Draw, Link, LinkNo, Source};
 use sso_base::{Answered, Blob, Core, Message, NoMemory, Sink};
 use sso_http::{HttpNo, print_reply, read_ask, read_peer};
@@ -169,13 +169,7 @@ fn reply_to<R: Wait, X: Role, S: Source, L: Link, C: Clock, W: Draw>(
     )
 }
 
-// What is written at the end: a reply as it goes out, and its notices.
-#[derive(Drop)]
-struct Page {
-    notices: Vec<Sending>,
-    bytes: Blob,
-}
-
+// A reply as it goes out, with its notices.
 fn printed_page<X: Role>(
     alloc: Global,
     role: &X,
@@ -190,10 +184,7 @@ fn printed_page<X: Role>(
         None => Vec::new(alloc),
     };
     let http = role.http(alloc, reply)?;
-    Ok(Page {
-        notices,
-        bytes: print_reply(alloc, &http)?,
-    })
+    Ok(Page::new(notices, print_reply(alloc, &http)?))
 }
 
 // Sends the notices of the last reply, each once and in their order, and writes the reply.
@@ -209,8 +200,8 @@ fn tell<X: Role, K: Sink, L: Link>(
 {
     match printed_page(alloc, role, reply) {
         Ok(page) => {
-            send_all(alloc, link, &page.notices);
-            write_end(sink, page.bytes.as_bytes(), ServedEnd::Written)
+            let sent = page.send(alloc, link);
+            write_page(sink, &sent)
         }
         Err(_) => write_without(alloc, sink, NoReply::NoMemory),
     }

@@ -6,6 +6,7 @@ ghost use Rattle.serving.specs.Writing.{Wrote, WroteWithout};
 
 use crate::ends::ServedEnd;
 use crate::no_reply::{NoReply, told};
+use crate::sending::SentPage;
 use sso_base::{Sink, write_whole};
 use sso_http::HttpNo;
 use std::alloc::Global;
@@ -14,8 +15,8 @@ use std::alloc::Global;
 const MEMORY: &[u8] =
     b"HTTP/1.1 503 Service Unavailable\r\nCache-Control: no-store\r\nContent-Type: text/plain; charset=utf-8\r\nContent-Length: 7\r\nConnection: close\r\n\r\nmemory\n";
 
-/// Writes the bytes, and returns this end, or that the sink failed.
-pub fn write_end<K: Sink>(sink: &mut K, bytes: &[u8], end: ServedEnd) -> ServedEnd
+// Writes the bytes, and returns this end, or that the sink failed.
+fn write_end<K: Sink>(sink: &mut K, bytes: &[u8], end: ServedEnd) -> ServedEnd
     ensures wrote { Wrote K.taken K.faults sink.old sink.new (Some bytes.now) end result }
     ensures later { K.faults sink.old ≤ K.faults sink.new }
 {
@@ -23,6 +24,13 @@ pub fn write_end<K: Sink>(sink: &mut K, bytes: &[u8], end: ServedEnd) -> ServedE
         Ok(()) => end,
         Err(_) => ServedEnd::WriteFault,
     }
+}
+
+/// Writes a page whose notices were sent.
+pub fn write_page<K: Sink>(sink: &mut K, page: &SentPage) -> ServedEnd
+    ensures { Wrote K.taken K.faults sink.old sink.new (Some page.now.bytes) ServedEnd.Written result }
+{
+    write_end(sink, page.as_bytes(), ServedEnd::Written)
 }
 
 // Writes that memory ran out.

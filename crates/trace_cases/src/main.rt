@@ -13,6 +13,7 @@
 //! | `traces` | the calls `trace`, `whole`, `long` and `seed` of the table `lines`, which read a trace |
 //! | `lines` | prints lines |
 //! | `plays` | the calls `play`, `whole` and `end` of the table `plays`, which play a trace |
+//! | `fronts` | the call `fronts` of the table `plays`, which ends the bytes of a trace after each of them |
 //! | `among` | the call `among` of the table `plays`, which compares logins played alone and among other lines |
 //! | `configurations` | the configurations |
 //! | `texts` | the named texts in a line |
@@ -20,6 +21,7 @@
 
 mod among;
 mod configurations;
+mod fronts;
 mod lines;
 mod plays;
 mod texts;
@@ -68,6 +70,7 @@ fn of_plays(alloc: Global, fields: &[&str]) -> Result<String, NoMemory> {
         ["play", name, lines] => plays::play(alloc, name, lines),
         ["whole", name, lines] => plays::whole(alloc, name, lines),
         ["end", name, lines] => plays::end(alloc, name, lines),
+        ["fronts", name, lines] => fronts::fronts(alloc, name, lines),
         ["among", name, lines, logins @ ..] => among::among(alloc, name, lines, logins),
         _ => told(alloc, "no such call"),
     }

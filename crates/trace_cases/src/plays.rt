@@ -4,6 +4,7 @@ ghost use Rattle.trace_lines.specs.Order.{IsReadFor};
 
 use crate::configurations::configuration;
 use crate::texts::HEADER;
+use crate::traces::refused;
 use case_lines::{as_text, times, told};
 use client_registry::{RegNo, Registry, read_registry};
 use oidc_replay::{ReplayEnd, Replayed, Trace, TraceNo, read_trace, replay};
@@ -21,8 +22,8 @@ fn push_line(file: &mut String, line: &str) -> Result<(), NoMemory> {
     Ok(())
 }
 
-// Adds these lines, which are separated by ` / `.
-fn push_lines(file: &mut String, lines: &str) -> Result<(), NoMemory> {
+/// Adds these lines, which are separated by ` / `.
+pub fn push_lines(file: &mut String, lines: &str) -> Result<(), NoMemory> {
     for line in lines.split(" / ") {
         push_line(file, line)?;
     }
@@ -85,6 +86,14 @@ fn told_trace(
 {
     let replayed = replay(alloc, registry, trace)?;
     told_play(alloc, part, &replayed)
+}
+
+/// All of the play of these bytes, or why they are no trace.
+pub fn told_file(alloc: Global, registry: Registry, file: &[u8]) -> Result<String, NoMemory> {
+    match read_trace(alloc, &registry, file) {
+        Ok(trace) => told_trace(alloc, Part::All, registry, &trace),
+        Err(why) => refused(alloc, why),
+    }
 }
 
 fn answer_in(

@@ -12,7 +12,8 @@ fn numbered(alloc: Global, name: &str, number: u64) -> Result<String, NoMemory> 
     Ok(format!(in alloc; "{name} {number}")?)
 }
 
-fn refused(alloc: Global, why: TraceNo) -> Result<String, NoMemory> {
+/// Why a trace is refused.
+pub fn refused(alloc: Global, why: TraceNo) -> Result<String, NoMemory> {
     match why {
         TraceNo::NoMemory => Err(NoMemory),
         TraceNo::Size => told(alloc, "Size"),

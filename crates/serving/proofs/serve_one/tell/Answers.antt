@@ -5,7 +5,7 @@ use Rattle.serving.proofs.serve_one.tell.Goals as goal
 -- src/serve_one.rt:201:1
 pub returns-in-Ok : goal.returns-in-Ok
 returns-in-Ok g c =
-    tells_reply (g.X.Role.manner c.args.role.now) g.K.Sink.taken g.K.Sink.faults (g.L.Link.state c.args.link.now) (g.L.Link.state c.send_all.new.link) c.args.sink.now c.write_end.new.sink c.args.reply.now c.write_end.result c.deref.result.now c.as_bytes.result.now (c.deref.ensures.value ∙ c.in-Ok.ensures.notices) (c.as_bytes.ensures ∙ c.in-Ok.ensures.bytes) c.send_all.ensures c.write_end.ensures.wrote
+    tells_reply (g.X.Role.manner c.args.role.now) g.K.Sink.taken g.K.Sink.faults (g.L.Link.state c.args.link.now) (g.L.Link.state c.send.new.link) c.args.sink.now c.write_page.new.sink c.args.reply.now c.write_page.result c.in-Ok.page.notices.items c.send.result.bytes c.in-Ok.ensures.notices (c.send.ensures.bytes ∙ c.in-Ok.ensures.bytes) c.send.ensures.sent c.write_page.ensures
 
 -- src/serve_one.rt:201:1
 pub returns-in-Err : goal.returns-in-Err
