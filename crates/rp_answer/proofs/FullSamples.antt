@@ -1,5 +1,5 @@
 -- A table of each kind that has no place for a row, by computation, and one that has.
-use Rattle.std.proofs.Common.{◌≡◌, true, false, [], ◌∷◌, Some, None, Ok, Err, codes, refl, sym, ◌∙◌, inl, inr}
+use Rattle.std.proofs.Common.{◌≡◌, true, false, [], None, Err, codes, refl, sym, ◌∙◌, inl, inr}
 use Rattle.std.specs.Str.{bytes_eq}
 use Rattle.sso_base.specs.Words.{Text, word_text}
 use Rattle.held_rows.proofs.Places.{place_beside_none}
@@ -22,9 +22,9 @@ use Rattle.rp_answer.proofs.Coming.{comes, came}
 use Rattle.rp_answer.proofs.Leading.{ask_leads}
 use Rattle.rp_answer.proofs.FullTables.{full_has_a_cause, cause_makes_full}
 use Rattle.rp_answer.proofs.Sample.{word, entry_at, op, only_code, shop_client, shop, shop_uri, shop_setup, news_setup}
-use Rattle.rp_answer.proofs.FirstVisit.{begin_entry, asked, begin_asks, past_begin, callback_entry, exchange, past_callback, tokens_entry, past_entered}
+use Rattle.rp_answer.proofs.FirstVisit.{begin_entry, asked, begin_asks, past_begin, callback_entry, exchange, past_callback, tokens_entry}
 use Rattle.rp_answer.proofs.FrontLogin.{with_hash, waiting}
-use Rattle.rp_answer.proofs.EachRefusal.{state_drawn_again, past_second, second_callback, exchange_drawn_again, past_two_front, second_front, session_drawn_again}
+use Rattle.rp_answer.proofs.EachRefusal.{past_second, second_callback, exchange_drawn_again, past_two_front, second_front, session_drawn_again}
 use Rattle.rp_answer.proofs.LoggedOut.{logout_at, past_out, later, seen}
 use Rattle.rp_answer.proofs.RowSamples.{login}
 
