@@ -1,5 +1,5 @@
 -- The words of the rows that stand after a legal past are drawn words of the one pair that made each.
-use Rattle.std.proofs.Common.{◌≡◌, ℕ, Bool, false, ◌∷◌, ◌++◌, [], length, Option, Some, None, Ok, refl, sym, ◌∙◌, ap, subst, ◌⊎◌, inl, inr}
+use Rattle.std.proofs.Common.{◌≡◌, ℕ, Bool, false, ◌∷◌, ◌++◌, [], length, Option, Some, None, Ok, refl, sym, ◌∙◌, ap, subst, inl, inr}
 use Rattle.sso_base.specs.Words.{Word, Text, fresh_word, word_of_text}
 use Rattle.sso_base.specs.Rows.{row_of}
 use Rattle.sso_base.specs.declared.history.Entry.{Entry}

@@ -3,7 +3,7 @@ use Rattle.std.proofs.Common.{◌≡◌, ℕ, ◌==◌, Bool, true, false, not, 
 use Rattle.std.specs.Str.{bytes_eq}
 use Rattle.std.proofs.lemmas.Bool.Decides.{eqb_tells}
 use Rattle.std.proofs.lemmas.Slice.Eq.{bytes_eq-Decides}
-use Rattle.sso_base.specs.Words.{Word, Text, is_word, fresh_word, word_of_text}
+use Rattle.sso_base.specs.Words.{Word, Text, is_word, word_of_text}
 use Rattle.sso_base.specs.Rows.{lives}
 use Rattle.sso_base.specs.declared.history.Entry.{Entry}
 use Rattle.client_registry.specs.Configuration.{Configuration}
@@ -18,7 +18,6 @@ use Rattle.auth_request.specs.declared.wish.Verdict.TheVariants as verdict
 use Rattle.request_need.specs.declared.need.Need.{Need}
 use Rattle.request_need.specs.declared.need.Need.TheVariants as need
 use Rattle.auth_answer.specs.declared.answer.Answer.{Answer}
-use Rattle.token_endpoint.specs.declared.granting.Grant.{Grant}
 use Rattle.token_endpoint.specs.declared.error.TokenError.{TokenError}
 use Rattle.token_endpoint.specs.declared.error.TokenError.TheVariants.{InvalidGrant}
 use Rattle.code_grant.specs.declared.rows.TurnRow.{TurnRow}

@@ -1,10 +1,11 @@
 -- A table of each kind that has no place for a row, by computation, and one that has.
-use Rattle.std.proofs.Common.{◌≡◌, true, false, [], ◌∷◌, Some, None, Ok, Err, refl, sym, ◌∙◌, inl, inr}
+use Rattle.std.proofs.Common.{◌≡◌, true, false, [], None, Err, codes, refl, sym, ◌∙◌, inl, inr}
 use Rattle.std.specs.Str.{bytes_eq}
 use Rattle.sso_base.specs.Words.{Text, word_text}
 use Rattle.held_rows.proofs.Places.{place_beside_none}
 use Rattle.id_token.specs.HalfHash.{half_hash_of}
 use Rattle.auth_answer.specs.declared.no.AnswerNo.TheVariants as answer_no
+use Rattle.token_endpoint.specs.Request.{token_message}
 use Rattle.login_request.specs.Request.{login_location}
 use Rattle.rp_login.specs.Rows.{login_name, pending_name, visit_name, seen_name}
 use Rattle.rp_login.specs.declared.table.RpTable.{RpTable}
@@ -20,17 +21,17 @@ use Rattle.rp_answer.proofs.Answers.{asks_have_a_cause}
 use Rattle.rp_answer.proofs.Coming.{comes, came}
 use Rattle.rp_answer.proofs.Leading.{ask_leads}
 use Rattle.rp_answer.proofs.FullTables.{full_has_a_cause, cause_makes_full}
-use Rattle.rp_answer.proofs.Sample.{word, entry_at, op, only_code, shop_client, shop, shop_setup, news_setup}
-use Rattle.rp_answer.proofs.FirstVisit.{begin_entry, asked, begin_asks, past_begin, callback_entry, exchange, past_callback, tokens_entry, past_entered}
+use Rattle.rp_answer.proofs.Sample.{word, entry_at, op, only_code, shop_client, shop, shop_uri, shop_setup, news_setup}
+use Rattle.rp_answer.proofs.FirstVisit.{begin_entry, asked, begin_asks, past_begin, callback_entry, exchange, past_callback, tokens_entry}
 use Rattle.rp_answer.proofs.FrontLogin.{with_hash, waiting}
-use Rattle.rp_answer.proofs.EachRefusal.{state_drawn_again, past_second, second_callback, exchange_drawn_again, past_two_front, second_front, session_drawn_again}
+use Rattle.rp_answer.proofs.EachRefusal.{past_second, second_callback, exchange_drawn_again, past_two_front, second_front, session_drawn_again}
 use Rattle.rp_answer.proofs.LoggedOut.{logout_at, past_out, later, seen}
 use Rattle.rp_answer.proofs.RowSamples.{login}
 
 -- ---- a word that was drawn before, or a `jti` that is remembered
 
 state_has_no_place : NoLoginPlace past_begin begin_entry asked
-state_has_no_place = record { to = _; browser = word 1; begins = refl; full = inr (login, refl) }
+state_has_no_place = record { to = login_location shop_client shop op (word 2) (word 3); browser = word 1; begins = refl; full = inr (login, refl) }
 
 logins_have_no_place : FullCause shop_setup past_begin begin_entry table.Logins
 logins_have_no_place = record { prepared = refl; no_place = state_has_no_place }
@@ -43,7 +44,7 @@ no_request_without_a_place : (Cause : Type 0) → Comes shop_setup past_begin be
 no_request_without_a_place Cause h = h.placed table.Logins state_has_no_place
 
 exchange_has_no_place : NoPendingPlace only_code past_callback (callback_entry 1000 (word 1)) exchange
-exchange_has_no_place = record { word = word 17; message = _; sent = inl refl; full = inr (waiting, refl) }
+exchange_has_no_place = record { word = word 17; message = token_message shop_client op.token (codes "code") shop_uri; sent = inl refl; full = inr (waiting, refl) }
 
 pendings_have_no_place : FullCause shop_setup past_second (second_callback 17) table.Pendings
 pendings_have_no_place = full_has_a_cause shop_setup past_second (second_callback 17) table.Pendings exchange_drawn_again

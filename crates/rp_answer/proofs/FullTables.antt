@@ -1,5 +1,5 @@
 -- The refusal `Full` comes exactly where a row that the reply would make has no place in its table.
-use Rattle.std.proofs.Common.{◌≡◌, ℕ, Bool, true, false, cond, List, Option, Some, None, Result, Ok, Err, refl, sym, ◌∙◌, ap, subst, ◌⊎◌, inl, inr}
+use Rattle.std.proofs.Common.{◌≡◌, ℕ, Bool, true, false, cond, List, Option, Some, Ok, refl, sym, ◌∙◌, ap, subst, ◌⊎◌, inl, inr}
 use Rattle.sso_base.specs.Words.{Word, Text, fresh_word}
 use Rattle.sso_base.specs.declared.history.Entry.{Entry}
 use Rattle.sso_base.specs.declared.message.Message.{Message}
@@ -13,7 +13,7 @@ use Rattle.rp_exchange.specs.declared.ask.RpAsk.{RpAsk}
 use Rattle.rp_exchange.specs.declared.ask.RpAsk.TheVariants as ask
 use Rattle.rp_exchange.specs.declared.no.RpNo.TheVariants as no
 use Rattle.rp_exchange.specs.declared.reply.RpReply.{RpReply}
-use Rattle.rp_exchange.specs.declared.reply.RpReply.TheVariants.{Ask, Fragment, Exchange, Fetch, Entered, User, Nobody, Left, Ended, Refused, NotHere}
+use Rattle.rp_exchange.specs.declared.reply.RpReply.TheVariants.{Ask, Exchange, Fetch, Entered, Ended, Refused, NotHere}
 use Rattle.rp_exchange.specs.Asks.{is_prepared}
 use Rattle.rp_answer.specs.Past.{RpPast}
 use Rattle.rp_answer.specs.Setup.{PartySetup, party_of}
@@ -24,7 +24,7 @@ use Rattle.rp_answer.specs.Seens.{live_seens}
 use Rattle.rp_answer.specs.Room.{if_full, beside_answered, seen_lacking, table_lacking, unless_lacking}
 use Rattle.rp_answer.specs.Answering.{rp_reply, rp_answer}
 use Rattle.rp_answer.specs.Causes.{ExchangeCause, EnteredCause}
-use Rattle.rp_answer.specs.FullTables.{NoLoginPlace, NoPendingPlace, NoSessionPlace, NoSeenPlace, LacksPlace, FullCause}
+use Rattle.rp_answer.specs.FullTables.{LacksPlace, FullCause}
 use Rattle.rp_answer.proofs.Stood.{full_or_replied}
 use Rattle.rp_answer.proofs.Caused.{Caused}
 use Rattle.rp_answer.proofs.Answers.{replies_caused}

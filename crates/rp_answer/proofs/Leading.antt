@@ -1,18 +1,16 @@
 -- What each cause leads to: the reply that there is, were there always room.
-use Rattle.std.proofs.Common.{◌≡◌, ℕ, Bool, true, false, cond, Option, Some, None, is_some, Result, Ok, Err, refl, sym, ◌∙◌, ap, inl, inr}
-use Rattle.sso_base.specs.Words.{Word, Text, is_word, fresh_word}
+use Rattle.std.proofs.Common.{◌≡◌, ℕ, Bool, true, false, cond, Option, Some, None, Result, Ok, Err, refl, sym, ◌∙◌, ap, inl, inr}
+use Rattle.sso_base.specs.Words.{Word, Text, fresh_word}
 use Rattle.sso_base.specs.declared.history.Entry.{Entry}
 use Rattle.sso_base.specs.declared.message.Message.{Message}
 use Rattle.id_token.specs.declared.claims.IdClaims.{IdClaims}
 use Rattle.id_token.specs.declared.no.IdNo.{IdNo}
-use Rattle.id_token.specs.Judging.{id_judged}
 use Rattle.oidc_words.specs.declared.errors.AuthError.{AuthError}
 use Rattle.auth_answer.specs.declared.heard.Heard.{Heard}
 use Rattle.auth_answer.specs.declared.no.AnswerNo.TheVariants as answer_no
 use Rattle.token_endpoint.specs.declared.reading.Tokens.{Tokens}
 use Rattle.token_endpoint.specs.declared.no.TokensNo.{TokensNo}
 use Rattle.userinfo.specs.declared.no.InfoNo.{InfoNo}
-use Rattle.userinfo.specs.Request.{info_message}
 use Rattle.logout_token.specs.declared.no.LogoutNo.{LogoutNo}
 use Rattle.logout_token.specs.declared.claims.LogoutClaims.{LogoutClaims}
 use Rattle.rp_login.specs.declared.rows.LoginRow.{LoginRow}
@@ -23,7 +21,6 @@ use Rattle.rp_login.specs.declared.rows.Stage.TheVariants as stage
 use Rattle.rp_exchange.specs.declared.ask.RpAsk.{RpAsk}
 use Rattle.rp_exchange.specs.declared.ask.RpAsk.TheVariants as ask
 use Rattle.rp_exchange.specs.declared.no.Part.{Part}
-use Rattle.rp_exchange.specs.declared.no.Part.TheVariants as part
 use Rattle.rp_exchange.specs.declared.no.RpNo.{RpNo}
 use Rattle.rp_exchange.specs.declared.no.RpNo.TheVariants as no
 use Rattle.rp_exchange.specs.declared.reply.RpReply.{RpReply}
@@ -33,7 +30,7 @@ use Rattle.rp_answer.specs.Setup.{PartySetup, party_of}
 use Rattle.rp_answer.specs.Asked.{if_wanted}
 use Rattle.rp_answer.specs.Logins.{live_login}
 use Rattle.rp_answer.specs.Pendings.{live_pending}
-use Rattle.rp_answer.specs.Replies.{front_access, front_code, front_rules, back_rules, part_missing, info_endpoint, is_other, exchange, entered, fetch_or_enter, exchange_or_enter, front_judged, front_read, response_parts, response_error, response_of, response_to, back_accepted, back_judged, back_read, tokens, info_came, info, visited, logout_new, logout_good, logout}
+use Rattle.rp_answer.specs.Replies.{front_access, front_code, front_rules, back_rules, part_missing, info_endpoint, is_other, exchange, entered, fetch_or_enter, exchange_or_enter, front_judged, front_read, response_parts, response_error, response_of, response_to, back_accepted, back_judged, back_read, tokens, info, visited, logout_new, logout_good, logout}
 use Rattle.rp_answer.specs.Answering.{rp_reply}
 use Rattle.rp_answer.specs.Causes.{is_own, OwnLogin, WholeResponse, GoodClaims, IdRefused, IfGood, NotFetched, AskCause, FragmentCause, ExchangeCause, FetchCause, EnteredCause, UserCause, NobodyCause, LeftCause, EndedCause, ResponseRefused, TokensRefused, InfoRefused, LogoutRefused, RefusedCause}
 
