@@ -12,4 +12,5 @@ pub mod PlainTexts
 pub mod Costs
 pub mod Written
 pub mod OnLiterals
+pub mod Ordered
 mod Samples

@@ -12,6 +12,7 @@
 //! | `writing` | [`write_claims`] and [`claims_text`] write it |
 //! | `no` | [`ClaimNo`], why a text or a claim is refused |
 //! | `walks` | walks over JSON values |
+//! | `values` | [`know_claims`]: names and texts are UTF-8, numbers have 64 bits, and names are in order |
 //! | `law` | what holds of claim sets, for the crates above |
 #![tactic(auto)]
 
@@ -20,6 +21,7 @@ mod kinds;
 mod law;
 mod no;
 mod reading;
+mod values;
 mod walks;
 mod writing;
 
@@ -31,4 +33,5 @@ pub use law::{
 };
 pub use no::ClaimNo;
 pub use reading::read_claims;
+pub use values::know_claims;
 pub use writing::{claims_text, write_claims};

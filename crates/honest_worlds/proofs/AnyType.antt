@@ -217,4 +217,5 @@ module _ (wants : Wants) where
         sid = texts.sid;
         at_hash = texts.at_hash;
         c_hash = texts.c_hash;
+        more = texts.more;
       }

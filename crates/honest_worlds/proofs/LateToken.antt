@@ -230,6 +230,7 @@ claims_are_values =
       sid = texts.sid;
       at_hash = texts.at_hash;
       c_hash = tt;
+      more = texts.more;
     }
 
 heard_is_value : IsHeard heard

@@ -12,6 +12,7 @@ use Rattle.sso_base.proofs.RowLaws.{bytes_same}
 use Rattle.sso_base.proofs.WordUtf8.{IsUtf8-word_text}
 use Rattle.sso_base.specs.declared.history.Entry.{Entry}
 use Rattle.sso_base.proofs.Spelling.{IsBytes-from_all_bytes}
+use Rattle.claim_set.proofs.Fitting.{ClaimsFit-none}
 use Rattle.id_token.specs.HalfHash.{half_hash_of}
 use Rattle.token_endpoint.specs.Request.{token_message}
 use Rattle.login_request.specs.Request.{login_location}
@@ -79,6 +80,7 @@ claims_are_values t spelled = record {
   sid = IsUtf8-are_ascii (codes "sid") refl;
   at_hash = tt;
   c_hash = tt;
+  more = ClaimsFit-none;
 }
 
 visit_is_legal : (t : Text) → IsUtf8 t → bytes_eq t (word_text (word 3)) ≡ true → IsLegalRp shop_setup (past_entered t)

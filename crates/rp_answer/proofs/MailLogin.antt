@@ -51,6 +51,7 @@ with_code_hash t h spelled hash =
       sid = c.sid;
       at_hash = c.at_hash;
       c_hash = hash;
+      more = c.more;
     }
 
 module _ (code t h : Text) (spelled : IsUtf8 code) (nonce : bytes_eq t (word_text (word 3)) ≡ true) (hash : bytes_eq h (half_hash_of code) ≡ true) where

@@ -1,10 +1,13 @@
 -- The definitions computed on small cases: what each accepts, and what it refuses.
-use Rattle.std.proofs.Common.{◌≡◌, ◌<◌, ◌^◌, ℕ, true, false, [], ◌∷◌, replicate, Some, None, Ok, Err, codes, refl, sym, ◌∙◌, true≢false, arith}
+use Rattle.std.proofs.Common.{◌≡◌, ◌<◌, ◌^◌, ℕ, true, false, [], ◌∷◌, replicate, Some, None, Ok, Err, Less, Greater, codes, refl, sym, ◌∙◌, true≢false, arith}
 use Rattle.std.specs.Str.{IsUtf8, is_utf8}
 use Rattle.std.proofs.lemmas.Str.{is_utf8-from_IsUtf8}
 use Rattle.sso_base.proofs.Spelling.{IsBytes-from_all_bytes}
 use Rattle.sso_base.proofs.Utf8Bytes.{IsUtf8-are_ascii}
+use Rattle.serde_json.specs.Data.{unsigned, number, string, no_members, member}
+use Rattle.claim_set.specs.Fitting.{ClaimsFit}
 use Rattle.claim_set.specs.declared.no.ClaimNo.TheVariants as claim_no
+use Rattle.claim_set.proofs.Fitting.{ClaimsFit-none}
 use Rattle.claim_set.proofs.OnLiterals.{claims_on_literals}
 use Rattle.jws_compact.specs.declared.no.JwsNo.TheVariants as jws_no
 use Rattle.id_token.specs.declared.no.IdNo.TheVariants as id_no
@@ -154,7 +157,22 @@ claims_are_a_value = record {
   sid = tt;
   at_hash = tt;
   c_hash = tt;
+  more = ClaimsFit-none;
 }
+
+-- claims that are no fields, in the order of their names; out of order, and with a number of 65 bits
+two_more_are_a_value : ClaimsFit (member (codes "age") (number (unsigned 30)) (member (codes "name") (string (codes "Alice")) no_members))
+two_more_are_a_value = record {
+  members =
+      (IsUtf8-are_ascii (codes "age") refl, omega arith, (refl, tt), (IsUtf8-are_ascii (codes "name") refl, IsUtf8-are_ascii (codes "Alice") refl, tt, tt));
+  nests = omega arith;
+}
+
+two_out_of_order_are_none : IsIdValue (record alice { more = member (codes "name") (string (codes "Alice")) (member (codes "age") (number (unsigned 30)) no_members) }) → ⊥
+two_out_of_order_are_none h = (let k : Greater ≡ Less = h.more.members.2.0 in cc)
+
+one_of_65_bits_is_none : IsIdValue (record alice { more = member (codes "age") (number (unsigned (2 ^ 64))) no_members }) → ⊥
+one_of_65_bits_is_none h = let k : 2 ^ 64 < 2 ^ 64 = h.more.members.1 in absurd (omega (arith, k))
 
 an_expiry_of_65_bits_is_none : IsIdValue (record alice { exp = 2 ^ 64 }) → ⊥
 an_expiry_of_65_bits_is_none h = absurd (omega (arith, h.exp))

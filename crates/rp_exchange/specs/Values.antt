@@ -1,12 +1,11 @@
 -- Asks that hold values of their types: texts in UTF-8, words of 32 bytes, numbers of their size. A definition takes any list
--- and any number for them; what is promised of texts that are written needs these.
---
--- Those claims of an ID Token that are no fields are free: they are a value of JSON, and no law needs anything of them, they are
--- passed on and weighed.
+-- and any number for them; what is promised of texts that are written needs these. Those claims of an ID Token that are no
+-- fields are claims that fit: names and texts in UTF-8, whole numbers of 64 bits, and each name once, in order.
 use Rattle.std.specs.Prelude.{◌<◌, ◌^◌, Option, IfSome, Result, Ok, Err}
 use Rattle.std.specs.Str.{IsUtf8}
 use Rattle.sso_base.specs.Words.{Text, IsWord}
 use Rattle.sso_base.specs.Values.{IsWide, AreTexts}
+use Rattle.claim_set.specs.Fitting.{ClaimsFit}
 use Rattle.claim_set.specs.declared.no.ClaimNo.{ClaimNo}
 use Rattle.claim_set.specs.declared.no.ClaimNo.TheVariants as claim_no
 use Rattle.id_token.specs.declared.claims.IdClaims.{IdClaims}
@@ -41,6 +40,7 @@ pub record IsIdValue (claims : IdClaims) : Type 0 where
   pub sid : IfSome claims.sid IsUtf8
   pub at_hash : IfSome claims.at_hash IsUtf8
   pub c_hash : IfSome claims.c_hash IsUtf8
+  pub more : ClaimsFit claims.more
 
 pub record IsLogoutValue (claims : LogoutClaims) : Type 0 where
   pub iss : IsUtf8 claims.iss

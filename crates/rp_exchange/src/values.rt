@@ -6,7 +6,7 @@ ghost use Rattle.rp_exchange.specs.Values as spec;
 
 use crate::ask::RpAsk;
 use auth_answer::{AnswerNo, Heard};
-use claim_set::ClaimNo;
+use claim_set::{ClaimNo, know_claims};
 use id_token::{IdClaims, IdNo};
 use logout_token::{LogoutClaims, LogoutNo};
 use sso_base::{
@@ -46,7 +46,7 @@ fn know_heard(heard: &Result<Heard, AnswerNo>)
     }
 }
 
-fn know_claims(claims: &IdClaims)
+fn know_id_claims(claims: &IdClaims)
     ensures { spec.IsIdValue claims.now }
 {
     let _iss = claims.iss.as_str();
@@ -60,6 +60,7 @@ fn know_claims(claims: &IdClaims)
     know_text_if(&claims.sid);
     know_text_if(&claims.at_hash);
     know_text_if(&claims.c_hash);
+    know_claims(&claims.more);
 }
 
 fn know_id_no(why: &IdNo)
@@ -81,7 +82,7 @@ fn know_id(id: &Option<Result<IdClaims, IdNo>>)
     ensures { spec.IsIdRead id.now }
 {
     match id {
-        Some(Ok(claims)) => know_claims(claims),
+        Some(Ok(claims)) => know_id_claims(claims),
         Some(Err(why)) => know_id_no(why),
         None => {}
     }

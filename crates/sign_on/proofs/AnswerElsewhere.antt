@@ -163,6 +163,7 @@ claims_are_values =
       sid = texts.sid;
       at_hash = texts.at_hash;
       c_hash = tt;
+      more = texts.more;
     }
 
 answer_asks : IsRpAsk answer_entry.ask

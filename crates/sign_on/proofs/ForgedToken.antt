@@ -9,6 +9,7 @@ use Rattle.sso_base.specs.declared.http.Ask.{Ask}
 use Rattle.sso_base.proofs.OnLiterals.{base64url_on_literals}
 use Rattle.sso_base.proofs.Utf8Bytes.{IsUtf8-are_ascii}
 use Rattle.hmac256.proofs.OnLiterals.{hmac_on_literals}
+use Rattle.claim_set.proofs.Fitting.{ClaimsFit-none}
 use Rattle.claim_set.proofs.OnLiterals.{claims_on_literals}
 use Rattle.jws_compact.specs.declared.sealing.Typ.TheVariants.{Jwt}
 use Rattle.jws_compact.specs.Jws.{seal_text}
@@ -120,6 +121,7 @@ asks = (
     sid = IsUtf8-are_ascii (codes "sid") refl;
     at_hash = IsUtf8-are_ascii hash_text refl;
     c_hash = tt;
+    more = ClaimsFit-none;
   },
   drawn_word (word 1) refl refl,
 )
