@@ -2,6 +2,7 @@ pub mod HeldLaws
 pub mod Changing
 pub mod RowOf
 pub mod Rooms
+pub mod Places
 pub mod Found
 pub mod Kept
 pub mod Added

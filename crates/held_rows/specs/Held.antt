@@ -1,6 +1,6 @@
 -- The held rows of one table: what they keep, how they change, and when there is room for one more. A word or a text names a
 -- row.
-use Rattle.std.specs.Prelude.{◌≡◌, ◌<◌, ◌≤◌, ℕ, Bool, true, not, ◌||◌, nat_le, nat_lt, List, [], ◌∷◌, map, length, Option, None, option_map, is_some, if◌then◌else◌}
+use Rattle.std.specs.Prelude.{◌≡◌, ◌<◌, ◌≤◌, ℕ, Bool, true, not, ◌||◌, nat_le, nat_lt, List, [], ◌∷◌, map, length, Option, Some, None, option_map, is_some, ◌⊎◌, if◌then◌else◌}
 use Rattle.std.specs.Str.{bytes_eq}
 use Rattle.std.specs.List.{list_all, AllByRecursion}
 use Rattle.sso_base.specs.Words.{Word}
@@ -60,6 +60,10 @@ pub record IsFull {R : Type 0} (life : ℕ) (begun : R → ℕ) (at : ℕ) (rows
 -- the rows are as many as may be held, or one of them has the name
 abbrev pub is_full : {R : Type 0} → ℕ → (R → Word) → Word → List R → Bool
 is_full most name w rows = not (nat_lt (length rows) most) || is_some (row_of name w rows)
+
+-- no row of the name has a place beside these: they are as many as a table may hold, or one of them has the name
+abbrev pub NoPlace : {R : Type 0} → (R → Word) → Word → List R → Type 0
+NoPlace {R} name w rows = (most_rows ≤ length rows) ⊎ ((row : R) × (row_of name w rows ≡ Some row))
 
 -- where room is reserved, there is memory for one more row
 abbrev pub HasMemory : {R : Type 0} → Bool → Rows R → Type 0

@@ -22,11 +22,12 @@ use Rattle.userinfo.specs.declared.header.Bearer.TheVariants.{Absent, Given}
 use Rattle.op_issue.specs.LogoutMessages.{logout_messages}
 use Rattle.op_exchange.specs.declared.ask.OpAsk.TheVariants as ask
 use Rattle.op_answer.specs.Sessions.{live_session}
+use Rattle.op_exchange.specs.declared.reply.OpReply.{OpReply}
 use Rattle.op_exchange.specs.declared.reply.OpReply.TheVariants.{ErrorPage, Info, InfoRefused, SignedOut}
 use Rattle.op_answer.specs.Codes.{held_code}
 use Rattle.op_answer.specs.Replies.{refusal_of, is_turns, sign_out_of}
 use Rattle.op_issue.specs.IdTokens.{issued_id}
-use Rattle.op_answer.specs.Causes.{Stood, need_after_yes, NewTurn, LoginPageCause, OtherAtConsent, ErrorAtConsent, ConsentPageCause, AnsweredCause, RefusedCause, ErrorPageCause, TokensCause, TokenRefusedCause, InfoCause, InfoRefusedCause, SignedOutCause}
+use Rattle.op_answer.specs.Causes.{Comes, Stood, need_after_yes, NewTurn, LoginPageCause, OtherAtConsent, ErrorAtConsent, ConsentPageCause, AnsweredCause, RefusedCause, ErrorPageCause, TokensCause, TokenRefusedCause, InfoCause, InfoRefusedCause, SignedOutCause}
 use Rattle.op_answer.proofs.Standing.{own_replies_stand}
 use Rattle.op_answer.proofs.Pages.{login_pages_have_a_cause, consent_pages_have_a_cause, error_pages_have_a_cause}
 use Rattle.op_answer.proofs.Answers.{answers_have_a_cause}
@@ -38,6 +39,8 @@ use Rattle.op_answer.proofs.Sessions.{consent_denied, hasty, alice_session, sign
 use Rattle.op_answer.proofs.InfoSamples.{info_entry, alice_info, alice_is_told, nobody_is_told_after_an_hour}
 use Rattle.op_answer.proofs.InfoResponses.{infos_have_a_cause, info_refusals_have_a_cause, caused_infos, caused_info_refusals}
 use Rattle.op_answer.proofs.SignOuts.{sign_outs_have_a_cause, caused_sign_outs}
+use Rattle.op_answer.proofs.Coming.{comes, came}
+use Rattle.op_answer.proofs.Leading.{login_page_leads}
 use Rattle.op_answer.specs.Answering.{op_answer}
 
 abbrev code_given : Answer
@@ -68,6 +71,22 @@ some_tokens t spells =
 
 a_token_error : (t : Text) → word_of_text t ≡ Some (word 15) → TokenRefusedCause past_code (token_entry 1120 t) (token_entry 1120 t).ask InvalidGrant
 a_token_error t spells = token_errors_have_a_cause sample past_code (token_entry 1120 t) InvalidGrant (code_after_two_minutes t spells)
+
+-- ---- a cause, of an ask that a request gives and where there is a place, leads to its reply
+
+a_login_page_comes : Comes sample [] authorize_entry login_page (LoginPageCause sample [] authorize_entry authorize_entry.ask (word 6) (word 5) false)
+a_login_page_comes =
+    comes sample [] authorize_entry login_page refl (LoginPageCause sample [] authorize_entry authorize_entry.ask (word 6) (word 5) false)
+    (login_pages_have_a_cause sample [] authorize_entry (word 6) (word 5) false) authorize_gets_login
+
+the_login_page_came : op_answer sample [] authorize_entry ≡ login_page
+the_login_page_came =
+    came sample [] authorize_entry login_page (LoginPageCause sample [] authorize_entry authorize_entry.ask (word 6) (word 5) false)
+    (login_page_leads sample [] authorize_entry authorize_entry.ask (word 6) (word 5) false) a_login_page_comes
+
+-- no request gives a login form of a third user
+no_reply_where_no_request_asks : (told : OpReply) (Cause : Type 0) → Comes sample past_login (entry_at 1000 9 (ask.Login None (Some 2) None None)) told Cause → ⊥
+no_reply_where_no_request_asks told Cause h = (let k : false ≡ true = h.prepared in cc)
 
 -- ---- the turn, the session and the code that these are about
 

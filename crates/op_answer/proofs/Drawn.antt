@@ -1,5 +1,5 @@
 -- The words of the rows that stand after a legal past are drawn words of the one pair that made each.
-use Rattle.std.proofs.Common.{◌≡◌, ℕ, Bool, false, ◌∷◌, ◌++◌, [], length, Option, Some, None, Ok, refl, sym, ◌∙◌, ap, subst, ◌⊎◌, inl, inr}
+use Rattle.std.proofs.Common.{◌≡◌, ℕ, Bool, false, ◌∷◌, ◌++◌, [], length, Option, Some, None, Ok, refl, sym, ◌∙◌, ap, subst, inl, inr}
 use Rattle.sso_base.specs.Words.{Word, Text, fresh_word, word_of_text}
 use Rattle.sso_base.specs.Rows.{row_of}
 use Rattle.sso_base.specs.declared.history.Entry.{Entry}
@@ -9,12 +9,13 @@ use Rattle.oidc_words.specs.declared.scopes.Scopes.{Scopes}
 use Rattle.auth_request.specs.declared.wish.Wish.{Wish}
 use Rattle.auth_request.specs.declared.wish.Verdict.TheVariants as verdict
 use Rattle.auth_answer.specs.declared.answer.Answer.{Answer}
+use Rattle.token_endpoint.specs.declared.granting.Grant.{Grant}
 use Rattle.code_grant.specs.declared.rows.TurnRow.{TurnRow}
 use Rattle.code_grant.specs.declared.rows.SessionRow.{SessionRow}
 use Rattle.code_grant.specs.declared.rows.CodeRow.{CodeRow}
 use Rattle.code_grant.specs.declared.rows.TokenRow.{TokenRow}
-use Rattle.code_grant.specs.Rows.{turn_name, session_name, session_begun, code_name, access_name}
-use Rattle.oidc_words.specs.Lives.{session_life}
+use Rattle.code_grant.specs.Rows.{turn_name, session_name, session_begun, code_name, code_begun, access_name}
+use Rattle.oidc_words.specs.Lives.{session_life, code_life}
 use Rattle.op_exchange.specs.declared.ask.OpAsk.{OpAsk}
 use Rattle.op_exchange.specs.declared.ask.OpAsk.TheVariants as ask
 use Rattle.op_exchange.specs.declared.reply.OpReply.{OpReply}
@@ -23,18 +24,18 @@ use Rattle.op_exchange.specs.Replied.{session_given, code_in}
 use Rattle.op_answer.specs.Past.{OpPair, OpPast}
 use Rattle.op_answer.specs.Turns.{BeginsTurn, turns, turn_started, turn_made, turn_kept}
 use Rattle.op_answer.specs.Sessions.{sessions, session_set, signed_user, wish_by, session_used, session_by, live_in, session_made_by, session_made, session_kept, session_of}
-use Rattle.op_answer.specs.Codes.{codes_issued, code_issued, code_made_by, code_made, code_kept, code_of}
+use Rattle.op_answer.specs.Codes.{codes_issued, code_issued, code_made_by, code_made, code_kept, code_of, held_code}
 use Rattle.op_answer.specs.AccessTokens.{accesses, access_issued, access_answered, access_redeemed, access_given, access_made, access_kept}
 use Rattle.op_answer.specs.Answering.{op_answer}
-use Rattle.op_answer.specs.Causes.{LoginPageCause, ConsentPageCause}
+use Rattle.op_answer.specs.Causes.{LoginPageCause, ConsentPageCause, TokensForCode, TokensCause}
 use Rattle.op_answer.specs.Legal.{IsLegalOp, PassedPassword}
-use Rattle.op_answer.specs.Drawn.{TurnDrawn, SessionDrawn, CodeDrawn, InResponse, ForCode, AccessDrawn}
+use Rattle.op_answer.specs.Drawn.{TurnDrawn, SessionDrawn, AnswerAbout, CodeDrawn, AccessDrawn}
 use Rattle.op_answer.proofs.KeptNames.{some_same, turn_names, session_names, code_names, access_names}
 use Rattle.op_answer.proofs.KeptRows.{turn_wish_kept, turn_begun_kept, session_keeps, code_keeps, access_keeps}
 use Rattle.op_answer.proofs.Pages.{login_pages_have_a_cause, consent_pages_have_a_cause}
 use Rattle.op_answer.proofs.Answers.{answers_have_a_cause}
 use Rattle.op_answer.proofs.TokenResponses.{tokens_have_a_cause}
-use Rattle.op_answer.proofs.FullTables.{code_drawn, access_drawn, redeemed_drawn}
+use Rattle.op_answer.proofs.FullTables.{code_drawn, access_drawn}
 use Rattle.op_answer.proofs.Passwords.{session_words_need_a_password}
 use Rattle.op_answer.proofs.Renewals.{new_is_drawn}
 use Rattle.op_answer.proofs.EachRow.{each_row}
@@ -201,8 +202,8 @@ module _ (c : Configuration) where
   -- ---- codes
 
   code_begins : (past : OpPast) (p : OpPair) (row : CodeRow) → IsLegalOp c (p ∷ past) → (told : OpReply) → p.reply ≡ told → (w : Option Word) (wish : Option Wish) (session : Option SessionRow) → code_in told ≡ w
-      → code_made_by (length past) p.entry.at w wish session ≡ Some row → CodeDrawn (p ∷ past) row
-  code_begins past p row legal (reply.Answered answer given) told (Some w) (Some wish) (Some session) is h =
+      → wish_by past p.entry.ask ≡ wish → session_of (p ∷ past) (session_used past p.entry.ask p.reply) ≡ session → code_made_by (length past) p.entry.at w wish session ≡ Some row → CodeDrawn (p ∷ past) row
+  code_begins past p row legal (reply.Answered answer given) told (Some w) (Some wish) (Some session) is wish_is session_is h =
       let D : CodeRow → Type 0 = λ r. CodeDrawn (p ∷ past) r in
       let cause = answers_have_a_cause c past p.entry answer given (replied past p (reply.Answered answer given) legal told) in
       subst D (some_same (code_issued (length past) p.entry.at w wish session) row h)
@@ -216,21 +217,31 @@ module _ (c : Configuration) where
         replied = told;
         code_is = is;
         drawn = sym (code_drawn c past p.entry p.entry.ask answer given w cause is);
+        session = session;
+        about = record { wish_is = wish_is; session_is = session_is };
+        user_is = refl;
+        sid_is = refl;
+        auth_time_is = refl;
         issued_then = refl;
         place = refl;
       })
-  code_begins past p row legal (reply.Answered answer given) told (Some w) (Some wish) None is h = cc
-  code_begins past p row legal (reply.Answered answer given) told (Some w) None session is h = cc
-  code_begins past p row legal (reply.Answered answer given) told None wish session is h = cc
-  code_begins past p row legal other told (Some w) wish session is h = cc
-  code_begins past p row legal other told None wish session is h = cc
+  code_begins past p row legal (reply.Answered answer given) told (Some w) (Some wish) None is wish_is session_is h = cc
+  code_begins past p row legal (reply.Answered answer given) told (Some w) None session is wish_is session_is h = cc
+  code_begins past p row legal (reply.Answered answer given) told None wish session is wish_is session_is h = cc
+  code_begins past p row legal other told (Some w) wish session is wish_is session_is h = cc
+  code_begins past p row legal other told None wish session is wish_is session_is h = cc
 
   code_stays : (past : OpPast) (p : OpPair) (before row : CodeRow) → IsLegalOp c (p ∷ past) → CodeDrawn past before → code_kept past p before ≡ Some row → CodeDrawn (p ∷ past) row
   code_stays past p before row legal d h =
       let same_word : row.word ≡ before.word = code_names past p before row h in
       let S : Word → Option Word = λ v. Some v in
+      let W : CodeRow → Wish = λ r. r.wish in
+      let U : CodeRow → ℕ = λ r. r.user in
+      let N : CodeRow → Word = λ r. r.sid in
+      let T : CodeRow → ℕ = λ r. r.auth_time in
       let I : CodeRow → ℕ = λ r. r.issued in
       let B : CodeRow → ℕ = λ r. r.by in
+      let A : Wish → Type 0 = λ w. AnswerAbout d.earlier d.maker w d.session in
       record {
         later = p ∷ d.later;
         maker = d.maker;
@@ -241,6 +252,11 @@ module _ (c : Configuration) where
         replied = d.replied;
         code_is = d.code_is ∙ ap S (sym same_word);
         drawn = same_word ∙ d.drawn;
+        session = d.session;
+        about = subst A (sym (code_keeps W (λ r spent. refl) past p before row h)) d.about;
+        user_is = code_keeps U (λ r spent. refl) past p before row h ∙ d.user_is;
+        sid_is = code_keeps N (λ r spent. refl) past p before row h ∙ d.sid_is;
+        auth_time_is = code_keeps T (λ r spent. refl) past p before row h ∙ d.auth_time_is;
         issued_then = code_keeps I (λ r spent. refl) past p before row h ∙ d.issued_then;
         place = code_keeps B (λ r spent. refl) past p before row h ∙ d.place;
       }
@@ -248,30 +264,53 @@ module _ (c : Configuration) where
   pub codes_are_drawn : (past : OpPast) → IsLegalOp c past → (w : Word) (row : CodeRow) → row_of code_name w (codes_issued past) ≡ Some row → CodeDrawn past row
   codes_are_drawn past legal w row h =
       each_row code_name code_made code_kept code_names c CodeDrawn
-      (λ q p r l all made. code_begins q p r l p.reply refl (code_in p.reply) (wish_by q p.entry.ask) (session_of (p ∷ q) (session_used q p.entry.ask p.reply)) refl made) code_stays past legal w row h
+      (λ q p r l all made. code_begins q p r l p.reply refl (code_in p.reply) (wish_by q p.entry.ask) (session_of (p ∷ q) (session_used q p.entry.ask p.reply)) refl refl refl made) code_stays past legal w row h
 
   -- ---- access tokens
 
-  token_redeemed : (past : OpPast) (p : OpPair) (row : TokenRow) → IsLegalOp c (p ∷ past) → (w : Word) (id : Text) → p.reply ≡ reply.Tokens w id → (found : Option CodeRow)
-      → access_redeemed (length past) p.entry.at w found ≡ Some row → AccessDrawn (p ∷ past) row
-  token_redeemed past p row legal w id told (Some code) h =
+  -- the code that is redeemed, and the one that is held
+  same_code : (past : OpPast) (at : ℕ) (named : Option Word) (code found : CodeRow) → code_of past named ≡ Some code → held_code past at named ≡ Some found → found ≡ code
+  same_code past at named code found is held = some_same found code (sym (row_that_lives code_life code_begun at (code_of past named) found held) ∙ is)
+
+  redeemed_for : (past : OpPast) (e : Entry OpAsk) (grant : Grant) (w : Word) (id : Text) → e.ask ≡ ask.Token (Ok grant) → op_answer c past e ≡ reply.Tokens w id → TokensForCode c past e grant w id
+  redeemed_for past e grant w id is answered = let C : OpAsk → Type 0 = λ a. TokensCause c past e a w id in subst C is (tokens_have_a_cause c past e w id answered)
+
+  token_redeemed : (past : OpPast) (p : OpPair) (row : TokenRow) → IsLegalOp c (p ∷ past) → (grant : Grant) (w : Word) (id : Text) → p.entry.ask ≡ ask.Token (Ok grant) → p.reply ≡ reply.Tokens w id
+      → (found : Option CodeRow) → code_of past (word_of_text grant.code) ≡ found → access_redeemed (length past) p.entry.at w found ≡ Some row → AccessDrawn (p ∷ past) row
+  token_redeemed past p row legal grant w id is told (Some code) found h =
       let D : TokenRow → Type 0 = λ r. AccessDrawn (p ∷ past) r in
-      let cause = tokens_have_a_cause c past p.entry w id (replied past p (reply.Tokens w id) legal told) in
+      let cause = redeemed_for past p.entry grant w id is (replied past p (reply.Tokens w id) legal told) in
+      let same : cause.code ≡ code = same_code past p.entry.at (word_of_text grant.code) code cause.code found cause.held in
+      let H : CodeRow → Type 0 = λ r. held_code past p.entry.at (word_of_text grant.code) ≡ Some r in
+      let K : CodeRow → Type 0 = λ r. r.wish.client ≡ grant.client in
       subst D (some_same (access_issued (length past) p.entry.at w (Some code.word) code.wish code.user) row h)
       (record {
         later = [];
         maker = p;
         earlier = past;
         parts = refl;
-        came = inr (record { id = id; replied = told; drawn = sym (redeemed_drawn c past p.entry p.entry.ask w id cause) });
+        came =
+            inr (record {
+              grant = grant;
+              asked = is;
+              code = code;
+              held = subst H same cause.held;
+              own_client = subst K same cause.own_client;
+              of_wish = record { client_is = refl; user_is = refl; scopes_are = refl; asked_are = refl };
+              of_code = refl;
+              id = id;
+              replied = told;
+              drawn = sym cause.drawn;
+            });
         issued_then = refl;
         place = refl;
       })
-  token_redeemed past p row legal w id told None h = cc
+  token_redeemed past p row legal grant w id is told None found h = cc
 
   token_answered : (past : OpPast) (p : OpPair) (row : TokenRow) → IsLegalOp c (p ∷ past) → (answer : Answer) (given : Option Word) → p.reply ≡ reply.Answered answer given → (w : Option Word) → answer.access ≡ w
-      → (wish : Option Wish) (session : Option SessionRow) → access_answered (length past) p.entry.at w wish session ≡ Some row → AccessDrawn (p ∷ past) row
-  token_answered past p row legal answer given told (Some w) is (Some wish) (Some session) h =
+      → (wish : Option Wish) (session : Option SessionRow) → wish_by past p.entry.ask ≡ wish → session_of (p ∷ past) (session_used past p.entry.ask p.reply) ≡ session
+      → access_answered (length past) p.entry.at w wish session ≡ Some row → AccessDrawn (p ∷ past) row
+  token_answered past p row legal answer given told (Some w) is (Some wish) (Some session) wish_is session_is h =
       let D : TokenRow → Type 0 = λ r. AccessDrawn (p ∷ past) r in
       let cause = answers_have_a_cause c past p.entry answer given (replied past p (reply.Answered answer given) legal told) in
       subst D (some_same (access_issued (length past) p.entry.at w None wish session.user) row h)
@@ -280,42 +319,61 @@ module _ (c : Configuration) where
         maker = p;
         earlier = past;
         parts = refl;
-        came = inl (record { answer = answer; given = given; replied = told; access_is = is; of_no_code = refl; drawn = sym (access_drawn c past p.entry p.entry.ask answer given w cause is) });
+        came =
+            inl (record {
+              answer = answer;
+              given = given;
+              replied = told;
+              access_is = is;
+              wish = wish;
+              session = session;
+              about = record { wish_is = wish_is; session_is = session_is };
+              of_wish = record { client_is = refl; user_is = refl; scopes_are = refl; asked_are = refl };
+              of_no_code = refl;
+              drawn = sym (access_drawn c past p.entry p.entry.ask answer given w cause is);
+            });
         issued_then = refl;
         place = refl;
       })
-  token_answered past p row legal answer given told (Some w) is (Some wish) None h = cc
-  token_answered past p row legal answer given told (Some w) is None session h = cc
-  token_answered past p row legal answer given told None is wish session h = cc
+  token_answered past p row legal answer given told (Some w) is (Some wish) None wish_is session_is h = cc
+  token_answered past p row legal answer given told (Some w) is None session wish_is session_is h = cc
+  token_answered past p row legal answer given told None is wish session wish_is session_is h = cc
 
-  token_begins : (past : OpPast) (p : OpPair) (row : TokenRow) → IsLegalOp c (p ∷ past) → (asked : OpAsk) (told : OpReply) → p.reply ≡ told → access_given past p asked told ≡ Some row → AccessDrawn (p ∷ past) row
-  token_begins past p row legal (ask.Token (Ok grant)) (reply.Tokens w id) told h = token_redeemed past p row legal w id told (code_of past (word_of_text grant.code)) h
-  token_begins past p row legal asked (reply.Answered answer given) told h =
-      token_answered past p row legal answer given told answer.access refl (wish_by past asked) (session_of (p ∷ past) (session_used past asked (reply.Answered answer given))) h
-  token_begins past p row legal asked told is h = cc
+  -- the session that an answer is about, by the pair's ask and reply
+  session_about : (past : OpPast) (p : OpPair) (asked : OpAsk) (told : OpReply) → p.entry.ask ≡ asked → p.reply ≡ told
+      → session_of (p ∷ past) (session_used past p.entry.ask p.reply) ≡ session_of (p ∷ past) (session_used past asked told)
+  session_about past p asked told is said =
+      let A : OpAsk → Option SessionRow = λ a. session_of (p ∷ past) (session_used past a p.reply) in
+      let R : OpReply → Option SessionRow = λ r. session_of (p ∷ past) (session_used past asked r) in
+      ap A is ∙ ap R said
 
-  came_still : (maker : OpPair) (before row : TokenRow) → row.word ≡ before.word → row.code ≡ before.code → (InResponse maker before ⊎ ForCode maker before) → InResponse maker row ⊎ ForCode maker row
-  came_still maker before row same_word same_code (inl r) =
-      let S : Word → Option Word = λ v. Some v in
-      inl (record { answer = r.answer; given = r.given; replied = r.replied; access_is = r.access_is ∙ ap S (sym same_word); of_no_code = same_code ∙ r.of_no_code; drawn = same_word ∙ r.drawn })
-  came_still maker before row same_word same_code (inr f) =
-      let T : Word → OpReply = λ v. reply.Tokens v f.id in inr (record { id = f.id; replied = f.replied ∙ ap T (sym same_word); drawn = same_word ∙ f.drawn })
+  token_begins : (past : OpPast) (p : OpPair) (row : TokenRow) → IsLegalOp c (p ∷ past) → (asked : OpAsk) (told : OpReply) → p.entry.ask ≡ asked → p.reply ≡ told → access_given past p asked told ≡ Some row → AccessDrawn (p ∷ past) row
+  token_begins past p row legal (ask.Token (Ok grant)) (reply.Tokens w id) is told h = token_redeemed past p row legal grant w id is told (code_of past (word_of_text grant.code)) refl h
+  token_begins past p row legal asked (reply.Answered answer given) is told h =
+      let W : OpAsk → Option Wish = λ a. wish_by past a in
+      token_answered past p row legal answer given told answer.access refl (wish_by past asked) (session_of (p ∷ past) (session_used past asked (reply.Answered answer given))) (ap W is)
+      (session_about past p asked (reply.Answered answer given) is told) h
+  token_begins past p row legal asked told is come h = cc
 
-  token_stays : (past : OpPast) (p : OpPair) (before row : TokenRow) → IsLegalOp c (p ∷ past) → AccessDrawn past before → access_kept past p before ≡ Some row → AccessDrawn (p ∷ past) row
-  token_stays past p before row legal d h =
-      let I : TokenRow → ℕ = λ r. r.issued in
-      let B : TokenRow → ℕ = λ r. r.by in
-      let K : TokenRow → Option Word = λ r. r.code in
+  token_still : (past : OpPast) (p : OpPair) (row : TokenRow) → AccessDrawn past row → AccessDrawn (p ∷ past) row
+  token_still past p row d =
       record {
         later = p ∷ d.later;
         maker = d.maker;
         earlier = d.earlier;
         parts = longer p past d.later d.earlier d.maker d.parts;
-        came = came_still d.maker before row (access_names past p before row h) (access_keeps K past p before row h) d.came;
-        issued_then = access_keeps I past p before row h ∙ d.issued_then;
-        place = access_keeps B past p before row h ∙ d.place;
+        came = d.came;
+        issued_then = d.issued_then;
+        place = d.place;
       }
+
+  -- an access token is kept as it is
+  token_stays : (past : OpPast) (p : OpPair) (before row : TokenRow) → IsLegalOp c (p ∷ past) → AccessDrawn past before → access_kept past p before ≡ Some row → AccessDrawn (p ∷ past) row
+  token_stays past p before row legal d h =
+      let I : TokenRow → TokenRow = λ r. r in
+      let D : TokenRow → Type 0 = λ r. AccessDrawn (p ∷ past) r in
+      subst D (sym (access_keeps I past p before row h)) (token_still past p before d)
 
   pub accesses_are_drawn : (past : OpPast) → IsLegalOp c past → (w : Word) (row : TokenRow) → row_of access_name w (accesses past) ≡ Some row → AccessDrawn past row
   accesses_are_drawn past legal w row h =
-      each_row access_name access_made access_kept access_names c AccessDrawn (λ q p r l all made. token_begins q p r l p.entry.ask p.reply refl made) token_stays past legal w row h
+      each_row access_name access_made access_kept access_names c AccessDrawn (λ q p r l all made. token_begins q p r l p.entry.ask p.reply refl refl made) token_stays past legal w row h

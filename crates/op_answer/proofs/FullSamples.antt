@@ -1,8 +1,6 @@
 -- A table of each kind that has no place for a row, by computation: a word that was drawn before. And one that has.
-use Rattle.std.proofs.Common.{◌≡◌, inl, inr, ℕ, zero, suc, Bool, true, false, [], ◌∷◌, length, replicate, codes, Option, Some, None, refl, sym, ap, ◌∙◌, arith}
-use Rattle.std.proofs.lemmas.List.{length-replicate}
+use Rattle.std.proofs.Common.{◌≡◌, inl, inr, Bool, true, false, [], ◌∷◌, codes, Option, Some, None, refl, sym, ap, ◌∙◌}
 use Rattle.sso_base.specs.Words.{Word, Text, is_word, word_of_text}
-use Rattle.sso_base.specs.Rows.{row_of}
 use Rattle.sso_base.specs.declared.history.Entry.{Entry}
 use Rattle.auth_request.specs.declared.wish.Wish.{Wish}
 use Rattle.auth_request.specs.declared.wish.Verdict.TheVariants.{Grant}
@@ -18,10 +16,12 @@ use Rattle.op_exchange.specs.declared.ask.OpAsk.{OpAsk}
 use Rattle.op_exchange.specs.declared.ask.OpAsk.TheVariants as ask
 use Rattle.op_exchange.specs.declared.reply.OpReply.{OpReply}
 use Rattle.op_exchange.specs.declared.reply.OpReply.TheVariants.{Full, Answered}
+use Rattle.held_rows.proofs.Places.{place_beside_none}
 use Rattle.op_answer.specs.Past.{OpPast}
 use Rattle.op_answer.specs.AccessTokens.{access_issued}
 use Rattle.op_answer.specs.Answering.{op_reply, op_answer}
-use Rattle.op_answer.specs.FullTables.{NoPlace, NoTurnPlace, NoSessionPlace, NoCodePlace, NoAccessPlace, FullCause}
+use Rattle.op_answer.specs.Causes.{Comes}
+use Rattle.op_answer.specs.FullTables.{NoTurnPlace, NoSessionPlace, NoCodePlace, NoAccessPlace, FullCause}
 use Rattle.op_answer.proofs.FullTables.{cause_makes_full}
 use Rattle.op_answer.proofs.FirstLogin.{entry_at, pair_of, login_page, authorize_entry, authorize_gets_login, past_login, past_consent, consent_entry, past_code, token_entry, past_tokens}
 use Rattle.op_answer.proofs.Sessions.{fresh_turn, bob_entry, alice_session, alice_entry, alice_answer}
@@ -41,6 +41,10 @@ turn_has_no_place = record { begins = refl; full = inr (login_turn, refl) }
 
 turns_have_no_place : FullCause sample past_login turn_again
 turns_have_no_place = record { prepared = refl; no_place = inl turn_has_no_place }
+
+-- so the page does not come, whatever its cause
+no_page_without_a_place : (Cause : Type 0) → Comes sample past_login turn_again (op_reply sample past_login turn_again turn_again.ask) Cause → ⊥
+no_page_without_a_place Cause h = h.placed (inl turn_has_no_place)
 
 -- ---- a session: its word is that of the presented one, which stays then
 
@@ -96,32 +100,13 @@ access_has_no_place t spells = record { word = word 21; drawn = inl refl; given 
 accesses_have_no_place : (t : Text) → word_of_text t ≡ Some (word 15) → FullCause sample (past_tokens t) access_again
 accesses_have_no_place t spells = record { prepared = refl; no_place = inr (inr (inr (access_has_no_place t spells))) }
 
--- ---- a table with as many rows as it may hold, whatever their words; and one with a place
-
-no_place_beside_65536_rows : NoPlace turn_name (word 7) (replicate 65536 login_turn)
-no_place_beside_65536_rows = let long : length (replicate 65536 login_turn) ≡ 65536 = length-replicate 65536 login_turn in inl (omega (arith, long))
-
-no_row_of_that_word : (n : ℕ) → row_of turn_name (word 7) (replicate n login_turn) ≡ None
-no_row_of_that_word zero = refl
-no_row_of_that_word (suc n) = no_row_of_that_word n
-
-place_beside_65535_rows : NoPlace turn_name (word 7) (replicate 65535 login_turn) → ⊥
-place_beside_65535_rows (inl full) = let long : length (replicate 65535 login_turn) ≡ 65535 = length-replicate 65535 login_turn in absurd (omega (arith, long, full))
-place_beside_65535_rows (inr same) = (let k : None ≡ Some same.0 = sym (no_row_of_that_word 65535) ∙ same.1 in cc)
-
-place_beside_one_row : NoPlace turn_name (word 7) (login_turn ∷ []) → ⊥
-place_beside_one_row (inl full) = absurd (omega (arith, full))
-place_beside_one_row (inr same) = (let k : None ≡ Some same.0 = same.1 in cc)
+-- ---- a first turn
 
 -- before any request there is room
 the_first_turn_has_a_place : FullCause sample [] authorize_entry → ⊥
 the_first_turn_has_a_place cause = (let k : Full ≡ login_page = sym (cause_makes_full sample [] authorize_entry cause) ∙ authorize_gets_login in cc)
 
 -- ---- and no cause where there is a place: beside no row, beside the row that is renewed, and where no request gives the ask
-
-place_beside_none : {R : Type 0} (name : R → Word) (w : Word) → NoPlace name w [] → ⊥
-place_beside_none name w (inl full) = absurd (omega (arith, full))
-place_beside_none name w (inr same) = (let k : None ≡ Some same.0 = same.1 in cc)
 
 a_turn_has_a_place : (told : OpReply) → NoTurnPlace [] authorize_entry told → ⊥
 a_turn_has_a_place told h = place_beside_none turn_name (word 6) h.full

@@ -1,15 +1,14 @@
 -- `Full` comes exactly where a row that the reply would make has no place in its table.
-use Rattle.std.proofs.Common.{◌≡◌, ◌≤◌, ◌<◌, ℕ, Bool, true, false, not, ◌||◌, nat_lt, cond, is_some, List, length, Option, Some, None, Ok, refl, sym, ◌∙◌, ap, subst, ◌⊎◌, inl, inr, arith}
-use Rattle.std.proofs.lemmas.Bool.{ltb-true, ltb-false, or_left, or_right}
+use Rattle.std.proofs.Common.{◌≡◌, ℕ, Bool, true, false, ◌||◌, cond, List, Option, Some, None, Ok, refl, sym, ◌∙◌, ap, subst, ◌⊎◌, inl, inr}
 use Rattle.sso_base.specs.Words.{Word, fresh_word}
-use Rattle.sso_base.specs.Rows.{row_of}
 use Rattle.sso_base.specs.declared.history.Entry.{Entry}
 use Rattle.client_registry.specs.Configuration.{Configuration}
 use Rattle.auth_request.specs.declared.wish.Verdict.TheVariants as verdict
 use Rattle.auth_answer.specs.declared.answer.Answer.{Answer}
 use Rattle.code_grant.specs.declared.rows.SessionRow.{SessionRow}
 use Rattle.code_grant.specs.Rows.{turn_name, session_name, code_name, access_name}
-use Rattle.held_rows.specs.Held.{most_rows, is_full}
+use Rattle.held_rows.specs.Held.{NoPlace}
+use Rattle.held_rows.proofs.Places.{no_place, full_by}
 use Rattle.op_exchange.specs.declared.ask.OpAsk.{OpAsk}
 use Rattle.op_exchange.specs.declared.ask.OpAsk.TheVariants as ask
 use Rattle.op_exchange.specs.declared.reply.OpReply.{OpReply}
@@ -26,36 +25,12 @@ use Rattle.op_answer.specs.Replies.{session_renewed, session_left, session_after
 use Rattle.op_answer.specs.Room.{sessions_beside, lacks_turn, lacks_new_session, lacks_session, lacks_code, lacks_access, lacks_room}
 use Rattle.op_answer.specs.Answering.{op_reply, op_answer}
 use Rattle.op_answer.specs.Causes.{AnsweredCause, TokensCause}
-use Rattle.op_answer.specs.FullTables.{NoPlace, NoSessionPlace, NoCodePlace, NoAccessPlace, LacksPlace, FullCause}
+use Rattle.op_answer.specs.FullTables.{NoSessionPlace, NoCodePlace, NoAccessPlace, LacksPlace, FullCause}
 use Rattle.op_answer.proofs.Forms.{request_told, login_told, consent_told, token_told, info_told, sign_out_told}
 use Rattle.op_answer.proofs.Pages.{login_page_asked, consent_page_asked}
 use Rattle.op_answer.proofs.Answers.{answered_asked}
 use Rattle.op_answer.proofs.Refusals.{refused_asked}
 use Rattle.op_answer.proofs.TokenResponses.{tokens_asked}
-
--- ---- a full table
-
-module _ {R : Type 0} (name : R → Word) (w : Word) (rows : List R) where
-  place_by : (few : Bool) (found : Option R) → nat_lt (length rows) most_rows ≡ few → row_of name w rows ≡ found → (not few || is_some found) ≡ true → NoPlace name w rows
-  place_by false found few_is found_is h = inl (ltb-false (length rows) most_rows few_is)
-  place_by true (Some row) few_is found_is h = inr (row, found_is)
-  place_by true None few_is found_is h = cc
-
-  no_place : is_full most_rows name w rows ≡ true → NoPlace name w rows
-  no_place h = place_by (nat_lt (length rows) most_rows) (row_of name w rows) refl refl h
-
-  low_high : (n m : ℕ) → n < m → m ≤ n → ⊥
-  low_high n m low high = absurd (omega (arith, low, high))
-
-  not_few : (few : Bool) → nat_lt (length rows) most_rows ≡ few → most_rows ≤ length rows → not few ≡ true
-  not_few false is high = refl
-  not_few true is high = absurd (low_high (length rows) most_rows (ltb-true (length rows) most_rows is) high)
-
-  full_by : NoPlace name w rows → is_full most_rows name w rows ≡ true
-  full_by (inl high) = or_left (not (nat_lt (length rows) most_rows)) (is_some (row_of name w rows)) (not_few (nat_lt (length rows) most_rows) refl high)
-  full_by (inr found) =
-      let S : Option R → Bool = λ o. is_some o in
-      or_right (not (nat_lt (length rows) most_rows)) (is_some (row_of name w rows)) (ap S found.1)
 
 -- ---- the answer, opened
 
@@ -242,16 +217,12 @@ module _ (c : Configuration) (past : OpPast) (e : Entry OpAsk) where
   one_place told h (inr (inr (inl lacks))) = inr (inr (inl (code_place e.ask told h lacks)))
   one_place told h (inr (inr (inr lacks))) = inr (inr (inr (access_place e.ask told h lacks)))
 
+  pub lacks_place : (told : OpReply) → op_reply c past e e.ask ≡ told → lacks_room past e told ≡ true → LacksPlace past e told
+  lacks_place told h lacks =
+      one_place told h (one_of (lacks_turn past e.at e.ask told) (lacks_session past e.at e.ask told) (lacks_code past e.at (code_in told)) (lacks_access past e.at (access_in told)) lacks)
+
   pub full_has_a_cause : op_answer c past e ≡ reply.Full → FullCause c past e
-  full_has_a_cause h =
-      let told : OpReply = op_reply c past e e.ask in
-      let lacks = full_lacks_room h in
-      record {
-        prepared = lacks.0;
-        no_place =
-            one_place told refl
-            (one_of (lacks_turn past e.at e.ask told) (lacks_session past e.at e.ask told) (lacks_code past e.at (code_in told)) (lacks_access past e.at (access_in told)) lacks.1);
-      }
+  full_has_a_cause h = let lacks = full_lacks_room h in record { prepared = lacks.0; no_place = lacks_place (op_reply c past e e.ask) refl lacks.1 }
 
   any_of : (a b d f : Bool) → (a ≡ true) ⊎ (b ≡ true) ⊎ (d ≡ true) ⊎ (f ≡ true) → (a || b || d || f) ≡ true
   any_of true b d f h = refl
@@ -276,8 +247,9 @@ module _ (c : Configuration) (past : OpPast) (e : Entry OpAsk) where
       let A : Option Word → Bool = λ o. lacks_access past e.at o in
       inr (inr (inr (ap A none.given ∙ full_by access_name none.word (live_accesses past e.at) none.full)))
 
+  pub place_lacks : (told : OpReply) → LacksPlace past e told → lacks_room past e told ≡ true
+  place_lacks told none =
+      any_of (lacks_turn past e.at e.ask told) (lacks_session past e.at e.ask told) (lacks_code past e.at (code_in told)) (lacks_access past e.at (access_in told)) (no_room told none)
+
   pub cause_makes_full : FullCause c past e → op_answer c past e ≡ reply.Full
-  cause_makes_full cause =
-      let told : OpReply = op_reply c past e e.ask in
-      full_without_room cause.prepared
-      (any_of (lacks_turn past e.at e.ask told) (lacks_session past e.at e.ask told) (lacks_code past e.at (code_in told)) (lacks_access past e.at (access_in told)) (no_room told cause.no_place))
+  cause_makes_full cause = full_without_room cause.prepared (place_lacks (op_reply c past e e.ask) cause.no_place)

@@ -12,6 +12,8 @@ pub mod SignOuts
 pub mod TokensApart
 pub mod Renewals
 pub mod FullTables
+pub mod Coming
+pub mod Leading
 pub mod Granting
 pub mod Passwords
 pub mod OwnRows

@@ -48,6 +48,7 @@ use Rattle.op_issue.specs.Issued.{issued}
 use Rattle.op_issue.specs.LogoutMessages.{logout_messages}
 use Rattle.op_answer.specs.Room.{lacks_room}
 use Rattle.op_answer.specs.Answering.{op_reply}
+use Rattle.op_answer.specs.FullTables.{LacksPlace}
 
 -- ---- every reply but NotHere and Full: a request gives the ask, and there was room
 
@@ -60,6 +61,12 @@ pub record Stood (c : Configuration) (past : OpPast) (e : Entry OpAsk) (reply : 
   pub prepared : is_prepared c e.ask ≡ true
   pub room : lacks_room past e reply ≡ false
   pub reply_is : op_reply c past e e.ask ≡ reply
+
+-- A request gives the ask, each row that the reply makes has a place in its table, and this is why it comes.
+pub record Comes (c : Configuration) (past : OpPast) (e : Entry OpAsk) (reply : OpReply) (Cause : Type 0) : Type 0 where
+  pub prepared : is_prepared c e.ask ≡ true
+  pub placed : LacksPlace past e reply → ⊥
+  pub why : Cause
 
 -- ---- what the replies have in common
 

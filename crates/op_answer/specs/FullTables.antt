@@ -1,12 +1,11 @@
 -- What the reply `Full` says: the reply that there would be, were there always room, makes a row that has no place in its
 -- table. Each such row has a word that was drawn for the entry.
-use Rattle.std.specs.Prelude.{◌≡◌, ◌≤◌, ℕ, true, List, length, Option, Some, None, ◌⊎◌}
+use Rattle.std.specs.Prelude.{◌≡◌, ℕ, true, Option, Some, None, ◌⊎◌}
 use Rattle.sso_base.specs.Words.{Word, fresh_word}
-use Rattle.sso_base.specs.Rows.{row_of}
 use Rattle.sso_base.specs.declared.history.Entry.{Entry}
 use Rattle.client_registry.specs.Configuration.{Configuration}
 use Rattle.code_grant.specs.Rows.{turn_name, session_name, code_name, access_name}
-use Rattle.held_rows.specs.Held.{most_rows}
+use Rattle.held_rows.specs.Held.{NoPlace}
 use Rattle.op_exchange.specs.declared.ask.OpAsk.{OpAsk}
 use Rattle.op_exchange.specs.declared.ask.OpAsk.TheVariants.{Login}
 use Rattle.op_exchange.specs.declared.reply.OpReply.{OpReply}
@@ -20,10 +19,6 @@ use Rattle.op_answer.specs.AccessTokens.{live_accesses}
 use Rattle.op_answer.specs.Replies.{session_renewed}
 use Rattle.op_answer.specs.Room.{sessions_beside}
 use Rattle.op_answer.specs.Answering.{op_reply}
-
--- no row of the word has a place beside these: they are as many as a table may hold, or one of them has the word
-abbrev pub NoPlace : {R : Type 0} → (R → Word) → Word → List R → Type 0
-NoPlace {R} name w rows = (most_rows ≤ length rows) ⊎ ((row : R) × (row_of name w rows ≡ Some row))
 
 -- a page of this turn comes at once
 pub record NoTurnPlace (past : OpPast) (e : Entry OpAsk) (told : OpReply) : Type 0 where

@@ -50,7 +50,7 @@ ghost use Rattle.op_answer.specs.AccessTokens.{accesses, access_made, access_kep
 ghost use Rattle.op_answer.specs.Consents.{grant_of};
 ghost use Rattle.op_answer.specs.Granted.{Granted};
 ghost use Rattle.op_answer.specs.Answering.{op_answer};
-ghost use Rattle.op_answer.specs.Causes.{is_own, Stood, LoginPageCause, ConsentPageCause, AnsweredCause, RefusedCause, ErrorPageCause, TokensCause, TokenRefusedCause, InfoCause, InfoRefusedCause, SignedOutCause};
+ghost use Rattle.op_answer.specs.Causes.{is_own, Stood, Comes, LoginPageCause, ConsentPageCause, AnsweredCause, RefusedCause, ErrorPageCause, TokensCause, TokenRefusedCause, InfoCause, InfoRefusedCause, SignedOutCause};
 ghost use Rattle.op_answer.specs.FullTables.{FullCause};
 ghost use Rattle.op_answer.specs.OwnRows.{IsOwnTurn, IsOwnSession, IsOwnCode, IsOwnToken};
 ghost use Rattle.op_answer.specs.Drawn.{TurnDrawn, SessionDrawn, CodeDrawn, AccessDrawn};
@@ -66,18 +66,19 @@ pub fn rows_stand()
     ensures accesses { (past : OpPast) (w : Word) (row : TokenRow) → (row_of access_name w (accesses past) ≡ Some row) ↔ Stands access_name access_made access_kept past w row }
 {}
 
-/// What each reply of the provider says of the past and of the ask that led to it. Any reply but `NotHere` and `Full` is to
-/// an ask that a request gives, and there was room for what it makes. A UserInfo request and a sign-out are always given by
-/// a request and make nothing, so their replies come exactly where the cause says.
+/// Why each reply of the provider comes. A reply with these parts comes exactly where a request gives the ask, each row that
+/// the reply makes has a place in its table, and the past and the ask are as its cause says. A UserInfo request and a sign-out
+/// are always given by a request and make nothing, so their replies come exactly where the cause says. `Full` has its own law,
+/// below. The metadata, the keys and `NotHere` say nothing of the past.
 pub fn replies_have_a_cause()
-    ensures own { (c : Configuration) (past : OpPast) (e : Entry OpAsk) (r : OpReply) → is_own r ≡ true → op_answer c past e ≡ r → Stood c past e r }
-    ensures login_pages { (c : Configuration) (past : OpPast) (e : Entry OpAsk) (turn browser : Word) (again : Bool) → op_answer c past e ≡ reply.LoginPage turn browser again → LoginPageCause c past e e.ask turn browser again }
-    ensures consent_pages { (c : Configuration) (past : OpPast) (e : Entry OpAsk) (turn browser : Word) (given : Option Word) (client : Text) (scopes : Scopes) → op_answer c past e ≡ reply.ConsentPage turn browser given client scopes → ConsentPageCause c past e e.ask turn browser given client scopes }
-    ensures answers { (c : Configuration) (past : OpPast) (e : Entry OpAsk) (answer : Answer) (given : Option Word) → op_answer c past e ≡ reply.Answered answer given → AnsweredCause c past e e.ask answer given }
-    ensures refusals { (c : Configuration) (past : OpPast) (e : Entry OpAsk) (refusal : Refusal) (given : Option Word) → op_answer c past e ≡ reply.Refused refusal given → RefusedCause c past e e.ask refusal given }
-    ensures error_pages { (c : Configuration) (past : OpPast) (e : Entry OpAsk) (why : PageNo) → op_answer c past e ≡ reply.ErrorPage why → ErrorPageCause past e e.ask why }
-    ensures tokens { (c : Configuration) (past : OpPast) (e : Entry OpAsk) (access : Word) (id : Text) → op_answer c past e ≡ reply.Tokens access id → TokensCause c past e e.ask access id }
-    ensures token_errors { (c : Configuration) (past : OpPast) (e : Entry OpAsk) (code : TokenError) → op_answer c past e ≡ reply.TokenRefused code → TokenRefusedCause past e e.ask code }
+    ensures own { (c : Configuration) (past : OpPast) (e : Entry OpAsk) (r : OpReply) → is_own r ≡ true → (op_answer c past e ≡ r) ↔ Stood c past e r }
+    ensures login_pages { (c : Configuration) (past : OpPast) (e : Entry OpAsk) (turn browser : Word) (again : Bool) → (op_answer c past e ≡ reply.LoginPage turn browser again) ↔ Comes c past e (reply.LoginPage turn browser again) (LoginPageCause c past e e.ask turn browser again) }
+    ensures consent_pages { (c : Configuration) (past : OpPast) (e : Entry OpAsk) (turn browser : Word) (given : Option Word) (client : Text) (scopes : Scopes) → (op_answer c past e ≡ reply.ConsentPage turn browser given client scopes) ↔ Comes c past e (reply.ConsentPage turn browser given client scopes) (ConsentPageCause c past e e.ask turn browser given client scopes) }
+    ensures answers { (c : Configuration) (past : OpPast) (e : Entry OpAsk) (answer : Answer) (given : Option Word) → (op_answer c past e ≡ reply.Answered answer given) ↔ Comes c past e (reply.Answered answer given) (AnsweredCause c past e e.ask answer given) }
+    ensures refusals { (c : Configuration) (past : OpPast) (e : Entry OpAsk) (refusal : Refusal) (given : Option Word) → (op_answer c past e ≡ reply.Refused refusal given) ↔ Comes c past e (reply.Refused refusal given) (RefusedCause c past e e.ask refusal given) }
+    ensures error_pages { (c : Configuration) (past : OpPast) (e : Entry OpAsk) (why : PageNo) → (op_answer c past e ≡ reply.ErrorPage why) ↔ Comes c past e (reply.ErrorPage why) (ErrorPageCause past e e.ask why) }
+    ensures tokens { (c : Configuration) (past : OpPast) (e : Entry OpAsk) (access : Word) (id : Text) → (op_answer c past e ≡ reply.Tokens access id) ↔ Comes c past e (reply.Tokens access id) (TokensCause c past e e.ask access id) }
+    ensures token_errors { (c : Configuration) (past : OpPast) (e : Entry OpAsk) (code : TokenError) → (op_answer c past e ≡ reply.TokenRefused code) ↔ Comes c past e (reply.TokenRefused code) (TokenRefusedCause past e e.ask code) }
     ensures infos { (c : Configuration) (past : OpPast) (e : Entry OpAsk) (claims : Text) → (op_answer c past e ≡ reply.Info claims) ↔ InfoCause c past e e.ask claims }
     ensures info_refusals { (c : Configuration) (past : OpPast) (e : Entry OpAsk) (given : Bool) → (op_answer c past e ≡ reply.InfoRefused given) ↔ InfoRefusedCause past e e.ask given }
     ensures sign_outs { (c : Configuration) (past : OpPast) (e : Entry OpAsk) (messages : List Message) → (op_answer c past e ≡ reply.SignedOut messages) ↔ SignedOutCause c past e e.ask messages }
@@ -113,7 +114,10 @@ pub fn session_words_need_a_password()
 
 /// In a legal past the word of a turn, the word and the name of a session, a code and an access token are drawn words of the one
 /// pair that made them: the second word of the four for a turn, the first and the second for a session, through all its renewals,
-/// the third for a code, and for an access token the fourth in a response and the first for a code.
+/// the third for a code, and for an access token the fourth in a response and the first for a code. A code has the wish of the
+/// answer that it came with, and the user, the name and the login time of that answer's session. An access token of a response
+/// has the client, the scope values and the asked claims of the response's wish and the user of its session; one for a code has
+/// those of the code, which was held then and was of the client that asked.
 pub fn rows_have_drawn_words()
     ensures turns { (c : Configuration) (past : OpPast) → IsLegalOp c past → (w : Word) (row : TurnRow) → row_of turn_name w (turns past) ≡ Some row → TurnDrawn past row }
     ensures sessions { (c : Configuration) (past : OpPast) → IsLegalOp c past → (w : Word) (row : SessionRow) → row_of session_name w (sessions past) ≡ Some row → SessionDrawn past row }

@@ -151,9 +151,9 @@ code_was_issued s world code legal r =
       is = ap (λ (w : Word). word_text w) name ∙ sym (word_of_text_some r.grant.code named.0 named.1).0 ∙ r.code_is;
     }
 
-access_came : (maker : OpPair) (row : TokenRow) → InResponse maker row ⊎ ForCode maker row → access_in maker.reply ≡ Some row.word
-access_came maker row (inl r) = ap access_in r.replied ∙ r.access_is
-access_came maker row (inr r) = ap access_in r.replied
+access_came : (earlier : OpPast) (maker : OpPair) (row : TokenRow) → InResponse earlier maker row ⊎ ForCode earlier maker row → access_in maker.reply ≡ Some row.word
+access_came earlier maker row (inl r) = ap access_in r.replied ∙ r.access_is
+access_came earlier maker row (inr r) = ap access_in r.replied
 
 access_was_issued : (s : Site) (world : World) (access : Text) → IsLegalWorld s world → IsInformed world access → IsIssued world access
 access_was_issued s world access legal r =
@@ -175,7 +175,7 @@ access_was_issued s world access legal r =
       word = row.word;
       has =
           issued_in world z row.word (has_before world t.after (y ∷ t.before) z t.parts (inr place.has))
-          (access_issued place.from place.request drawn.maker row.word (access_came drawn.maker row drawn.came));
+          (access_issued place.from place.request drawn.maker row.word (access_came drawn.earlier drawn.maker row drawn.came));
       is = ap (λ (w : Word). word_text w) name ∙ r.access_is;
     }
 
