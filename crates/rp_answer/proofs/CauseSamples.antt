@@ -16,10 +16,10 @@ use Rattle.rp_exchange.specs.declared.no.Part.TheVariants as part
 use Rattle.rp_exchange.specs.declared.no.RpNo.{RpNo}
 use Rattle.rp_exchange.specs.declared.no.RpNo.TheVariants as no
 use Rattle.rp_answer.specs.Replies.{front_rules, back_rules}
-use Rattle.rp_answer.specs.Causes.{Stood, NoRoom, OwnLogin, WholeResponse, GoodClaims, IdRefused, IfGood, AskCause, ExchangeCause, EnteredCause, UserCause, NobodyCause, RefusedCause}
+use Rattle.rp_answer.specs.Causes.{Stood, OwnLogin, WholeResponse, GoodClaims, IdRefused, IfGood, AskCause, ExchangeCause, EnteredCause, UserCause, NobodyCause, RefusedCause}
 use Rattle.rp_answer.proofs.Stood.{own_replies_stand}
 use Rattle.rp_answer.proofs.Answers.{asks_have_a_cause, exchanges_have_a_cause, entered_have_a_cause, users_have_a_cause, nobody_has_a_cause}
-use Rattle.rp_answer.proofs.Refusals.{full_has_a_cause, refusals_have_a_cause}
+use Rattle.rp_answer.proofs.Refusals.{refusals_have_a_cause}
 use Rattle.rp_answer.proofs.Sample.{word, op, shop_client, shop, shop_uri, shop_setup, news_setup, hybrid_setup}
 use Rattle.rp_answer.proofs.FirstVisit.{begin_entry, asked, begin_asks, past_begin, heard, callback_entry, callback_exchanges, callback_after_ten_minutes, callback_of_other_browser, past_callback, claims, tokens_entry, tokens_enter, past_entered, visit_entry, visit_finds_user, visit_after_eight_hours}
 use Rattle.rp_answer.proofs.FrontLogin.{past_front, callback_with, with_hash, front_enters, waiting}
@@ -97,9 +97,6 @@ another_subject : (code t h : Text) → bytes_eq t (word_text (word 3)) ≡ true
     → RefusedCause hybrid_setup (past_hybrid code t h) (hybrid_tokens (bobs t)) (hybrid_tokens (bobs t)).ask no.SubjectDiffers
 another_subject code t h nonce =
     refusals_have_a_cause hybrid_setup (past_hybrid code t h) (hybrid_tokens (bobs t)) no.SubjectDiffers (other_subject_is_refused code t h nonce)
-
-a_full_table : NoRoom shop_setup past_begin begin_entry table.Logins
-a_full_table = full_has_a_cause shop_setup past_begin begin_entry table.Logins state_drawn_again
 
 a_full_table_is_refused : RefusedCause shop_setup past_begin begin_entry begin_entry.ask (no.Full table.Logins)
 a_full_table_is_refused = refusals_have_a_cause shop_setup past_begin begin_entry (no.Full table.Logins) state_drawn_again

@@ -5,7 +5,11 @@ pub mod TokenResponses
 pub mod InfoResponses
 pub mod LogoutRequests
 pub mod Answers
+pub mod FullTables
 pub mod Refusals
+pub mod Coming
+pub mod Leading
+pub mod RefusalsCome
 pub mod Sample
 pub mod FirstVisit
 pub mod FrontLogin
@@ -18,6 +22,7 @@ mod ReplySamples
 pub mod Legality
 mod MailLogin
 mod CauseSamples
+mod FullSamples
 pub mod KeptNames
 pub mod Drawn
 pub mod Sending

@@ -8,32 +8,22 @@ use Rattle.id_token.specs.Judging.{id_judged}
 use Rattle.oidc_words.specs.declared.errors.AuthError.{AuthError}
 use Rattle.auth_answer.specs.declared.heard.Heard.{Heard}
 use Rattle.token_endpoint.specs.declared.no.TokensNo.TheVariants as tokens_no
-use Rattle.rp_login.specs.declared.table.RpTable.{RpTable}
 use Rattle.rp_exchange.specs.declared.no.Part.{Part}
 use Rattle.rp_exchange.specs.declared.no.Part.TheVariants as part
 use Rattle.rp_exchange.specs.declared.no.RpNo.TheVariants as no
-use Rattle.rp_exchange.specs.declared.reply.RpReply.{RpReply}
 use Rattle.rp_exchange.specs.declared.reply.RpReply.TheVariants.{Refused}
 use Rattle.rp_answer.specs.Setup.{PartySetup}
 use Rattle.rp_answer.specs.Logins.{live_login}
 use Rattle.rp_answer.specs.Replies.{back_rules}
-use Rattle.rp_answer.specs.Room.{table_lacking}
 use Rattle.rp_answer.specs.Answering.{rp_answer}
-use Rattle.rp_answer.specs.Causes.{NoRoom, BadClaims, LoginBegun, CodeExchanged, EnteredAtOnce, EnteredAfterExchange, LiveVisit, StaleState, OtherBrowser, ProviderRefused, PartMissing, NothingToEnterBy, FrontTokenRefused, ExchangeFailed, BackTokenRefused, AnotherSubject}
-use Rattle.rp_answer.proofs.Sample.{word, op, only_code, shop, registered, shop_setup, news_setup}
+use Rattle.rp_answer.specs.Causes.{BadClaims, LoginBegun, CodeExchanged, EnteredAtOnce, EnteredAfterExchange, LiveVisit, StaleState, OtherBrowser, ProviderRefused, PartMissing, NothingToEnterBy, FrontTokenRefused, ExchangeFailed, BackTokenRefused, AnotherSubject}
+use Rattle.rp_answer.proofs.Sample.{word, op, shop, registered, shop_setup, news_setup}
 use Rattle.rp_answer.proofs.FirstVisit.{begin_entry, past_begin, heard, callback_entry, past_callback, claims, tokens_entry, past_entered, visit_entry}
 use Rattle.rp_answer.proofs.FrontLogin.{past_front, heard_front, waiting}
 use Rattle.rp_answer.proofs.EachRefusal.{response, came, failed_exchange, stateless, unknown_state}
 use Rattle.rp_answer.proofs.RowSamples.{login}
 
 -- ---- replies
-
--- the first login finds room
-room_for_first : (table : RpTable) → NoRoom shop_setup [] begin_entry table → ⊥
-room_for_first table h =
-    let L : RpReply → Type 0 = λ reply. table_lacking only_code [] begin_entry reply ≡ Some table in
-    let lacking = subst L (sym h.wanted_is) h.lacking in
-    cc
 
 -- the browser's word is drawn
 other_word_drawn : (to : Text) → LoginBegun shop_setup [] begin_entry None to (word 2) → ⊥

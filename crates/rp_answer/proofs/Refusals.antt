@@ -1,5 +1,5 @@
 -- What the refusals say of the past and of the ask that led to them.
-use Rattle.std.proofs.Common.{◌≡◌, true, Option, Some, None, Ok, Err, refl, subst, ◌⊎◌, inl, inr}
+use Rattle.std.proofs.Common.{◌≡◌, Option, Some, None, Ok, Err, refl}
 use Rattle.sso_base.specs.declared.history.Entry.{Entry}
 use Rattle.auth_answer.specs.declared.no.AnswerNo.TheVariants as answer_no
 use Rattle.rp_login.specs.declared.rows.SessionRow.{SessionRow}
@@ -10,17 +10,16 @@ use Rattle.rp_exchange.specs.declared.no.RpNo.{RpNo}
 use Rattle.rp_exchange.specs.declared.no.RpNo.TheVariants as no
 use Rattle.rp_exchange.specs.declared.reply.RpReply.{RpReply}
 use Rattle.rp_exchange.specs.declared.reply.RpReply.TheVariants.{Refused}
-use Rattle.rp_exchange.specs.Asks.{is_prepared}
 use Rattle.rp_answer.specs.Past.{RpPast}
 use Rattle.rp_answer.specs.Setup.{PartySetup, party_of}
 use Rattle.rp_answer.specs.Visits.{live_visit}
 use Rattle.rp_answer.specs.Replies.{visited}
 use Rattle.rp_answer.specs.Room.{table_lacking}
 use Rattle.rp_answer.specs.Answering.{rp_reply, rp_answer}
-use Rattle.rp_answer.specs.Causes.{NoRoom, RefusedCause}
-use Rattle.rp_answer.proofs.Stood.{full_or_replied}
-use Rattle.rp_answer.proofs.Caused.{Caused}
-use Rattle.rp_answer.proofs.Answers.{replies_caused, own_replies_caused}
+use Rattle.rp_answer.specs.Causes.{RefusedCause}
+use Rattle.rp_answer.specs.FullTables.{FullCause}
+use Rattle.rp_answer.proofs.Answers.{own_replies_caused}
+use Rattle.rp_answer.proofs.FullTables.{full_lacks, full_has_a_cause}
 
 module _ (s : PartySetup) (past : RpPast) (e : Entry RpAsk) where
   abbrev lacking : RpReply → Option RpTable
@@ -32,7 +31,7 @@ module _ (s : PartySetup) (past : RpPast) (e : Entry RpAsk) where
   visit_adds_none (Some visit) = refl
 
   -- the asks that add a row to a table
-  full_asked : (asked : RpAsk) (table : RpTable) → NoRoom s past e table → lacking (rp_reply s past e asked) ≡ Some table → RefusedCause s past e asked (no.Full table)
+  full_asked : (asked : RpAsk) (table : RpTable) → FullCause s past e table → lacking (rp_reply s past e asked) ≡ Some table → RefusedCause s past e asked (no.Full table)
   full_asked (ask.Begin presented) table room h = room
   full_asked ask.Fragment table room h = cc
   full_asked (ask.Callback (Err (answer_no.Twice name)) id browser) table room h = cc
@@ -48,24 +47,8 @@ module _ (s : PartySetup) (past : RpPast) (e : Entry RpAsk) where
   full_asked (ask.Logout (Ok claims)) table room h = room
   full_asked ask.NotHere table room h = cc
 
-  -- a reply without regard to room is never Full
-  lacks_room : (table : RpTable) → is_prepared e.ask ≡ true
-      → (lacking (rp_reply s past e e.ask) ≡ Some table) ⊎ (rp_reply s past e e.ask ≡ Refused (no.Full table)) → lacking (rp_reply s past e e.ask) ≡ Some table
-  lacks_room table prepared (inl h) = h
-  lacks_room table prepared (inr h) =
-      let C : RpReply → Type 0 = Caused s past e e.ask in
-      absurd (subst C h (replies_caused s past e e.ask prepared))
-
-  full_lacks : (table : RpTable) → rp_answer s past e ≡ Refused (no.Full table) → (is_prepared e.ask ≡ true) × (lacking (rp_reply s past e e.ask) ≡ Some table)
-  full_lacks table h = let told = full_or_replied s past e table h in (told.0, lacks_room table told.0 told.1)
-
-  pub full_has_a_cause : (table : RpTable) → rp_answer s past e ≡ Refused (no.Full table) → NoRoom s past e table
-  full_has_a_cause table h =
-      let told = full_lacks table h in
-      record { prepared = told.0; wanted = rp_reply s past e e.ask; wanted_is = refl; lacking = told.1 }
-
   pub refusals_have_a_cause : (why : RpNo) → rp_answer s past e ≡ Refused why → RefusedCause s past e e.ask why
-  refusals_have_a_cause (no.Full table) h = full_asked e.ask table (full_has_a_cause table h) (full_lacks table h).1
+  refusals_have_a_cause (no.Full table) h = full_asked e.ask table (full_has_a_cause s past e table h) (full_lacks s past e table h).1
   refusals_have_a_cause (no.Twice name) h = own_replies_caused s past e (Refused (no.Twice name)) refl h
   refusals_have_a_cause no.NoState h = own_replies_caused s past e (Refused no.NoState) refl h
   refusals_have_a_cause no.StaleLogin h = own_replies_caused s past e (Refused no.StaleLogin) refl h

@@ -1,6 +1,6 @@
 -- A reply other than NotHere and Full is the reply that there would be with room; Full says which table had none. Only here
 -- the answer is opened.
-use Rattle.std.proofs.Common.{◌≡◌, Bool, true, false, cond, Option, Some, None, refl, subst, ◌⊎◌, inl, inr}
+use Rattle.std.proofs.Common.{◌≡◌, Bool, true, false, cond, Option, Some, None, refl, ◌∙◌, ap, subst, ◌⊎◌, inl, inr}
 use Rattle.sso_base.specs.declared.history.Entry.{Entry}
 use Rattle.rp_login.specs.declared.table.RpTable.{RpTable}
 use Rattle.rp_exchange.specs.declared.ask.RpAsk.{RpAsk}
@@ -32,6 +32,16 @@ own_replies_stand s past e reply own h =
     let told = passed (is_prepared e.ask) (table_lacking (party_of s).types past e first) first reply own h in
     let L : RpReply → Type 0 = λ r. table_lacking (party_of s).types past e r ≡ None in
     record { prepared = told.gives; room = subst L told.same told.has_room; reply_is = told.same }
+
+-- and what stands is the answer
+pub standing_is_the_answer : (s : PartySetup) (past : RpPast) (e : Entry RpAsk) (reply : RpReply) → Stood s past e reply → rp_answer s past e ≡ reply
+unfolding rp_answer
+standing_is_the_answer s past e reply stood =
+    let first : RpReply = rp_reply s past e e.ask in
+    let P : Bool → RpReply = λ b. cond b (unless_lacking first (table_lacking (party_of s).types past e first)) NotHere in
+    let L : RpReply → RpReply = λ r. unless_lacking r (table_lacking (party_of s).types past e r) in
+    let F : Option RpTable → RpReply = λ o. unless_lacking reply o in
+    ap P stood.prepared ∙ (ap L stood.reply_is ∙ ap F stood.room)
 
 -- the refusal Full comes of a table without room, or is the reply itself
 overfull : (prepared : Bool) (lacking : Option RpTable) (reply : RpReply) (table : RpTable) → cond prepared (unless_lacking reply lacking) NotHere ≡ Refused (no.Full table)

@@ -44,6 +44,7 @@ use Rattle.rp_answer.specs.Seens.{live_seen}
 use Rattle.rp_answer.specs.Replies.{login_browser, front_access, front_code, front_rules, back_rules, part_missing, info_endpoint, is_other, meant_count}
 use Rattle.rp_answer.specs.Room.{table_lacking}
 use Rattle.rp_answer.specs.Answering.{rp_reply}
+use Rattle.rp_answer.specs.FullTables.{LacksPlace, FullCause}
 
 -- ---- every reply but NotHere and the refusal Full: a request gives the ask, and there was room
 
@@ -57,12 +58,11 @@ pub record Stood (s : PartySetup) (past : RpPast) (e : Entry RpAsk) (reply : RpR
   pub room : table_lacking (party_of s).types past e reply ≡ None
   pub reply_is : rp_reply s past e e.ask ≡ reply
 
--- the refusal Full: a request gives the ask, and this table has no room for what the reply would make
-pub record NoRoom (s : PartySetup) (past : RpPast) (e : Entry RpAsk) (table : RpTable) : Type 0 where
+-- A request gives the ask, the row that the reply makes has a place in its table, and this is why it comes.
+pub record Comes (s : PartySetup) (past : RpPast) (e : Entry RpAsk) (reply : RpReply) (Cause : Type 0) : Type 0 where
   pub prepared : is_prepared e.ask ≡ true
-  pub wanted : RpReply
-  pub wanted_is : rp_reply s past e e.ask ≡ wanted
-  pub lacking : table_lacking (party_of s).types past e wanted ≡ Some table
+  pub placed : (table : RpTable) → LacksPlace (party_of s).types past e reply table → ⊥
+  pub why : Cause
 
 -- ---- what the replies to authorization responses have in common
 
@@ -278,7 +278,7 @@ ResponseRefused s past e heard id browser no.WrongBrowser = OtherBrowser past e 
 ResponseRefused s past e heard id browser (no.Provider code) = ProviderRefused past e heard browser code
 ResponseRefused s past e heard id browser (no.Missing missing) = PartMissing s past e heard browser missing ⊎ NothingToEnterBy s past e heard id browser missing
 ResponseRefused s past e heard id browser (no.Id why) = FrontTokenRefused s past e heard id browser why
-ResponseRefused s past e heard id browser (no.Full table) = NoRoom s past e table
+ResponseRefused s past e heard id browser (no.Full table) = FullCause s past e table
 ResponseRefused s past e heard id browser other = ⊥
 
 -- ---- the refusals of a token response
@@ -305,7 +305,7 @@ TokensRefused s past e pending came id no.StalePending = live_pending (party_of 
 TokensRefused s past e pending (Err came) id (no.Tokens why) = ExchangeFailed s past e pending came why
 TokensRefused s past e pending (Ok came) id (no.Id why) = BackTokenRefused s past e pending came id why
 TokensRefused s past e pending (Ok came) id no.SubjectDiffers = AnotherSubject s past e pending came id
-TokensRefused s past e pending came id (no.Full table) = NoRoom s past e table
+TokensRefused s past e pending came id (no.Full table) = FullCause s past e table
 TokensRefused s past e pending came id other = ⊥
 
 -- ---- the refusals of a UserInfo response
@@ -324,7 +324,7 @@ abbrev pub InfoRefused : PartySetup → RpPast → Entry RpAsk → Word → Resu
 InfoRefused s past e pending came no.StalePending = live_pending (party_of s).types past e.at pending stage.Info ≡ None
 InfoRefused s past e pending (Err came) (no.Info why) = InfoFailed s past e pending came why
 InfoRefused s past e pending (Ok came) no.SubjectDiffers = InfoOfAnother s past e pending came
-InfoRefused s past e pending came (no.Full table) = NoRoom s past e table
+InfoRefused s past e pending came (no.Full table) = FullCause s past e table
 InfoRefused s past e pending came other = ⊥
 
 -- ---- the refusals of a logout request
@@ -343,13 +343,13 @@ abbrev pub LogoutRefused : PartySetup → RpPast → Entry RpAsk → Result Logo
 LogoutRefused s past e (Err read) (no.Logout why) = read ≡ why
 LogoutRefused s past e (Ok claims) (no.Logout why) = BadLogout s e claims why
 LogoutRefused s past e (Ok claims) (no.Seen place) = SeenBefore s past e claims place
-LogoutRefused s past e (Ok claims) (no.Full table) = NoRoom s past e table
+LogoutRefused s past e (Ok claims) (no.Full table) = FullCause s past e table
 LogoutRefused s past e claims other = ⊥
 
 -- ---- all refusals
 
 abbrev pub RefusedCause : PartySetup → RpPast → Entry RpAsk → RpAsk → RpNo → Type 0
-RefusedCause s past e (ask.Begin presented) (no.Full table) = NoRoom s past e table
+RefusedCause s past e (ask.Begin presented) (no.Full table) = FullCause s past e table
 RefusedCause s past e (ask.Callback (Err (answer_no.Twice name)) id browser) why = why ≡ no.Twice name
 RefusedCause s past e (ask.Callback (Ok heard) id browser) why = ResponseRefused s past e heard id browser why
 RefusedCause s past e (ask.Tokens pending came id) why = TokensRefused s past e pending came id why

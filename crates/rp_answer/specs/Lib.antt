@@ -8,6 +8,7 @@ pub mod Seens
 pub mod Replies
 pub mod Room
 pub mod Answering
+pub mod FullTables
 pub mod Causes
 pub mod Legal
 pub mod Hashes

@@ -36,7 +36,8 @@ ghost use Rattle.rp_answer.specs.Pendings.{pendings, pending_made, pending_kept}
 ghost use Rattle.rp_answer.specs.Visits.{visits, live_visit, visit_made, visit_kept};
 ghost use Rattle.rp_answer.specs.Seens.{seens, seen_made, seen_kept};
 ghost use Rattle.rp_answer.specs.Answering.{rp_answer};
-ghost use Rattle.rp_answer.specs.Causes.{is_own, Stood, NoRoom, AskCause, FragmentCause, ExchangeCause, FetchCause, EnteredCause, UserCause, NobodyCause, LeftCause, EndedCause, RefusedCause};
+ghost use Rattle.rp_answer.specs.Causes.{is_own, Stood, Comes, AskCause, FragmentCause, ExchangeCause, FetchCause, EnteredCause, UserCause, NobodyCause, LeftCause, EndedCause, RefusedCause};
+ghost use Rattle.rp_answer.specs.FullTables.{FullCause};
 ghost use Rattle.rp_answer.specs.Legal.{IsLegalRp, IsLegalHistory, BegunBy, SentBy, EnteredBy, AcceptedBy, LoginEntered, login_entered};
 ghost use Rattle.rp_answer.specs.Endings.{Accepts, EndsVisit};
 ghost use Rattle.rp_answer.specs.Hashes.{CodeHasHash, AccessHasHash};
@@ -50,21 +51,28 @@ pub fn rows_stand()
     ensures seens { (past : RpPast) (jti : Text) (row : SeenRow) → (row_of seen_name jti (seens past) ≡ Some row) ↔ Stands seen_name seen_made seen_kept past jti row }
 {}
 
-/// What each reply of a relying party says of the past and of the ask that led to it. Any reply but `NotHere` is to an ask that
-/// a request gives; there was room for what it makes, or it is the refusal `Full`.
+/// Why each reply of a relying party comes. A reply with these parts comes exactly where a request gives the ask, the row that
+/// the reply makes has a place in its table, and the past and the ask are as its cause says. The cause of the refusal `Full` is
+/// that a table is full, which has its own law, below. `NotHere` says nothing of the past.
 pub fn replies_have_a_cause()
-    ensures own { (s : PartySetup) (past : RpPast) (e : Entry RpAsk) (r : RpReply) → is_own r ≡ true → rp_answer s past e ≡ r → Stood s past e r }
-    ensures full { (s : PartySetup) (past : RpPast) (e : Entry RpAsk) (table : RpTable) → rp_answer s past e ≡ reply.Refused (no.Full table) → NoRoom s past e table }
-    ensures asks { (s : PartySetup) (past : RpPast) (e : Entry RpAsk) (to : Text) (browser : Word) → rp_answer s past e ≡ reply.Ask to browser → AskCause s past e e.ask to browser }
-    ensures exchanges { (s : PartySetup) (past : RpPast) (e : Entry RpAsk) (w : Word) (message : Message) → rp_answer s past e ≡ reply.Exchange w message → ExchangeCause s past e e.ask w message }
-    ensures fragments { (s : PartySetup) (past : RpPast) (e : Entry RpAsk) → rp_answer s past e ≡ reply.Fragment → FragmentCause e.ask }
-    ensures fetches { (s : PartySetup) (past : RpPast) (e : Entry RpAsk) (w : Word) (message : Message) → rp_answer s past e ≡ reply.Fetch w message → FetchCause s past e e.ask w message }
-    ensures entered { (s : PartySetup) (past : RpPast) (e : Entry RpAsk) (w : Word) (sub : Text) → rp_answer s past e ≡ reply.Entered w sub → EnteredCause s past e e.ask w sub }
-    ensures users { (s : PartySetup) (past : RpPast) (e : Entry RpAsk) (sub : Text) → rp_answer s past e ≡ reply.User sub → UserCause s past e e.ask sub }
-    ensures nobody { (s : PartySetup) (past : RpPast) (e : Entry RpAsk) → rp_answer s past e ≡ reply.Nobody → NobodyCause s past e e.ask }
-    ensures left { (s : PartySetup) (past : RpPast) (e : Entry RpAsk) (ended : Bool) → rp_answer s past e ≡ reply.Left ended → LeftCause s past e e.ask ended }
-    ensures ended { (s : PartySetup) (past : RpPast) (e : Entry RpAsk) (count : ℕ) → rp_answer s past e ≡ reply.Ended count → EndedCause s past e e.ask count }
-    ensures refusals { (s : PartySetup) (past : RpPast) (e : Entry RpAsk) (why : RpNo) → rp_answer s past e ≡ reply.Refused why → RefusedCause s past e e.ask why }
+    ensures own { (s : PartySetup) (past : RpPast) (e : Entry RpAsk) (r : RpReply) → is_own r ≡ true → (rp_answer s past e ≡ r) ↔ Stood s past e r }
+    ensures asks { (s : PartySetup) (past : RpPast) (e : Entry RpAsk) (to : Text) (browser : Word) → (rp_answer s past e ≡ reply.Ask to browser) ↔ Comes s past e (reply.Ask to browser) (AskCause s past e e.ask to browser) }
+    ensures exchanges { (s : PartySetup) (past : RpPast) (e : Entry RpAsk) (w : Word) (message : Message) → (rp_answer s past e ≡ reply.Exchange w message) ↔ Comes s past e (reply.Exchange w message) (ExchangeCause s past e e.ask w message) }
+    ensures fragments { (s : PartySetup) (past : RpPast) (e : Entry RpAsk) → (rp_answer s past e ≡ reply.Fragment) ↔ Comes s past e reply.Fragment (FragmentCause e.ask) }
+    ensures fetches { (s : PartySetup) (past : RpPast) (e : Entry RpAsk) (w : Word) (message : Message) → (rp_answer s past e ≡ reply.Fetch w message) ↔ Comes s past e (reply.Fetch w message) (FetchCause s past e e.ask w message) }
+    ensures entered { (s : PartySetup) (past : RpPast) (e : Entry RpAsk) (w : Word) (sub : Text) → (rp_answer s past e ≡ reply.Entered w sub) ↔ Comes s past e (reply.Entered w sub) (EnteredCause s past e e.ask w sub) }
+    ensures users { (s : PartySetup) (past : RpPast) (e : Entry RpAsk) (sub : Text) → (rp_answer s past e ≡ reply.User sub) ↔ Comes s past e (reply.User sub) (UserCause s past e e.ask sub) }
+    ensures nobody { (s : PartySetup) (past : RpPast) (e : Entry RpAsk) → (rp_answer s past e ≡ reply.Nobody) ↔ Comes s past e reply.Nobody (NobodyCause s past e e.ask) }
+    ensures left { (s : PartySetup) (past : RpPast) (e : Entry RpAsk) (ended : Bool) → (rp_answer s past e ≡ reply.Left ended) ↔ Comes s past e (reply.Left ended) (LeftCause s past e e.ask ended) }
+    ensures ended { (s : PartySetup) (past : RpPast) (e : Entry RpAsk) (count : ℕ) → (rp_answer s past e ≡ reply.Ended count) ↔ Comes s past e (reply.Ended count) (EndedCause s past e e.ask count) }
+    ensures refusals { (s : PartySetup) (past : RpPast) (e : Entry RpAsk) (why : RpNo) → (rp_answer s past e ≡ reply.Refused why) ↔ Comes s past e (reply.Refused why) (RefusedCause s past e e.ask why) }
+{}
+
+/// The refusal `Full` of a table comes exactly where a request gives the ask, and a row of this table that the reply would make
+/// has no place in it: beside the rows that live at the moment, and that the step does not end, they are 65,536, or one of them
+/// has its word, or the `jti` of a logout token. At most one table lacks a place.
+pub fn full_tables_are_full()
+    ensures { (s : PartySetup) (past : RpPast) (e : Entry RpAsk) (table : RpTable) → (rp_answer s past e ≡ reply.Refused (no.Full table)) ↔ FullCause s past e table }
 {}
 
 /// The state and the nonce of a login, and the word of a pending exchange or of a session, are drawn words of the one pair that
