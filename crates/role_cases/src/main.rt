@@ -5,7 +5,8 @@
 //! there where the expected answers come from. What a line asks is read as a request, which goes the way that it goes in a server,
 //! through `prepare` and `step`, and its reply is told.
 //!
-//! There are two tables. A line `table|provider` or `table|party` begins a table, and all lines after it are asked of that one:
+//! There are two tables. A line `table|provider` or `table|party` begins a table, and all lines after it are asked of that one. So does
+//! `table|full provider` or `table|full party`, for lines that fill the tables of a role, which take long.
 //!
 //! | Table | Call | What it does |
 //! |---|---|---|
@@ -15,6 +16,7 @@
 //! | | `provider` | begins the provider of the cases |
 //! | | `provider|..` | asks that provider what stands behind |
 //! | | any other | asks the relying party |
+//! | both | `times|COUNT|..` | makes the call behind it so many times |
 //!
 //! `Provider` and `RelyingParty` say which calls they answer. Where one begins, the count of places begins anew, and so each run reads
 //! as a small story. The ask at place p, from 1, of whichever of them, draws the words 4p - 3 to 4p. Beside the texts of words, names
@@ -32,11 +34,13 @@
 //! | `telling` | what is told of the steps of a role |
 //! | `provider` | `Provider`: a provider that is asked |
 //! | `party` | `RelyingParty`: a relying party that is asked |
+//! | `filling` | its tables are filled |
 //!
 //! No call here has a contract but where the calls below it want one.
 #![tactic(auto)]
 
 mod configurations;
+mod filling;
 mod party;
 mod party_table;
 mod provider;
@@ -68,8 +72,8 @@ struct RoleCases {
 
 fn table_named(name: &str) -> Option<Table> {
     match name {
-        "provider" => Some(Table::Provider),
-        "party" => Some(Table::Party),
+        "provider" | "full provider" => Some(Table::Provider),
+        "party" | "full party" => Some(Table::Party),
         _ => None,
     }
 }
