@@ -99,7 +99,7 @@ impl Roles {
         }
     }
 
-    /// The answers of a role to a call that is made COUNT times: the first answer, and how many answers are equal to it.
+    /// The answers of a role to a call that is made `count` times: the first answer, and how many answers are equal to it.
     pub fn ask_often(
         &mut self,
         alloc: Global,
