@@ -77,7 +77,7 @@ message = token_message every_type provider.token (word_text (word 15)) shop_uri
 abbrev pub exchange : RpReply
 exchange = rp.Exchange (word 17) message
 
-abbrev grant : Grant
+abbrev pub grant : Grant
 grant = record { client = 0; code = word_text (word 15); redirect = callback_uri }
 
 abbrev pub token_entry : Entry OpAsk
@@ -156,7 +156,7 @@ module _ (id token info : Bool) where
 
   -- ---- the token request gets them
 
-  carries : carried c (reply.Party exchange) 0 ≡ Some (sent 0 to.Provider (redeems wants))
+  pub carries : carried c (reply.Party exchange) 0 ≡ Some (sent 0 to.Provider (redeems wants))
   unfolding carried token_message
   carries = refl
 

@@ -108,13 +108,13 @@ module _ (wants : Wants) (access : Word) (request : WorldAsk) (e : Entry RpAsk) 
 
   -- ---- the UserInfo request gets claims
 
-  abbrev informs : Ask
+  abbrev pub informs : Ask
   informs = message_ask userinfo_path [] (question access)
 
   abbrev pub informs_there : Place
   informs_there = Provider 0 informs (op_pair (info_entry access) told)
 
-  carries : carried c (reply.Party (fetch access)) 0 ≡ Some (sent 0 to.Provider informs)
+  pub carries : carried c (reply.Party (fetch access)) 0 ≡ Some (sent 0 to.Provider informs)
   unfolding carried info_message
   carries = refl
 

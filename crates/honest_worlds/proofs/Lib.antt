@@ -13,6 +13,7 @@ pub mod Needed
 pub mod NewsRequest
 pub mod OtherCookie
 pub mod Responding
+pub mod Sessions
 pub mod SilentParty
 pub mod SpentCode
 pub mod StrictSite

@@ -97,10 +97,10 @@ module _ (wants : Wants) where
   abbrev our_answer : Answer
   our_answer = answer wants
 
-  abbrev jar : Jar
+  abbrev pub jar : Jar
   jar = record { first = Some (word 1); second = None }
 
-  abbrev response : Ask
+  abbrev pub response : Ask
   response = response_ask (codes "/cb") (is_in_fragment (types_of wants)) (answer_form our_answer) jar
 
   at_uri : (fragment : Bool) → followed c 1 (location_at c callback_uri fragment (answer_form our_answer)) jar ≡ Some (sent 1 (to.Party 0) (response_ask (codes "/cb") fragment (answer_form our_answer) jar))

@@ -83,7 +83,7 @@ module _ (wants : Wants) where
 
   -- ---- the login begins
 
-  abbrev begins : Ask
+  abbrev pub begins : Ask
   begins = got begin_path [] no_jar
 
   abbrev pub asked : RpReply
@@ -123,16 +123,16 @@ module _ (wants : Wants) where
 
   -- ---- its authorization request gets the login page
 
-  may : MayAsk c 0 c.provider.issuer (word 2) (word 3)
+  pub may : MayAsk c 0 c.provider.issuer (word 2) (word 3)
   may = may_ask (own_site c) 0 (word 2) (word 3) (record { registry = r; one_issuer = λ n. refl }) (omega arith) word_2 word_3
 
-  abbrev authorizes : Ask
+  abbrev pub authorizes : Ask
   authorizes = got authorize_path (request_form (login_params every_type (asker wants) (word 2) (word 3))) no_jar
 
-  abbrev authorize_entry : Entry OpAsk
+  abbrev pub authorize_entry : Entry OpAsk
   authorize_entry = entry_at 1000 5 (op_ask.Authorize (Grant (ours wants)) None None)
 
-  abbrev authorizes_there : Place
+  abbrev pub authorizes_there : Place
   authorizes_there = Provider 1 authorizes (pair_of authorize_entry login_page)
 
   follows : called_for c visitor no_jar [] (reply_at begins_there) ≡ Some (sent 1 to.Provider authorizes)
@@ -179,13 +179,13 @@ module _ (wants : Wants) where
   abbrev first_jar : Jar
   first_jar = record { first = Some (word 5); second = None }
 
-  abbrev logs_in : Ask
+  abbrev pub logs_in : Ask
   logs_in = posted login_path (Some (form_text (login_form (word 6) visitor.id visitor.password))) first_jar
 
-  abbrev logs_in_there : Place
+  abbrev pub logs_in_there : Place
   logs_in_there = Provider 1 logs_in (pair_of login_entry consent_page)
 
-  fills_in : login_posted c 1 (reply.Provider login_page) visitor.id visitor.password first_jar ≡ Some (sent 1 to.Provider logs_in)
+  pub fills_in : login_posted c 1 (reply.Provider login_page) visitor.id visitor.password first_jar ≡ Some (sent 1 to.Provider logs_in)
   unfolding login_posted
   fills_in = refl
 
@@ -241,7 +241,7 @@ module _ (wants : Wants) where
   abbrev second_jar : Jar
   second_jar = record { first = Some (word 5); second = Some (word 9) }
 
-  abbrev consents : Ask
+  abbrev pub consents : Ask
   consents = posted consent_path (Some (form_text (consent_form (word 6) true))) second_jar
 
   abbrev pub answer : Answer
@@ -253,7 +253,7 @@ module _ (wants : Wants) where
   abbrev pub consents_there : Place
   consents_there = Provider 1 consents (pair_of consent_entry answered)
 
-  says_yes : consent_posted c 1 (reply.Provider consent_page) true second_jar ≡ Some (sent 1 to.Provider consents)
+  pub says_yes : consent_posted c 1 (reply.Provider consent_page) true second_jar ≡ Some (sent 1 to.Provider consents)
   unfolding consent_posted
   says_yes = refl
 

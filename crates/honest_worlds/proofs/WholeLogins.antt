@@ -1,6 +1,6 @@
--- Whole logins of the six response types. What is left to compute of each is what the party replies, and that no half digests are
--- alike. The code of the answer is `word 15`, its access token `word 16`; that of the token response is `word 21`.
-use Rattle.std.proofs.Common.{◌≡◌, ℕ, Bool, true, false, List, ◌∷◌, length, codes, Some, refl, sym, ap, ◌∙◌, arith}
+-- Whole logins of the six response types. What is left to compute of each is what the party replies, that no half digests are alike,
+-- and its session. The code of the answer is `word 15`, its access token `word 16`; that of the token response is `word 21`.
+use Rattle.std.proofs.Common.{◌≡◌, ℕ, Bool, true, false, List, [], ◌∷◌, length, codes, Some, refl, sym, ap, ◌∙◌, arith}
 use Rattle.std.specs.List.{list_any}
 use Rattle.std.specs.Str.{bytes_eq}
 use Rattle.sso_base.specs.Words.{Word, Text, word_text}
@@ -17,30 +17,39 @@ use Rattle.op_answer.specs.Answering.{op_answer}
 use Rattle.rp_exchange.specs.declared.ask.RpAsk.{RpAsk}
 use Rattle.rp_answer.specs.Answering.{rp_answer}
 use Rattle.rp_answer.specs.Setup.{PartySetup}
+use Rattle.rp_answer.specs.Visits.{live_visits}
 use Rattle.rp_answer.proofs.Sample.{word}
 use Rattle.sso_places.specs.declared.types.WorldAsk.{WorldAsk}
+use Rattle.sso_places.specs.declared.types.WorldAsk.TheVariants.{Info}
 use Rattle.sso_places.specs.Cookies.{no_jar}
 use Rattle.sso_places.specs.Premises.{HasDistinctWords, HasDistinctHashes}
+use Rattle.sso_places.specs.Reading.{machine_of}
 use Rattle.sso_places.specs.Site.{own_site, setup_at}
 use Rattle.sso_places.specs.World.{Place, op_past, rp_past, drawn}
 use Rattle.sso_places.proofs.Clashes.{hashes_after}
 use Rattle.sso_places.proofs.SmallSite.{drawn_word, are_distinct}
 use Rattle.honest_places.specs.Outcome.{LetsIn, gives_password}
+use Rattle.honest_worlds.specs.Session.{HoldsSession}
 use Rattle.honest_worlds.specs.Whole.{IsWholeLogin}
 use Rattle.honest_worlds.proofs.Alone.{KeepsAll}
 use Rattle.honest_worlds.proofs.AnyType.{Wants, with_code, without_code, types_of, registered, is_registry, visitor, may_log_in, code_is}
 use Rattle.honest_worlds.proofs.UpToAnswer.{past_begin, consents_there, three}
 use Rattle.honest_worlds.proofs.Responding.{request, callback_entry, four, responded, responding}
 use Rattle.honest_worlds.proofs.Exchanging.{pending_in_time, redeems_there, five, six, given_request, given_entry, given, giving}
-use Rattle.honest_worlds.proofs.Informing.{fetch, entered, info_entry, told_entry, access_in_time, told, NeedsInfo, asks_there, informs_there, enters_there, entering}
+use Rattle.honest_worlds.proofs.Informing.{fetch, entered, info_entry, told_entry, access_in_time, told, NeedsInfo, asks_there, handed, informs_there, enters_there, entering}
+use Rattle.honest_worlds.proofs.Sessions.{did, row_of, holds}
 
 -- ---- what is the same in all of them
 
 module _ (wants : Wants) where
-  -- a login that keeps all premises and lets alice in is whole
-  whole : (last : Place) (earlier : List Place) → KeepsAll (registered wants) visitor last earlier → HasDistinctWords (last ∷ earlier) → HasDistinctHashes (last ∷ earlier)
-      → list_any gives_password (last ∷ earlier) ≡ true → LetsIn visitor last (codes "alice") → (text : Text) → types_text (types_of wants) ≡ text → IsWholeLogin text wants.info (length (last ∷ earlier))
-  whole last earlier keeps distinct hashes password lets_in text type_is =
+  abbrev Session : List Place → Type 0
+  Session world = HoldsSession (own_site (registered wants)) visitor world
+
+  -- a login that keeps all premises, lets alice in and ends with a session is whole
+  abbrev whole : (last : Place) (earlier : List Place) → KeepsAll (registered wants) visitor last earlier → HasDistinctWords (last ∷ earlier) → HasDistinctHashes (last ∷ earlier)
+      → list_any gives_password (last ∷ earlier) ≡ true → LetsIn visitor last (codes "alice") → Session (last ∷ earlier) → (text : Text) → types_text (types_of wants) ≡ text
+      → IsWholeLogin text wants.info (length (last ∷ earlier))
+  whole last earlier keeps distinct hashes password lets_in session text type_is =
       record {
         configuration = registered wants;
         visitor = visitor;
@@ -61,6 +70,7 @@ module _ (wants : Wants) where
         honest = keeps.honest;
         password = password;
         lets_in = lets_in;
+        session = session;
       }
 
   abbrev setup : PartySetup
@@ -74,10 +84,10 @@ module _ (wants : Wants) where
     abbrev up_to_claims : List Place
     up_to_claims = informs_there wants access asked e earlier ∷ asks_there wants access asked e earlier ∷ earlier
 
-    by_info : NeedsInfo wants access asked e earlier → HasDistinctWords (informed ∷ up_to_claims) → HasDistinctHashes earlier → list_any gives_password earlier ≡ true
-        → (text : Text) → types_text (types_of wants) ≡ text → IsWholeLogin text wants.info (length (informed ∷ up_to_claims))
-    by_info needs distinct hashes password text type_is =
-        whole informed up_to_claims (entering wants access asked e earlier needs) distinct hashes password (record { request = _; pair = _; word = word 34; place = refl; replied = refl }) text type_is
+    abbrev by_info : NeedsInfo wants access asked e earlier → HasDistinctWords (informed ∷ up_to_claims) → HasDistinctHashes earlier → list_any gives_password earlier ≡ true
+        → Session (informed ∷ up_to_claims) → (text : Text) → types_text (types_of wants) ≡ text → IsWholeLogin text wants.info (length (informed ∷ up_to_claims))
+    by_info needs distinct hashes password session text type_is =
+        whole informed up_to_claims (entering wants access asked e earlier needs) distinct hashes password (record { request = _; pair = _; word = word 34; place = refl; replied = refl }) session text type_is
 
 abbrev nonce : Text
 nonce = word_text (word 3)
@@ -94,7 +104,7 @@ half_is n = bytes_true (half n) (half n) refl
 -- ---- no code, and no UserInfo: the ID Token of the answer lets alice in
 
 module _ (token info : Bool) where
-  abbrev fronted : Wants
+  abbrev pub fronted : Wants
   fronted = without_code token info
 
   abbrev enters_at_once : Place
@@ -107,25 +117,38 @@ front_hashes : (token info : Bool) → HasDistinctHashes (four (fronted token in
 front_hashes true info = hashes_after (consents_there (fronted true info)) (three (fronted true info)) (λ v w has_v has_w same. absurd has_v) refl
 front_hashes false info = λ v w has_v has_w same. absurd has_v
 
-by_front : (token info : Bool) → EntersAtOnce token info → (text : Text) → types_text (types_of (fronted token info)) ≡ text → IsWholeLogin text info 5
+front_machine : (token info : Bool) → machine_of (own_site (registered (fronted token info))) (enters_at_once token info ∷ four (fronted token info)) ≡ did [] 5
+unfolding no_clients id_claims
+front_machine token info = refl
+
+front_live : (token info : Bool) → live_visits (types_of (fronted token info)) (rp_past 0 (enters_at_once token info ∷ four (fronted token info))) 1000 ≡ row_of (word 18) ∷ []
+unfolding id_claims
+front_live token info = refl
+
+front_session : (token info : Bool) → HoldsSession (own_site (registered (fronted token info))) visitor (enters_at_once token info ∷ four (fronted token info))
+front_session token info =
+    let wants : Wants = fronted token info in
+    holds wants (word 18) (request wants) (callback_entry wants) (four wants) [] (front_machine token info) (front_live token info) refl
+
+abbrev by_front : (token info : Bool) → EntersAtOnce token info → (text : Text) → types_text (types_of (fronted token info)) ≡ text → IsWholeLogin text info 5
 by_front token info is text type_is =
     let wants : Wants = fronted token info in
     whole wants (enters_at_once token info) (four wants) (responding wants (entered (word 18)) is refl) (are_distinct (drawn (enters_at_once token info ∷ four wants)) refl) (front_hashes token info) refl
-    (record { request = request wants; pair = _; word = word 18; place = refl; replied = refl }) text type_is
+    (record { request = request wants; pair = _; word = word 18; place = refl; replied = refl }) (front_session token info) text type_is
 
 -- where there is no access token, UserInfo is not asked for
 id_enters : EntersAtOnce false true
 unfolding rp_answer id_claims
 id_enters = rw nonce_is refl
 
-pub by_id : IsWholeLogin (codes "id_token") true 5
+abbrev pub by_id : IsWholeLogin (codes "id_token") true 5
 by_id = by_front false true id_enters (codes "id_token") refl
 
 id_token_enters : EntersAtOnce true false
 unfolding rp_answer id_claims
 id_token_enters = rw (nonce_is, half_is 16) refl
 
-pub by_id_token : IsWholeLogin (codes "id_token token") false 5
+abbrev pub by_id_token : IsWholeLogin (codes "id_token token") false 5
 by_id_token = by_front true false id_token_enters (codes "id_token token") refl
 
 -- ---- no code: UserInfo is asked for at once, with the access token of the answer
@@ -164,11 +187,26 @@ front_needs =
       enters = front_informed;
     }
 
-pub by_id_token_with_info : IsWholeLogin (codes "id_token token") true 7
+abbrev front_signed_on : List Place
+front_signed_on =
+    informed asking (word 16) (request asking) (callback_entry asking) (four asking) ∷ up_to_claims asking (word 16) (request asking) (callback_entry asking) (four asking)
+
+front_info_machine : machine_of (own_site (registered asking)) front_signed_on ≡ did [] 7
+unfolding no_clients id_claims
+front_info_machine = refl
+
+front_info_live : live_visits (types_of asking) (rp_past 0 front_signed_on) 1000 ≡ row_of (word 34) ∷ []
+unfolding id_claims
+front_info_live = refl
+
+front_info_session : HoldsSession (own_site (registered asking)) visitor front_signed_on
+front_info_session =
+    holds asking (word 34) (Info (word 17) (handed asking (word 16) (request asking) (callback_entry asking) (four asking)).answer) told_entry (up_to_claims asking (word 16) (request asking) (callback_entry asking) (four asking)) [] front_info_machine front_info_live refl
+
+abbrev pub by_id_token_with_info : IsWholeLogin (codes "id_token token") true 7
 by_id_token_with_info =
     by_info asking (word 16) (request asking) (callback_entry asking) (four asking) front_needs
-    (are_distinct (drawn (informed asking (word 16) (request asking) (callback_entry asking) (four asking) ∷ up_to_claims asking (word 16) (request asking) (callback_entry asking) (four asking))) refl)
-    (front_hashes true true) refl (codes "id_token token") refl
+    (are_distinct (drawn front_signed_on) refl) (front_hashes true true) refl front_info_session (codes "id_token token") refl
 
 -- ---- a code, and no UserInfo: the tokens let her in
 
@@ -181,18 +219,29 @@ code_hashes id false info =
     let wants : Wants = with_code id false info in
     hashes_after (redeems_there wants) (five wants) (hashes_after (consents_there wants) (three wants) (λ v w has_v has_w same. absurd has_v) refl) refl
 
-abbrev enters_with_tokens : Place
+abbrev pub enters_with_tokens : Place
 enters_with_tokens = given false false false (entered (word 26))
 
 code_enters : rp_answer (setup (with_code false false false)) (rp_past 0 (six (with_code false false false))) (given_entry false false false) ≡ entered (word 26)
 unfolding rp_answer id_claims
 code_enters = rw (nonce_is, half_is 21) refl
 
-pub by_code : IsWholeLogin (codes "code") false 7
+code_machine : machine_of (own_site (registered (with_code false false false))) (enters_with_tokens ∷ six (with_code false false false)) ≡ did (4 ∷ []) 7
+unfolding no_clients id_claims
+code_machine = rw code_is refl
+
+code_live : live_visits (types_of (with_code false false false)) (rp_past 0 (enters_with_tokens ∷ six (with_code false false false))) 1000 ≡ row_of (word 26) ∷ []
+unfolding id_claims
+code_live = refl
+
+code_session : HoldsSession (own_site (registered (with_code false false false))) visitor (enters_with_tokens ∷ six (with_code false false false))
+code_session = holds (with_code false false false) (word 26) (given_request false false false) (given_entry false false false) (six (with_code false false false)) (4 ∷ []) code_machine code_live refl
+
+abbrev pub by_code : IsWholeLogin (codes "code") false 7
 by_code =
     whole (with_code false false false) enters_with_tokens (six (with_code false false false)) (giving false false false (entered (word 26)) code_enters refl)
     (are_distinct (drawn (enters_with_tokens ∷ six (with_code false false false))) refl) (code_hashes false false false) refl
-    (record { request = given_request false false false; pair = _; word = word 26; place = refl; replied = refl }) (codes "code") refl
+    (record { request = given_request false false false; pair = _; word = word 26; place = refl; replied = refl }) code_session (codes "code") refl
 
 -- ---- a code: UserInfo is asked for after the tokens
 
@@ -245,8 +294,26 @@ code_needs id token =
       enters = code_informed id token;
     }
 
-pub by_code_with_info : (id token : Bool) (text : Text) → types_text (types_of (wants id token)) ≡ text → IsWholeLogin text true 9
+module _ (id token : Bool) where
+  abbrev code_informed_there : List Place
+  code_informed_there = up_to_claims (wants id token) (word 21) (asked id token) (at id token) (before id token)
+
+  abbrev code_signed_on : List Place
+  code_signed_on = informed (wants id token) (word 21) (asked id token) (at id token) (before id token) ∷ code_informed_there
+
+code_info_machine : (id token : Bool) → machine_of (own_site (registered (wants id token))) (code_signed_on id token) ≡ did (4 ∷ []) 9
+unfolding no_clients id_claims
+code_info_machine id token = rw code_is refl
+
+code_info_live : (id token : Bool) → live_visits (types_of (wants id token)) (rp_past 0 (code_signed_on id token)) 1000 ≡ row_of (word 34) ∷ []
+unfolding id_claims
+code_info_live id token = refl
+
+code_info_session : (id token : Bool) → HoldsSession (own_site (registered (wants id token))) visitor (code_signed_on id token)
+code_info_session id token =
+    holds (wants id token) (word 34) (Info (word 17) (handed (wants id token) (word 21) (asked id token) (at id token) (before id token)).answer) told_entry (code_informed_there id token) (4 ∷ []) (code_info_machine id token) (code_info_live id token) refl
+
+abbrev pub by_code_with_info : (id token : Bool) (text : Text) → types_text (types_of (wants id token)) ≡ text → IsWholeLogin text true 9
 by_code_with_info id token text type_is =
     by_info (wants id token) (word 21) (asked id token) (at id token) (before id token) (code_needs id token)
-    (are_distinct (drawn (informed (wants id token) (word 21) (asked id token) (at id token) (before id token) ∷ up_to_claims (wants id token) (word 21) (asked id token) (at id token) (before id token))) refl)
-    (code_hashes id token true) refl text type_is
+    (are_distinct (drawn (code_signed_on id token)) refl) (code_hashes id token true) refl (code_info_session id token) text type_is

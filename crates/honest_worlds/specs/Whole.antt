@@ -1,5 +1,6 @@
 -- An honest login to its end, in a world that has no place besides: it keeps all that is asked of a login and of a world, and at its
--- last place the browser is let in as the user whose password it gave.
+-- last place the browser is let in as the user whose password it gave. So all premises of the sign-on theorem hold together in a world
+-- that ends with a session.
 use Rattle.std.specs.Prelude.{◌≡◌, ℕ, Bool, true, List, ◌∷◌, length}
 use Rattle.std.specs.List.{list_any}
 use Rattle.sso_base.specs.Words.{Text}
@@ -13,6 +14,7 @@ use Rattle.sso_places.specs.Site.{own_site}
 use Rattle.sso_places.specs.World.{Place}
 use Rattle.honest_places.specs.Login.{Visitor, MayLogIn, IsHonest}
 use Rattle.honest_places.specs.Outcome.{LetsIn, gives_password}
+use Rattle.honest_worlds.specs.Session.{HoldsSession}
 
 -- at a party of this response type, that asks for UserInfo or does not, and with this many places
 pub record IsWholeLogin (response_type : Text) (asks_for_info : Bool) (places : ℕ) : Type 0 where
@@ -37,3 +39,5 @@ pub record IsWholeLogin (response_type : Text) (asks_for_info : Bool) (places : 
   pub honest : IsHonest configuration visitor (last ∷ earlier) (last ∷ earlier)
   pub password : list_any gives_password (last ∷ earlier) ≡ true
   pub lets_in : LetsIn visitor last (subject_at configuration (party_row configuration visitor.party).client visitor.user)
+  -- its session
+  pub session : HoldsSession (own_site configuration) visitor (last ∷ earlier)

@@ -3,7 +3,7 @@
 //!
 //! | Module | What it has | Its definitions, in `specs/` |
 //! |---|---|---|
-//! | `law` | that whole logins are honest, and that no condition can be left out | `Whole`, `Needed` |
+//! | `law` | that whole logins are honest and end with a session, and that no condition can be left out | `Whole`, `Session`, `Needed` |
 #![tactic(auto)]
 
 mod law;

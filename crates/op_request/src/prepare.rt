@@ -116,16 +116,21 @@ fn is_password_of(user: &User, password: &str) -> bool
     same(&shown, &user.proof)
 }
 
-// The number of the user that has this id and this password.
+// The number of the user that has this id and this password. For an id that no user has, the password is proved with the salt and
+// the rounds of the first user, so that the time does not tell which ids are users'.
 #[tactic(auto, using(crate::proofs::SignedUsers::user_within, crate::proofs::SignedUsers::user_kept))]
 fn signed_user(registry: &Registry, id: &str, password: &str) -> Option<u32>
     ensures { result ≡ spec.signed_user registry.now id.now password.now }
 {
     // A count says what every registry keeps: that each of its users has the salt and the rounds of a proof.
-    let _users = registry.users();
-    let number = registry.find_user(id.as_bytes())?;
-    if is_password_of(registry.user(number), password) {
-        Some(number)
+    let users = registry.users();
+    let found = registry.find_user(id.as_bytes());
+    let tried = found.unwrap_or(0);
+    if tried >= users {
+        return None;
+    }
+    if is_password_of(registry.user(tried), password) {
+        found
     } else {
         None
     }

@@ -6,7 +6,7 @@
 //! as in a server, by `prepare` and `step`, and its reply is printed.
 //!
 //! There are two tables. A line `table|provider` or `table|party` begins a table, and all lines after it are calls of that
-//! table:
+//! table. So does `table|full provider` or `table|full party`, for lines that fill the tables of a role, which takes long:
 //!
 //! | Table | Call | Effect |
 //! |---|---|---|
@@ -16,6 +16,7 @@
 //! | | `provider` | begins the provider of the cases |
 //! | | `provider|..` | is a call of that provider, after the first field |
 //! | | any other | is a call of the relying party |
+//! | both | `times|COUNT|..` | makes the call that follows COUNT times |
 //!
 //! `Provider` and `RelyingParty` document their calls. When one begins, the count of places begins anew, so each run reads as a
 //! small story. The request at place p, from 1, to either role draws the words 4p - 3 to 4p. Besides the texts of words, the
@@ -33,11 +34,13 @@
 //! | `telling` | prints the steps of a role |
 //! | `provider` | `Provider`: the provider of a run |
 //! | `party` | `RelyingParty`: the relying party of a run |
+//! | `filling` | fills its tables |
 //!
 //! A call here has a contract only if the calls below it need one.
 #![tactic(auto)]
 
 mod configurations;
+mod filling;
 mod party;
 mod party_table;
 mod provider;
@@ -69,8 +72,8 @@ struct RoleCases {
 
 fn table_named(name: &str) -> Option<Table> {
     match name {
-        "provider" => Some(Table::Provider),
-        "party" => Some(Table::Party),
+        "provider" | "full provider" => Some(Table::Provider),
+        "party" | "full party" => Some(Table::Party),
         _ => None,
     }
 }

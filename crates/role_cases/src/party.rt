@@ -2,6 +2,7 @@
 
 ghost use Rattle.std.specs.Prelude.{◌≡◌, ◌<◌, length, IfOk};
 
+use crate::filling::bring;
 use crate::telling::{Telling, fill, step_told};
 use case_lines::{
     Run, answered, field, moment, number, or_else, push_part, request, told, word_of,
@@ -163,7 +164,11 @@ impl RelyingParty {
     /// | `ask|MOMENT|info|EXCHANGE|STATUS|BODY` | the line of the reply to UserInfo's answer in this exchange |
     /// | `send|..`, with the same fields | the line, the reply in HTTP, and the message in it |
     /// | `fill|MOMENT|COUNT` | how often nothing is found by requests for something that does not exist |
+    /// | `bring|MOMENT|COUNT|codes` | the answers to the responses of COUNT logins, each with a code |
+    /// | `bring|MOMENT|COUNT|ID Tokens` | the same at `blog`, each with an ID Token for alice |
+    /// | `bring|MOMENT|COUNT|logout tokens` | the answers to COUNT logout tokens for alice at `shop`, each with its own `jti` |
     /// | `held` | the entries of the tables for the words 1 to 63 |
+    /// | `count` | how many requests were answered |
     pub fn answer(
         &mut self,
         alloc: Global,
@@ -172,10 +177,23 @@ impl RelyingParty {
     ) -> Result<String, NoMemory> {
         match (fields, moment(field(fields, 1))) {
             (["held"], _) => held(alloc, self.core.tables()),
-            (["fill", _, count], Some(at)) => fill(alloc, self, at, number(count)),
-            ([call @ ("ask" | "send"), _, asked @ ..], Some(at)) => {
-                self.ask(alloc, run, at, call, asked)
-            }
+            (["count"], _) => Ok(self.core.count().to_string(alloc)?),
+            (_, Some(at)) => self.answer_at(alloc, run, at, fields),
+            _ => told(alloc, "no such call"),
+        }
+    }
+
+    fn answer_at(
+        &mut self,
+        alloc: Global,
+        run: &mut Run,
+        at: Moment,
+        fields: &[&str],
+    ) -> Result<String, NoMemory> {
+        match fields {
+            ["fill", _, count] => fill(alloc, self, at, number(count)),
+            ["bring", _, count, what] => bring(alloc, self, run, at, number(count), what),
+            [call @ ("ask" | "send"), _, asked @ ..] => self.ask(alloc, run, at, call, asked),
             _ => told(alloc, "no such call"),
         }
     }
@@ -210,7 +228,8 @@ impl RelyingParty {
         }
     }
 
-    fn ask(
+    /// What the call `ask` or `send` tells of a request, or of an answer of the provider.
+    pub fn ask(
         &mut self,
         alloc: Global,
         run: &mut Run,

@@ -1,7 +1,8 @@
 // The calls of the table `party`.
 
-use crate::roles::Roles;
+use crate::roles::{Role, Roles};
 use crate::setup::{ELSEWHERE, ELSEWHERE_AUTHORIZE, LOCAL, configuration};
+use case_lines::number;
 use sso_base::NoMemory;
 use std::alloc::Global;
 
@@ -23,13 +24,14 @@ fn begin_elsewhere(alloc: Global, roles: &mut Roles, name: &str) -> Result<Strin
 }
 
 /// The answer to a call: `party|NAME`, `party|NAME|elsewhere` and `provider` begin a role. A call after `provider` goes to the
-/// provider, and every other call to the relying party.
+/// provider, and every other call to the relying party, as often as `times|COUNT` before it says.
 pub fn answer(alloc: Global, roles: &mut Roles, fields: &[&str]) -> Result<String, NoMemory> {
     match fields {
         ["party", name] => begin_party(alloc, roles, name),
         ["party", name, "elsewhere"] => begin_elsewhere(alloc, roles, name),
         ["provider"] => begin_provider(alloc, roles),
         ["provider", call @ ..] => roles.ask_provider(alloc, call),
+        ["times", count, call @ ..] => { roles.ask_often(alloc, Role::Party, number(count), call) }
         _ => roles.ask_party(alloc, fields),
     }
 }

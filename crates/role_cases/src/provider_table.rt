@@ -1,7 +1,8 @@
 // The calls of the table `provider`.
 
 use crate::configurations::configuration;
-use crate::roles::Roles;
+use crate::roles::{Role, Roles};
+use case_lines::number;
 use sso_base::NoMemory;
 use std::alloc::Global;
 
@@ -10,10 +11,14 @@ fn begin(alloc: Global, roles: &mut Roles, name: &str) -> Result<String, NoMemor
     roles.begin_provider(alloc, file.as_str())
 }
 
-/// The answer to a call: `provider|NAME` begins a provider, and every other call goes to it.
+/// The answer to a call: `provider|NAME` begins a provider, and every other call goes to it, as often as `times|COUNT` before it
+/// says.
 pub fn answer(alloc: Global, roles: &mut Roles, fields: &[&str]) -> Result<String, NoMemory> {
     match fields {
         ["provider", name] => begin(alloc, roles, name),
+        ["times", count, call @ ..] => {
+            roles.ask_often(alloc, Role::Provider, number(count), call)
+        }
         _ => roles.ask_provider(alloc, fields),
     }
 }

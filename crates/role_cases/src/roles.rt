@@ -7,6 +7,13 @@ use sso_base::NoMemory;
 use std::alloc::Global;
 use std::mem;
 
+/// A role.
+#[derive(Clone, Copy)]
+pub enum Role {
+    Provider,
+    Party,
+}
+
 /// The provider and the relying party, and their run.
 #[derive(Drop)]
 pub struct Roles {
@@ -83,6 +90,32 @@ impl Roles {
             Some(party) => party.answer(alloc, &mut self.run, fields),
             None => told(alloc, "no party"),
         }
+    }
+
+    fn ask(&mut self, alloc: Global, role: Role, fields: &[&str]) -> Result<String, NoMemory> {
+        match role {
+            Role::Provider => self.ask_provider(alloc, fields),
+            Role::Party => self.ask_party(alloc, fields),
+        }
+    }
+
+    /// The answers of a role to a call that is made `count` times: the first answer, and how many answers are equal to it.
+    pub fn ask_often(
+        &mut self,
+        alloc: Global,
+        role: Role,
+        count: u32,
+        fields: &[&str],
+    ) -> Result<String, NoMemory> {
+        let first = self.ask(alloc, role, fields)?;
+        let mut same: u32 = 1;
+        for _ in 1..count {
+            let next = self.ask(alloc, role, fields)?;
+            if next.as_str() == first.as_str() {
+                same = same.wrapping_add(1);
+            }
+        }
+        Ok(format!(in alloc; "{}, {same} times", first.as_str())?)
     }
 
     /// The text of the last reply with this name.

@@ -1,5 +1,5 @@
 -- A reply comes exactly where a request gives the ask, the row that the reply makes has a place, and it has its cause.
-use Rattle.std.proofs.Common.{◌≡◌, true, Option, Some, None, refl, sym, ◌∙◌}
+use Rattle.std.proofs.Common.{◌≡◌, true, Option, Some, None, refl, sym, ◌∙◌, inl, inr}
 use Rattle.sso_base.specs.declared.history.Entry.{Entry}
 use Rattle.rp_login.specs.declared.table.RpTable.{RpTable}
 use Rattle.rp_login.specs.declared.table.RpTable.TheVariants as table

@@ -98,7 +98,7 @@ module _ (s : PartySetup) (past : RpPast) (e : Entry RpAsk) where
 
   -- ---- and the other way round
 
-  place_lacks : (told : RpReply) (found : RpTable) → is_prepared e.ask ≡ true → rp_reply s past e e.ask ≡ told → Lacks told found → lacking told ≡ Some found
+  pub place_lacks : (told : RpReply) (found : RpTable) → is_prepared e.ask ≡ true → rp_reply s past e e.ask ≡ told → Lacks told found → lacking told ≡ Some found
   place_lacks told table.Logins prepared is none =
       let F : Bool → Option RpTable = λ b. if_full table.Logins b in
       ap lacking none.begins ∙ ap F (full_by login_name (fresh_word e.fresh 1) (live_logins past e.at) none.full)

@@ -48,7 +48,7 @@ module _ (s : PartySetup) (past : RpPast) (e : Entry RpAsk) where
   full_asked ask.NotHere table room h = cc
 
   pub refusals_have_a_cause : (why : RpNo) → rp_answer s past e ≡ Refused why → RefusedCause s past e e.ask why
-  refusals_have_a_cause (no.Full table) h = full_asked e.ask table (full_has_a_cause table h) (full_lacks table h).1
+  refusals_have_a_cause (no.Full table) h = full_asked e.ask table (full_has_a_cause s past e table h) (full_lacks s past e table h).1
   refusals_have_a_cause (no.Twice name) h = own_replies_caused s past e (Refused (no.Twice name)) refl h
   refusals_have_a_cause no.NoState h = own_replies_caused s past e (Refused no.NoState) refl h
   refusals_have_a_cause no.StaleLogin h = own_replies_caused s past e (Refused no.StaleLogin) refl h

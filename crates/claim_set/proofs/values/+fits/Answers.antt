@@ -1,4 +1,4 @@
-use Rattle.std.proofs.Common.{◌≡◌, ◌∷◌, ◌++◌, List, false, string_bytes, sym, ap, ◌∙◌, subst, append_assoc, []}
+use Rattle.std.proofs.Common.{◌≡◌, ◌∷◌, ◌++◌, List, string_bytes, sym, ap, ◌∙◌, subst, append_assoc, []}
 use Rattle.std.specs.Str.{IsUtf8}
 use Rattle.std.specs.List.Sorted.{IsStrictlySortedBy}
 use Rattle.std.specs.Map.{keys_of}

@@ -1,6 +1,5 @@
-use Rattle.std.proofs.Common.{◌≡◌, ◌≤◌, Some, true, false, length, take, sym, ◌∙◌, ap, arith}
-use Rattle.std.proofs.lemmas.List.{get_or_default}
-use Rattle.held_rows.specs.Index.{row_at, key_in, stored_rows}
+use Rattle.std.proofs.Common.{◌≤◌, length, take, sym, ◌∙◌, ap, arith}
+use Rattle.held_rows.specs.Index.{row_at, stored_rows}
 use Rattle.held_rows.proofs.Ends.{none_pass}
 use Rattle.held_rows.proofs.Hits.{hit, before_start, other_at, all_counted, few_hits}
 use Rattle.held_rows.proofs.stored.Stored.count.Goals as goal

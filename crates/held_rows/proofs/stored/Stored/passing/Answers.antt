@@ -1,6 +1,5 @@
-use Rattle.std.proofs.Common.{◌≡◌, Some, true, false, sym, ◌∙◌, ap, arith}
-use Rattle.std.proofs.lemmas.List.{get_or_default}
-use Rattle.held_rows.specs.Index.{row_at, key_in}
+use Rattle.std.proofs.Common.{sym, ◌∙◌, arith}
+use Rattle.held_rows.specs.Index.{row_at}
 use Rattle.held_rows.proofs.Hits.{before_start, other_at, none_passes, some_passes}
 use Rattle.held_rows.proofs.stored.Stored.passing.Goals as goal
 
