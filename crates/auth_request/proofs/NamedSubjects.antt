@@ -1,6 +1,7 @@
 -- Among the subjects that are kept is each that the request names, and no other.
-use Rattle.std.proofs.Common.{◌≡◌, ℕ, List, [], ◌∷◌, ◌++◌, Bool, true, false, ◌||◌, cond, codes, Option, Some, None, is_some, option_and_then, IfSome, refl, sym, ap, ◌∙◌, true≢false}
+use Rattle.std.proofs.Common.{◌≡◌, ◌==◌, ℕ, suc, not, length, arith, List, [], ◌∷◌, ◌++◌, Bool, true, false, ◌||◌, cond, codes, Option, Some, None, is_some, option_and_then, IfSome, refl, sym, ap, ◌∙◌, true≢false}
 use Rattle.std.specs.Str.{bytes_eq}
+use Rattle.std.proofs.lemmas.Bool.Decides.{nat_tests}
 use Rattle.std.proofs.lemmas.Slice.Eq.{bytes_eq-Decides}
 use Rattle.serde_json.specs.Data.{Data, Items, no_items, item}
 use Rattle.serde_json.specs.Find.{get, as_str, as_array}
@@ -85,6 +86,9 @@ pub subjects_are_there : (t : List ℕ) (d sub : Data) → read t ≡ Some d →
 unfolding claims_of
 subjects_are_there t d sub is fits there = rw (is, fits) (some_at (option_and_then (get (codes "sub")) (get (codes "id_token") d)) sub there)
 
+not_zero : (n : ℕ) → (suc n == 0) ≡ false
+not_zero n = grind (arith, nat_tests)
+
 pub subjects_are_filled : (t : List ℕ) → IsSubject t → is_filled t ≡ true
 subjects_are_filled [] s = absurd (true≢false (sym s.within))
-subjects_are_filled (b ∷ t) s = refl
+subjects_are_filled (b ∷ t) s = ap not (not_zero (length t))

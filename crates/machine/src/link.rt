@@ -15,8 +15,8 @@ use std::time::{Clock, Duration};
 /// How many seconds an exchange may take in all.
 const EXCHANGE: u64 = 10;
 
-/// TCP connections, one for each exchange, to loopback addresses only: what is sent is not encrypted, and may have a client's secret in
-/// it. It does not tell what was exchanged.
+/// TCP connections, one for each exchange, to loopback addresses only: messages are not encrypted, and may contain a client's
+/// secret. Its ghost contents do not include what was exchanged.
 #[derive(Drop)]
 pub struct TcpLink<'a, R: Net<Stream = TcpStream> + Clock> {
     rt: &'a R,
@@ -51,7 +51,7 @@ fn is_loopback(address: &SocketAddr) -> bool
     address.ip().is_loopback()
 }
 
-// A stream to this address, if it takes one in so much time. No other call here connects.
+// A stream to this address, if it accepts one in this time. No other function here connects.
 fn connect_to<R: Net<Stream = TcpStream>>(
     rt: &R,
     address: &SocketAddr,
@@ -62,7 +62,7 @@ fn connect_to<R: Net<Stream = TcpStream>>(
     TcpStream::connect_timeout(rt, address, left).ok()
 }
 
-// A stream to the first loopback address of this place that takes one. Other addresses are skipped.
+// A stream to the first loopback address of this place that accepts one. Other addresses are skipped.
 fn connect<R: Net<Stream = TcpStream> + Clock>(
     rt: &R,
     to: &str,

@@ -49,8 +49,7 @@ pub fn send<L: Link>(alloc: Global, link: &mut L, sending: &Sending) -> Result<B
     link.exchange(alloc, &sending.to, sending.bytes.as_bytes(), MOST_ANSWER)
 }
 
-// Sends each message once, in their order, by a call of the link for each. What comes back is of no interest, nor whether anything
-// does.
+// Sends each message once, in their order, by a call of the link for each. The answers are ignored.
 fn send_all<L: Link>(alloc: Global, link: &mut L, all: &[Sending])
     ensures { (calls : List LinkCall) × (sent_by calls ≡ all.now) × TookCalls (L.state link.old) (L.state link.new) calls }
 {
@@ -59,15 +58,15 @@ fn send_all<L: Link>(alloc: Global, link: &mut L, all: &[Sending])
     }
 }
 
-/// A reply as it goes out, and the notices that go before it. Its bytes are not to be had before they were sent.
+/// A reply as HTTP, and the notices that are sent before it. Its bytes are available only after its notices were sent.
 #[derive(Drop)]
 pub struct Page {
     notices: Vec<Sending>,
     bytes: Blob,
 }
 
-/// A page whose notices were sent. Nothing but [`Page::send`] makes one, and so the first byte of a page is written after its notices
-/// were sent.
+/// A page whose notices were sent. Only [`Page::send`] makes one, so the first byte of a page is written after its notices were
+/// sent.
 #[derive(Drop)]
 pub struct SentPage {
     bytes: Blob,
