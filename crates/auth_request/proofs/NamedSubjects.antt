@@ -1,5 +1,5 @@
 -- Among the subjects that are kept is each that the request names, and no other.
-use Rattle.std.proofs.Common.{◌≡◌, ◌==◌, ℕ, suc, not, length, arith, List, [], ◌∷◌, ◌++◌, Bool, true, false, ◌||◌, cond, codes, Option, Some, None, is_some, option_and_then, IfSome, refl, sym, ap, ◌∙◌, true≢false}
+use Rattle.std.proofs.Common.{◌≡◌, ◌==◌, ℕ, suc, not, length, arith, List, [], ◌∷◌, ◌++◌, Bool, true, false, ◌||◌, cond, codes, Option, Some, None, is_some, option_and_then, IfSome, refl, sym, ap, subst, ◌∙◌, true≢false}
 use Rattle.std.specs.Str.{bytes_eq}
 use Rattle.std.proofs.lemmas.Bool.Decides.{nat_tests}
 use Rattle.std.proofs.lemmas.Slice.Eq.{bytes_eq-Decides}
@@ -65,7 +65,10 @@ module _ (q : Text) (filled : is_filled q ≡ true) where
 
   at_sub : (o : Option Data) (sub : Data) → o ≡ Some sub → IfSome (option_and_then subs_of o) (λ subs. has_text q subs ≡ names_subject q sub)
   at_sub None sub h = tt
-  at_sub (Some s) sub h = rw (sym h) (of_sub s)
+  at_sub (Some s) sub h =
+      let same : s ≡ sub = cc in
+      let P : Data → Type 0 = λ x. IfSome (subs_of s) (λ subs. has_text q subs ≡ names_subject q x) in
+      subst P same (of_sub s)
 
 pub subjects_are_named : (t : List ℕ) (d sub : Data) (q : List ℕ) → read t ≡ Some d → is_claims_request d ≡ true → option_and_then (get (codes "sub")) (get (codes "id_token") d) ≡ Some sub → is_filled q ≡ true → IfSome (claims_of (Some t)).subs (λ subs. has_text q subs ≡ names_subject q sub)
 unfolding claims_of
