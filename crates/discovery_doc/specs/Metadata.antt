@@ -45,16 +45,19 @@ request_entries p =
     ∷ (codes "response_modes_supported", Some (texts response_modes))
     ∷ (codes "response_types_supported", Some (texts response_types)) ∷ []
 
+abbrev pub subject_entries : List Entry
+subject_entries =
+    (codes "scopes_supported", Some (texts scope_words))
+    ∷ (codes "subject_types_supported", Some (texts subject_types)) ∷ []
+
 abbrev pub token_entries : Provider → List Entry
 token_entries p =
-    (codes "scopes_supported", Some (texts scope_words))
-    ∷ (codes "subject_types_supported", Some (texts subject_types))
-    ∷ (codes "token_endpoint", Some (string p.token))
+    (codes "token_endpoint", Some (string p.token))
     ∷ (codes "token_endpoint_auth_methods_supported", Some (texts auth_methods))
     ∷ (codes "userinfo_endpoint", option_map string p.userinfo) ∷ []
 
 abbrev pub metadata_entries : Provider → List Entry
-metadata_entries p = endpoint_entries p ++ request_entries p ++ token_entries p
+metadata_entries p = endpoint_entries p ++ request_entries p ++ subject_entries ++ token_entries p
 
 -- the metadata of a provider
 unfoldable pub metadata : Provider → Members

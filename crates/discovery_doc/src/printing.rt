@@ -80,17 +80,24 @@ fn put_requests(alloc: Global, set: &mut ClaimSet, provider: &Provider) -> Resul
     set.put_texts("response_types_supported", &type_texts(alloc)?)
 }
 
-fn put_tokens(alloc: Global, set: &mut ClaimSet, provider: &Provider) -> Result<(), NoMemory>
-    ensures { OnOk result (set.new ≡ put_all (spec.token_entries provider.now) set.old) }
+fn put_subjects(alloc: Global, set: &mut ClaimSet) -> Result<(), NoMemory>
+    ensures { OnOk result (set.new ≡ put_all spec.subject_entries set.old) }
 {
     set.put_texts("scopes_supported", &scopes(alloc)?)?;
     set.put_texts(
         "subject_types_supported",
         &two(alloc, "public", "pairwise")?,
-    )?;
+    )
+}
+
+fn put_tokens(alloc: Global, set: &mut ClaimSet, provider: &Provider) -> Result<(), NoMemory>
+    ensures { OnOk result (set.new ≡ put_all (spec.token_entries provider.now) set.old) }
+{
     set.put_text("token_endpoint", provider.token.as_str())?;
-    let methods = two(alloc, "client_secret_basic", "client_secret_post")?;
-    set.put_texts("token_endpoint_auth_methods_supported", &methods)?;
+    set.put_texts(
+        "token_endpoint_auth_methods_supported",
+        &two(alloc, "client_secret_basic", "client_secret_post")?,
+    )?;
     set.put_text_if("userinfo_endpoint", &provider.userinfo)
 }
 
@@ -102,6 +109,7 @@ fn document(alloc: Global, provider: &Provider) -> Result<Text, NoMemory>
     let mut set = ClaimSet::new(alloc);
     put_endpoint(alloc, &mut set, provider)?;
     put_requests(alloc, &mut set, provider)?;
+    put_subjects(alloc, &mut set)?;
     put_tokens(alloc, &mut set, provider)?;
     claims_text(&set)
 }
