@@ -113,7 +113,7 @@ module _ (token info : Bool) where
   abbrev EntersAtOnce : Type 0
   EntersAtOnce = rp_answer (setup fronted) (past_begin fronted) (callback_entry fronted) ≡ entered (word 18)
 
-front_hashes : (token info : Bool) → HasDistinctHashes (four (fronted token info))
+pub front_hashes : (token info : Bool) → HasDistinctHashes (four (fronted token info))
 front_hashes true info = hashes_after (consents_there (fronted true info)) (three (fronted true info)) (λ v w has_v has_w same. absurd has_v) refl
 front_hashes false info = λ v w has_v has_w same. absurd has_v
 
@@ -125,7 +125,7 @@ front_live : (token info : Bool) → live_visits (types_of (fronted token info))
 unfolding id_claims
 front_live token info = refl
 
-front_session : (token info : Bool) → HoldsSession (own_site (registered (fronted token info))) visitor (enters_at_once token info ∷ four (fronted token info))
+pub front_session : (token info : Bool) → HoldsSession (own_site (registered (fronted token info))) visitor (enters_at_once token info ∷ four (fronted token info))
 front_session token info =
     let wants : Wants = fronted token info in
     holds wants (word 18) (request wants) (callback_entry wants) (four wants) [] (front_machine token info) (front_live token info) refl
@@ -137,14 +137,14 @@ by_front token info is text type_is =
     (record { request = request wants; pair = _; word = word 18; place = refl; replied = refl }) (front_session token info) text type_is
 
 -- where there is no access token, UserInfo is not asked for
-id_enters : EntersAtOnce false true
+pub id_enters : EntersAtOnce false true
 unfolding rp_answer id_claims
 id_enters = rw nonce_is refl
 
 abbrev pub by_id : IsWholeLogin (codes "id_token") true 5
 by_id = by_front false true id_enters (codes "id_token") refl
 
-id_token_enters : EntersAtOnce true false
+pub id_token_enters : EntersAtOnce true false
 unfolding rp_answer id_claims
 id_token_enters = rw (nonce_is, half_is 16) refl
 
@@ -172,7 +172,7 @@ front_informed : rp_answer (setup asking) (rp_past 0 (responded asking (fetch (w
 unfolding rp_answer id_claims
 front_informed = refl
 
-front_needs : NeedsInfo asking (word 16) (request asking) (callback_entry asking) (four asking)
+pub front_needs : NeedsInfo asking (word 16) (request asking) (callback_entry asking) (four asking)
 front_needs =
     record {
       before = responding asking (fetch (word 16)) front_fetches refl;
@@ -199,7 +199,7 @@ front_info_live : live_visits (types_of asking) (rp_past 0 front_signed_on) 1000
 unfolding id_claims
 front_info_live = refl
 
-front_info_session : HoldsSession (own_site (registered asking)) visitor front_signed_on
+pub front_info_session : HoldsSession (own_site (registered asking)) visitor front_signed_on
 front_info_session =
     holds asking (word 34) (Info (word 17) (handed asking (word 16) (request asking) (callback_entry asking) (four asking)).answer) told_entry (up_to_claims asking (word 16) (request asking) (callback_entry asking) (four asking)) [] front_info_machine front_info_live refl
 
@@ -210,7 +210,7 @@ by_id_token_with_info =
 
 -- ---- a code, and no UserInfo: the tokens let her in
 
-code_hashes : (id token info : Bool) → HasDistinctHashes (six (with_code id token info))
+pub code_hashes : (id token info : Bool) → HasDistinctHashes (six (with_code id token info))
 unfolding hmac_on_literals base64url_on_literals
 code_hashes id true info =
     let wants : Wants = with_code id true info in
@@ -222,7 +222,7 @@ code_hashes id false info =
 abbrev pub enters_with_tokens : Place
 enters_with_tokens = given false false false (entered (word 26))
 
-code_enters : rp_answer (setup (with_code false false false)) (rp_past 0 (six (with_code false false false))) (given_entry false false false) ≡ entered (word 26)
+pub code_enters : rp_answer (setup (with_code false false false)) (rp_past 0 (six (with_code false false false))) (given_entry false false false) ≡ entered (word 26)
 unfolding rp_answer id_claims
 code_enters = rw (nonce_is, half_is 21) refl
 
@@ -234,7 +234,7 @@ code_live : live_visits (types_of (with_code false false false)) (rp_past 0 (ent
 unfolding id_claims
 code_live = refl
 
-code_session : HoldsSession (own_site (registered (with_code false false false))) visitor (enters_with_tokens ∷ six (with_code false false false))
+pub code_session : HoldsSession (own_site (registered (with_code false false false))) visitor (enters_with_tokens ∷ six (with_code false false false))
 code_session = holds (with_code false false false) (word 26) (given_request false false false) (given_entry false false false) (six (with_code false false false)) (4 ∷ []) code_machine code_live refl
 
 abbrev pub by_code : IsWholeLogin (codes "code") false 7
@@ -279,7 +279,7 @@ code_informed : (id token : Bool) → rp_answer (setup (wants id token)) (rp_pas
 unfolding rp_answer id_claims
 code_informed id token = refl
 
-code_needs : (id token : Bool) → NeedsInfo (wants id token) (word 21) (asked id token) (at id token) (before id token)
+pub code_needs : (id token : Bool) → NeedsInfo (wants id token) (word 21) (asked id token) (at id token) (before id token)
 code_needs id token =
     record {
       before = giving id token true (fetch (word 21)) (code_fetches id token) refl;
@@ -309,7 +309,7 @@ code_info_live : (id token : Bool) → live_visits (types_of (wants id token)) (
 unfolding id_claims
 code_info_live id token = refl
 
-code_info_session : (id token : Bool) → HoldsSession (own_site (registered (wants id token))) visitor (code_signed_on id token)
+pub code_info_session : (id token : Bool) → HoldsSession (own_site (registered (wants id token))) visitor (code_signed_on id token)
 code_info_session id token =
     holds (wants id token) (word 34) (Info (word 17) (handed (wants id token) (word 21) (asked id token) (at id token) (before id token)).answer) told_entry (code_informed_there id token) (4 ∷ []) (code_info_machine id token) (code_info_live id token) refl
 
