@@ -1,20 +1,21 @@
 // The access tokens of the provider.
 
-ghost use Rattle.std.specs.Prelude.{◌≡◌, ◌<◌, true, length, None, IfSome, refl};
+ghost use Rattle.std.specs.Prelude.{◌≡◌, ◌<◌, true, length, None, IfSome, option_and_then, refl};
 ghost use Rattle.std.specs.Option.{option_copied};
 ghost use Rattle.sso_base.specs.Words.{is_word};
-ghost use Rattle.sso_base.specs.Rows.{row_of};
+ghost use Rattle.sso_base.specs.Rows.{row_of, if_lives};
 ghost use Rattle.sso_base.proofs.RowLaws.{bytes_same};
 ghost use Rattle.held_rows.proofs.FoundBy.{found_by};
 ghost use Rattle.held_rows.specs.Held.{none_after, most_rows};
 ghost use Rattle.held_rows.specs.declared.row.By.TheVariants.{First};
 ghost use Rattle.code_grant.specs.Rows.{access_name, access_begun};
+ghost use Rattle.oidc_words.specs.Lives.{access_life};
 ghost use Rattle.code_grant.specs.Tables as spec;
 
 use crate::grants::Grants;
 use crate::rows::TokenRow;
 use held_rows::{By, Test};
-use sso_base::Word;
+use sso_base::{Moment, Word};
 
 // The tokens that were issued for one code.
 #[derive(Clone, Copy)]
@@ -70,11 +71,19 @@ impl Grants {
     }
 
     /// The access token with this word; `None` if and only if no token in the table has it. Its life may have ended.
-    pub fn live(&self, token: Word) -> Option<&TokenRow>
-        ensures row { option_copied result ≡ row_of access_name token self.now.tokens }
+    pub fn token(&self, word: Word) -> Option<&TokenRow>
+        ensures row { option_copied result ≡ row_of access_name word self.now.tokens }
         ensures in_range { IfSome (option_copied result) (λ row. (row.user < 512) × (row.client < 128)) }
         ensures held { spec.AreTokens self.now.tokens }
     {
-        self.tokens.find(&token.bytes())
+        self.tokens.find(&word.bytes())
+    }
+
+    /// The access token with this word, if it lives at the moment; `None` if and only if no such token does.
+    pub fn live_token(&self, word: Word, at: Moment) -> Option<&TokenRow>
+        ensures row { option_copied result ≡ option_and_then (if_lives access_life access_begun at) (row_of access_name word self.now.tokens) }
+        ensures held { spec.AreTokens self.now.tokens }
+    {
+        self.tokens.living(&word.bytes(), at)
     }
 }

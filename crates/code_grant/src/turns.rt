@@ -1,11 +1,11 @@
 // The turns of the provider.
 
-ghost use Rattle.std.specs.Prelude.{◌≡◌, ◌<◌, true, length, Some, None, IfSome, refl};
+ghost use Rattle.std.specs.Prelude.{◌≡◌, ◌<◌, true, length, Some, None, IfSome, option_and_then, refl};
 ghost use Rattle.std.specs.List.{list_any};
 ghost use Rattle.std.specs.Option.{option_copied};
 ghost use Rattle.std.specs.Str.{bytes_eq};
 ghost use Rattle.std.proofs.Common.{ap};
-ghost use Rattle.sso_base.specs.Rows.{row_of, live_rows};
+ghost use Rattle.sso_base.specs.Rows.{row_of, live_rows, if_lives};
 ghost use Rattle.sso_base.proofs.RowLaws.{bytes_same};
 ghost use Rattle.code_grant.specs.declared.rows.TurnRow.{TurnRow};
 ghost use Rattle.held_rows.specs.Held.{none_after, most_rows};
@@ -97,6 +97,14 @@ impl Grants {
         ensures held { spec.AreTurns self.now.turns }
     {
         self.turns.find(&word.bytes())
+    }
+
+    /// The turn with this word, if it lives at the moment; `None` if and only if no such turn does.
+    pub fn live_turn(&self, word: Word, at: Moment) -> Option<&TurnRow>
+        ensures row { option_copied result ≡ option_and_then (if_lives turn_life turn_begun at) (row_of turn_name word self.now.turns) }
+        ensures held { spec.AreTurns self.now.turns }
+    {
+        self.turns.living(&word.bytes(), at)
     }
 
     /// Gives the turn with this word this session, and records whether the user logged in during the turn. If no turn in the

@@ -1,11 +1,11 @@
 // The logins of a relying party.
 
-ghost use Rattle.std.specs.Prelude.{◌≡◌, ◌<◌, true, length, Some, None};
+ghost use Rattle.std.specs.Prelude.{◌≡◌, ◌<◌, true, length, Some, None, option_and_then};
 ghost use Rattle.std.specs.List.{list_any};
 ghost use Rattle.std.specs.Option.{option_copied};
 ghost use Rattle.std.specs.Str.{bytes_eq};
 ghost use Rattle.std.proofs.Common.{ap};
-ghost use Rattle.sso_base.specs.Rows.{row_of, live_rows};
+ghost use Rattle.sso_base.specs.Rows.{row_of, live_rows, if_lives};
 ghost use Rattle.sso_base.proofs.RowLaws.{bytes_same};
 ghost use Rattle.rp_login.specs.declared.rows.LoginRow.{LoginRow};
 ghost use Rattle.held_rows.specs.Held.{none_after, most_rows};
@@ -73,6 +73,14 @@ impl Logins {
         ensures held { spec.AreLogins self.now.logins }
     {
         self.logins.find(&state.bytes())
+    }
+
+    /// The login with this state, if it lives at the moment; `None` if and only if no such login does.
+    pub fn live_login(&self, state: Word, at: Moment) -> Option<&LoginRow>
+        ensures row { option_copied result ≡ option_and_then (if_lives login_life login_begun at) (row_of login_name state self.now.logins) }
+        ensures held { spec.AreLogins self.now.logins }
+    {
+        self.logins.living(&state.bytes(), at)
     }
 
     /// Removes the login with this state. If no login in the table has it, nothing changes.
