@@ -1,6 +1,7 @@
 // The effects of a reply: the rows that it makes, the session that it used and the client that it answered.
 
 ghost use Rattle.std.specs.Prelude.{◌≡◌, ◌<◌, ◌≤◌, true, IfOk, IfSome};
+ghost use Rattle.std.specs.Option.{option_copied};
 ghost use Rattle.sso_base.specs.Legal.{last_moment};
 ghost use Rattle.op_answer.specs.Answering.{op_answer};
 ghost use Rattle.op_tables.specs.Agreeing.{is_own_turn, is_own_session, is_own_code, is_own_token};
@@ -8,6 +9,7 @@ ghost use Rattle.op_core.specs.Outcome as spec;
 ghost use Rattle.op_core.specs.Providing.{past_of};
 
 use crate::state::OpCore;
+use code_grant::TurnRow;
 use op_exchange::{OpAsk, OpReply};
 use op_tables::{Made, session_set};
 use sso_base::{Entry, NoMemory, Word};
@@ -21,23 +23,22 @@ pub(crate) struct Outcome {
     pub client: Option<u32>,
 }
 
-impl OpCore {
-    // The session of a reply: presented, from the login, or the live turn's.
-    fn used_found(&self, entry: &Entry<OpAsk>, reply: &OpReply) -> Option<Word>
-        requires { last_moment (past_of self.now) ≤ entry.now.at }
-        ensures { result ≡ spec.used_found (past_of self.now) entry.now entry.now.ask reply.now }
-    {
-        match &entry.ask {
-            OpAsk::Authorize { session, .. } => *session,
-            OpAsk::Login { .. } => session_set(&entry.ask, reply),
-            OpAsk::Consent { turn, .. } => match self.live_turn(entry.at, *turn) {
-                Some(row) => row.session,
-                None => None,
-            },
-            _ => None,
-        }
+// The session of a reply: presented, from the login, or that of the turn of the form.
+fn used_for(ask: &OpAsk, reply: &OpReply, turn: Option<&TurnRow>) -> Option<Word>
+    ensures { result ≡ spec.used_for ask.now reply.now (option_copied turn.entry) }
+{
+    match ask {
+        OpAsk::Authorize { session, .. } => *session,
+        OpAsk::Login { .. } => session_set(ask, reply),
+        OpAsk::Consent { .. } => match turn {
+            Some(row) => row.session,
+            None => None,
+        },
+        _ => None,
     }
+}
 
+impl OpCore {
     /// The effects of a reply that is the provider's answer. A value that no request produces has no effects.
     pub(crate) fn outcome(
         &self,
@@ -65,11 +66,15 @@ impl OpCore {
                 client: None,
             });
         }
-        let made = self.made(alloc, entry, reply)?;
+        let turn = self.turn_found(entry);
+        let wish = self.wish_for(&entry.ask, turn);
+        let session = self.session_for(entry, turn);
+        let client = self.client_for(reply, wish);
+        let made = self.made(alloc, entry, reply, wish, &session, client)?;
         Ok(Outcome {
             made,
-            used: self.used_found(entry, reply),
-            client: self.client_found(entry, reply),
+            used: used_for(&entry.ask, reply, turn),
+            client,
         })
     }
 }
