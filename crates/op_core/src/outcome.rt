@@ -1,10 +1,11 @@
-// The effects of a reply: the rows that it makes, the session that it used and the client that it answered.
+// The reply to an entry and its effects: the rows that it makes, the session that it used and the client that it answered.
 
 ghost use Rattle.std.specs.Prelude.{◌≡◌, ◌<◌, ◌≤◌, true, IfOk, IfSome};
 ghost use Rattle.std.specs.Option.{option_copied};
 ghost use Rattle.sso_base.specs.Legal.{last_moment};
 ghost use Rattle.op_answer.specs.Answering.{op_answer};
 ghost use Rattle.op_tables.specs.Agreeing.{is_own_turn, is_own_session, is_own_code, is_own_token};
+ghost use Rattle.op_core.specs.Making.{turn_found};
 ghost use Rattle.op_core.specs.Outcome as spec;
 ghost use Rattle.op_core.specs.Providing.{past_of};
 
@@ -23,6 +24,13 @@ pub(crate) struct Outcome {
     pub client: Option<u32>,
 }
 
+/// A reply and its effects.
+#[derive(Drop)]
+pub(crate) struct Decision {
+    pub reply: OpReply,
+    pub outcome: Outcome,
+}
+
 // The session of a reply: presented, from the login, or that of the turn of the form.
 fn used_for(ask: &OpAsk, reply: &OpReply, turn: Option<&TurnRow>) -> Option<Word>
     ensures { result ≡ spec.used_for ask.now reply.now (option_copied turn.entry) }
@@ -39,14 +47,18 @@ fn used_for(ask: &OpAsk, reply: &OpReply, turn: Option<&TurnRow>) -> Option<Word
 }
 
 impl OpCore {
-    /// The effects of a reply that is the provider's answer. A value that no request produces has no effects.
-    pub(crate) fn outcome(
+    /// The effects of a reply that is the provider's answer. A value that no request produces has no effects. The turn of a form
+    /// was found.
+    fn outcome(
         &self,
         alloc: Global,
         entry: &Entry<OpAsk>,
+        turn: Option<&TurnRow>,
         reply: &OpReply,
     ) -> Result<Outcome, NoMemory>
         requires moment { last_moment (past_of self.now) ≤ entry.now.at }
+        requires turn { option_copied turn ≡ turn_found (past_of self.now) entry.now.at entry.now.ask }
+        requires own { IfSome (option_copied turn) (λ row. is_own_turn self.now.registry row ≡ true) }
         requires answer { reply.now ≡ op_answer self.now.registry (past_of self.now) entry.now }
         ensures brings { IfOk result (λ o. spec.Brings (past_of self.now) (record { entry = entry.now; reply = reply.now }) o.made.turn o.made.session o.made.code o.made.token o.used o.client) }
         ensures own_turn { IfOk result (λ o. IfSome o.made.turn (λ row. is_own_turn self.now.registry row ≡ true)) }
@@ -66,7 +78,6 @@ impl OpCore {
                 client: None,
             });
         }
-        let turn = self.turn_found(entry);
         let wish = self.wish_for(&entry.ask, turn);
         let session = self.session_for(entry, turn);
         let client = self.client_for(reply, wish);
@@ -76,5 +87,31 @@ impl OpCore {
             used: used_for(&entry.ask, reply, turn),
             client,
         })
+    }
+
+    /// The reply to an entry, with its effects. The turn of a form is looked up once, for both.
+    pub(crate) fn decision(&self, alloc: Global, entry: &Entry<OpAsk>) -> Result<Decision, NoMemory>
+        requires { last_moment (past_of self.now) ≤ entry.now.at }
+        ensures answer { IfOk result (λ d. d.reply ≡ op_answer self.now.registry (past_of self.now) entry.now) }
+        ensures brings { IfOk result (λ d. spec.Brings (past_of self.now) (record { entry = entry.now; reply = d.reply }) d.outcome.made.turn d.outcome.made.session d.outcome.made.code d.outcome.made.token d.outcome.used d.outcome.client) }
+        ensures own_turn { IfOk result (λ d. IfSome d.outcome.made.turn (λ row. is_own_turn self.now.registry row ≡ true)) }
+        ensures own_session { IfOk result (λ d. IfSome d.outcome.made.session (λ row. is_own_session self.now.registry row ≡ true)) }
+        ensures own_code { IfOk result (λ d. IfSome d.outcome.made.code (λ row. is_own_code self.now.registry row ≡ true)) }
+        ensures own_token { IfOk result (λ d. IfSome d.outcome.made.token (λ row. is_own_token self.now.registry row ≡ true)) }
+        ensures client { IfOk result (λ d. IfSome d.outcome.client (λ n. n < 128)) }
+        ensures turn { IfOk result (λ d. IfSome d.outcome.made.turn (λ row. row.wish.client < 128)) }
+        ensures session { IfOk result (λ d. IfSome d.outcome.made.session (λ row. row.user < 512)) }
+        ensures code { IfOk result (λ d. IfSome d.outcome.made.code (λ row. (row.user < 512) × (row.wish.client < 128))) }
+        ensures token { IfOk result (λ d. IfSome d.outcome.made.token (λ row. (row.user < 512) × (row.client < 128))) }
+    {
+        let turn = self.turn_found(entry);
+        let reply = self.answer(alloc, entry, turn)?;
+        match self.outcome(alloc, entry, turn, &reply) {
+            Ok(outcome) => Ok(Decision { reply, outcome }),
+            Err(no) => {
+                drop(reply);
+                Err(no)
+            }
+        }
     }
 }

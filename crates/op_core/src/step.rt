@@ -15,7 +15,7 @@ ghost use Rattle.op_tables.specs.Taking.{TakesUp};
 ghost use Rattle.op_core.specs.Outcome.{Brings};
 ghost use Rattle.op_core.specs.Providing.{past_of};
 
-use crate::outcome::Outcome;
+use crate::outcome::{Decision, Outcome};
 use crate::state::OpCore;
 use code_grant::Grants;
 use op_exchange::{OpAsk, OpReply, know_op_entry};
@@ -138,60 +138,44 @@ impl OpCore {
         Ok(())
     }
 
-    // Adds an entry with its reply.
-    fn take(
-        &mut self,
-        alloc: Global,
-        entry: Entry<OpAsk>,
-        reply: OpReply,
-        weight: u64,
-    ) -> Result<(), NoMemory>
-        requires moment { last_moment (past_of self.old) ≤ entry.at }
-        requires answer { reply ≡ op_answer self.old.registry (past_of self.old) entry }
-        requires entry { IsEntry IsOpAsk entry }
-        requires weight { weight ≡ weights.ask_weight entry.ask }
-        requires room { history_weight weights.ask_weight self.old.history + weight ≤ most_weight }
-        ensures history { OnOk result (self.new.history ≡ self.old.history ++ (record { entry = entry; reply = reply }) ∷ []) }
-        ensures registry { OnOk result (self.new.registry ≡ self.old.registry) }
-        ensures err { OnErr result (self.new ≡ self.old) }
-    {
-        match self.outcome(alloc, &entry, &reply) {
-            Ok(outcome) => self.commit(entry, reply, outcome, weight),
-            Err(no) => {
-                drop(entry);
-                drop(reply);
-                Err(no)
-            }
-        }
-    }
-
-    // Adds an entry with its reply, and returns a copy of the reply.
+    // Adds an entry with its reply and its effects, and returns a copy of the reply.
     fn take_and_answer(
         &mut self,
         alloc: Global,
         entry: Entry<OpAsk>,
-        reply: OpReply,
+        decision: Decision,
         weight: u64,
     ) -> Result<OpReply, NoMemory>
         requires moment { last_moment (past_of self.old) ≤ entry.at }
-        requires answer { reply ≡ op_answer self.old.registry (past_of self.old) entry }
+        requires answer { decision.reply ≡ op_answer self.old.registry (past_of self.old) entry }
         requires entry { IsEntry IsOpAsk entry }
+        requires brings { Brings (past_of self.old) (record { entry = entry; reply = decision.reply }) decision.outcome.made.turn decision.outcome.made.session decision.outcome.made.code decision.outcome.made.token decision.outcome.used decision.outcome.client }
+        requires own_turn { IfSome decision.outcome.made.turn (λ row. is_own_turn self.old.registry row ≡ true) }
+        requires own_session { IfSome decision.outcome.made.session (λ row. is_own_session self.old.registry row ≡ true) }
+        requires own_code { IfSome decision.outcome.made.code (λ row. is_own_code self.old.registry row ≡ true) }
+        requires own_token { IfSome decision.outcome.made.token (λ row. is_own_token self.old.registry row ≡ true) }
+        requires client { IfSome decision.outcome.client (λ n. n < 128) }
+        requires turn { IfSome decision.outcome.made.turn (λ row. row.wish.client < 128) }
+        requires session { IfSome decision.outcome.made.session (λ row. row.user < 512) }
+        requires code { IfSome decision.outcome.made.code (λ row. (row.user < 512) × (row.wish.client < 128)) }
+        requires token { IfSome decision.outcome.made.token (λ row. (row.user < 512) × (row.client < 128)) }
         requires weight { weight ≡ weights.ask_weight entry.ask }
         requires room { history_weight weights.ask_weight self.old.history + weight ≤ most_weight }
-        ensures told { IfOk result (λ told. told ≡ reply) }
-        ensures history { OnOk result (self.new.history ≡ self.old.history ++ (record { entry = entry; reply = reply }) ∷ []) }
+        ensures told { IfOk result (λ told. told ≡ decision.reply) }
+        ensures history { OnOk result (self.new.history ≡ self.old.history ++ (record { entry = entry; reply = decision.reply }) ∷ []) }
         ensures registry { OnOk result (self.new.registry ≡ self.old.registry) }
         ensures err { OnErr result (self.new ≡ self.old) }
     {
-        let told = match reply.copy(alloc) {
+        let told = match decision.reply.copy(alloc) {
             Ok(told) => told,
             Err(no) => {
                 drop(entry);
-                drop(reply);
+                drop(decision);
                 return Err(no);
             }
         };
-        match self.take(alloc, entry, reply, weight) {
+        let Decision { reply, outcome } = decision;
+        match self.commit(entry, reply, outcome, weight) {
             Ok(()) => Ok(told),
             Err(no) => {
                 drop(told);
@@ -233,8 +217,8 @@ impl Core for OpCore {
         let weight = self.journal.admit(&ask)?;
         let entry = self.journal.entry(at, fresh, ask);
         know_op_entry(&entry);
-        let reply = self.answer(alloc, &entry)?;
-        Ok(self.take_and_answer(alloc, entry, reply, weight)?)
+        let decision = self.decision(alloc, &entry)?;
+        Ok(self.take_and_answer(alloc, entry, decision, weight)?)
     }
 
     fn weight(ask: &OpAsk) -> Result<u64, NoMemory> {
