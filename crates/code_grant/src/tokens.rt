@@ -1,59 +1,25 @@
 // The access tokens of the provider.
 
-ghost use Rattle.std.specs.Prelude.{◌≡◌, ◌<◌, true, length, None, IfSome, option_and_then, refl};
+ghost use Rattle.std.specs.Prelude.{◌≡◌, ◌<◌, true, length, None, IfSome, option_and_then};
 ghost use Rattle.std.specs.Option.{option_copied};
-ghost use Rattle.sso_base.specs.Words.{is_word};
 ghost use Rattle.sso_base.specs.Rows.{row_of, if_lives};
-ghost use Rattle.sso_base.proofs.RowLaws.{bytes_same};
-ghost use Rattle.held_rows.proofs.FoundBy.{found_by};
 ghost use Rattle.held_rows.specs.Held.{none_after, most_rows};
-ghost use Rattle.held_rows.specs.declared.row.By.TheVariants.{First};
 ghost use Rattle.code_grant.specs.Rows.{access_name, access_begun};
 ghost use Rattle.oidc_words.specs.Lives.{access_life};
 ghost use Rattle.code_grant.specs.Tables as spec;
 
 use crate::grants::Grants;
 use crate::rows::TokenRow;
-use held_rows::{By, Test};
+use held_rows::{By, Keyed};
 use sso_base::{Moment, Word};
-
-// The tokens that were issued for one code.
-#[derive(Clone, Copy)]
-struct OfCode {
-    code: Word,
-}
-
-impl Test<TokenRow> for OfCode {
-    ghost passes = { λ t token. is_word token.code t.code };
-
-    ghost by = { λ t. First };
-
-    ghost key = { λ t. t.code };
-
-    fn passes(&self, token: &TokenRow) -> bool {
-        match token.code {
-            Some(word) => word == self.code,
-            None => false,
-        }
-    }
-
-    fn by(&self) -> By {
-        By::First
-    }
-
-    fn key(&self) -> &[u8] {
-        self.code.as_bytes()
-    }
-
-    ghost are_found = { λ t token passes. found_by t.code (λ held. is_word held t.code) refl (λ held same. bytes_same held t.code same) token.code passes };
-}
 
 impl Grants {
     // Removes the tokens that were issued for the code.
     pub(crate) fn end_tokens_of(&mut self, code: Word)
         ensures { self.new ≡ spec.tokens_of_ended code self.old }
     {
-        self.tokens.take_out(&OfCode { code });
+        let by = By::First;
+        self.tokens.take_out(&Keyed { by, word: code });
     }
 
     /// Adds an access token. Room was reserved, the table is not full, its word is new, and no other token was issued later.
