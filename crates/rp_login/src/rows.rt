@@ -83,12 +83,13 @@ pub struct SeenRow {
 
 impl Row for LoginRow {
     ghost use Rattle.oidc_words.specs.Lives.{login_life};
+    ghost use Rattle.rp_login.specs.Rows.{login_name, login_begun};
 
-    ghost name = { λ row. row.state };
+    ghost name = { login_name };
 
     ghost key = { λ by row. one_of (Some row.state) (Some row.browser) None by };
 
-    ghost begun = { λ row. row.begun };
+    ghost begun = { login_begun };
 
     ghost IsSound = { AnyRow };
 
@@ -113,12 +114,13 @@ impl Row for LoginRow {
 
 impl Row for PendingRow {
     ghost use Rattle.oidc_words.specs.Lives.{pending_life};
+    ghost use Rattle.rp_login.specs.Rows.{pending_name, pending_begun};
 
-    ghost name = { λ row. row.word };
+    ghost name = { pending_name };
 
     ghost key = { λ by row. one_of (Some row.word) None None by };
 
-    ghost begun = { λ row. row.since };
+    ghost begun = { pending_begun };
 
     ghost IsSound = { AnyRow };
 
@@ -142,12 +144,13 @@ impl Row for PendingRow {
 
 impl Row for SessionRow {
     ghost use Rattle.oidc_words.specs.Lives.{visit_life};
+    ghost use Rattle.rp_login.specs.Rows.{visit_name, visit_begun};
 
-    ghost name = { λ row. row.word };
+    ghost name = { visit_name };
 
     ghost key = { λ by row. one_of (Some row.word) (Some row.sub) row.sid by };
 
-    ghost begun = { λ row. row.entered };
+    ghost begun = { visit_begun };
 
     ghost IsSound = { AnyRow };
 
@@ -172,12 +175,13 @@ impl Row for SessionRow {
 
 impl Row for SeenRow {
     ghost use Rattle.oidc_words.specs.Lives.{seen_life};
+    ghost use Rattle.rp_login.specs.Rows.{seen_name, seen_begun};
 
-    ghost name = { λ row. row.jti };
+    ghost name = { seen_name };
 
     ghost key = { λ by row. one_of (Some row.jti) None None by };
 
-    ghost begun = { λ row. row.accepted };
+    ghost begun = { seen_begun };
 
     ghost IsSound = { AnyRow };
 
