@@ -37,16 +37,19 @@ wish_for ask turn = None
 abbrev pub wish_found : OpPast → ℕ → OpAsk → Option Wish
 wish_found past at ask = wish_for ask (turn_found past at ask)
 
+-- the live session of a turn
+abbrev pub session_of_turn : OpPast → ℕ → Option TurnRow → Option SessionRow
+session_of_turn past at turn = option_and_then (λ (row : TurnRow). live_session past at row.session) turn
+
 -- the live session that was presented, the one after a correct password, or that of the turn of the form
-abbrev pub session_for : OpPast → Entry OpAsk → OpAsk → Option TurnRow → Option SessionRow
-session_for past e (Authorize verdict b session) turn = live_session past e.at session
-session_for past e (Login word (Some user) b presented) turn = Some (session_after past e user presented)
-session_for past e (Consent word agree b session) turn =
-    option_and_then (λ (row : TurnRow). live_session past e.at row.session) turn
-session_for past e ask turn = None
+abbrev pub session_for : OpPast → Entry OpAsk → OpAsk → Option SessionRow → Option SessionRow
+session_for past e (Authorize verdict b session) own = live_session past e.at session
+session_for past e (Login word (Some user) b presented) own = Some (session_after past e user presented)
+session_for past e (Consent word agree b session) own = own
+session_for past e ask own = None
 
 abbrev pub session_found : OpPast → Entry OpAsk → OpAsk → Option SessionRow
-session_found past e ask = session_for past e ask (turn_found past e.at ask)
+session_found past e ask = session_for past e ask (session_of_turn past e.at (turn_found past e.at ask))
 
 -- the client that a reply answers
 abbrev pub client_found : OpPast → Entry OpAsk → OpReply → Option ℕ

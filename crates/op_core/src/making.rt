@@ -149,6 +149,18 @@ impl OpCore {
         }
     }
 
+    // The live session of a turn.
+    pub(crate) fn session_of_turn(&self, at: Moment, turn: Option<&TurnRow>) -> Option<&SessionRow>
+        requires { last_moment (past_of self.now) ≤ at }
+        ensures row { option_copied result ≡ spec.session_of_turn (past_of self.now) at (option_copied turn.entry) }
+        ensures own { IfSome (option_copied result) (λ row. is_own_session self.now.registry row ≡ true) }
+    {
+        let Some(turn) = turn else {
+            return None;
+        };
+        self.live_session(at, turn.session)
+    }
+
     // The wish of a turn.
     fn turn_wish<'a>(&self, turn: Option<&'a TurnRow>) -> Option<&'a Wish>
         requires { IfSome (option_copied turn) (λ row. is_own_turn self.now.registry row ≡ true) }
@@ -214,11 +226,12 @@ impl OpCore {
     pub(crate) fn session_for(
         &self,
         entry: &Entry<OpAsk>,
-        turn: Option<&TurnRow>,
+        own: Option<&SessionRow>,
     ) -> Option<SessionRow>
         requires moment { last_moment (past_of self.now) ≤ entry.now.at }
         requires prepared { is_prepared self.now.registry entry.now.ask ≡ true }
-        ensures row { result ≡ spec.session_for (past_of self.now) entry.now entry.now.ask (option_copied turn.entry) }
+        requires own { IfSome (option_copied own) (λ row. is_own_session self.now.registry row ≡ true) }
+        ensures row { result ≡ spec.session_for (past_of self.now) entry.now entry.now.ask (option_copied own.entry) }
         ensures own { IfSome result (λ row. is_own_session self.now.registry row ≡ true) }
     {
         match &entry.ask {
@@ -228,10 +241,7 @@ impl OpCore {
                 session,
                 ..
             } => Some(self.session_after(entry, *user, *session)),
-            OpAsk::Consent { .. } => {
-                let turn = turn?;
-                self.live_session(entry.at, turn.session).copied()
-            }
+            OpAsk::Consent { .. } => own.copied(),
             _ => None,
         }
     }

@@ -5,12 +5,12 @@ ghost use Rattle.std.specs.Option.{option_copied};
 ghost use Rattle.sso_base.specs.Legal.{last_moment};
 ghost use Rattle.op_answer.specs.Answering.{op_answer};
 ghost use Rattle.op_tables.specs.Agreeing.{is_own_turn, is_own_session, is_own_code, is_own_token};
-ghost use Rattle.op_core.specs.Making.{turn_found};
+ghost use Rattle.op_core.specs.Making.{turn_found, session_of_turn};
 ghost use Rattle.op_core.specs.Outcome as spec;
 ghost use Rattle.op_core.specs.Providing.{past_of};
 
 use crate::state::OpCore;
-use code_grant::TurnRow;
+use code_grant::{SessionRow, TurnRow};
 use op_exchange::{OpAsk, OpReply};
 use op_tables::{Made, session_set};
 use sso_base::{Entry, NoMemory, Word};
@@ -48,17 +48,20 @@ fn used_for(ask: &OpAsk, reply: &OpReply, turn: Option<&TurnRow>) -> Option<Word
 
 impl OpCore {
     /// The effects of a reply that is the provider's answer. A value that no request produces has no effects. The turn of a form
-    /// was found.
+    /// and its live session were found.
     fn outcome(
         &self,
         alloc: Global,
         entry: &Entry<OpAsk>,
         turn: Option<&TurnRow>,
+        own: Option<&SessionRow>,
         reply: &OpReply,
     ) -> Result<Outcome, NoMemory>
         requires moment { last_moment (past_of self.now) ≤ entry.now.at }
         requires turn { option_copied turn ≡ turn_found (past_of self.now) entry.now.at entry.now.ask }
-        requires own { IfSome (option_copied turn) (λ row. is_own_turn self.now.registry row ≡ true) }
+        requires session { option_copied own ≡ session_of_turn (past_of self.now) entry.now.at (option_copied turn) }
+        requires turn_is_own { IfSome (option_copied turn) (λ row. is_own_turn self.now.registry row ≡ true) }
+        requires session_is_own { IfSome (option_copied own) (λ row. is_own_session self.now.registry row ≡ true) }
         requires answer { reply.now ≡ op_answer self.now.registry (past_of self.now) entry.now }
         ensures brings { IfOk result (λ o. spec.Brings (past_of self.now) (record { entry = entry.now; reply = reply.now }) o.made.turn o.made.session o.made.code o.made.token o.used o.client) }
         ensures own_turn { IfOk result (λ o. IfSome o.made.turn (λ row. is_own_turn self.now.registry row ≡ true)) }
@@ -79,7 +82,7 @@ impl OpCore {
             });
         }
         let wish = self.wish_for(&entry.ask, turn);
-        let session = self.session_for(entry, turn);
+        let session = self.session_for(entry, own);
         let client = self.client_for(reply, wish);
         let made = self.made(alloc, entry, reply, wish, &session, client)?;
         Ok(Outcome {
@@ -89,7 +92,7 @@ impl OpCore {
         })
     }
 
-    /// The reply to an entry, with its effects. The turn of a form is looked up once, for both.
+    /// The reply to an entry, with its effects. The turn of a form and its session are looked up once, for both.
     pub(crate) fn decision(&self, alloc: Global, entry: &Entry<OpAsk>) -> Result<Decision, NoMemory>
         requires { last_moment (past_of self.now) ≤ entry.now.at }
         ensures answer { IfOk result (λ d. d.reply ≡ op_answer self.now.registry (past_of self.now) entry.now) }
@@ -105,8 +108,9 @@ impl OpCore {
         ensures token { IfOk result (λ d. IfSome d.outcome.made.token (λ row. (row.user < 512) × (row.client < 128))) }
     {
         let turn = self.turn_found(entry);
-        let reply = self.answer(alloc, entry, turn)?;
-        match self.outcome(alloc, entry, turn, &reply) {
+        let own = self.session_of_turn(entry.at, turn);
+        let reply = self.answer(alloc, entry, turn, own)?;
+        match self.outcome(alloc, entry, turn, own, &reply) {
             Ok(outcome) => Ok(Decision { reply, outcome }),
             Err(no) => {
                 drop(reply);

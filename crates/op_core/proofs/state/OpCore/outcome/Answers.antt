@@ -8,7 +8,7 @@ use Rattle.op_answer.specs.Turns.{turn_started}
 use Rattle.op_answer.specs.Sessions.{session_set, client_of_wish, is_answered}
 use Rattle.op_answer.specs.Codes.{code_made_by}
 use Rattle.op_tables.specs.declared.made.Made.{Made}
-use Rattle.op_core.specs.Making.{wish_for, wish_found, session_for, session_found, client_found, session_put_by, session_put, code_put, access_put_by, access_put}
+use Rattle.op_core.specs.Making.{wish_for, wish_found, session_of_turn, session_for, session_found, client_found, session_put_by, session_put, code_put, access_put_by, access_put}
 use Rattle.op_core.specs.Outcome.{used_for, used_found, Brings}
 use Rattle.op_core.specs.Providing.{past_of}
 use Rattle.op_core.proofs.Outcomes.{brings_nothing, brings_all, brings_as}
@@ -28,8 +28,9 @@ returns-clause-brings c =
     let told = c.args.reply.now in
     let made = c.in_ok-made.made in
     let found = c.requires.turn in
+    let own = c.requires.session ∙ ap (λ (t : Option TurnRow). session_of_turn past e.at t) found in
     let wish_is : option_copied c.wish_for-wish.result ≡ wish_found past e.at e.ask = c.wish_for-wish.ensures.wish ∙ ap (λ (t : Option TurnRow). wish_for e.ask t) found in
-    let session_is : c.session_for-session.result ≡ session_found past e e.ask = c.session_for-session.ensures.row ∙ ap (λ (t : Option TurnRow). session_for past e e.ask t) found in
+    let session_is : c.session_for-session.result ≡ session_found past e e.ask = c.session_for-session.ensures.row ∙ ap (λ (s : Option SessionRow). session_for past e e.ask s) own in
     let client_is : c.client_for-client.result ≡ client_found past e told = c.client_for-client.ensures.client ∙ ap (λ (w : Option Wish). client_of_wish (is_answered told) w) wish_is in
     let used_is : c.used_for.result ≡ used_found past e e.ask told = c.used_for.ensures ∙ ap (λ (t : Option TurnRow). used_for e.ask told t) found in
     brings_as past (record { entry = e; reply = told })
