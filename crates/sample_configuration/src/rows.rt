@@ -1,6 +1,4 @@
-//! Parts of configurations, which the programs of cases join as needed: `[PROVIDER, ALICE, SHOP_CLIENT].concat(alloc)?` is a
-//! whole file, and the lines after a part belong to it.
-#![tactic(auto)]
+// Parts of configurations.
 
 /// The head of a configuration: a provider on this machine.
 pub const PROVIDER: &str = "version = 1
