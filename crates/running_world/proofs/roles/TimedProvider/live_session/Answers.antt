@@ -7,7 +7,7 @@ use Rattle.op_answer.specs.Sessions.{live_session}
 use Rattle.op_core.specs.Providing.{Providing, past_of}
 use Rattle.running_world.specs.Roles.{IsLegalAt}
 use Rattle.running_world.proofs.LiveSessions.{lives_at, session_live, session_user}
-use Rattle.running_world.proofs.roles.OpRole.live_session.Goals as goal
+use Rattle.running_world.proofs.roles.TimedProvider.live_session.Goals as goal
 
 pub returns-in_default-session-clause-row : goal.returns-in_default-session-clause-row
 returns-in_default-session-clause-row c =
