@@ -1,5 +1,5 @@
 use Rattle.std.proofs.Common.{◌≤◌, ◌-◌, length}
-use Rattle.machine.proofs.shelf.read_front.Given as goal
+use Rattle.platform.proofs.shelf.read_front.Given as goal
 
 abbrev pub invariant-loop-piece : goal.invariant-loop-piece
 invariant-loop-piece g l = length l.front.items ≤ l.most

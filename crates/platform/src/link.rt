@@ -1,7 +1,7 @@
 //! TCP as a link, to this machine alone.
 
 ghost use Rattle.std.specs.Prelude.{◌≡◌, ◌↔◌, ◌≤◌, IsTrue, IfSome, length};
-ghost use Rattle.machine.specs.Addresses.{IsLoopback};
+ghost use Rattle.platform.specs.Addresses.{IsLoopback};
 ghost use Rattle.server_desk.specs.Links.{untold_link};
 
 use crate::connection::connection_over;

@@ -2,7 +2,7 @@
 
 ghost use Rattle.std.specs.Prelude.{◌≡◌, ◌^◌, IfOk};
 ghost use Rattle.server_desk.specs.Links.{untold_link};
-ghost use Rattle.machine.specs.Doors.{counted};
+ghost use Rattle.platform.specs.Doors.{counted};
 
 use crate::clock::SystemClock;
 use crate::door::TcpDoor;

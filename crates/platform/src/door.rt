@@ -2,7 +2,7 @@
 
 ghost use Rattle.std.specs.Prelude.{◌≡◌, ◌<◌, ◌≤◌};
 ghost use Rattle.server_desk.specs.Doors.{with_served};
-ghost use Rattle.machine.specs.Doors.{counted};
+ghost use Rattle.platform.specs.Doors.{counted};
 
 use crate::connection::{TcpSink, TcpSource, connection_over, finish};
 use crate::limit::Limit;
