@@ -5,7 +5,7 @@ use Rattle.sso_base.specs.Words.{Text, word_of_text}
 use Rattle.sso_base.specs.Rows.{row_of}
 use Rattle.oidc_words.specs.Scopes.{joined}
 use Rattle.oidc_words.specs.Claims.{scopes_with_any}
-use Rattle.request_need.specs.Need.{needed_scopes}
+use Rattle.user_interaction.specs.Need.{needed_scopes}
 use Rattle.token_endpoint.specs.declared.granting.Grant.{Grant}
 use Rattle.token_endpoint.specs.declared.error.TokenError.TheVariants.{InvalidGrant}
 use Rattle.code_grant.specs.declared.rows.TurnRow.{TurnRow}

@@ -5,10 +5,10 @@ ghost use Rattle.client_registry.specs.Configuration.{Configuration};
 ghost use Rattle.client_registry.specs.Numbers.{client_at};
 ghost use Rattle.auth_request.specs.declared.wish.Wish.{Wish};
 ghost use Rattle.oidc_words.specs.declared.errors.AuthError.{AuthError};
-ghost use Rattle.request_need.specs.declared.standing.Standing.{Standing};
-ghost use Rattle.request_need.specs.declared.need.Need.TheVariants as need;
-ghost use Rattle.request_need.specs.Need.{needed, asks_consent};
-ghost use Rattle.request_need.specs.Answerable.{IsAnswerable, HasCause};
+ghost use Rattle.user_interaction.specs.declared.standing.Standing.{Standing};
+ghost use Rattle.user_interaction.specs.declared.need.Need.TheVariants as need;
+ghost use Rattle.user_interaction.specs.Need.{needed, asks_consent};
+ghost use Rattle.user_interaction.specs.Answerable.{IsAnswerable, HasCause};
 
 /// A request is answered if and only if there is a session whose user logged in for it, or recently enough, is one of the
 /// requested users, and has consented (OpenID Connect Core 1.0, 3.1.2.1 to 3.1.2.4).

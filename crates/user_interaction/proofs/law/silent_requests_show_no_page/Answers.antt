@@ -1,5 +1,5 @@
-use Rattle.request_need.proofs.Needing.{shows_no_login, shows_no_consent}
-use Rattle.request_need.proofs.law.silent_requests_show_no_page.Goals as goal
+use Rattle.user_interaction.proofs.Needing.{shows_no_login, shows_no_consent}
+use Rattle.user_interaction.proofs.law.silent_requests_show_no_page.Goals as goal
 
 pub returns-clause-login : goal.returns-clause-login
 returns-clause-login c = shows_no_login

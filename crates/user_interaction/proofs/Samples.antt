@@ -7,10 +7,10 @@ use Rattle.oidc_words.specs.Scopes.{no_scopes, joined}
 use Rattle.oidc_words.specs.Claims.{scopes_with_any, scopes_with, profile_claims, email_claims, address_claims, phone_claims}
 use Rattle.auth_request.specs.declared.wish.Wish.{Wish}
 use Rattle.oidc_words.specs.declared.errors.AuthError.TheVariants.{LoginRequired, ConsentRequired, AccessDenied}
-use Rattle.request_need.specs.declared.need.Need.TheVariants.{Login, Consent, Answer, Error}
-use Rattle.request_need.specs.declared.standing.Standing.{Standing}
-use Rattle.request_need.specs.Need.{needed, needed_scopes, IsUserOf}
-use Rattle.request_need.specs.Answerable.{IsAnswerable, IsDenied, LacksLogin, HasCause}
+use Rattle.user_interaction.specs.declared.need.Need.TheVariants.{Login, Consent, Answer, Error}
+use Rattle.user_interaction.specs.declared.standing.Standing.{Standing}
+use Rattle.user_interaction.specs.Need.{needed, needed_scopes, IsUserOf}
+use Rattle.user_interaction.specs.Answerable.{IsAnswerable, IsDenied, LacksLogin, HasCause}
 
 -- a client that asks consent, and one that asks none
 abbrev client : Client

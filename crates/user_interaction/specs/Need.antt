@@ -9,9 +9,9 @@ use Rattle.oidc_words.specs.Scopes.{joined, covers}
 use Rattle.oidc_words.specs.Claims.{scopes_with_any}
 use Rattle.auth_request.specs.declared.wish.Wish.{Wish}
 use Rattle.oidc_words.specs.declared.errors.AuthError.TheVariants.{LoginRequired, ConsentRequired, AccessDenied}
-use Rattle.request_need.specs.declared.need.Need.{Need}
-use Rattle.request_need.specs.declared.need.Need.TheVariants as need
-use Rattle.request_need.specs.declared.standing.Standing.{Standing}
+use Rattle.user_interaction.specs.declared.need.Need.{Need}
+use Rattle.user_interaction.specs.declared.need.Need.TheVariants as need
+use Rattle.user_interaction.specs.declared.standing.Standing.{Standing}
 
 -- ---- scope values
 

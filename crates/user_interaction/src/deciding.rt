@@ -1,7 +1,7 @@
 // The need of a request.
 
 ghost use Rattle.std.specs.Prelude.{◌≡◌, ◌<◌, length, option_map};
-ghost use Rattle.request_need.specs.Need as spec;
+ghost use Rattle.user_interaction.specs.Need as spec;
 
 use crate::need::Need;
 use crate::standing::Standing;

@@ -7,11 +7,11 @@ use Rattle.oidc_words.specs.Scopes.{covers}
 use Rattle.auth_request.specs.declared.wish.Wish.{Wish}
 use Rattle.oidc_words.specs.declared.errors.AuthError.{AuthError}
 use Rattle.oidc_words.specs.declared.errors.AuthError.TheVariants.{LoginRequired, ConsentRequired, AccessDenied}
-use Rattle.request_need.specs.declared.need.Need.{Need}
-use Rattle.request_need.specs.declared.need.Need.TheVariants as need
-use Rattle.request_need.specs.declared.standing.Standing.{Standing}
-use Rattle.request_need.specs.Need.{needed, needed_scopes, asks_consent, is_older, is_late, is_none_of, is_foreign, is_unagreed}
-use Rattle.request_need.specs.Answerable.{IsRecent, HasSignedIn, IsAskedFor, HasAgreed, IsAnswerable, IsOther, HasCause}
+use Rattle.user_interaction.specs.declared.need.Need.{Need}
+use Rattle.user_interaction.specs.declared.need.Need.TheVariants as need
+use Rattle.user_interaction.specs.declared.standing.Standing.{Standing}
+use Rattle.user_interaction.specs.Need.{needed, needed_scopes, asks_consent, is_older, is_late, is_none_of, is_foreign, is_unagreed}
+use Rattle.user_interaction.specs.Answerable.{IsRecent, HasSignedIn, IsAskedFor, HasAgreed, IsAnswerable, IsOther, HasCause}
 
 -- ---- the cases of the need, over truth values: no page, late, another user, unagreed, in turn, login wished
 

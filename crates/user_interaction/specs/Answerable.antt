@@ -7,8 +7,8 @@ use Rattle.oidc_words.specs.Scopes.{covers}
 use Rattle.auth_request.specs.declared.wish.Wish.{Wish}
 use Rattle.oidc_words.specs.declared.errors.AuthError.{AuthError}
 use Rattle.oidc_words.specs.declared.errors.AuthError.TheVariants.{LoginRequired, ConsentRequired, AccessDenied}
-use Rattle.request_need.specs.declared.standing.Standing.{Standing}
-use Rattle.request_need.specs.Need.{needed_scopes, asks_consent, is_late, is_foreign, is_unagreed}
+use Rattle.user_interaction.specs.declared.standing.Standing.{Standing}
+use Rattle.user_interaction.specs.Need.{needed_scopes, asks_consent, is_late, is_foreign, is_unagreed}
 
 -- the login is at most as many seconds ago as `max_age` allows
 abbrev pub IsRecent : Option ℕ → ℕ → ℕ → Type 0

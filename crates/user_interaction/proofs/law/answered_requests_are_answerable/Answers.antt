@@ -1,5 +1,5 @@
-use Rattle.request_need.proofs.Needing.{nobody_is_answered, answered_is_answerable, answerable_is_answered}
-use Rattle.request_need.proofs.law.answered_requests_are_answerable.Goals as goal
+use Rattle.user_interaction.proofs.Needing.{nobody_is_answered, answered_is_answerable, answerable_is_answered}
+use Rattle.user_interaction.proofs.law.answered_requests_are_answerable.Goals as goal
 
 pub returns-clause-session : goal.returns-clause-session
 returns-clause-session c = nobody_is_answered
