@@ -90,8 +90,8 @@ impl Row for TurnRow {
     fn key(&self, by: By) -> Option<&[u8]> {
         match by {
             By::Name => Some(self.word.as_bytes()),
-            By::First => Some(self.browser.as_bytes()),
-            By::Second => None,
+            By::Group => Some(self.browser.as_bytes()),
+            By::OtherGroup => None,
         }
     }
 
@@ -120,7 +120,7 @@ impl Row for SessionRow {
     fn key(&self, by: By) -> Option<&[u8]> {
         match by {
             By::Name => Some(self.word.as_bytes()),
-            By::First | By::Second => None,
+            By::Group | By::OtherGroup => None,
         }
     }
 
@@ -149,7 +149,7 @@ impl Row for CodeRow {
     fn key(&self, by: By) -> Option<&[u8]> {
         match by {
             By::Name => Some(self.word.as_bytes()),
-            By::First | By::Second => None,
+            By::Group | By::OtherGroup => None,
         }
     }
 
@@ -178,8 +178,8 @@ impl Row for TokenRow {
     fn key(&self, by: By) -> Option<&[u8]> {
         match by {
             By::Name => Some(self.word.as_bytes()),
-            By::First => word_bytes_if(&self.code),
-            By::Second => None,
+            By::Group => word_bytes_if(&self.code),
+            By::OtherGroup => None,
         }
     }
 

@@ -7,7 +7,7 @@ ghost use Rattle.sso_base.specs.Rows.{row_of};
 ghost use Rattle.sso_base.proofs.RowLaws.{bytes_same};
 ghost use Rattle.held_rows.proofs.FoundBy.{found_by};
 ghost use Rattle.held_rows.specs.Held.{none_after, most_rows};
-ghost use Rattle.held_rows.specs.declared.row.By.TheVariants.{First};
+ghost use Rattle.held_rows.specs.declared.row.By.TheVariants.{Group};
 ghost use Rattle.code_grant.specs.Rows.{access_name, access_begun};
 ghost use Rattle.code_grant.specs.Tables as spec;
 
@@ -25,7 +25,7 @@ struct OfCode {
 impl Test<TokenRow> for OfCode {
     ghost passes = { λ t token. is_word token.code t.code };
 
-    ghost by = { λ t. First };
+    ghost by = { λ t. Group };
 
     ghost key = { λ t. t.code };
 
@@ -37,7 +37,7 @@ impl Test<TokenRow> for OfCode {
     }
 
     fn by(&self) -> By {
-        By::First
+        By::Group
     }
 
     fn key(&self) -> &[u8] {

@@ -9,7 +9,7 @@ ghost use Rattle.sso_base.specs.Rows.{row_of, live_rows};
 ghost use Rattle.sso_base.proofs.RowLaws.{bytes_same};
 ghost use Rattle.code_grant.specs.declared.rows.TurnRow.{TurnRow};
 ghost use Rattle.held_rows.specs.Held.{none_after, most_rows};
-ghost use Rattle.held_rows.specs.declared.row.By.TheVariants.{First};
+ghost use Rattle.held_rows.specs.declared.row.By.TheVariants.{Group};
 ghost use Rattle.code_grant.specs.Rows.{turn_name, turn_begun};
 ghost use Rattle.oidc_words.specs.Lives.{turn_life};
 ghost use Rattle.code_grant.specs.Tables as spec;
@@ -28,7 +28,7 @@ struct OfBrowser {
 impl Test<TurnRow> for OfBrowser {
     ghost passes = { λ t turn. bytes_eq turn.browser t.browser };
 
-    ghost by = { λ t. First };
+    ghost by = { λ t. Group };
 
     ghost key = { λ t. t.browser };
 
@@ -37,7 +37,7 @@ impl Test<TurnRow> for OfBrowser {
     }
 
     fn by(&self) -> By {
-        By::First
+        By::Group
     }
 
     fn key(&self) -> &[u8] {

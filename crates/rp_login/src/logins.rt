@@ -9,7 +9,7 @@ ghost use Rattle.sso_base.specs.Rows.{row_of, live_rows};
 ghost use Rattle.sso_base.proofs.RowLaws.{bytes_same};
 ghost use Rattle.rp_login.specs.declared.rows.LoginRow.{LoginRow};
 ghost use Rattle.held_rows.specs.Held.{none_after, most_rows};
-ghost use Rattle.held_rows.specs.declared.row.By.TheVariants.{First};
+ghost use Rattle.held_rows.specs.declared.row.By.TheVariants.{Group};
 ghost use Rattle.rp_login.specs.Rows.{login_name, login_begun};
 ghost use Rattle.oidc_words.specs.Lives.{login_life};
 ghost use Rattle.rp_login.specs.Tables as spec;
@@ -28,7 +28,7 @@ struct OfBrowser {
 impl Test<LoginRow> for OfBrowser {
     ghost passes = { λ t login. bytes_eq login.browser t.browser };
 
-    ghost by = { λ t. First };
+    ghost by = { λ t. Group };
 
     ghost key = { λ t. t.browser };
 
@@ -37,7 +37,7 @@ impl Test<LoginRow> for OfBrowser {
     }
 
     fn by(&self) -> By {
-        By::First
+        By::Group
     }
 
     fn key(&self) -> &[u8] {

@@ -99,8 +99,8 @@ impl Row for LoginRow {
     fn key(&self, by: By) -> Option<&[u8]> {
         match by {
             By::Name => Some(self.state.as_bytes()),
-            By::First => Some(self.browser.as_bytes()),
-            By::Second => None,
+            By::Group => Some(self.browser.as_bytes()),
+            By::OtherGroup => None,
         }
     }
 
@@ -129,7 +129,7 @@ impl Row for PendingRow {
     fn key(&self, by: By) -> Option<&[u8]> {
         match by {
             By::Name => Some(self.word.as_bytes()),
-            By::First | By::Second => None,
+            By::Group | By::OtherGroup => None,
         }
     }
 
@@ -158,8 +158,8 @@ impl Row for SessionRow {
     fn key(&self, by: By) -> Option<&[u8]> {
         match by {
             By::Name => Some(self.word.as_bytes()),
-            By::First => Some(self.sub.as_str().as_bytes()),
-            By::Second => bytes_if(&self.sid),
+            By::Group => Some(self.sub.as_str().as_bytes()),
+            By::OtherGroup => bytes_if(&self.sid),
         }
     }
 
@@ -188,7 +188,7 @@ impl Row for SeenRow {
     fn key(&self, by: By) -> Option<&[u8]> {
         match by {
             By::Name => Some(self.jti.as_str().as_bytes()),
-            By::First | By::Second => None,
+            By::Group | By::OtherGroup => None,
         }
     }
 
