@@ -12,7 +12,7 @@ ghost use Rattle.op_answer.specs.Past.{OpPast};
 ghost use Rattle.op_tables.specs.Agreeing.{is_own_turn, is_own_session, is_own_code, is_own_token};
 ghost use Rattle.op_tables.specs.Keeping.{FollowsPair};
 ghost use Rattle.op_tables.specs.Taking.{TakesUp};
-ghost use Rattle.op_core.specs.Outcome.{Brings};
+ghost use Rattle.op_core.specs.Outcome.{MakesRows};
 ghost use Rattle.op_core.specs.Providing.{past_of};
 
 use crate::outcome::Outcome;
@@ -111,7 +111,7 @@ impl OpCore {
         requires moment { last_moment (past_of self.old) ≤ entry.at }
         requires answer { reply ≡ op_answer self.old.registry (past_of self.old) entry }
         requires entry { IsEntry IsOpAsk entry }
-        requires brings { Brings (past_of self.old) (record { entry = entry; reply = reply }) outcome.made.turn outcome.made.session outcome.made.code outcome.made.token outcome.used outcome.client }
+        requires rows { MakesRows (past_of self.old) (record { entry = entry; reply = reply }) outcome.made.turn outcome.made.session outcome.made.code outcome.made.token outcome.used outcome.client }
         requires own_turn { IfSome outcome.made.turn (λ row. is_own_turn self.old.registry row ≡ true) }
         requires own_session { IfSome outcome.made.session (λ row. is_own_session self.old.registry row ≡ true) }
         requires own_code { IfSome outcome.made.code (λ row. is_own_code self.old.registry row ≡ true) }

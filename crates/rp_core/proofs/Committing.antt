@@ -16,7 +16,7 @@ use Rattle.rp_answer.specs.Answering.{rp_answer}
 use Rattle.sso_base.proofs.Histories.{longer_is_legal, past_more}
 use Rattle.rp_core.specs.Relying.{Relying, past_of}
 use Rattle.rp_core.specs.Agreeing.{KeepsPast, Keeps}
-use Rattle.rp_core.specs.Making.{Brings}
+use Rattle.rp_core.specs.Making.{MakesRows}
 use Rattle.rp_core.specs.Keeping.{TakesUp, FollowsPair}
 use Rattle.rp_core.proofs.Carried.{agrees_carried, is_begun_carried}
 
@@ -34,7 +34,7 @@ module _ (s : PartySetup) (history items : List RpPair) (more : ℕ) (t u : Tabl
   Shown r =
       (last_moment (past_of r) ≤ p.entry.at)
       × (p.reply ≡ rp_answer r.setup (past_of r) p.entry)
-      × Brings (party_of r.setup).types (past_of r) p login pending visit seen
+      × MakesRows (party_of r.setup).types (past_of r) p login pending visit seen
       × (history_weight ask_weight r.history + more ≤ most_weight)
 
   abbrev pub Follows : Type 0
@@ -45,7 +45,7 @@ module _ (s : PartySetup) (history items : List RpPair) (more : ℕ) (t u : Tabl
   committed keeps entry more_is items_are follows shown =
       let past : RpPast = reverse history in
       let kept : KeepsPast (party_of s).types past (with_room t) = with_room_keeps (party_of s).types past t keeps.tables in
-      let up : TakesUp s past (last_moment past) (with_room t) p login pending visit seen = record { order = shown.0; agrees = kept.agrees; begun = kept.begun; reply_is = shown.1; brings = shown.2 } in
+      let up : TakesUp s past (last_moment past) (with_room t) p login pending visit seen = record { order = shown.0; agrees = kept.agrees; begun = kept.begun; reply_is = shown.1; rows = shown.2 } in
       let one : FollowsPair (party_of s).types (with_room t) u past p = follows s past (last_moment past) up in
       let K : RpPast → Type 0 = λ q. KeepsPast (party_of s).types q u in
       let I : List RpPair → Type 0 = λ x. Keeps s x u in

@@ -152,7 +152,7 @@ module _ {s : PartySetup} {past : RpPast} {before : ℕ} {t : Tables} {p : RpPai
   pub login_may : IfSome login (λ r. MayAddRow login_name login_begun v.reserved.logins v.logins r)
   login_may =
       if_made (λ r. MayAddRow login_name login_begun v.reserved.logins v.logins r) login (λ row is.
-      let made : login_made (logins past) past p ≡ Some row = sym up.brings.login_is ∙ is in
+      let made : login_made (logins past) past p ≡ Some row = sym up.rows.login_is ∙ is in
       let R : Reserved → Bool = λ x. x.logins in
       let M : List LoginRow → Type 0 = λ xs. MayAdd most_rows login_name login_begun xs row in
       may_row login_name login_begun v.reserved.logins v.logins row (ap R (kept.reserved ∙ reserved))
@@ -163,7 +163,7 @@ module _ {s : PartySetup} {past : RpPast} {before : ℕ} {t : Tables} {p : RpPai
   pub pending_may_before : IfSome pending (λ r. MayAddRow pending_name pending_begun v.reserved.pendings v.pendings r)
   pending_may_before =
       if_made (λ r. MayAddRow pending_name pending_begun v.reserved.pendings v.pendings r) pending (λ row is.
-      let made : pending_made (party_of s).types (pendings (party_of s).types past) past p ≡ Some row = sym up.brings.pending_is ∙ is in
+      let made : pending_made (party_of s).types (pendings (party_of s).types past) past p ≡ Some row = sym up.rows.pending_is ∙ is in
       let R : Reserved → Bool = λ x. x.pendings in
       let M : List PendingRow → Type 0 = λ xs. MayAdd most_rows pending_name pending_begun xs row in
       may_row pending_name pending_begun v.reserved.pendings v.pendings row (ap R (kept.reserved ∙ reserved))
@@ -175,7 +175,7 @@ module _ {s : PartySetup} {past : RpPast} {before : ℕ} {t : Tables} {p : RpPai
   pub visit_may_before : IfSome visit (λ r. MayAddRow visit_name visit_begun v.reserved.visits v.visits r)
   visit_may_before =
       if_made (λ r. MayAddRow visit_name visit_begun v.reserved.visits v.visits r) visit (λ row is.
-      let made : visit_made (party_of s).types (visits (party_of s).types past) past p ≡ Some row = sym up.brings.visit_is ∙ is in
+      let made : visit_made (party_of s).types (visits (party_of s).types past) past p ≡ Some row = sym up.rows.visit_is ∙ is in
       let R : Reserved → Bool = λ x. x.visits in
       let M : List SessionRow → Type 0 = λ xs. MayAdd most_rows visit_name visit_begun xs row in
       may_row visit_name visit_begun v.reserved.visits v.visits row (ap R (kept.reserved ∙ reserved))
@@ -187,7 +187,7 @@ module _ {s : PartySetup} {past : RpPast} {before : ℕ} {t : Tables} {p : RpPai
   pub seen_may_before : IfSome seen (λ r. MayAddRow seen_name seen_begun v.reserved.seens v.seens r)
   seen_may_before =
       if_made (λ r. MayAddRow seen_name seen_begun v.reserved.seens v.seens r) seen (λ row is.
-      let made : seen_made (seens past) past p ≡ Some row = sym up.brings.seen_is ∙ is in
+      let made : seen_made (seens past) past p ≡ Some row = sym up.rows.seen_is ∙ is in
       let R : Reserved → Bool = λ x. x.seens in
       let M : List SeenRow → Type 0 = λ xs. MayAdd most_rows seen_name seen_begun xs row in
       may_row seen_name seen_begun v.reserved.seens v.seens row (ap R (kept.reserved ∙ reserved))
@@ -247,12 +247,12 @@ module _ {s : PartySetup} {past : RpPast} {before : ℕ} {t : Tables} {p : RpPai
             record {
               logins_are =
                   ap L last ∙ more.logins ∙ ap L then_seen ∙ (visit_leaves visit x).logins ∙ ap L next ∙ (pending_leaves pending w).logins ∙ ap L first ∙ logins_put login v login_may ∙ ap LL kept.logins
-                  ∙ ap HL up.brings.login_is;
+                  ∙ ap HL up.rows.login_is;
               pendings_are =
                   ap P last ∙ more.pendings ∙ ap P then_seen ∙ (visit_leaves visit x).pendings ∙ ap P next ∙ pendings_put pending w pending_may ∙ ap LP (ap P first ∙ (login_leaves login v).pendings ∙ kept.pendings)
-                  ∙ ap HP up.brings.pending_is;
-              visits_are = ap V last ∙ more.visits ∙ ap V then_seen ∙ visits_put visit x visit_may ∙ ap LV (same_visits ∙ kept.visits) ∙ ap HV up.brings.visit_is;
-              seens_are = ap S last ∙ seens_put seen y seen_may ∙ ap LS (same_seens ∙ kept.seens) ∙ ap HS up.brings.seen_is;
+                  ∙ ap HP up.rows.pending_is;
+              visits_are = ap V last ∙ more.visits ∙ ap V then_seen ∙ visits_put visit x visit_may ∙ ap LV (same_visits ∙ kept.visits) ∙ ap HV up.rows.visit_is;
+              seens_are = ap S last ∙ seens_put seen y seen_may ∙ ap LS (same_seens ∙ kept.seens) ∙ ap HS up.rows.seen_is;
             }
 
 -- ---- an accepted logout token names somebody

@@ -20,7 +20,7 @@ use Rattle.rp_answer.specs.Visits.{visits, visit_made, visit_kept}
 use Rattle.rp_answer.specs.Seens.{seens, seen_made, seen_kept}
 use Rattle.rp_answer.specs.Answering.{rp_answer}
 use Rattle.rp_core.specs.Agreeing.{Agrees, IsBegun}
-use Rattle.rp_core.specs.Making.{Brings}
+use Rattle.rp_core.specs.Making.{MakesRows}
 
 -- the rows that lived at the pair's moment, as the pair leaves them, and the rows that it makes
 pub record FollowsPair (types : Types) (before after : Tables) (past : RpPast) (p : RpPair) : Type 0 where
@@ -37,7 +37,7 @@ pub record TakesUp (s : PartySetup) (past : RpPast) (before : ℕ) (t : Tables) 
   pub agrees : Agrees (party_of s).types t past before
   pub begun : IsBegun t before
   pub reply_is : p.reply ≡ rp_answer s past p.entry
-  pub brings : Brings (party_of s).types past p login pending visit seen
+  pub rows : MakesRows (party_of s).types past p login pending visit seen
 
 -- ---- exchanges that get their response
 

@@ -10,7 +10,7 @@ ghost use Rattle.rp_answer.specs.Answering.{rp_answer};
 ghost use Rattle.rp_answer.specs.Past.{RpPast};
 ghost use Rattle.rp_answer.specs.Setup.{PartySetup, party_of};
 ghost use Rattle.rp_core.specs.Keeping.{TakesUp, FollowsPair};
-ghost use Rattle.rp_core.specs.Making.{Brings};
+ghost use Rattle.rp_core.specs.Making.{MakesRows};
 ghost use Rattle.rp_core.specs.Relying.{past_of};
 
 use crate::keeping::take_up;
@@ -98,7 +98,7 @@ impl RpCore {
         requires moment { last_moment (past_of self.old) ≤ entry.at }
         requires answer { reply ≡ rp_answer self.old.setup (past_of self.old) entry }
         requires entry { IsEntry IsRpAsk entry }
-        requires brings { Brings (party_of self.old.setup).types (past_of self.old) (record { entry = entry; reply = reply }) made.login made.pending made.visit made.seen }
+        requires rows { MakesRows (party_of self.old.setup).types (past_of self.old) (record { entry = entry; reply = reply }) made.login made.pending made.visit made.seen }
         requires weight { weight ≡ weights.ask_weight entry.ask }
         requires room { history_weight weights.ask_weight self.old.history + weight ≤ most_weight }
         ensures setup { OnOk result (self.new.setup ≡ self.old.setup) }
