@@ -8,14 +8,14 @@
 //! | Module | What it has |
 //! |---|---|
 //! | `made` | [`Made`], the rows that a pair makes |
-//! | `taking` | [`take_up`] updates the tables with a pair |
+//! | `updating` | [`update_tables`] updates the tables with a pair |
 //! | `keeping` | the changes in each table, and [`session_set`], the session after a login |
 #![tactic(auto)]
 
 mod keeping;
 mod made;
-mod taking;
+mod updating;
 
 pub use keeping::session_set;
 pub use made::Made;
-pub use taking::take_up;
+pub use updating::update_tables;

@@ -12,7 +12,7 @@ use Rattle.held_rows.specs.Held.{MayAddRow}
 use Rattle.rp_core.specs.Relying.{past_of}
 use Rattle.rp_core.specs.Agreeing.{Agrees, IsBegun, KeepsPast, Keeps}
 use Rattle.rp_core.specs.Making.{pending_found, nonce_found, visit_found, MakesRows}
-use Rattle.rp_core.specs.Keeping.{FollowsPair, TakesUp, login_put, pending_put, visit_put}
+use Rattle.rp_core.specs.Keeping.{FollowsPair, MayUpdate, login_put, pending_put, visit_put}
 use Rattle.rp_core.proofs.Beginning.{begins}
 use Rattle.rp_answer.proofs.Sample.{word, entry_at, pair_of, only_code, shop_setup}
 use Rattle.rp_answer.proofs.FirstVisit.{begin_entry, asked, past_begin, callback_entry, exchange, callback_exchanges_at_once, past_callback, tokens_entry, entered}
@@ -182,12 +182,12 @@ the_tokens_are_followed t = record { logins_are = refl; pendings_are = refl; vis
 their_exchange_does_not_stay : (t : Text) → FollowsPair only_code with_exchange (record with_session { pendings = waiting ∷ [] }) past_callback (tokens_pair t) → ⊥
 their_exchange_does_not_stay t follows = (let k : waiting ∷ [] ≡ [] = follows.pendings_are in cc)
 
-the_callback_is_taken_up : TakesUp shop_setup past_begin 1000 with_login_begun callback_pair None (Some waiting) None None
+the_callback_is_taken_up : MayUpdate shop_setup past_begin 1000 with_login_begun callback_pair None (Some waiting) None None
 the_callback_is_taken_up =
     record { order = omega arith; agrees = they_agree; begun = they_are_begun; reply_is = sym callback_exchanges_at_once; rows = a_callback_brings_an_exchange }
 
-not_without_its_exchange : TakesUp shop_setup past_begin 1000 with_login_begun callback_pair None None None None → ⊥
+not_without_its_exchange : MayUpdate shop_setup past_begin 1000 with_login_begun callback_pair None None None None → ⊥
 not_without_its_exchange up = (let k : None ≡ Some waiting = up.rows.pending_is in cc)
 
-not_before_the_moment_of_the_tables : TakesUp shop_setup past_begin 1001 with_login_begun callback_pair None (Some waiting) None None → ⊥
+not_before_the_moment_of_the_tables : MayUpdate shop_setup past_begin 1001 with_login_begun callback_pair None (Some waiting) None None → ⊥
 not_before_the_moment_of_the_tables up = (let k : 1001 ≤ 1000 = up.order in absurd (omega arith))

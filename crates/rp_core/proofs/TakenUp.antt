@@ -1,4 +1,4 @@
--- What a step takes up: its calls may be made, and after them the tables are those after the pair.
+-- What a step updates: its calls may be made, and after them the tables are those after the pair.
 use Rattle.std.proofs.Common.{◌≡◌, ◌≤◌, ℕ, Bool, true, false, List, length, filter_map, Option, Some, None, Ok, IfSome, refl, sym, ◌∙◌, ap, subst}
 use Rattle.sso_base.specs.Words.{Word}
 use Rattle.sso_base.specs.Rows.{put, live_rows}
@@ -30,7 +30,7 @@ use Rattle.rp_answer.proofs.KeptNames.{login_names, visit_names, seen_names}
 use Rattle.held_rows.proofs.Kept.{all_kept, put_pushes}
 use Rattle.held_rows.proofs.Added.{MayAdd, may_add, few_there, unnamed_there, kept_latest}
 use Rattle.held_rows.proofs.Found.{same_later}
-use Rattle.rp_core.specs.Keeping.{TakesUp, FollowsPair, NamesSomebody, login_put, pending_put, visit_put, seen_put}
+use Rattle.rp_core.specs.Keeping.{MayUpdate, FollowsPair, NamesSomebody, login_put, pending_put, visit_put, seen_put}
 use Rattle.rp_core.proofs.Carried.{login_begun_kept, pending_begun_kept, visit_begun_kept, seen_begun_kept, login_made_begun, pending_made_begun, visit_made_begun, seen_made_begun}
 use Rattle.rp_core.proofs.KeptTables.{with_logins, with_pendings, with_visits}
 use Rattle.rp_core.proofs.RoomFor.{login_fits, pending_fits, visit_fits, seen_fits}
@@ -148,7 +148,7 @@ module _ (past : RpPast) (p : RpPair) (t a b d v : Tables) (purge : a ≡ purged
 
 -- ---- the rows may be added, and then the tables are those after the pair
 
-module _ {s : PartySetup} {past : RpPast} {before : ℕ} {t : Tables} {p : RpPair} {login : Option LoginRow} {pending : Option PendingRow} {visit : Option SessionRow} {seen : Option SeenRow} (up : TakesUp s past before t p login pending visit seen) {v : Tables} (kept : IsKept t v past p) (reserved : t.reserved ≡ all_reserved) where
+module _ {s : PartySetup} {past : RpPast} {before : ℕ} {t : Tables} {p : RpPair} {login : Option LoginRow} {pending : Option PendingRow} {visit : Option SessionRow} {seen : Option SeenRow} (up : MayUpdate s past before t p login pending visit seen) {v : Tables} (kept : IsKept t v past p) (reserved : t.reserved ≡ all_reserved) where
   pub login_may : IfSome login (λ r. MayAddRow login_name login_begun v.reserved.logins v.logins r)
   login_may =
       if_made (λ r. MayAddRow login_name login_begun v.reserved.logins v.logins r) login (λ row is.

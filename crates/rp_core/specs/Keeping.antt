@@ -32,7 +32,7 @@ pub record FollowsPair (types : Types) (before after : Tables) (past : RpPast) (
 
 -- The precondition of an update: the tables agree with the past, the reply is the answer after it, and the rows are those it
 -- makes.
-pub record TakesUp (s : PartySetup) (past : RpPast) (before : ℕ) (t : Tables) (p : RpPair) (login : Option LoginRow) (pending : Option PendingRow) (visit : Option SessionRow) (seen : Option SeenRow) : Type 0 where
+pub record MayUpdate (s : PartySetup) (past : RpPast) (before : ℕ) (t : Tables) (p : RpPair) (login : Option LoginRow) (pending : Option PendingRow) (visit : Option SessionRow) (seen : Option SeenRow) : Type 0 where
   pub order : before ≤ p.entry.at
   pub agrees : Agrees (party_of s).types t past before
   pub begun : IsBegun t before

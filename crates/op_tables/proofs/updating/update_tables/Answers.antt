@@ -1,5 +1,5 @@
 use Rattle.op_tables.proofs.TakenUp.{calls_leave, agreement_is_found, turn_may, session_may, code_may, token_may, follows}
-use Rattle.op_tables.proofs.taking.take_up.Goals as goal
+use Rattle.op_tables.proofs.updating.update_tables.Goals as goal
 
 pub put_rows-requires-clause-turn : goal.put_rows-requires-clause-turn
 put_rows-requires-clause-turn c =

@@ -16,7 +16,7 @@ use Rattle.op_answer.specs.AccessTokens.{accesses, access_made}
 use Rattle.op_answer.specs.Answering.{op_answer}
 use Rattle.op_tables.specs.Agreeing.{Agrees, IsBegun, AreOwn}
 
-pub record TakesUp (t : Tables) (p : OpPair) (turn : Option TurnRow) (session : Option SessionRow) (code : Option CodeRow) (token : Option TokenRow) (used : Option Word) (client : Option ℕ) (c : Configuration) (past : OpPast) (before : ℕ) : Type 0 where
+pub record MayUpdate (t : Tables) (p : OpPair) (turn : Option TurnRow) (session : Option SessionRow) (code : Option CodeRow) (token : Option TokenRow) (used : Option Word) (client : Option ℕ) (c : Configuration) (past : OpPast) (before : ℕ) : Type 0 where
   pub order : before ≤ p.entry.at
   pub agrees : Agrees t past before
   pub begun : IsBegun t before

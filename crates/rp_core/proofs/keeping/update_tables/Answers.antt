@@ -1,5 +1,5 @@
 use Rattle.rp_core.proofs.TakenUp.{calls_keep, login_may, pending_may, visit_may, seen_may, follows, names_somebody}
-use Rattle.rp_core.proofs.keeping.take_up.Goals as goal
+use Rattle.rp_core.proofs.keeping.update_tables.Goals as goal
 
 pub keep_visits-requires : goal.keep_visits-requires
 keep_visits-requires c =
