@@ -19,7 +19,7 @@ use Rattle.op_answer.specs.AccessTokens.{accesses, access_made}
 use Rattle.op_answer.specs.Answering.{op_answer}
 use Rattle.op_tables.specs.Agreeing.{is_own_turn, is_own_session, is_own_code, is_own_token}
 use Rattle.op_core.specs.Keeps.{KeepsPast, Keeps}
-use Rattle.op_tables.specs.Keeping.{FollowsPair}
+use Rattle.op_tables.specs.Keeping.{IsUpdate}
 use Rattle.op_core.specs.Outcome.{MakesRows}
 use Rattle.op_core.specs.Providing.{Providing, past_of}
 use Rattle.op_tables.specs.Updating.{MayUpdate}
@@ -54,7 +54,7 @@ module _ (c : Configuration) (history items : List OpPair) (t u : Tables) (p : O
       × (history_weight ask_weight s.history + weight ≤ most_weight)
 
   abbrev pub Follows : Type 0
-  Follows = (d : Configuration) (past : OpPast) (before : ℕ) → MayUpdate (with_room t) p turn session code token used client d past before → FollowsPair (with_room t) u past p
+  Follows = (d : Configuration) (past : OpPast) (before : ℕ) → MayUpdate (with_room t) p turn session code token used client d past before → IsUpdate (with_room t) u past p
 
   may_update : KeepsPast c (reverse history) (with_room t) → Shown (record { registry = c; history = history; tables = t }) → MayUpdate (with_room t) p turn session code token used client c (reverse history) (last_moment (reverse history))
   may_update keeps shown =
@@ -79,7 +79,7 @@ module _ (c : Configuration) (history items : List OpPair) (t u : Tables) (p : O
       let past : OpPast = reverse history in
       let rows : MakesRows past p turn session code token used client = shown.2 in
       let kept : KeepsPast c past (with_room t) = with_room_keeps c past t keeps.tables in
-      let one : FollowsPair (with_room t) u past p = follows c past (last_moment past) (may_update kept shown) in
+      let one : IsUpdate (with_room t) u past p = follows c past (last_moment past) (may_update kept shown) in
       let own = own_carried c (with_room t) u past p kept.own one
       (if_made (λ row. is_own_turn c row ≡ true) turn (turn_made (turns past) past p) rows.turn_is shown.3)
       (if_made (λ row. is_own_session c row ≡ true) session (session_made (sessions past) past p) rows.session_is shown.4)

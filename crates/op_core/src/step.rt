@@ -10,7 +10,7 @@ ghost use Rattle.op_exchange.specs.Weight as weights;
 ghost use Rattle.op_answer.specs.Answering.{op_answer};
 ghost use Rattle.op_answer.specs.Past.{OpPast};
 ghost use Rattle.op_tables.specs.Agreeing.{is_own_turn, is_own_session, is_own_code, is_own_token};
-ghost use Rattle.op_tables.specs.Keeping.{FollowsPair};
+ghost use Rattle.op_tables.specs.Keeping.{IsUpdate};
 ghost use Rattle.op_tables.specs.Updating.{MayUpdate};
 ghost use Rattle.op_core.specs.Outcome.{MakesRows};
 ghost use Rattle.op_core.specs.Providing.{past_of};
@@ -54,7 +54,7 @@ fn put(
     requires weight { weight ≡ weights.ask_weight entry.ask }
     requires room { history_weight weights.ask_weight journal.old.pairs + weight ≤ most_weight }
     ensures pairs { journal.new.pairs ≡ journal.old.pairs ++ (record { entry = entry; reply = reply }) ∷ [] }
-    ensures tables { (c : Configuration) (past : OpPast) (before : ℕ) → MayUpdate grants.old (record { entry = entry; reply = reply }) outcome.made.turn outcome.made.session outcome.made.code outcome.made.token outcome.used outcome.client c past before → FollowsPair grants.old grants.new past (record { entry = entry; reply = reply }) }
+    ensures tables { (c : Configuration) (past : OpPast) (before : ℕ) → MayUpdate grants.old (record { entry = entry; reply = reply }) outcome.made.turn outcome.made.session outcome.made.code outcome.made.token outcome.used outcome.client c past before → IsUpdate grants.old grants.new past (record { entry = entry; reply = reply }) }
 {
     let pair = Pair { entry, reply };
     let Outcome { made, used, client } = outcome;
@@ -80,7 +80,7 @@ fn take_in(
     requires weight { weight ≡ weights.ask_weight entry.ask }
     requires room { history_weight weights.ask_weight journal.old.pairs + weight ≤ most_weight }
     ensures pairs { OnOk result (journal.new.pairs ≡ journal.old.pairs ++ (record { entry = entry; reply = reply }) ∷ []) }
-    ensures tables { OnOk result ((c : Configuration) (past : OpPast) (before : ℕ) → MayUpdate (with_room grants.old) (record { entry = entry; reply = reply }) outcome.made.turn outcome.made.session outcome.made.code outcome.made.token outcome.used outcome.client c past before → FollowsPair (with_room grants.old) grants.new past (record { entry = entry; reply = reply })) }
+    ensures tables { OnOk result ((c : Configuration) (past : OpPast) (before : ℕ) → MayUpdate (with_room grants.old) (record { entry = entry; reply = reply }) outcome.made.turn outcome.made.session outcome.made.code outcome.made.token outcome.used outcome.client c past before → IsUpdate (with_room grants.old) grants.new past (record { entry = entry; reply = reply })) }
     ensures same_pairs { OnErr result (journal.new.pairs ≡ journal.old.pairs) }
     ensures same_tables { OnErr result (grants.new ≡ grants.old) }
 {

@@ -23,7 +23,7 @@ use Rattle.op_exchange.specs.declared.reply.OpReply.TheVariants.{TokenRefused, S
 use Rattle.op_answer.specs.Sessions.{sessions}
 use Rattle.op_tables.specs.declared.keeping.Agreement.{Agreement}
 use Rattle.op_tables.specs.Agreeing.{Agrees, IsBegun, AreOwn, is_own_turn, is_own_session, is_own_code, is_own_token}
-use Rattle.op_tables.specs.Keeping.{session_taken, turn_moved, session_replaced, session_ended, ended_if, visited_if, grant_answered, code_asked, TellsRedeem, TellsRedemption, FindsCode, agreed_turn, session_in, turn_in, agreement_of, FindsAgreement, MayPut, turn_put, session_put, code_put, token_put, FollowsPair}
+use Rattle.op_tables.specs.Keeping.{session_taken, turn_moved, session_replaced, session_ended, ended_if, visited_if, grant_answered, code_asked, TellsRedeem, TellsRedemption, FindsCode, agreed_turn, session_in, turn_in, agreement_of, FindsAgreement, MayPut, turn_put, session_put, code_put, token_put, IsUpdate}
 use Rattle.op_tables.specs.Updating.{MayUpdate}
 use Rattle.op_tables.proofs.ConsentsKept.{consent_is_granted}
 use Rattle.op_exchange.proofs.Sample.{word, words, wish, sample, profile_scopes, callback_uri}
@@ -269,7 +269,7 @@ no_token_is_put = refl
 
 -- ---- one more pair
 
-pub the_consent_is_followed : FollowsPair before_consent after_consent past_consent (pair_of consent_entry code_answer)
+pub the_consent_is_followed : IsUpdate before_consent after_consent past_consent (pair_of consent_entry code_answer)
 unfolding needed_scopes joined scopes_with_any
 the_consent_is_followed =
     record {
@@ -281,7 +281,7 @@ the_consent_is_followed =
           consent_is_granted before_consent past_consent consent_entry.ask code_answer alice_agrees refl (omega arith) length-no_consents the_agreement_is_found user client low few;
     }
 
-an_answered_turn_does_not_stay : FollowsPair before_consent before_consent past_consent (pair_of consent_entry code_answer) → ⊥
+an_answered_turn_does_not_stay : IsUpdate before_consent before_consent past_consent (pair_of consent_entry code_answer) → ⊥
 an_answered_turn_does_not_stay follows = (let k : taken ∷ [] ≡ [] = follows.turns_are in cc)
 
 pub the_consent_is_taken_up : MayUpdate before_consent (pair_of consent_entry code_answer) None None (Some alice_code) None (Some (word 9)) (Some 0) sample past_consent 1000

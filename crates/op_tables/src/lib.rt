@@ -2,7 +2,7 @@
 //! agreement with the past.
 //!
 //! The tables are `Grants` of `code_grant`. After a pair they have the rows that lived at its moment, as the pair leaves them,
-//! the rows that it makes, and the scopes that it grants (`FollowsPair`). Nothing here allocates, so a step can allocate
+//! the rows that it makes, and the scopes that it grants (`IsUpdate`). Nothing here allocates, so a step can allocate
 //! everything before.
 //!
 //! | Module | What it has |

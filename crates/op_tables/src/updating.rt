@@ -4,7 +4,7 @@ ghost use Rattle.std.specs.Prelude.{◌≡◌, ◌<◌, ◌≤◌, ℕ, true, le
 ghost use Rattle.client_registry.specs.Configuration.{Configuration};
 ghost use Rattle.held_rows.specs.Held.{most_rows};
 ghost use Rattle.op_answer.specs.Past.{OpPast};
-ghost use Rattle.op_tables.specs.Keeping.{FollowsPair};
+ghost use Rattle.op_tables.specs.Keeping.{IsUpdate};
 ghost use Rattle.op_tables.specs.Updating.{MayUpdate};
 
 use crate::keeping::{grant_agreed, keep_codes, keep_sessions, keep_turns, put_rows};
@@ -38,7 +38,7 @@ pub fn update_tables(
     requires session { IfSome made.session (λ r. r.user < 512) }
     requires code { IfSome made.code (λ r. (r.user < 512) × (r.wish.client < 128)) }
     requires token { IfSome made.token (λ r. (r.user < 512) × (r.client < 128)) }
-    ensures { (c : Configuration) (past : OpPast) (before : ℕ) → MayUpdate grants.old pair.now made.turn made.session made.code made.token used client c past before → FollowsPair grants.old grants.new past pair.now }
+    ensures { (c : Configuration) (past : OpPast) (before : ℕ) → MayUpdate grants.old pair.now made.turn made.session made.code made.token used client c past before → IsUpdate grants.old grants.new past pair.now }
 {
     sessions_fit(grants, &made.session);
     grants.purge(pair.entry.at);

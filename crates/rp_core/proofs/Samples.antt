@@ -12,7 +12,7 @@ use Rattle.held_rows.specs.Held.{MayAddRow}
 use Rattle.rp_core.specs.Relying.{past_of}
 use Rattle.rp_core.specs.Agreeing.{Agrees, IsBegun, KeepsPast, Keeps}
 use Rattle.rp_core.specs.Making.{pending_found, nonce_found, visit_found, MakesRows}
-use Rattle.rp_core.specs.Keeping.{FollowsPair, MayUpdate, login_put, pending_put, visit_put}
+use Rattle.rp_core.specs.Keeping.{IsUpdate, MayUpdate, login_put, pending_put, visit_put}
 use Rattle.rp_core.proofs.Beginning.{begins}
 use Rattle.rp_answer.proofs.Sample.{word, entry_at, pair_of, only_code, shop_setup}
 use Rattle.rp_answer.proofs.FirstVisit.{begin_entry, asked, past_begin, callback_entry, exchange, callback_exchanges_at_once, past_callback, tokens_entry, entered}
@@ -170,16 +170,16 @@ no_session_is_put = refl
 
 -- ---- one more pair
 
-the_callback_is_followed : FollowsPair only_code with_login_begun with_exchange past_begin callback_pair
+the_callback_is_followed : IsUpdate only_code with_login_begun with_exchange past_begin callback_pair
 the_callback_is_followed = record { logins_are = refl; pendings_are = refl; visits_are = refl; seens_are = refl }
 
-its_login_does_not_stay : FollowsPair only_code with_login_begun (record with_exchange { logins = login ∷ [] }) past_begin callback_pair → ⊥
+its_login_does_not_stay : IsUpdate only_code with_login_begun (record with_exchange { logins = login ∷ [] }) past_begin callback_pair → ⊥
 its_login_does_not_stay follows = (let k : login ∷ [] ≡ [] = follows.logins_are in cc)
 
-the_tokens_are_followed : (t : Text) → FollowsPair only_code with_exchange with_session past_callback (tokens_pair t)
+the_tokens_are_followed : (t : Text) → IsUpdate only_code with_exchange with_session past_callback (tokens_pair t)
 the_tokens_are_followed t = record { logins_are = refl; pendings_are = refl; visits_are = refl; seens_are = refl }
 
-their_exchange_does_not_stay : (t : Text) → FollowsPair only_code with_exchange (record with_session { pendings = waiting ∷ [] }) past_callback (tokens_pair t) → ⊥
+their_exchange_does_not_stay : (t : Text) → IsUpdate only_code with_exchange (record with_session { pendings = waiting ∷ [] }) past_callback (tokens_pair t) → ⊥
 their_exchange_does_not_stay t follows = (let k : waiting ∷ [] ≡ [] = follows.pendings_are in cc)
 
 the_callback_is_taken_up : MayUpdate shop_setup past_begin 1000 with_login_begun callback_pair None (Some waiting) None None

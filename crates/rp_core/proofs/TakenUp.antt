@@ -30,7 +30,7 @@ use Rattle.rp_answer.proofs.KeptNames.{login_names, visit_names, seen_names}
 use Rattle.held_rows.proofs.Kept.{all_kept, put_pushes}
 use Rattle.held_rows.proofs.Added.{MayAdd, may_add, few_there, unnamed_there, kept_latest}
 use Rattle.held_rows.proofs.Found.{same_later}
-use Rattle.rp_core.specs.Keeping.{MayUpdate, FollowsPair, NamesSomebody, login_put, pending_put, visit_put, seen_put}
+use Rattle.rp_core.specs.Keeping.{MayUpdate, IsUpdate, NamesSomebody, login_put, pending_put, visit_put, seen_put}
 use Rattle.rp_core.proofs.Carried.{login_begun_kept, pending_begun_kept, visit_begun_kept, seen_begun_kept, login_made_begun, pending_made_begun, visit_made_begun, seen_made_begun}
 use Rattle.rp_core.proofs.KeptTables.{with_logins, with_pendings, with_visits}
 use Rattle.rp_core.proofs.RoomFor.{login_fits, pending_fits, visit_fits, seen_fits}
@@ -229,7 +229,7 @@ module _ {s : PartySetup} {past : RpPast} {before : ℕ} {t : Tables} {p : RpPai
             ap R then_seen ∙ (visit_leaves visit x).reserved_seens ∙ ap R next ∙ (pending_leaves pending w).reserved_seens ∙ ap R first ∙ (login_leaves login v).reserved_seens in
             subst N (sym same) (subst M (sym same_seens) seen_may_before)
 
-        pub follows : (u : Tables) → u ≡ seen_put seen y → FollowsPair (party_of s).types t u past p
+        pub follows : (u : Tables) → u ≡ seen_put seen y → IsUpdate (party_of s).types t u past p
         follows u last =
             let L : Tables → List LoginRow = λ z. z.logins in
             let P : Tables → List PendingRow = λ z. z.pendings in

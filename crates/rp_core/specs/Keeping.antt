@@ -23,7 +23,7 @@ use Rattle.rp_core.specs.Agreeing.{Agrees, IsBegun}
 use Rattle.rp_core.specs.Making.{MakesRows}
 
 -- the rows that lived at the pair's moment, as the pair leaves them, and the rows that it makes
-pub record FollowsPair (types : Types) (before after : Tables) (past : RpPast) (p : RpPair) : Type 0 where
+pub record IsUpdate (types : Types) (before after : Tables) (past : RpPast) (p : RpPair) : Type 0 where
   pub logins_are : after.logins ≡ put login_name (login_made (logins past) past p) (filter_map (login_kept past p) (live_rows login_life login_begun p.entry.at before.logins))
   pub pendings_are : after.pendings
       ≡ put pending_name (pending_made types (pendings types past) past p) (filter_map (pending_kept past p) (live_rows pending_life pending_begun p.entry.at before.pendings))

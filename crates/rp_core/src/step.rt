@@ -9,7 +9,7 @@ ghost use Rattle.rp_exchange.specs.Weight as weights;
 ghost use Rattle.rp_answer.specs.Answering.{rp_answer};
 ghost use Rattle.rp_answer.specs.Past.{RpPast};
 ghost use Rattle.rp_answer.specs.Setup.{PartySetup, party_of};
-ghost use Rattle.rp_core.specs.Keeping.{MayUpdate, FollowsPair};
+ghost use Rattle.rp_core.specs.Keeping.{MayUpdate, IsUpdate};
 ghost use Rattle.rp_core.specs.Making.{MakesRows};
 ghost use Rattle.rp_core.specs.Relying.{past_of};
 
@@ -47,7 +47,7 @@ fn put(
     requires weight { weight ≡ weights.ask_weight entry.ask }
     requires room { history_weight weights.ask_weight journal.old.pairs + weight ≤ most_weight }
     ensures pairs { journal.new.pairs ≡ journal.old.pairs ++ (record { entry = entry; reply = reply }) ∷ [] }
-    ensures tables { (s : PartySetup) (past : RpPast) (before : ℕ) → MayUpdate s past before logins.old (record { entry = entry; reply = reply }) made.login made.pending made.visit made.seen → FollowsPair (party_of s).types logins.old logins.new past (record { entry = entry; reply = reply }) }
+    ensures tables { (s : PartySetup) (past : RpPast) (before : ℕ) → MayUpdate s past before logins.old (record { entry = entry; reply = reply }) made.login made.pending made.visit made.seen → IsUpdate (party_of s).types logins.old logins.new past (record { entry = entry; reply = reply }) }
 {
     let pair = Pair { entry, reply };
     update_tables(logins, &pair, made);
@@ -67,7 +67,7 @@ fn take_in(
     requires weight { weight ≡ weights.ask_weight entry.ask }
     requires room { history_weight weights.ask_weight journal.old.pairs + weight ≤ most_weight }
     ensures pairs { OnOk result (journal.new.pairs ≡ journal.old.pairs ++ (record { entry = entry; reply = reply }) ∷ []) }
-    ensures tables { OnOk result ((s : PartySetup) (past : RpPast) (before : ℕ) → MayUpdate s past before (with_room logins.old) (record { entry = entry; reply = reply }) made.login made.pending made.visit made.seen → FollowsPair (party_of s).types (with_room logins.old) logins.new past (record { entry = entry; reply = reply })) }
+    ensures tables { OnOk result ((s : PartySetup) (past : RpPast) (before : ℕ) → MayUpdate s past before (with_room logins.old) (record { entry = entry; reply = reply }) made.login made.pending made.visit made.seen → IsUpdate (party_of s).types (with_room logins.old) logins.new past (record { entry = entry; reply = reply })) }
     ensures same_pairs { OnErr result (journal.new.pairs ≡ journal.old.pairs) }
     ensures same_tables { OnErr result (logins.new ≡ logins.old) }
 {
