@@ -91,8 +91,8 @@ impl Row for TurnRow {
     fn key(&self, by: By) -> Option<&[u8]> {
         match by {
             By::Name => Some(self.word.as_bytes()),
-            By::First => Some(self.browser.as_bytes()),
-            By::Second => None,
+            By::Group => Some(self.browser.as_bytes()),
+            By::OtherGroup => None,
         }
     }
 
@@ -122,7 +122,7 @@ impl Row for SessionRow {
     fn key(&self, by: By) -> Option<&[u8]> {
         match by {
             By::Name => Some(self.word.as_bytes()),
-            By::First | By::Second => None,
+            By::Group | By::OtherGroup => None,
         }
     }
 
@@ -152,7 +152,7 @@ impl Row for CodeRow {
     fn key(&self, by: By) -> Option<&[u8]> {
         match by {
             By::Name => Some(self.word.as_bytes()),
-            By::First | By::Second => None,
+            By::Group | By::OtherGroup => None,
         }
     }
 
@@ -182,8 +182,8 @@ impl Row for TokenRow {
     fn key(&self, by: By) -> Option<&[u8]> {
         match by {
             By::Name => Some(self.word.as_bytes()),
-            By::First => word_bytes_if(&self.code),
-            By::Second => None,
+            By::Group => word_bytes_if(&self.code),
+            By::OtherGroup => None,
         }
     }
 

@@ -18,7 +18,7 @@ impl Grants {
     pub(crate) fn end_tokens_of(&mut self, code: Word)
         ensures { self.new ≡ spec.tokens_of_ended code self.old }
     {
-        let by = By::First;
+        let by = By::Group;
         self.tokens.take_out(&Keyed { by, word: code });
     }
 

@@ -56,7 +56,7 @@ impl Grants {
     pub fn has_browser(&self, browser: Word, at: Moment) -> bool
         ensures { result ≡ list_any (λ (turn : TurnRow). bytes_eq turn.browser browser) (live_rows turn_life turn_begun at self.now.turns) }
     {
-        let by = By::First;
+        let by = By::Group;
         self.turns.any_live(&Keyed { by, word: browser }, at)
     }
 

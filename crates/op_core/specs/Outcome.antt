@@ -28,7 +28,7 @@ used_found past e ask reply = used_for ask reply (turn_found past e.at ask)
 
 -- these are the rows that the definitions of turns, sessions, codes and access tokens make; the session counts only if a client
 -- was answered
-pub record Brings (past : OpPast) (p : OpPair) (turn : Option TurnRow) (session : Option SessionRow) (code : Option CodeRow) (token : Option TokenRow) (used : Option Word) (client : Option ℕ) : Type 0 where
+pub record MakesRows (past : OpPast) (p : OpPair) (turn : Option TurnRow) (session : Option SessionRow) (code : Option CodeRow) (token : Option TokenRow) (used : Option Word) (client : Option ℕ) : Type 0 where
   pub turn_is : turn ≡ turn_made (turns past) past p
   pub session_is : session ≡ session_made (sessions past) past p
   pub code_is : code ≡ code_made (codes_issued past) past p

@@ -11,7 +11,7 @@ ghost use Rattle.op_tables.specs.Agreeing.{is_own_turn, is_own_session};
 ghost use Rattle.op_core.specs.FormReplies.{consent_for};
 ghost use Rattle.op_core.specs.Providing.{past_of};
 ghost use Rattle.op_answer.specs.Replies as spec;
-ghost use Rattle.request_need.specs.Need.{needed};
+ghost use Rattle.user_interaction.specs.Need.{needed};
 
 use crate::authentications::authentication_of_session;
 use crate::state::OpCore;
@@ -20,9 +20,9 @@ use code_grant::{SessionRow, TurnRow};
 use oidc_words::{AuthError, Refusal};
 use op_exchange::{OpAsk, OpReply};
 use op_issue::issue;
-use request_need::{Need, Standing, decide, needed_scopes};
 use sso_base::{Entry, NoMemory, Word, copied_text};
 use std::alloc::Global;
+use user_interaction::{Need, Standing, decide, needed_scopes};
 
 // Whether the presented session is the turn's.
 fn is_turns(presented: Option<Word>, session: Option<Word>) -> bool

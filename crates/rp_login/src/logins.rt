@@ -33,7 +33,7 @@ impl Logins {
     pub fn has_browser(&self, browser: Word, at: Moment) -> bool
         ensures { result ≡ list_any (λ (login : LoginRow). bytes_eq login.browser browser) (live_rows login_life login_begun at self.now.logins) }
     {
-        let by = By::First;
+        let by = By::Group;
         self.logins.any_live(&Keyed { by, word: browser }, at)
     }
 

@@ -100,8 +100,8 @@ impl Row for LoginRow {
     fn key(&self, by: By) -> Option<&[u8]> {
         match by {
             By::Name => Some(self.state.as_bytes()),
-            By::First => Some(self.browser.as_bytes()),
-            By::Second => None,
+            By::Group => Some(self.browser.as_bytes()),
+            By::OtherGroup => None,
         }
     }
 
@@ -131,7 +131,7 @@ impl Row for PendingRow {
     fn key(&self, by: By) -> Option<&[u8]> {
         match by {
             By::Name => Some(self.word.as_bytes()),
-            By::First | By::Second => None,
+            By::Group | By::OtherGroup => None,
         }
     }
 
@@ -161,8 +161,8 @@ impl Row for SessionRow {
     fn key(&self, by: By) -> Option<&[u8]> {
         match by {
             By::Name => Some(self.word.as_bytes()),
-            By::First => Some(self.sub.as_str().as_bytes()),
-            By::Second => bytes_if(&self.sid),
+            By::Group => Some(self.sub.as_str().as_bytes()),
+            By::OtherGroup => bytes_if(&self.sid),
         }
     }
 
@@ -192,7 +192,7 @@ impl Row for SeenRow {
     fn key(&self, by: By) -> Option<&[u8]> {
         match by {
             By::Name => Some(self.jti.as_str().as_bytes()),
-            By::First | By::Second => None,
+            By::Group | By::OtherGroup => None,
         }
     }
 

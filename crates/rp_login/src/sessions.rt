@@ -9,7 +9,7 @@ ghost use Rattle.sso_base.specs.Rows.{row_of, if_lives};
 ghost use Rattle.sso_base.proofs.RowLaws.{bytes_same};
 ghost use Rattle.held_rows.proofs.FoundBy.{found_by};
 ghost use Rattle.held_rows.specs.Held.{none_after, most_rows};
-ghost use Rattle.held_rows.specs.declared.row.By.TheVariants.{First, Second};
+ghost use Rattle.held_rows.specs.declared.row.By.TheVariants.{Group, OtherGroup};
 ghost use Rattle.rp_login.specs.Named.{fits_text, is_meant};
 ghost use Rattle.rp_login.specs.Rows.{visit_name, visit_begun};
 ghost use Rattle.oidc_words.specs.Lives.{visit_life};
@@ -48,7 +48,7 @@ struct OfSid<'a> {
 impl Test<SessionRow> for OfSid<'_> {
     ghost passes = { λ t visit. is_meant (option_map (λ p. p.now) t.sub) (Some t.sid.now) visit };
 
-    ghost by = { λ t. Second };
+    ghost by = { λ t. OtherGroup };
 
     ghost key = { λ t. t.sid.now };
 
@@ -57,7 +57,7 @@ impl Test<SessionRow> for OfSid<'_> {
     }
 
     fn by(&self) -> By {
-        By::Second
+        By::OtherGroup
     }
 
     fn key(&self) -> &[u8] {
@@ -76,7 +76,7 @@ struct OfSub<'a> {
 impl Test<SessionRow> for OfSub<'_> {
     ghost passes = { λ t visit. is_meant (Some t.sub.now) None visit };
 
-    ghost by = { λ t. First };
+    ghost by = { λ t. Group };
 
     ghost key = { λ t. t.sub.now };
 
@@ -85,7 +85,7 @@ impl Test<SessionRow> for OfSub<'_> {
     }
 
     fn by(&self) -> By {
-        By::First
+        By::Group
     }
 
     fn key(&self) -> &[u8] {

@@ -9,20 +9,20 @@ use Rattle.op_answer.specs.Sessions.{session_set, client_of_wish, is_answered}
 use Rattle.op_answer.specs.Codes.{code_made_by}
 use Rattle.op_tables.specs.declared.made.Made.{Made}
 use Rattle.op_core.specs.Making.{wish_for, wish_found, session_of_turn, session_for, session_found, client_found, session_put_by, session_put, code_put, access_put_by, access_put}
-use Rattle.op_core.specs.Outcome.{used_for, used_found, Brings}
+use Rattle.op_core.specs.Outcome.{used_for, used_found, MakesRows}
 use Rattle.op_core.specs.Providing.{past_of}
 use Rattle.op_core.proofs.Outcomes.{brings_nothing, brings_all, brings_as}
 use Rattle.op_core.proofs.state.OpCore.outcome.Goals as goal
 
-pub returns-then-not-is_prepared-clause-brings : goal.returns-then-not-is_prepared-clause-brings
-returns-then-not-is_prepared-clause-brings c =
-    let M : Made → Type 0 = λ m. Brings (past_of c.args.self.now) (record { entry = c.args.entry.now; reply = c.args.reply.now }) m.turn m.session m.code m.token None None in
+pub returns-then-not-is_prepared-clause-rows : goal.returns-then-not-is_prepared-clause-rows
+returns-then-not-is_prepared-clause-rows c =
+    let M : Made → Type 0 = λ m. MakesRows (past_of c.args.self.now) (record { entry = c.args.entry.now; reply = c.args.reply.now }) m.turn m.session m.code m.token None None in
     subst M (sym c.none.ensures)
     (brings_nothing c.args.self.now.registry (past_of c.args.self.now) c.args.entry.now c.args.reply.now (sym c.if-not-is_prepared.ensures) c.requires.answer)
 
 -- the wish, the session and the client are those of the turn that was found
-pub returns-clause-brings : goal.returns-clause-brings
-returns-clause-brings c =
+pub returns-clause-rows : goal.returns-clause-rows
+returns-clause-rows c =
     let past = past_of c.args.self.now in
     let e = c.args.entry.now in
     let told = c.args.reply.now in
