@@ -5,7 +5,7 @@ ghost use Rattle.std.proofs.lemmas.Bool.{and_parts};
 ghost use Rattle.sso_base.proofs.RowLaws.{bytes_same};
 ghost use Rattle.held_rows.proofs.FoundBy.{found_by};
 ghost use Rattle.held_rows.specs.Held.{AnyRow, one_of};
-ghost use Rattle.held_rows.specs.declared.row.By.TheVariants.{First, Second};
+ghost use Rattle.held_rows.specs.declared.row.By.TheVariants.{Group, OtherGroup};
 ghost use Rattle.base_cases.specs.Groups.{is_text, fits_text};
 
 use held_rows::{By, Change, Row, Test};
@@ -37,8 +37,8 @@ impl Row for Member {
     fn key(&self, by: By) -> Option<&[u8]> {
         match by {
             By::Name => Some(self.name.as_str().as_bytes()),
-            By::First => bytes_if(&self.group),
-            By::Second => bytes_if(&self.other),
+            By::Group => bytes_if(&self.group),
+            By::OtherGroup => bytes_if(&self.other),
         }
     }
 
@@ -98,7 +98,7 @@ pub struct InGroup<'a> {
 impl Test<Member> for InGroup<'_> {
     ghost passes = { λ t row. is_text t.group.now row.group };
 
-    ghost by = { λ t. First };
+    ghost by = { λ t. Group };
 
     ghost key = { λ t. t.group.now };
 
@@ -107,7 +107,7 @@ impl Test<Member> for InGroup<'_> {
     }
 
     fn by(&self) -> By {
-        By::First
+        By::Group
     }
 
     fn key(&self) -> &[u8] {
@@ -127,7 +127,7 @@ pub struct InOther<'a> {
 impl Test<Member> for InOther<'_> {
     ghost passes = { λ t row. fits_text (option_map (λ g. g.now) t.group) row.group && is_text t.other.now row.other };
 
-    ghost by = { λ t. Second };
+    ghost by = { λ t. OtherGroup };
 
     ghost key = { λ t. t.other.now };
 
@@ -136,7 +136,7 @@ impl Test<Member> for InOther<'_> {
     }
 
     fn by(&self) -> By {
-        By::Second
+        By::OtherGroup
     }
 
     fn key(&self) -> &[u8] {

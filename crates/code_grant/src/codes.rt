@@ -1,10 +1,11 @@
 // The codes of the provider.
 
-ghost use Rattle.std.specs.Prelude.{◌≡◌, ◌<◌, true, length, None, IfSome, refl};
+ghost use Rattle.std.specs.Prelude.{◌≡◌, ◌<◌, true, length, None, IfSome, option_and_then, refl};
 ghost use Rattle.std.specs.Option.{option_copied};
-ghost use Rattle.sso_base.specs.Rows.{row_of};
+ghost use Rattle.sso_base.specs.Rows.{row_of, if_lives};
 ghost use Rattle.held_rows.specs.Held.{none_after, most_rows};
 ghost use Rattle.code_grant.specs.Rows.{code_name, code_begun};
+ghost use Rattle.oidc_words.specs.Lives.{code_life};
 ghost use Rattle.code_grant.specs.Tables as spec;
 
 use crate::grants::Grants;
@@ -53,6 +54,15 @@ impl Grants {
         ensures held { spec.AreCodes self.now.codes }
     {
         self.codes.find(&word.bytes())
+    }
+
+    /// The code with this word, if it is kept at the moment, which is for 3,720 seconds; `None` if and only if no such code
+    /// is.
+    pub fn held_code(&self, word: Word, at: Moment) -> Option<&CodeRow>
+        ensures row { option_copied result ≡ option_and_then (if_lives code_life code_begun at) (row_of code_name word self.now.codes) }
+        ensures held { spec.AreCodes self.now.codes }
+    {
+        self.codes.living(&word.bytes(), at)
     }
 
     /// Redeems a code for a client with a redirect URI (RFC 6749, 4.1.3). On `Redeemed` the code is marked spent. On `Spent`

@@ -74,12 +74,13 @@ pub struct TokenRow {
 
 impl Row for TurnRow {
     ghost use Rattle.oidc_words.specs.Lives.{turn_life};
+    ghost use Rattle.code_grant.specs.Rows.{turn_name, turn_begun};
 
-    ghost name = { λ row. row.word };
+    ghost name = { turn_name };
 
     ghost key = { λ by row. one_of (Some row.word) (Some row.browser) None by };
 
-    ghost begun = { λ row. row.begun };
+    ghost begun = { turn_begun };
 
     ghost IsSound = { λ row. row.wish.client < 128 };
 
@@ -90,8 +91,8 @@ impl Row for TurnRow {
     fn key(&self, by: By) -> Option<&[u8]> {
         match by {
             By::Name => Some(self.word.as_bytes()),
-            By::First => Some(self.browser.as_bytes()),
-            By::Second => None,
+            By::Group => Some(self.browser.as_bytes()),
+            By::OtherGroup => None,
         }
     }
 
@@ -104,12 +105,13 @@ impl Row for TurnRow {
 
 impl Row for SessionRow {
     ghost use Rattle.oidc_words.specs.Lives.{session_life};
+    ghost use Rattle.code_grant.specs.Rows.{session_name, session_begun};
 
-    ghost name = { λ row. row.word };
+    ghost name = { session_name };
 
     ghost key = { λ by row. one_of (Some row.word) None None by };
 
-    ghost begun = { λ row. row.auth_time };
+    ghost begun = { session_begun };
 
     ghost IsSound = { λ row. row.user < 512 };
 
@@ -120,7 +122,7 @@ impl Row for SessionRow {
     fn key(&self, by: By) -> Option<&[u8]> {
         match by {
             By::Name => Some(self.word.as_bytes()),
-            By::First | By::Second => None,
+            By::Group | By::OtherGroup => None,
         }
     }
 
@@ -133,12 +135,13 @@ impl Row for SessionRow {
 
 impl Row for CodeRow {
     ghost use Rattle.oidc_words.specs.Lives.{code_life};
+    ghost use Rattle.code_grant.specs.Rows.{code_name, code_begun};
 
-    ghost name = { λ row. row.word };
+    ghost name = { code_name };
 
     ghost key = { λ by row. one_of (Some row.word) None None by };
 
-    ghost begun = { λ row. row.issued };
+    ghost begun = { code_begun };
 
     ghost IsSound = { λ row. (row.user < 512) × (row.wish.client < 128) };
 
@@ -149,7 +152,7 @@ impl Row for CodeRow {
     fn key(&self, by: By) -> Option<&[u8]> {
         match by {
             By::Name => Some(self.word.as_bytes()),
-            By::First | By::Second => None,
+            By::Group | By::OtherGroup => None,
         }
     }
 
@@ -162,12 +165,13 @@ impl Row for CodeRow {
 
 impl Row for TokenRow {
     ghost use Rattle.oidc_words.specs.Lives.{access_life};
+    ghost use Rattle.code_grant.specs.Rows.{access_name, access_begun};
 
-    ghost name = { λ row. row.word };
+    ghost name = { access_name };
 
     ghost key = { λ by row. one_of (Some row.word) row.code None by };
 
-    ghost begun = { λ row. row.issued };
+    ghost begun = { access_begun };
 
     ghost IsSound = { λ row. (row.user < 512) × (row.client < 128) };
 
@@ -178,8 +182,8 @@ impl Row for TokenRow {
     fn key(&self, by: By) -> Option<&[u8]> {
         match by {
             By::Name => Some(self.word.as_bytes()),
-            By::First => word_bytes_if(&self.code),
-            By::Second => None,
+            By::Group => word_bytes_if(&self.code),
+            By::OtherGroup => None,
         }
     }
 

@@ -1,10 +1,11 @@
 // The sessions of the provider.
 
-ghost use Rattle.std.specs.Prelude.{◌≡◌, ◌<◌, true, length, None, IfSome, refl};
+ghost use Rattle.std.specs.Prelude.{◌≡◌, ◌<◌, true, length, None, IfSome, option_and_then, refl};
 ghost use Rattle.std.specs.Option.{option_copied};
-ghost use Rattle.sso_base.specs.Rows.{row_of};
+ghost use Rattle.sso_base.specs.Rows.{row_of, if_lives};
 ghost use Rattle.held_rows.specs.Held.{none_after, most_rows};
 ghost use Rattle.code_grant.specs.Rows.{session_name, session_begun};
+ghost use Rattle.oidc_words.specs.Lives.{session_life};
 ghost use Rattle.code_grant.specs.Tables as spec;
 
 use crate::grants::Grants;
@@ -64,6 +65,14 @@ impl Grants {
         ensures held { spec.AreSessions self.now.sessions }
     {
         self.sessions.find(&word.bytes())
+    }
+
+    /// The session with this word, if it lives at the moment; `None` if and only if no such session does.
+    pub fn live_session(&self, word: Word, at: Moment) -> Option<&SessionRow>
+        ensures row { option_copied result ≡ option_and_then (if_lives session_life session_begun at) (row_of session_name word self.now.sessions) }
+        ensures held { spec.AreSessions self.now.sessions }
+    {
+        self.sessions.living(&word.bytes(), at)
     }
 
     /// Renews the session with this word after a new login: its `auth_time` is the moment, and it moves to the end. If no

@@ -1,51 +1,20 @@
 // The turns of the provider.
 
-ghost use Rattle.std.specs.Prelude.{◌≡◌, ◌<◌, true, length, Some, None, IfSome, refl};
+ghost use Rattle.std.specs.Prelude.{◌≡◌, ◌<◌, true, length, None, IfSome, option_and_then, refl};
 ghost use Rattle.std.specs.List.{list_any};
 ghost use Rattle.std.specs.Option.{option_copied};
 ghost use Rattle.std.specs.Str.{bytes_eq};
-ghost use Rattle.std.proofs.Common.{ap};
-ghost use Rattle.sso_base.specs.Rows.{row_of, live_rows};
-ghost use Rattle.sso_base.proofs.RowLaws.{bytes_same};
+ghost use Rattle.sso_base.specs.Rows.{row_of, live_rows, if_lives};
 ghost use Rattle.code_grant.specs.declared.rows.TurnRow.{TurnRow};
 ghost use Rattle.held_rows.specs.Held.{none_after, most_rows};
-ghost use Rattle.held_rows.specs.declared.row.By.TheVariants.{First};
 ghost use Rattle.code_grant.specs.Rows.{turn_name, turn_begun};
 ghost use Rattle.oidc_words.specs.Lives.{turn_life};
 ghost use Rattle.code_grant.specs.Tables as spec;
 
 use crate::grants::Grants;
 use crate::rows::TurnRow;
-use held_rows::{By, Change, Test};
+use held_rows::{By, Change, Keyed};
 use sso_base::{Moment, Word};
-
-// The turns of one browser.
-#[derive(Clone, Copy)]
-struct OfBrowser {
-    browser: Word,
-}
-
-impl Test<TurnRow> for OfBrowser {
-    ghost passes = { λ t turn. bytes_eq turn.browser t.browser };
-
-    ghost by = { λ t. First };
-
-    ghost key = { λ t. t.browser };
-
-    fn passes(&self, turn: &TurnRow) -> bool {
-        turn.browser == self.browser
-    }
-
-    fn by(&self) -> By {
-        By::First
-    }
-
-    fn key(&self) -> &[u8] {
-        self.browser.as_bytes()
-    }
-
-    ghost are_found = { λ t turn passes. ap Some (bytes_same turn.browser t.browser passes) };
-}
 
 // The change of a turn that gets this session.
 #[derive(Clone, Copy)]
@@ -87,7 +56,8 @@ impl Grants {
     pub fn has_browser(&self, browser: Word, at: Moment) -> bool
         ensures { result ≡ list_any (λ (turn : TurnRow). bytes_eq turn.browser browser) (live_rows turn_life turn_begun at self.now.turns) }
     {
-        self.turns.any_live(&OfBrowser { browser }, at)
+        let by = By::Group;
+        self.turns.any_live(&Keyed { by, word: browser }, at)
     }
 
     /// The turn with this word; `None` if and only if no turn in the table has it. Its life may have ended.
@@ -97,6 +67,14 @@ impl Grants {
         ensures held { spec.AreTurns self.now.turns }
     {
         self.turns.find(&word.bytes())
+    }
+
+    /// The turn with this word, if it lives at the moment; `None` if and only if no such turn does.
+    pub fn live_turn(&self, word: Word, at: Moment) -> Option<&TurnRow>
+        ensures row { option_copied result ≡ option_and_then (if_lives turn_life turn_begun at) (row_of turn_name word self.now.turns) }
+        ensures held { spec.AreTurns self.now.turns }
+    {
+        self.turns.living(&word.bytes(), at)
     }
 
     /// Gives the turn with this word this session, and records whether the user logged in during the turn. If no turn in the

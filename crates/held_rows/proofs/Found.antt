@@ -1,5 +1,5 @@
 -- The row of a name, among all rows and among those that live.
-use Rattle.std.proofs.Common.{◌≡◌, ◌≤◌, ℕ, Bool, true, false, cond, List, [], ◌∷◌, Option, Some, None, is_some, option_and_then, sym, ◌∙◌, ap, inl, inr, Bor}
+use Rattle.std.proofs.Common.{◌≡◌, ◌≤◌, ℕ, Bool, true, false, cond, List, [], ◌∷◌, Option, Some, None, is_some, option_and_then, IfSome, sym, ◌∙◌, ap, inl, inr, Bor}
 use Rattle.std.specs.Option.{option_copied}
 use Rattle.std.specs.Str.{bytes_eq}
 use Rattle.std.specs.List.{list_all}
@@ -70,6 +70,13 @@ if_some false r row h = cc
 pub row_that_lives : {R : Type 0} (life : ℕ) (begun : R → ℕ) (at : ℕ) (found : Option R) (row : R) → option_and_then (if_lives life begun at) found ≡ Some row → found ≡ Some row
 row_that_lives life begun at None row h = cc
 row_that_lives life begun at (Some r) row h = if_some (lives life (begun r) at) r row h
+
+-- what all rows have, the row of a name has if it lives
+pub living_good : {R : Type 0} (name : R → Word) (life : ℕ) (begun : R → ℕ) (at : ℕ) (good : R → Bool) (w : Word) (rows : List R) (o : Option R)
+    → list_all good rows ≡ true → o ≡ option_and_then (if_lives life begun at) (row_of name w rows) → IfSome o (λ row. good row ≡ true)
+living_good name life begun at good w rows None all found = tt
+living_good name life begun at good w rows (Some row) all found =
+    found_good name good w rows row all (row_that_lives life begun at (row_of name w rows) row (sym found))
 
 -- whether a row was found, by the row itself
 pub found_one : {R : Type 0} (o : Option (Bor R)) (p : Option R) → option_copied o ≡ p → is_some o ≡ is_some p

@@ -4,7 +4,7 @@ use Rattle.std.proofs.lemmas.Bool.Decides.{nat_tests}
 use Rattle.sso_base.specs.Words.{Word}
 use Rattle.sso_base.proofs.RowLaws.{bool_cases, option_cases}
 use Rattle.held_rows.specs.declared.row.By.{By}
-use Rattle.held_rows.specs.declared.row.By.TheVariants.{Name, First, Second}
+use Rattle.held_rows.specs.declared.row.By.TheVariants.{Name, Group, OtherGroup}
 use Rattle.held_rows.specs.declared.stored.Issued.{Issued}
 use Rattle.held_rows.specs.declared.stored.Stored.{Stored}
 use Rattle.held_rows.specs.Counts.{count, Lists}
@@ -110,8 +110,8 @@ module _ {R : Type 0} (name : R → Word) (key : By → R → Option (List ℕ))
   pub names_short : length s.by_name.items ≤ length s.by_issue.items
   names_short = index_short (key Name) (row_at s.slots) s.by_name.items s.by_issue.items stored.issued stored.names.listed
 
-  pub firsts_short : length s.by_first.items ≤ length s.by_issue.items
-  firsts_short = index_short (key First) (row_at s.slots) s.by_first.items s.by_issue.items stored.issued stored.firsts.listed
+  pub groups_short : length s.by_group.items ≤ length s.by_issue.items
+  groups_short = index_short (key Group) (row_at s.slots) s.by_group.items s.by_issue.items stored.issued stored.groups.listed
 
-  pub seconds_short : length s.by_second.items ≤ length s.by_issue.items
-  seconds_short = index_short (key Second) (row_at s.slots) s.by_second.items s.by_issue.items stored.issued stored.seconds.listed
+  pub other_groups_short : length s.by_other.items ≤ length s.by_issue.items
+  other_groups_short = index_short (key OtherGroup) (row_at s.slots) s.by_other.items s.by_issue.items stored.issued stored.other_groups.listed

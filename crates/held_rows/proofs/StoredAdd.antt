@@ -4,7 +4,7 @@ use Rattle.std.proofs.lemmas.List.{append-nil}
 use Rattle.sso_base.specs.Words.{Word}
 use Rattle.sso_base.specs.Rows.{row_of}
 use Rattle.held_rows.specs.declared.row.By.{By}
-use Rattle.held_rows.specs.declared.row.By.TheVariants.{Name, First, Second}
+use Rattle.held_rows.specs.declared.row.By.TheVariants.{Name, Group, OtherGroup}
 use Rattle.held_rows.specs.declared.stored.Issued.{Issued}
 use Rattle.held_rows.specs.declared.stored.Stored.{Stored}
 use Rattle.held_rows.specs.Counts.{count, Lists}
@@ -42,11 +42,11 @@ module _ {R : Type 0} (name : R → Word) (key : By → R → Option (List ℕ))
         ∙ ap (λ (rows : List R). rows ++ i.row ∷ []) (rows_same f g s.by_issue.items (λ t h. puts.others t (unlisted t h)))
 
     pub stored_added : i.serial ≡ s.next → i.serial ≤ s'.next → value_count s'.slots ≡ value_count s.slots + 1
-        → IsIndex (key Name) g s'.by_name.items → IsIndex (key First) g s'.by_first.items → IsIndex (key Second) g s'.by_second.items
+        → IsIndex (key Name) g s'.by_name.items → IsIndex (key Group) g s'.by_group.items → IsIndex (key OtherGroup) g s'.by_other.items
         → length (stored_rows s) < most_rows → row_of name (name i.row) (stored_rows s) ≡ None → none_after begun (begun i.row) (stored_rows s) ≡ true → IsSound i.row
         → length (stored_rows s) < stored_capacity s → stored_capacity s' ≡ stored_capacity s → HasMemoryFor (stored_capacity s') s'
         → IsStored name key begun IsSound s'
-    stored_added serial next one_more names firsts seconds few unnamed latest sound reserved capacity memory =
+    stored_added serial next one_more names groups other_groups few unnamed latest sound reserved capacity memory =
         let n : ℕ → ℕ = serial_at s.slots in
         let m : ℕ → ℕ = serial_at s'.slots in
         let others : (t : ℕ) → 0 < count t s.by_issue.items → m t ≡ n t = λ t h. other_serials s.slots s'.slots slot (Some i) changes t (unlisted t h) in
@@ -62,8 +62,8 @@ module _ {R : Type 0} (name : R → Word) (key : By → R → Option (List ℕ))
           bounded = subst (λ (is : List ℕ). IsBounded m is s'.next) (sym items) (all_below i.serial s'.next (map m (s.by_issue.items ++ slot ∷ [])) next (pushed_bounded n m s.by_issue.items slot i.serial others here low));
           counted = omega (arith, one_more, counted, longer);
           names = names;
-          firsts = firsts;
-          seconds = seconds;
+          groups = groups;
+          other_groups = other_groups;
           held = subst (IsHeld name begun IsSound) (sym rows_added) (held_push name begun IsSound i.row (stored_rows s) stored.held few unnamed latest sound);
           fits = omega (arith, more, one, reserved, capacity);
           memory = memory;

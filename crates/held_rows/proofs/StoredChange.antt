@@ -3,7 +3,7 @@ use Rattle.std.proofs.Common.{◌≡◌, ◌≢◌, ◌<◌, ℕ, List, ◌∷�
 use Rattle.std.specs.List.{filter_map}
 use Rattle.sso_base.specs.Words.{Word}
 use Rattle.held_rows.specs.declared.row.By.{By}
-use Rattle.held_rows.specs.declared.row.By.TheVariants.{Name, First, Second}
+use Rattle.held_rows.specs.declared.row.By.TheVariants.{Name, Group, OtherGroup}
 use Rattle.held_rows.specs.declared.stored.Issued.{Issued}
 use Rattle.held_rows.specs.declared.stored.Stored.{Stored}
 use Rattle.held_rows.specs.Counts.{count, Lists}
@@ -104,9 +104,9 @@ module _ {R : Type 0} (name : R → Word) (key : By → R → Option (List ℕ))
           bounded = same_bounded (serial_at s.slots) (serial_at new) s.by_issue.items s.next (λ t h. serials_stay t) stored.bounded;
           counted = omega (arith, counts, counted);
           names = index_same (key Name) f g s.by_name.items (keys_stay Name) stored.names;
-          firsts = index_same (key First) f g s.by_first.items (keys_stay First) stored.firsts;
-          seconds = index_same (key Second) f g s.by_second.items (keys_stay Second) stored.seconds;
+          groups = index_same (key Group) f g s.by_group.items (keys_stay Group) stored.groups;
+          other_groups = index_same (key OtherGroup) f g s.by_other.items (keys_stay OtherGroup) stored.other_groups;
           held = held_after;
           fits = omega (arith, fits, as_many);
-          memory = record { slots = stored.memory.slots; issue = stored.memory.issue; names = stored.memory.names; firsts = stored.memory.firsts; seconds = stored.memory.seconds };
+          memory = record { slots = stored.memory.slots; issue = stored.memory.issue; names = stored.memory.names; groups = stored.memory.groups; other_groups = stored.memory.other_groups };
         }

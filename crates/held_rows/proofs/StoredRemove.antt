@@ -3,7 +3,7 @@ use Rattle.std.proofs.Common.{◌≡◌, ◌≢◌, ◌<◌, ◌+◌, ℕ, suc, 
 use Rattle.std.proofs.lemmas.List.Elements.{filter_map-append}
 use Rattle.sso_base.specs.Words.{Word}
 use Rattle.held_rows.specs.declared.row.By.{By}
-use Rattle.held_rows.specs.declared.row.By.TheVariants.{Name, First, Second}
+use Rattle.held_rows.specs.declared.row.By.TheVariants.{Name, Group, OtherGroup}
 use Rattle.held_rows.specs.declared.stored.Issued.{Issued}
 use Rattle.held_rows.specs.declared.stored.Stored.{Stored}
 use Rattle.held_rows.specs.Counts.{count, Lists}
@@ -67,9 +67,9 @@ module _ {R : Type 0} (name : R → Word) (key : By → R → Option (List ℕ))
       subst H (sym rows_left) left
 
   pub stored_removed : s'.next ≡ s.next → value_count s'.slots + 1 ≡ value_count s.slots
-      → IsIndex (key Name) (all_but slot f) s'.by_name.items → IsIndex (key First) (all_but slot f) s'.by_first.items → IsIndex (key Second) (all_but slot f) s'.by_second.items
+      → IsIndex (key Name) (all_but slot f) s'.by_name.items → IsIndex (key Group) (all_but slot f) s'.by_group.items → IsIndex (key OtherGroup) (all_but slot f) s'.by_other.items
       → stored_capacity s' ≡ stored_capacity s → HasMemoryFor (stored_capacity s') s' → IsStored name key begun IsSound s'
-  stored_removed next one_less names firsts seconds capacity memory =
+  stored_removed next one_less names groups other_groups capacity memory =
       let n : ℕ → ℕ = serial_at s.slots in
       let m : ℕ → ℕ = serial_at s'.slots in
       let others : (t : ℕ) → 0 < count t (a ++ b) → m t ≡ n t = λ t h. other_serials s.slots s'.slots slot None changes t (differ t h) in
@@ -85,8 +85,8 @@ module _ {R : Type 0} (name : R → Word) (key : By → R → Option (List ℕ))
         bounded = subst (λ (is : List ℕ). IsBounded m is s'.next) (sym items) (taken_bounded n m a slot b s'.next others (subst (λ (is : List ℕ). IsBounded n is s'.next) whole low));
         counted = omega (arith, one_less, counted, long, long');
         names = index_after Name s'.by_name.items names;
-        firsts = index_after First s'.by_first.items firsts;
-        seconds = index_after Second s'.by_second.items seconds;
+        groups = index_after Group s'.by_group.items groups;
+        other_groups = index_after OtherGroup s'.by_other.items other_groups;
         held = held_left;
         fits = omega (arith, fits, less, capacity);
         memory = memory;

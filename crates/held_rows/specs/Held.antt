@@ -6,13 +6,13 @@ use Rattle.sso_base.specs.Words.{Word}
 use Rattle.sso_base.specs.Rows.{put, row_of, live_rows}
 use Rattle.sso_base.specs.Stands.{IsDistinct}
 use Rattle.held_rows.specs.declared.row.By.{By}
-use Rattle.held_rows.specs.declared.row.By.TheVariants.{Name, First, Second}
+use Rattle.held_rows.specs.declared.row.By.TheVariants.{Name, Group, OtherGroup}
 
--- the keys of a row: its name, and two other keys, if it has them
+-- the keys of a row: its name, and those of its two groups, if it has them
 abbrev pub one_of : Option (List ℕ) → Option (List ℕ) → Option (List ℕ) → By → Option (List ℕ)
-one_of name first second Name = name
-one_of name first second First = first
-one_of name first second Second = second
+one_of name group other Name = name
+one_of name group other Group = group
+one_of name group other OtherGroup = other
 
 -- the greatest number of rows in a table
 abbrev pub most_rows : ℕ

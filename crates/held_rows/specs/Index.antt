@@ -7,7 +7,7 @@ use Rattle.std.specs.Ordering.{nat_cmp}
 use Rattle.std.specs.VecDeque.{deque_capacity}
 use Rattle.std.specs.declared.cmp.Ordering.TheVariants.{Less, Greater}
 use Rattle.held_rows.specs.declared.row.By.{By}
-use Rattle.held_rows.specs.declared.row.By.TheVariants.{Name, First, Second}
+use Rattle.held_rows.specs.declared.row.By.TheVariants.{Name, Group, OtherGroup}
 use Rattle.held_rows.specs.declared.stored.Issued.{Issued}
 use Rattle.held_rows.specs.declared.stored.Stored.{Stored}
 use Rattle.held_rows.specs.Counts.{Lists}
@@ -103,8 +103,8 @@ pub record HasMemoryFor {R : Type 0} (most : ℕ) (s : Stored R) : Type 0 where
   pub slots : most ≤ s.slots.capacity
   pub issue : most ≤ deque_capacity s.by_issue
   pub names : most ≤ deque_capacity s.by_name
-  pub firsts : most ≤ deque_capacity s.by_first
-  pub seconds : most ≤ deque_capacity s.by_second
+  pub groups : most ≤ deque_capacity s.by_group
+  pub other_groups : most ≤ deque_capacity s.by_other
 
 pub record IsStored {R : Type 0} (name : R → List ℕ) (key : By → R → Option (List ℕ)) (begun : R → ℕ) (IsSound : R → Type 0) (s : Stored R) : Type 0 where
   pub issued : Lists (row_at s.slots) s.by_issue.items
@@ -112,8 +112,8 @@ pub record IsStored {R : Type 0} (name : R → List ℕ) (key : By → R → Opt
   pub bounded : IsBounded (serial_at s.slots) s.by_issue.items s.next
   pub counted : value_count s.slots ≡ length s.by_issue.items
   pub names : IsIndex (key Name) (row_at s.slots) s.by_name.items
-  pub firsts : IsIndex (key First) (row_at s.slots) s.by_first.items
-  pub seconds : IsIndex (key Second) (row_at s.slots) s.by_second.items
+  pub groups : IsIndex (key Group) (row_at s.slots) s.by_group.items
+  pub other_groups : IsIndex (key OtherGroup) (row_at s.slots) s.by_other.items
   pub held : IsHeld name begun IsSound (stored_rows s)
   pub fits : length (stored_rows s) ≤ stored_capacity s
   pub memory : HasMemoryFor (stored_capacity s) s

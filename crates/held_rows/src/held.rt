@@ -1,15 +1,15 @@
 // The rows of one table.
 
-ghost use Rattle.std.specs.Prelude.{◌≡◌, ℕ, ◌<◌, ◌≤◌, true, false, not, List, [], ◌∷◌, ◌++◌, length, filter, None, Some, Option, IsSome, IfSome, OnOk};
+ghost use Rattle.std.specs.Prelude.{◌≡◌, ℕ, ◌<◌, ◌≤◌, true, false, not, List, [], ◌∷◌, ◌++◌, length, filter, None, Some, Option, option_and_then, IsSome, IfSome, OnOk};
 ghost use Rattle.std.specs.List.{list_any};
 ghost use Rattle.std.specs.Option.{option_copied};
-ghost use Rattle.sso_base.specs.Rows.{without, put, row_of, live_rows};
+ghost use Rattle.sso_base.specs.Rows.{without, put, row_of, live_rows, if_lives};
 ghost use Rattle.held_rows.specs.Held as spec;
 
 use crate::living::Living;
 use crate::row::{Change, Row, Test};
 use crate::stored::{Stored, row_in};
-use sso_base::{Moment, NoMemory};
+use sso_base::{Moment, NoMemory, is_live};
 use std::alloc::Global;
 use std::marker::Model;
 
@@ -61,6 +61,22 @@ impl<R: Row + Drop> Held<R> {
         match self.stored.slot_of(name) {
             Some(slot) => row_in(&self.stored.slots, slot),
             None => None,
+        }
+    }
+
+    /// The row of a name, if it lives at the moment; `None` if and only if no row has the name, or its life has ended.
+    pub fn living(&self, name: &[u8], at: Moment) -> Option<&R>
+        ensures row { option_copied result ≡ option_and_then (if_lives R.LIFE R.begun at) (row_of R.name name.now self.now.rows) }
+        ensures sound { IfSome (option_copied result) R.IsSound }
+        ensures held { spec.IsHeld R.name R.begun R.IsSound self.now.rows }
+    {
+        let Some(row) = self.find(name) else {
+            return None;
+        };
+        if is_live(R::LIFE, row.begun(), at) {
+            Some(row)
+        } else {
+            None
         }
     }
 

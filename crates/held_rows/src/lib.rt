@@ -4,6 +4,7 @@
 //! | Module | What it has |
 //! |---|---|
 //! | `row` | [`Row`], a row of a table; [`By`], the keys of a row; [`Change`], a change of a row; [`Test`], a test of rows |
+//! | `keyed` | [`Keyed`], the test of rows that have a word as one of their keys |
 //! | `held` | [`Held`], the rows of one table, in the order of the moments from which they live |
 //! | `stored` | the rows in slots, and the order of issue |
 //! | `index` | the slots of the rows that have a key, in the order of its bytes |
@@ -17,6 +18,7 @@
 
 mod held;
 mod index;
+mod keyed;
 mod law;
 mod living;
 mod row;
@@ -24,5 +26,6 @@ mod slot_vec;
 mod stored;
 
 pub use held::Held;
+pub use keyed::Keyed;
 pub use law::{changes_are_of_one_row, purges_leave_what_lives};
 pub use row::{By, Change, Row, Test};

@@ -11,10 +11,10 @@ use sso_base::Moment;
 pub enum By {
     /// The name of a row. No other row has it.
     Name,
-    /// A key that several rows may share and a row may lack.
-    First,
-    /// Another such key.
-    Second,
+    /// The key of a group of rows. Several rows may share it, and a row may lack it.
+    Group,
+    /// The key of another group.
+    OtherGroup,
 }
 
 /// A row of a table: a word or a text names it, and it lives for a number of seconds from a moment on.

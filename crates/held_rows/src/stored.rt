@@ -33,8 +33,8 @@ pub(crate) struct Stored<R> {
     // The slots of the rows, in the order of their names. Inserting or removing a row moves the shorter side.
     pub(crate) by_name: VecDeque<u16>,
     // The slots of the rows that have another key, in the order of its bytes.
-    pub(crate) by_first: VecDeque<u16>,
-    pub(crate) by_second: VecDeque<u16>,
+    pub(crate) by_group: VecDeque<u16>,
+    pub(crate) by_other: VecDeque<u16>,
     // The serial number of the next row.
     pub(crate) next: u64,
     // The number of rows that there is memory for. A deque's contract only says that its capacity does not shrink when a slot
@@ -91,8 +91,8 @@ impl<R: Row + Drop> Stored<R> {
             slots: SlotVec::new(alloc),
             by_issue: VecDeque::new(alloc),
             by_name: VecDeque::new(alloc),
-            by_first: VecDeque::new(alloc),
-            by_second: VecDeque::new(alloc),
+            by_group: VecDeque::new(alloc),
+            by_other: VecDeque::new(alloc),
             next: 0,
             room: 0,
         }
@@ -113,8 +113,8 @@ impl<R: Row + Drop> Stored<R> {
         self.slots.reserve()?;
         self.by_issue.reserve(1)?;
         self.by_name.reserve(most - self.by_name.len())?;
-        self.by_first.reserve(most - self.by_first.len())?;
-        self.by_second.reserve(most - self.by_second.len())?;
+        self.by_group.reserve(most - self.by_group.len())?;
+        self.by_other.reserve(most - self.by_other.len())?;
         self.room = most;
         Ok(())
     }
@@ -136,8 +136,8 @@ impl<R: Row + Drop> Stored<R> {
         let slot = self.slots.insert_reserved(Issued { serial, row });
         self.by_issue.push_back_reserved(slot);
         put_in(&self.slots, &mut self.by_name, By::Name, slot);
-        put_in(&self.slots, &mut self.by_first, By::First, slot);
-        put_in(&self.slots, &mut self.by_second, By::Second, slot);
+        put_in(&self.slots, &mut self.by_group, By::Group, slot);
+        put_in(&self.slots, &mut self.by_other, By::OtherGroup, slot);
     }
 
     // Removes the row in a slot.
@@ -149,8 +149,8 @@ impl<R: Row + Drop> Stored<R> {
         ensures capacity { stored_capacity self.new ≡ stored_capacity self.old }
     {
         take_from(&self.slots, &mut self.by_name, By::Name, slot);
-        take_from(&self.slots, &mut self.by_first, By::First, slot);
-        take_from(&self.slots, &mut self.by_second, By::Second, slot);
+        take_from(&self.slots, &mut self.by_group, By::Group, slot);
+        take_from(&self.slots, &mut self.by_other, By::OtherGroup, slot);
         let place = place_of(&self.slots, &self.by_issue, slot);
         let _ = self.by_issue.remove(place);
         self.slots.remove(slot);
@@ -190,8 +190,8 @@ impl<R: Row + Drop> Stored<R> {
     {
         match by {
             By::Name => &self.by_name,
-            By::First => &self.by_first,
-            By::Second => &self.by_second,
+            By::Group => &self.by_group,
+            By::OtherGroup => &self.by_other,
         }
     }
 

@@ -6,7 +6,7 @@ use Rattle.oidc_words.specs.Lives.{turn_life, session_life, code_usable, access_
 use Rattle.oidc_words.specs.declared.response_types.Types.{Types}
 use Rattle.client_registry.specs.Configuration.{Configuration}
 use Rattle.client_registry.specs.Numbers.{party_row}
-use Rattle.request_need.specs.Need.{is_late}
+use Rattle.user_interaction.specs.Need.{is_late}
 use Rattle.id_token.specs.declared.claims.IdClaims.{IdClaims}
 use Rattle.userinfo.specs.declared.header.Bearer.TheVariants.{Given}
 use Rattle.code_grant.specs.declared.rows.TurnRow.{TurnRow}

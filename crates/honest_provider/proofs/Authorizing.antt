@@ -8,7 +8,7 @@ use Rattle.client_registry.specs.Configuration.{Configuration}
 use Rattle.client_registry.specs.Numbers.{client_id}
 use Rattle.auth_request.specs.declared.wish.Wish.{Wish}
 use Rattle.id_token.specs.Judging.{IsInAge}
-use Rattle.request_need.specs.Need.{needed_scopes}
+use Rattle.user_interaction.specs.Need.{needed_scopes}
 use Rattle.code_grant.specs.declared.rows.SessionRow.{SessionRow}
 use Rattle.op_issue.specs.declared.issuing.Authentication.{Authentication}
 use Rattle.op_issue.specs.Issued.{issued}

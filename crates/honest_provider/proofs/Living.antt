@@ -11,7 +11,7 @@ use Rattle.sso_model.proofs.ListLaws.{has_append_left, has_append_right}
 use Rattle.oidc_words.specs.Lives.{turn_life, session_life, access_life}
 use Rattle.client_registry.specs.Configuration.{Configuration}
 use Rattle.id_token.specs.Judging.{IsInAge}
-use Rattle.request_need.specs.Need.{is_older}
+use Rattle.user_interaction.specs.Need.{is_older}
 use Rattle.code_grant.specs.declared.rows.TurnRow.{TurnRow}
 use Rattle.code_grant.specs.declared.rows.SessionRow.{SessionRow}
 use Rattle.code_grant.specs.declared.rows.TokenRow.{TokenRow}

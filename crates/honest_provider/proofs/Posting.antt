@@ -10,7 +10,7 @@ use Rattle.client_registry.specs.Configuration.{Configuration}
 use Rattle.client_registry.specs.Numbers.{party_row, client_id}
 use Rattle.auth_request.specs.declared.wish.Wish.{Wish}
 use Rattle.id_token.specs.Judging.{IsInAge}
-use Rattle.request_need.specs.Need.{is_late, is_older, needed_scopes}
+use Rattle.user_interaction.specs.Need.{is_late, is_older, needed_scopes}
 use Rattle.code_grant.specs.declared.rows.TurnRow.{TurnRow}
 use Rattle.code_grant.specs.declared.rows.SessionRow.{SessionRow}
 use Rattle.code_grant.specs.Rows.{turn_name, session_name}

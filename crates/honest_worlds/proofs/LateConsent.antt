@@ -22,7 +22,7 @@ use Rattle.auth_request.specs.Judgement.{errors, judgement}
 use Rattle.auth_request.specs.Values.{IsWishValue}
 use Rattle.auth_request.specs.declared.wish.Verdict.TheVariants.{Grant}
 use Rattle.auth_request.specs.declared.wish.Wish.{Wish}
-use Rattle.request_need.specs.Need.{needed, needed_scopes}
+use Rattle.user_interaction.specs.Need.{needed, needed_scopes}
 use Rattle.login_request.specs.Request.{login_location}
 use Rattle.code_grant.specs.declared.rows.TurnRow.{TurnRow}
 use Rattle.code_grant.specs.declared.rows.SessionRow.{SessionRow}

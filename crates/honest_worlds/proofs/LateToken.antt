@@ -19,7 +19,7 @@ use Rattle.auth_request.specs.Judgement.{errors, judgement}
 use Rattle.auth_request.specs.declared.wish.Verdict.TheVariants.{Grant}
 use Rattle.auth_answer.specs.declared.heard.Heard.{Heard}
 use Rattle.auth_answer.specs.Reading.{IsHeard}
-use Rattle.request_need.specs.Need.{needed, needed_scopes}
+use Rattle.user_interaction.specs.Need.{needed, needed_scopes}
 use Rattle.id_token.specs.declared.claims.IdClaims.{IdClaims}
 use Rattle.id_token.specs.declared.no.IdNo.TheVariants.{Expired}
 use Rattle.id_token.specs.Sealing.{HasTexts}

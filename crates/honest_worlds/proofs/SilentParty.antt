@@ -12,7 +12,7 @@ use Rattle.auth_request.specs.ClaimsParameter.{claims_of}
 use Rattle.auth_request.specs.Parameters.{asking_of}
 use Rattle.auth_request.specs.Judgement.{errors, judgement}
 use Rattle.auth_request.specs.declared.wish.Verdict.TheVariants.{Grant}
-use Rattle.request_need.specs.Need.{needed}
+use Rattle.user_interaction.specs.Need.{needed}
 use Rattle.login_request.specs.Request.{login_location}
 use Rattle.op_exchange.specs.declared.ask.OpAsk.{OpAsk}
 use Rattle.op_exchange.specs.declared.ask.OpAsk.TheVariants.{Authorize}

@@ -22,7 +22,7 @@ use Rattle.request_params.specs.Printing.{request_form}
 use Rattle.auth_request.specs.declared.wish.Verdict.{Verdict}
 use Rattle.auth_request.specs.declared.wish.Verdict.TheVariants.{Grant}
 use Rattle.auth_answer.specs.declared.answer.Answer.{Answer}
-use Rattle.request_need.specs.Need.{is_older, needed, needed_scopes}
+use Rattle.user_interaction.specs.Need.{is_older, needed, needed_scopes}
 use Rattle.code_grant.specs.declared.rows.TurnRow.{TurnRow}
 use Rattle.code_grant.specs.declared.rows.SessionRow.{SessionRow}
 use Rattle.login_request.specs.Parties.{MayAsk}

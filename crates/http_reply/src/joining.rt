@@ -15,7 +15,7 @@ pub fn joined(alloc: Global, pieces: &[&str]) -> Result<String, NoMemory>
 }
 
 /// The concatenation of two texts.
-pub fn phrase(alloc: Global, first: &str, second: &str) -> Result<Text, NoMemory>
+pub fn concatenated(alloc: Global, first: &str, second: &str) -> Result<Text, NoMemory>
     ensures { IfOk result (λ t. t ≡ first.now ++ second.now) }
 {
     Ok(Text::from_string(joined(alloc, &[first, second])?))

@@ -15,6 +15,6 @@ mod law;
 mod replies;
 
 pub use cookies::cookie;
-pub use joining::{joined, phrase};
+pub use joining::{concatenated, joined};
 pub use law::cookies_are_read_as_they_were_written;
 pub use replies::{empty, html, plain, sent_to};

@@ -1,6 +1,6 @@
 pub mod Answering
 pub mod Ascii
-pub mod Cut
+pub mod Splits
 pub mod Objects
 pub mod Opening
 pub mod Written

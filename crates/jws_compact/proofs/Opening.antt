@@ -13,10 +13,10 @@ use Rattle.sso_base.specs.Base64Url.{b64u, unb64u_32}
 use Rattle.sso_base.proofs.Spelling.{unb64u_some, unb64u-b64u, unb64u_32_some, unb64u_32-b64u, b64u_inj, b64u_no_dot, is_no_dot, both_true, IsBytes-from_all_bytes}
 use Rattle.jws_compact.specs.declared.no.JwsNo.{JwsNo}
 use Rattle.jws_compact.specs.declared.unsealing.Unsealed.{Unsealed}
-use Rattle.jws_compact.specs.Jws.{cut, three_parts, text_member, is_hs256, has_crit, Sealed, signing_input, opened, Opens, verdict}
+use Rattle.jws_compact.specs.Jws.{at_first_dot, three_parts, text_member, is_hs256, has_crit, Sealed, signing_input, opened, Opens, verdict}
 use Rattle.sso_base.proofs.Refusals.{demand_ok, forbid_ok}
 use Rattle.sso_base.proofs.Decided.{not_not}
-use Rattle.jws_compact.proofs.Cut.{Triple, same_triple, three_parts_join}
+use Rattle.jws_compact.proofs.Splits.{Triple, same_triple, three_parts_join}
 
 -- ---- one step back
 
@@ -95,18 +95,18 @@ dot_at false h = refl
 is_not_dot : (x : ℕ) → is_no_dot x ≡ true → nat_eq x 46 ≡ false
 is_not_dot x h = dot_at (nat_eq x 46) h
 
-no_cut : (xs : List ℕ) → list_all is_no_dot xs ≡ true → cut xs ≡ None
-no_cut [] h = refl
-no_cut (x ∷ xs) h = let both = both_true (is_no_dot x) (list_all is_no_dot xs) h in rw (is_not_dot x both.0, no_cut xs both.1)
+no_split : (xs : List ℕ) → list_all is_no_dot xs ≡ true → at_first_dot xs ≡ None
+no_split [] h = refl
+no_split (x ∷ xs) h = let both = both_true (is_no_dot x) (list_all is_no_dot xs) h in rw (is_not_dot x both.0, no_split xs both.1)
 
-cut_no_dot : (a b : List ℕ) → list_all is_no_dot a ≡ true → cut (a ++ 46 ∷ b) ≡ Some (a, b)
-cut_no_dot [] b h = refl
-cut_no_dot (x ∷ a) b h = let both = both_true (is_no_dot x) (list_all is_no_dot a) h in rw (is_not_dot x both.0, cut_no_dot a b both.1)
+split_no_dot : (a b : List ℕ) → list_all is_no_dot a ≡ true → at_first_dot (a ++ 46 ∷ b) ≡ Some (a, b)
+split_no_dot [] b h = refl
+split_no_dot (x ∷ a) b h = let both = both_true (is_no_dot x) (list_all is_no_dot a) h in rw (is_not_dot x both.0, split_no_dot a b both.1)
 
 pub three_of : (a b c : List ℕ) → list_all is_no_dot a ≡ true → list_all is_no_dot b ≡ true → list_all is_no_dot c ≡ true
     → three_parts ((a ++ 46 ∷ b) ++ 46 ∷ c) ≡ Some (a, b, c)
 unfolding three_parts
-three_of a b c f g h = rw (append_assoc a (46 ∷ b) (46 ∷ c), cut_no_dot a (b ++ 46 ∷ c) f, cut_no_dot b c g, no_cut c h)
+three_of a b c f g h = rw (append_assoc a (46 ∷ b) (46 ∷ c), split_no_dot a (b ++ 46 ∷ c) f, split_no_dot b c g, no_split c h)
 
 spelled_mac : (k s : List ℕ) → unb64u_32 (b64u (hmac_of k s)) ≡ Some (hmac_of k s)
 spelled_mac k s = unb64u_32-b64u (hmac_of k s) (IsBytes-from_all_bytes _ (all_bytes-hmac k s)) (length-hmac k s)

@@ -92,19 +92,19 @@ dots [] = 0
 dots (x ∷ xs) = if x == 46 then 1 + dots xs else dots xs
 
 -- the parts before and after the first dot
-abbrev pub cut : List ℕ → Option (List ℕ × List ℕ)
-cut [] = None
-cut (x ∷ xs) = if x == 46 then Some ([], xs) else option_map (λ p. (x ∷ p.0, p.1)) (cut xs)
+abbrev pub at_first_dot : List ℕ → Option (List ℕ × List ℕ)
+at_first_dot [] = None
+at_first_dot (x ∷ xs) = if x == 46 then Some ([], xs) else option_map (λ p. (x ∷ p.0, p.1)) (at_first_dot xs)
 
 abbrev pub no_dot : List ℕ → List ℕ → List ℕ → Option (List ℕ × List ℕ × List ℕ)
-no_dot a b c = if is_some (cut c) then None else Some (a, b, c)
+no_dot a b c = if is_some (at_first_dot c) then None else Some (a, b, c)
 
-abbrev pub second_cut : List ℕ → List ℕ → Option (List ℕ × List ℕ × List ℕ)
-second_cut a rest = option_and_then (λ p. no_dot a p.0 p.1) (cut rest)
+abbrev pub at_second_dot : List ℕ → List ℕ → Option (List ℕ × List ℕ × List ℕ)
+at_second_dot a rest = option_and_then (λ p. no_dot a p.0 p.1) (at_first_dot rest)
 
 -- the three parts of a text with two dots
 unfoldable pub three_parts : List ℕ → Option (List ℕ × List ℕ × List ℕ)
-three_parts t = option_and_then (λ p. second_cut p.0 p.1) (cut t)
+three_parts t = option_and_then (λ p. at_second_dot p.0 p.1) (at_first_dot t)
 
 unfoldable pub is_hs256 : Data → Bool
 is_hs256 d = unwrap_or (option_map (λ s. bytes_eq s (codes "HS256")) (text_member (codes "alg") d)) false

@@ -2,7 +2,7 @@
 
 ghost use Rattle.std.specs.Prelude.{◌≡◌, ◌++◌, ◌∷◌, Some, IfOk, option_map};
 ghost use Rattle.sso_base.specs.Base64Url.{unb64u, unb64u_32};
-ghost use Rattle.jws_compact.specs.Jws.{cut, three_parts};
+ghost use Rattle.jws_compact.specs.Jws.{at_first_dot, three_parts};
 
 use base64::DecodeAllocError;
 use base64::engine::general_purpose::URL_SAFE_NO_PAD;
@@ -10,8 +10,8 @@ use sso_base::NoMemory;
 use std::alloc::Global;
 
 // The parts before and after the first dot.
-fn cut_at_dot(text: &[u8]) -> Option<(&[u8], &[u8])>
-    ensures { option_map (λ p. (p.0.now, p.1.now)) result ≡ cut text.now }
+fn split_at_dot(text: &[u8]) -> Option<(&[u8], &[u8])>
+    ensures { option_map (λ p. (p.0.now, p.1.now)) result ≡ at_first_dot text.now }
 {
     for (i, byte) in text.iter().enumerate() {
         if *byte == b'.' {
@@ -26,9 +26,9 @@ fn cut_at_dot(text: &[u8]) -> Option<(&[u8], &[u8])>
 pub(crate) fn in_three_parts(text: &[u8]) -> Option<(&[u8], &[u8], &[u8])>
     ensures { option_map (λ p. (p.0.now, p.1.now, p.2.now)) result ≡ three_parts text.now }
 {
-    let (first, rest) = cut_at_dot(text)?;
-    let (second, third) = cut_at_dot(rest)?;
-    if cut_at_dot(third).is_some() {
+    let (first, rest) = split_at_dot(text)?;
+    let (second, third) = split_at_dot(rest)?;
+    if split_at_dot(third).is_some() {
         return None;
     }
     Some((first, second, third))

@@ -28,14 +28,14 @@ use Rattle.oidc_replay.specs.End.{end_of}
 -- ---- places
 
 -- the name of the role that received the request, and the summary of its reply
-abbrev pub phrase : Configuration → Option To → WorldReply → Text
-phrase c (Some to.Provider) (reply.Provider told) = codes "op " ++ op_line told
-phrase c (Some (to.Party n)) (reply.Party told) = (party_row c n).name ++ 32 ∷ rp_line told
-phrase c role told = codes "- none"
+abbrev pub reply_words : Configuration → Option To → WorldReply → Text
+reply_words c (Some to.Provider) (reply.Provider told) = codes "op " ++ op_line told
+reply_words c (Some (to.Party n)) (reply.Party told) = (party_row c n).name ++ 32 ∷ rp_line told
+reply_words c role told = codes "- none"
 
 -- the line of a place, by its number
 abbrev pub place_line : Configuration → ℕ → Place → Text
-place_line c number x = decimal number ++ 32 ∷ phrase c (role_at x) (reply_at x) ++ 10 ∷ []
+place_line c number x = decimal number ++ 32 ∷ reply_words c (role_at x) (reply_at x) ++ 10 ∷ []
 
 -- ---- places that are shown
 
@@ -81,15 +81,15 @@ lines_told c seed (line ∷ lines) = lines_told c seed lines ++ line_told c (pla
 
 -- ---- the end
 
-abbrev pub premise_phrase : Broken → Text
-premise_phrase (Forged place) = codes "forged " ++ decimal place
-premise_phrase (Leaked place) = codes "leaked " ++ decimal place
-premise_phrase (HashClash first place) = codes "clash " ++ decimal first ++ 32 ∷ decimal place
+abbrev pub premise_words : Broken → Text
+premise_words (Forged place) = codes "forged " ++ decimal place
+premise_words (Leaked place) = codes "leaked " ++ decimal place
+premise_words (HashClash first place) = codes "clash " ++ decimal first ++ 32 ∷ decimal place
 
 -- the last line: the first failed premise, if there is one, or the place for which a history had no room
 abbrev pub end_line : ReplayEnd → Text
 end_line end.Met = codes "premises met" ++ 10 ∷ []
-end_line (end.Broken broken) = codes "premises " ++ premise_phrase broken ++ 10 ∷ []
+end_line (end.Broken broken) = codes "premises " ++ premise_words broken ++ 10 ∷ []
 end_line (end.Journal place) = codes "journal " ++ decimal place ++ 10 ∷ []
 
 -- the text of the replay of a trace over a registry

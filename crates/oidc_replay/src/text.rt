@@ -46,7 +46,7 @@ fn push_phrase(
     reply: &WorldReply,
 ) -> Result<(), NoMemory>
     requires { IfSome role.now (IsRole registry.now) }
-    ensures { OnOk result (string_bytes out.new ≡ string_bytes out.old ++ spec.phrase registry.now role.now reply.now) }
+    ensures { OnOk result (string_bytes out.new ≡ string_bytes out.old ++ spec.reply_words registry.now role.now reply.now) }
 {
     match (role, reply) {
         (Some(To::Provider), WorldReply::Provider(reply)) => {
@@ -123,7 +123,7 @@ pub(crate) fn push_line(
 }
 
 fn push_broken(alloc: Global, out: &mut String, broken: &Broken) -> Result<(), NoMemory>
-    ensures { OnOk result (string_bytes out.new ≡ string_bytes out.old ++ spec.premise_phrase broken.now) }
+    ensures { OnOk result (string_bytes out.new ≡ string_bytes out.old ++ spec.premise_words broken.now) }
 {
     match broken {
         Broken::Forged(place) => {

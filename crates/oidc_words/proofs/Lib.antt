@@ -8,4 +8,5 @@ pub mod Asking
 pub mod ClaimKinds
 pub mod ScopeTexts
 pub mod TypeTexts
+pub mod Routing
 mod Samples

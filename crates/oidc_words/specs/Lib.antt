@@ -7,4 +7,5 @@ pub mod TokenTypes
 pub mod Modes
 pub mod Lives
 pub mod Paths
+pub mod Routes
 pub mod Errors

@@ -5,8 +5,8 @@ use Rattle.sso_base.specs.declared.history.Entry.{Entry}
 use Rattle.client_registry.specs.Configuration.{Configuration}
 use Rattle.auth_request.specs.declared.wish.Wish.{Wish}
 use Rattle.auth_request.specs.declared.wish.Verdict.TheVariants as verdict
-use Rattle.request_need.specs.declared.need.Need.{Need}
-use Rattle.request_need.specs.declared.need.Need.TheVariants as need
+use Rattle.user_interaction.specs.declared.need.Need.{Need}
+use Rattle.user_interaction.specs.declared.need.Need.TheVariants as need
 use Rattle.auth_answer.specs.declared.answer.Answer.{Answer}
 use Rattle.code_grant.specs.declared.rows.TurnRow.{TurnRow}
 use Rattle.code_grant.specs.declared.rows.SessionRow.{SessionRow}

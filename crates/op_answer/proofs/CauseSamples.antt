@@ -8,8 +8,8 @@ use Rattle.oidc_words.specs.declared.errors.AuthError.TheVariants.{AccessDenied}
 use Rattle.auth_request.specs.declared.wish.PageNo.TheVariants as page
 use Rattle.auth_answer.specs.declared.answer.Answer.{Answer}
 use Rattle.token_endpoint.specs.declared.error.TokenError.TheVariants.{InvalidGrant}
-use Rattle.request_need.specs.declared.need.Need.TheVariants as need
-use Rattle.request_need.specs.Need.{needed, needed_scopes}
+use Rattle.user_interaction.specs.declared.need.Need.TheVariants as need
+use Rattle.user_interaction.specs.Need.{needed, needed_scopes}
 use Rattle.oidc_words.specs.Scopes.{joined}
 use Rattle.oidc_words.specs.Claims.{scopes_with_any}
 use Rattle.code_grant.specs.declared.rows.TurnRow.{TurnRow}

@@ -12,7 +12,7 @@ use Rattle.sso_base.specs.Words.{Text, word_of_text}
 use Rattle.op_issue.specs.declared.issuing.Authentication.{Authentication}
 use Rattle.op_answer.specs.Past.{OpPast, OpPair}
 use Rattle.op_answer.specs.AccessTokens.{live_access_token}
-use Rattle.request_need.specs.Need.{needed, needed_scopes}
+use Rattle.user_interaction.specs.Need.{needed, needed_scopes}
 use Rattle.oidc_words.specs.Scopes.{joined}
 use Rattle.oidc_words.specs.Claims.{scopes_with_any}
 use Rattle.client_registry.specs.ClientSets.{no_clients}

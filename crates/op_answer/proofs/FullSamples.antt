@@ -9,7 +9,7 @@ use Rattle.code_grant.specs.declared.rows.CodeRow.{CodeRow}
 use Rattle.code_grant.specs.declared.rows.TokenRow.{TokenRow}
 use Rattle.code_grant.specs.Rows.{turn_name, code_name, access_name}
 use Rattle.client_registry.specs.ClientSets.{no_clients}
-use Rattle.request_need.specs.Need.{needed, needed_scopes}
+use Rattle.user_interaction.specs.Need.{needed, needed_scopes}
 use Rattle.oidc_words.specs.Scopes.{joined}
 use Rattle.oidc_words.specs.Claims.{scopes_with_any}
 use Rattle.op_exchange.specs.declared.ask.OpAsk.{OpAsk}

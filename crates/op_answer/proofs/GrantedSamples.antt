@@ -1,7 +1,7 @@
 -- The consent of the first login grants what it was about, and nothing else, by computation.
 use Rattle.std.proofs.Common.{◌≡◌, Bool, true, false, refl, sym, ◌∙◌, ap}
 use Rattle.oidc_words.specs.declared.scopes.Scopes.{Scopes}
-use Rattle.request_need.specs.Need.{needed_scopes}
+use Rattle.user_interaction.specs.Need.{needed_scopes}
 use Rattle.oidc_words.specs.Scopes.{joined}
 use Rattle.oidc_words.specs.Claims.{scopes_with_any}
 use Rattle.op_answer.specs.Consents.{grant_of}

@@ -7,8 +7,8 @@ use Rattle.auth_request.specs.declared.wish.Wish.{Wish}
 use Rattle.oidc_words.specs.declared.errors.Refusal.{Refusal}
 use Rattle.oidc_words.specs.declared.errors.AuthError.TheVariants.{LoginRequired, ConsentRequired, AccessDenied}
 use Rattle.auth_request.specs.declared.wish.Verdict.TheVariants as verdict
-use Rattle.request_need.specs.declared.need.Need.{Need}
-use Rattle.request_need.specs.declared.need.Need.TheVariants as need
+use Rattle.user_interaction.specs.declared.need.Need.{Need}
+use Rattle.user_interaction.specs.declared.need.Need.TheVariants as need
 use Rattle.code_grant.specs.declared.rows.TurnRow.{TurnRow}
 use Rattle.code_grant.specs.declared.rows.SessionRow.{SessionRow}
 use Rattle.op_exchange.specs.declared.ask.OpAsk.{OpAsk}

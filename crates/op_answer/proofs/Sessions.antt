@@ -19,7 +19,7 @@ use Rattle.code_grant.specs.declared.rows.SessionRow.{SessionRow}
 use Rattle.client_registry.specs.ClientSets.{no_clients, with_client}
 use Rattle.op_answer.specs.Sessions.{sessions}
 use Rattle.op_answer.specs.Consents.{grant_of}
-use Rattle.request_need.specs.Need.{needed, needed_scopes}
+use Rattle.user_interaction.specs.Need.{needed, needed_scopes}
 use Rattle.oidc_words.specs.Scopes.{joined}
 use Rattle.oidc_words.specs.Claims.{scopes_with_any}
 use Rattle.op_answer.specs.Answering.{op_answer}

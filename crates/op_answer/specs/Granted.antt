@@ -3,7 +3,7 @@
 use Rattle.std.specs.Prelude.{◌≡◌, ℕ, Bool, true, ◌∷◌, ◌++◌, Option, Some}
 use Rattle.sso_base.specs.Words.{Word}
 use Rattle.oidc_words.specs.declared.scopes.Scopes.{Scopes}
-use Rattle.request_need.specs.Need.{needed_scopes}
+use Rattle.user_interaction.specs.Need.{needed_scopes}
 use Rattle.code_grant.specs.declared.rows.TurnRow.{TurnRow}
 use Rattle.code_grant.specs.declared.rows.SessionRow.{SessionRow}
 use Rattle.op_exchange.specs.declared.ask.OpAsk.TheVariants.{Consent}

@@ -13,10 +13,10 @@ use Rattle.auth_request.specs.declared.wish.Verdict.TheVariants as verdict
 use Rattle.auth_request.specs.declared.wish.PageNo.TheVariants as page
 use Rattle.oidc_words.specs.declared.errors.AuthError.{AuthError}
 use Rattle.oidc_words.specs.declared.errors.AuthError.TheVariants.{LoginRequired, ConsentRequired, AccessDenied}
-use Rattle.request_need.specs.declared.standing.Standing.{Standing}
-use Rattle.request_need.specs.declared.need.Need.{Need}
-use Rattle.request_need.specs.declared.need.Need.TheVariants as need
-use Rattle.request_need.specs.Need.{needed, needed_scopes}
+use Rattle.user_interaction.specs.declared.standing.Standing.{Standing}
+use Rattle.user_interaction.specs.declared.need.Need.{Need}
+use Rattle.user_interaction.specs.declared.need.Need.TheVariants as need
+use Rattle.user_interaction.specs.Need.{needed, needed_scopes}
 use Rattle.token_endpoint.specs.declared.granting.Grant.{Grant}
 use Rattle.token_endpoint.specs.declared.no.GrantNo.{GrantNo}
 use Rattle.token_endpoint.specs.declared.error.TokenError.TheVariants.{InvalidGrant}

@@ -19,10 +19,10 @@ use Rattle.op_answer.specs.AccessTokens.{accesses, access_made}
 use Rattle.op_answer.specs.Answering.{op_answer}
 use Rattle.op_tables.specs.Agreeing.{is_own_turn, is_own_session, is_own_code, is_own_token}
 use Rattle.op_core.specs.Keeps.{KeepsPast, Keeps}
-use Rattle.op_tables.specs.Keeping.{FollowsPair}
-use Rattle.op_core.specs.Outcome.{Brings}
+use Rattle.op_tables.specs.Keeping.{IsUpdate}
+use Rattle.op_core.specs.Outcome.{MakesRows}
 use Rattle.op_core.specs.Providing.{Providing, past_of}
-use Rattle.op_tables.specs.Taking.{TakesUp}
+use Rattle.op_tables.specs.Updating.{MayUpdate}
 use Rattle.op_core.proofs.Stepping.{own_carried, keeps_more}
 
 -- room changes no row
@@ -46,7 +46,7 @@ module _ (c : Configuration) (history items : List OpPair) (t u : Tables) (p : O
   Shown s =
       (last_moment (past_of s) ≤ p.entry.at)
       × (p.reply ≡ op_answer s.registry (past_of s) p.entry)
-      × Brings (past_of s) p turn session code token used client
+      × MakesRows (past_of s) p turn session code token used client
       × IfSome turn (λ row. is_own_turn s.registry row ≡ true)
       × IfSome session (λ row. is_own_session s.registry row ≡ true)
       × IfSome code (λ row. is_own_code s.registry row ≡ true)
@@ -54,37 +54,37 @@ module _ (c : Configuration) (history items : List OpPair) (t u : Tables) (p : O
       × (history_weight ask_weight s.history + weight ≤ most_weight)
 
   abbrev pub Follows : Type 0
-  Follows = (d : Configuration) (past : OpPast) (before : ℕ) → TakesUp (with_room t) p turn session code token used client d past before → FollowsPair (with_room t) u past p
+  Follows = (d : Configuration) (past : OpPast) (before : ℕ) → MayUpdate (with_room t) p turn session code token used client d past before → IsUpdate (with_room t) u past p
 
-  takes_up : KeepsPast c (reverse history) (with_room t) → Shown (record { registry = c; history = history; tables = t }) → TakesUp (with_room t) p turn session code token used client c (reverse history) (last_moment (reverse history))
-  takes_up keeps shown =
-      let brings : Brings (reverse history) p turn session code token used client = shown.2 in
+  may_update : KeepsPast c (reverse history) (with_room t) → Shown (record { registry = c; history = history; tables = t }) → MayUpdate (with_room t) p turn session code token used client c (reverse history) (last_moment (reverse history))
+  may_update keeps shown =
+      let rows : MakesRows (reverse history) p turn session code token used client = shown.2 in
       record {
         order = shown.0;
         agrees = keeps.agrees;
         begun = keeps.begun;
         own = keeps.own;
         reply_is = shown.1;
-        used_is = brings.used_is;
-        client_is = brings.client_is;
-        turn_is = brings.turn_is;
-        session_is = brings.session_is;
-        code_is = brings.code_is;
-        token_is = brings.token_is;
+        used_is = rows.used_is;
+        client_is = rows.client_is;
+        turn_is = rows.turn_is;
+        session_is = rows.session_is;
+        code_is = rows.code_is;
+        token_is = rows.token_is;
       }
 
   committed : Keeps c history t → IsEntry IsOpAsk p.entry → weight ≡ ask_weight p.entry.ask → items ≡ history ++ p ∷ [] → Follows
       → Shown (record { registry = c; history = history; tables = t }) → Keeps c items u
   committed keeps entry weight_is items_are follows shown =
       let past : OpPast = reverse history in
-      let brings : Brings past p turn session code token used client = shown.2 in
+      let rows : MakesRows past p turn session code token used client = shown.2 in
       let kept : KeepsPast c past (with_room t) = with_room_keeps c past t keeps.tables in
-      let one : FollowsPair (with_room t) u past p = follows c past (last_moment past) (takes_up kept shown) in
+      let one : IsUpdate (with_room t) u past p = follows c past (last_moment past) (may_update kept shown) in
       let own = own_carried c (with_room t) u past p kept.own one
-      (if_made (λ row. is_own_turn c row ≡ true) turn (turn_made (turns past) past p) brings.turn_is shown.3)
-      (if_made (λ row. is_own_session c row ≡ true) session (session_made (sessions past) past p) brings.session_is shown.4)
-      (if_made (λ row. is_own_code c row ≡ true) code (code_made (codes_issued past) past p) brings.code_is shown.5)
-      (if_made (λ row. is_own_token c row ≡ true) token (access_made (accesses past) past p) brings.token_is shown.6) in
+      (if_made (λ row. is_own_turn c row ≡ true) turn (turn_made (turns past) past p) rows.turn_is shown.3)
+      (if_made (λ row. is_own_session c row ≡ true) session (session_made (sessions past) past p) rows.session_is shown.4)
+      (if_made (λ row. is_own_code c row ≡ true) code (code_made (codes_issued past) past p) rows.code_is shown.5)
+      (if_made (λ row. is_own_token c row ≡ true) token (access_made (accesses past) past p) rows.token_is shown.6) in
       let I : List OpPair → Type 0 = λ x. Keeps c x u in
       let L : ℕ → Type 0 = λ n. history_weight ask_weight history + n ≤ most_weight in
       subst I (sym items_are) (keeps_more c history (with_room t) u p (record { tables = kept; legal = keeps.legal }) shown.0 one own entry shown.1 (subst L weight_is shown.7))

@@ -5,6 +5,7 @@ pub mod MadeSessions
 pub mod MadeRows
 pub mod Ranges
 pub mod Places
+pub mod FoundTurns
 mod MakingSamples
 mod OutcomeSamples
 pub mod Outcomes

@@ -1,5 +1,5 @@
 -- For each table of the provider: what lives in it at a moment is what lives after the past.
-use Rattle.std.proofs.Common.{◌≡◌, ◌≤◌, ℕ, Bool, true, nat_lt, List, length, Option, Some, option_and_then, reverse, sym, ◌∙◌, ap, subst}
+use Rattle.std.proofs.Common.{◌≡◌, ◌≤◌, ℕ, Bool, true, nat_lt, List, length, Option, Some, IfSome, option_and_then, reverse, sym, ◌∙◌, ap, subst}
 use Rattle.std.specs.List.{list_any}
 use Rattle.std.specs.Str.{bytes_eq}
 use Rattle.sso_base.specs.Words.{Word}
@@ -24,7 +24,7 @@ use Rattle.op_answer.specs.AccessTokens.{accesses, access_made, access_kept, liv
 use Rattle.op_tables.specs.Agreeing.{is_own_turn, is_own_session, is_own_code, is_own_token}
 use Rattle.op_core.specs.Keeps.{KeepsTables}
 use Rattle.op_answer.proofs.KeptNames.{turn_names, session_names, code_names, access_names}
-use Rattle.held_rows.proofs.Found.{same_later, found_in_both, found_good}
+use Rattle.held_rows.proofs.Found.{same_later, found_in_both, living_good}
 
 module _ (c : Configuration) (history : List OpPair) (t : Tables) (keeps : KeepsTables c history t) (p : Providing) (view : ◌≡◌ {A = Providing} (record { registry = c; history = history; tables = t }) p) (at : ℕ) (order : last_moment (past_of p) ≤ at) where
   past_is : reverse history ≡ past_of p
@@ -46,10 +46,12 @@ module _ (c : Configuration) (history : List OpPair) (t : Tables) (keeps : Keeps
       (rows_distinct turn_name turn_made turn_kept turn_names (reverse history)) keeps.agrees.turns
       ∙ ap L past_is ∙ ap M (sym is)
 
-  pub turn_own : (w : Word) (row : TurnRow) → Some row ≡ row_of turn_name w t.turns → is_own_turn p.registry row ≡ true
-  turn_own w row found =
-      let O : Providing → Type 0 = λ q. is_own_turn q.registry row ≡ true in
-      subst O view (found_good turn_name (is_own_turn c) w t.turns row keeps.own.turns (sym found))
+  pub turn_own : (w : Word) (o : Option TurnRow)
+      → o ≡ option_and_then (if_lives turn_life turn_begun at) (row_of turn_name w t.turns)
+      → IfSome o (λ row. is_own_turn p.registry row ≡ true)
+  turn_own w o found =
+      let O : Providing → Type 0 = λ q. IfSome o (λ row. is_own_turn q.registry row ≡ true) in
+      subst O view (living_good turn_name turn_life turn_begun at (is_own_turn c) w t.turns o keeps.own.turns found)
 
   pub sessions_live : live_rows session_life session_begun at t.sessions ≡ live_sessions (past_of p) at
   sessions_live =
@@ -64,10 +66,12 @@ module _ (c : Configuration) (history : List OpPair) (t : Tables) (keeps : Keeps
       (rows_distinct session_name session_made session_kept session_names (reverse history)) keeps.agrees.sessions
       ∙ ap L past_is ∙ ap M (sym is)
 
-  pub session_own : (w : Word) (row : SessionRow) → Some row ≡ row_of session_name w t.sessions → is_own_session p.registry row ≡ true
-  session_own w row found =
-      let O : Providing → Type 0 = λ q. is_own_session q.registry row ≡ true in
-      subst O view (found_good session_name (is_own_session c) w t.sessions row keeps.own.sessions (sym found))
+  pub session_own : (w : Word) (o : Option SessionRow)
+      → o ≡ option_and_then (if_lives session_life session_begun at) (row_of session_name w t.sessions)
+      → IfSome o (λ row. is_own_session p.registry row ≡ true)
+  session_own w o found =
+      let O : Providing → Type 0 = λ q. IfSome o (λ row. is_own_session q.registry row ≡ true) in
+      subst O view (living_good session_name session_life session_begun at (is_own_session c) w t.sessions o keeps.own.sessions found)
 
   pub codes_live : live_rows code_life code_begun at t.codes ≡ held_codes (past_of p) at
   codes_live =
@@ -82,10 +86,12 @@ module _ (c : Configuration) (history : List OpPair) (t : Tables) (keeps : Keeps
       (rows_distinct code_name code_made code_kept code_names (reverse history)) keeps.agrees.codes
       ∙ ap L past_is ∙ ap M (sym is)
 
-  pub code_own : (w : Word) (row : CodeRow) → Some row ≡ row_of code_name w t.codes → is_own_code p.registry row ≡ true
-  code_own w row found =
-      let O : Providing → Type 0 = λ q. is_own_code q.registry row ≡ true in
-      subst O view (found_good code_name (is_own_code c) w t.codes row keeps.own.codes (sym found))
+  pub code_own : (w : Word) (o : Option CodeRow)
+      → o ≡ option_and_then (if_lives code_life code_begun at) (row_of code_name w t.codes)
+      → IfSome o (λ row. is_own_code p.registry row ≡ true)
+  code_own w o found =
+      let O : Providing → Type 0 = λ q. IfSome o (λ row. is_own_code q.registry row ≡ true) in
+      subst O view (living_good code_name code_life code_begun at (is_own_code c) w t.codes o keeps.own.codes found)
 
   pub tokens_live : live_rows access_life access_begun at t.tokens ≡ live_accesses (past_of p) at
   tokens_live =
@@ -99,10 +105,12 @@ module _ (c : Configuration) (history : List OpPair) (t : Tables) (keeps : Keeps
       (rows_distinct access_name access_made access_kept access_names (reverse history)) keeps.agrees.tokens
       ∙ ap L past_is
 
-  pub token_own : (w : Word) (row : TokenRow) → Some row ≡ row_of access_name w t.tokens → is_own_token p.registry row ≡ true
-  token_own w row found =
-      let O : Providing → Type 0 = λ q. is_own_token q.registry row ≡ true in
-      subst O view (found_good access_name (is_own_token c) w t.tokens row keeps.own.tokens (sym found))
+  pub token_own : (w : Word) (o : Option TokenRow)
+      → o ≡ option_and_then (if_lives access_life access_begun at) (row_of access_name w t.tokens)
+      → IfSome o (λ row. is_own_token p.registry row ≡ true)
+  token_own w o found =
+      let O : Providing → Type 0 = λ q. IfSome o (λ row. is_own_token q.registry row ≡ true) in
+      subst O view (living_good access_name access_life access_begun at (is_own_token c) w t.tokens o keeps.own.tokens found)
 
   pub turns_room : has_room_for_one turn_life turn_begun at t.turns ≡ nat_lt (length (live_turns (past_of p) at)) most_rows
   turns_room = let N : List TurnRow → Bool = λ rows. nat_lt (length rows) most_rows in ap N turns_live

@@ -149,7 +149,7 @@ module _ (c : Configuration) (past : OpPast) (e : Entry OpAsk) where
   code_makes other h = refl
 
   access_by : (asked : OpAsk) (told : OpReply) → e.ask ≡ asked → op_answer c past e ≡ told
-      → access_given past (record { entry = e; reply = told }) asked told ≡ access_put_by past e asked told
+      → access_given past (record { entry = e; reply = told }) asked told ≡ access_put_by past e asked told (wish_found past e.at asked) (session_found past e asked)
   access_by (ask.Token (Ok grant)) (reply.Tokens w id) is h =
       let C : OpAsk → Type 0 = λ a. TokensCause c past e a w id in
       let cause : C (ask.Token (Ok grant)) = subst C is (tokens_have_a_cause c past e w id h) in

@@ -1,9 +1,9 @@
--- What the consent of a first login brings, and what a provider keeps, by computation.
+-- The rows that the consent of a first login makes, and what a provider keeps, by computation.
 use Rattle.std.proofs.Common.{◌≡◌, [], ◌∷◌, Some, None, refl}
 use Rattle.code_grant.specs.Tables.{no_tables}
 use Rattle.op_tables.proofs.Samples.{taken, alice_code, before_consent, they_agree, they_are_begun, they_are_own}
 use Rattle.op_core.specs.Keeps.{KeepsPast, Keeps}
-use Rattle.op_core.specs.Outcome.{used_found, Brings}
+use Rattle.op_core.specs.Outcome.{used_found, MakesRows}
 use Rattle.op_core.proofs.Beginning.{begins}
 use Rattle.op_exchange.proofs.Sample.{word, sample}
 use Rattle.op_answer.proofs.FirstLogin.{pair_of, past_consent, consent_entry, late_consent, code_answer, past_code}
@@ -23,14 +23,14 @@ the_turns_one_is_used = refl
 none_of_an_old_turn_is_used : used_found past_consent late_consent late_consent.ask code_answer ≡ None
 none_of_an_old_turn_is_used = refl
 
--- ---- what a pair brings
+-- ---- the rows that a pair makes
 
-a_consent_brings_a_code : Brings past_consent (pair_of consent_entry code_answer) None None (Some alice_code) None (Some (word 9)) (Some 0)
+a_consent_brings_a_code : MakesRows past_consent (pair_of consent_entry code_answer) None None (Some alice_code) None (Some (word 9)) (Some 0)
 a_consent_brings_a_code =
     record { turn_is = refl; session_is = refl; code_is = refl; token_is = refl; client_is = refl; used_is = λ n is. refl }
 
-it_does_not_bring_nothing : Brings past_consent (pair_of consent_entry code_answer) None None None None (Some (word 9)) (Some 0) → ⊥
-it_does_not_bring_nothing brings = (let k : None ≡ Some alice_code = brings.code_is in cc)
+it_does_not_bring_nothing : MakesRows past_consent (pair_of consent_entry code_answer) None None None None (Some (word 9)) (Some 0) → ⊥
+it_does_not_bring_nothing rows = (let k : None ≡ Some alice_code = rows.code_is in cc)
 
 -- ---- what a provider keeps
 

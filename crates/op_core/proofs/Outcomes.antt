@@ -1,4 +1,4 @@
--- What a pair brings whose reply is the provider's answer.
+-- The rows that a pair makes whose reply is the provider's answer.
 use Rattle.std.proofs.Common.{◌≡◌, ℕ, Bool, true, false, cond, Option, Some, None, option_and_then, Ok, Err, refl, sym, ◌∙◌, ap, subst}
 use Rattle.sso_base.specs.Words.{Word}
 use Rattle.sso_base.specs.declared.history.Entry.{Entry}
@@ -23,11 +23,11 @@ use Rattle.op_answer.specs.Answering.{op_reply, op_answer}
 use Rattle.op_answer.specs.Causes.{AnsweredCause}
 use Rattle.op_answer.proofs.Answers.{answers_have_a_cause}
 use Rattle.op_core.specs.Making.{client_found, session_put, code_put, access_put}
-use Rattle.op_core.specs.Outcome.{used_found, Brings}
+use Rattle.op_core.specs.Outcome.{used_found, MakesRows}
 use Rattle.op_core.proofs.MadeSessions.{turn_stands, client_makes, session_makes}
 use Rattle.op_core.proofs.MadeRows.{code_makes, access_makes}
 
--- ---- an ask that no request gives finds nothing, and brings nothing
+-- ---- an ask that no request gives finds nothing, and makes no row
 
 pub nothing_there : (c : Configuration) (past : OpPast) (e : Entry OpAsk) → is_prepared c e.ask ≡ false → op_answer c past e ≡ reply.NotHere
 unfolding op_answer
@@ -50,7 +50,7 @@ none_given past p (ask.Token (Ok grant)) = refl
 none_given past p (ask.Token (Err why)) = refl
 none_given past p other = refl
 
-brings_none : (past : OpPast) (e : Entry OpAsk) → Brings past (record { entry = e; reply = reply.NotHere }) None None None None None None
+brings_none : (past : OpPast) (e : Entry OpAsk) → MakesRows past (record { entry = e; reply = reply.NotHere }) None None None None None None
 brings_none past e =
     let S : Option Word → Option SessionRow = λ w. session_made_by (sessions past) past (record { entry = e; reply = reply.NotHere }) w (signed_user e.ask) in
     record {
@@ -63,9 +63,9 @@ brings_none past e =
     }
 
 pub brings_nothing : (c : Configuration) (past : OpPast) (e : Entry OpAsk) (told : OpReply) → is_prepared c e.ask ≡ false → told ≡ op_answer c past e
-    → Brings past (record { entry = e; reply = told }) None None None None None None
+    → MakesRows past (record { entry = e; reply = told }) None None None None None None
 brings_nothing c past e told unprepared is =
-    let B : OpReply → Type 0 = λ r. Brings past (record { entry = e; reply = r }) None None None None None None in
+    let B : OpReply → Type 0 = λ r. MakesRows past (record { entry = e; reply = r }) None None None None None None in
     subst B (sym (is ∙ nothing_there c past e unprepared)) (brings_none past e)
 
 -- ---- the session that was used, where a client was answered
@@ -83,10 +83,10 @@ module _ (c : Configuration) (past : OpPast) (e : Entry OpAsk) where
   used_makes (reply.Answered answer given) h n is = used_same answer given e.ask (answers_have_a_cause c past e answer given h)
   used_makes other h n is = cc
 
-  -- ---- what the answer brings
+  -- ---- the rows that the answer makes
 
   pub brings_all : (told : OpReply) → told ≡ op_answer c past e
-      → Brings past (record { entry = e; reply = told }) (turn_started e.at e.ask told) (session_put past e told) (code_put past e told) (access_put past e told) (used_found past e e.ask told) (client_found past e told)
+      → MakesRows past (record { entry = e; reply = told }) (turn_started e.at e.ask told) (session_put past e told) (code_put past e told) (access_put past e told) (used_found past e e.ask told) (client_found past e told)
   brings_all told is =
       record {
         turn_is = refl;
@@ -99,12 +99,12 @@ module _ (c : Configuration) (past : OpPast) (e : Entry OpAsk) where
 
 -- the same rows, session and client
 pub brings_as : (past : OpPast) (p : OpPair) (t u : Option TurnRow) (s r : Option SessionRow) (c d : Option CodeRow) (k l : Option TokenRow) (v w : Option Word) (m n : Option ℕ)
-    → t ≡ u → s ≡ r → c ≡ d → k ≡ l → v ≡ w → m ≡ n → Brings past p u r d l w n → Brings past p t s c k v m
-brings_as past p t u s r c d k l v w m n h1 h2 h3 h4 h5 h6 brings =
-    let T : Option TurnRow → Type 0 = λ x. Brings past p x r d l w n in
-    let S : Option SessionRow → Type 0 = λ x. Brings past p t x d l w n in
-    let C : Option CodeRow → Type 0 = λ x. Brings past p t s x l w n in
-    let K : Option TokenRow → Type 0 = λ x. Brings past p t s c x w n in
-    let U : Option Word → Type 0 = λ x. Brings past p t s c k x n in
-    let N : Option ℕ → Type 0 = λ x. Brings past p t s c k v x in
-    subst N (sym h6) (subst U (sym h5) (subst K (sym h4) (subst C (sym h3) (subst S (sym h2) (subst T (sym h1) brings)))))
+    → t ≡ u → s ≡ r → c ≡ d → k ≡ l → v ≡ w → m ≡ n → MakesRows past p u r d l w n → MakesRows past p t s c k v m
+brings_as past p t u s r c d k l v w m n h1 h2 h3 h4 h5 h6 rows =
+    let T : Option TurnRow → Type 0 = λ x. MakesRows past p x r d l w n in
+    let S : Option SessionRow → Type 0 = λ x. MakesRows past p t x d l w n in
+    let C : Option CodeRow → Type 0 = λ x. MakesRows past p t s x l w n in
+    let K : Option TokenRow → Type 0 = λ x. MakesRows past p t s c x w n in
+    let U : Option Word → Type 0 = λ x. MakesRows past p t s c k x n in
+    let N : Option ℕ → Type 0 = λ x. MakesRows past p t s c k v x in
+    subst N (sym h6) (subst U (sym h5) (subst K (sym h4) (subst C (sym h3) (subst S (sym h2) (subst T (sym h1) rows)))))

@@ -24,7 +24,7 @@ use Rattle.op_answer.specs.AccessTokens.{accesses, access_made, access_kept}
 use Rattle.op_answer.specs.Answering.{op_answer}
 use Rattle.op_tables.specs.Agreeing.{AreOwn, is_own_turn, is_own_session, is_own_code, is_own_token}
 use Rattle.op_core.specs.Keeps.{KeepsPast, Keeps}
-use Rattle.op_tables.specs.Keeping.{FollowsPair}
+use Rattle.op_tables.specs.Keeping.{IsUpdate}
 use Rattle.held_rows.proofs.Kept.{all_good_after}
 use Rattle.op_answer.proofs.KeptRows.{turn_wish_kept, session_user_kept, code_keeps, access_keeps}
 use Rattle.op_tables.proofs.Carried.{agrees_carried, is_begun_carried}
@@ -45,7 +45,7 @@ token_own_kept c past p r s kept h =
     let O : TokenRow → Bool = λ x. is_own_token c x in
     access_keeps O past p r s kept ∙ h
 
-pub own_carried : (c : Configuration) (t u : Tables) (past : OpPast) (p : OpPair) → AreOwn c t → FollowsPair t u past p
+pub own_carried : (c : Configuration) (t u : Tables) (past : OpPast) (p : OpPair) → AreOwn c t → IsUpdate t u past p
     → ((r : TurnRow) → turn_made (turns past) past p ≡ Some r → is_own_turn c r ≡ true)
     → ((r : SessionRow) → session_made (sessions past) past p ≡ Some r → is_own_session c r ≡ true)
     → ((r : CodeRow) → code_made (codes_issued past) past p ≡ Some r → is_own_code c r ≡ true)
@@ -78,7 +78,7 @@ own_carried c t u past p own follows turn session code token =
 
 -- ---- all of it
 
-pub keeps_more : (c : Configuration) (history : List OpPair) (t u : Tables) (p : OpPair) → Keeps c history t → last_moment (reverse history) ≤ p.entry.at → FollowsPair t u (reverse history) p → AreOwn c u
+pub keeps_more : (c : Configuration) (history : List OpPair) (t u : Tables) (p : OpPair) → Keeps c history t → last_moment (reverse history) ≤ p.entry.at → IsUpdate t u (reverse history) p → AreOwn c u
     → IsEntry IsOpAsk p.entry → p.reply ≡ op_answer c (reverse history) p.entry → history_weight ask_weight history + ask_weight p.entry.ask ≤ most_weight → Keeps c (history ++ p ∷ []) u
 keeps_more c history t u p keeps order follows own entry answer room =
     let past : OpPast = reverse history in

@@ -21,20 +21,35 @@ use Rattle.op_answer.specs.Codes.{code_made_by, held_code}
 use Rattle.op_answer.specs.AccessTokens.{access_answered, access_redeemed}
 use Rattle.op_answer.specs.Replies.{session_after}
 
--- the wish of the request, or of the live turn
-abbrev pub wish_found : OpPast → ℕ → OpAsk → Option Wish
-wish_found past at (Authorize (Grant wish) b session) = Some wish
-wish_found past at (Login turn signed b session) = option_map (λ (row : TurnRow). row.wish) (live_turn past at turn)
-wish_found past at (Consent turn agree b session) = option_map (λ (row : TurnRow). row.wish) (live_turn past at turn)
-wish_found past at ask = None
+-- the live turn of a login form or a consent form
+abbrev pub turn_found : OpPast → ℕ → OpAsk → Option TurnRow
+turn_found past at (Login turn signed b session) = live_turn past at turn
+turn_found past at (Consent turn agree b session) = live_turn past at turn
+turn_found past at ask = None
 
--- the live session that was presented, the one after a correct password, or the live turn's
+-- the wish of the request, or of the turn of its form
+abbrev pub wish_for : OpAsk → Option TurnRow → Option Wish
+wish_for (Authorize (Grant wish) b session) turn = Some wish
+wish_for (Login word signed b session) turn = option_map (λ (row : TurnRow). row.wish) turn
+wish_for (Consent word agree b session) turn = option_map (λ (row : TurnRow). row.wish) turn
+wish_for ask turn = None
+
+abbrev pub wish_found : OpPast → ℕ → OpAsk → Option Wish
+wish_found past at ask = wish_for ask (turn_found past at ask)
+
+-- the live session of a turn
+abbrev pub session_of_turn : OpPast → ℕ → Option TurnRow → Option SessionRow
+session_of_turn past at turn = option_and_then (λ (row : TurnRow). live_session past at row.session) turn
+
+-- the live session that was presented, the one after a correct password, or that of the turn of the form
+abbrev pub session_for : OpPast → Entry OpAsk → OpAsk → Option SessionRow → Option SessionRow
+session_for past e (Authorize verdict b session) own = live_session past e.at session
+session_for past e (Login word (Some user) b presented) own = Some (session_after past e user presented)
+session_for past e (Consent word agree b session) own = own
+session_for past e ask own = None
+
 abbrev pub session_found : OpPast → Entry OpAsk → OpAsk → Option SessionRow
-session_found past e (Authorize verdict b session) = live_session past e.at session
-session_found past e (Login turn (Some user) b presented) = Some (session_after past e user presented)
-session_found past e (Consent turn agree b session) =
-    option_and_then (λ (row : TurnRow). live_session past e.at row.session) (live_turn past e.at turn)
-session_found past e ask = None
+session_found past e ask = session_for past e ask (session_of_turn past e.at (turn_found past e.at ask))
 
 -- the client that a reply answers
 abbrev pub client_found : OpPast → Entry OpAsk → OpReply → Option ℕ
@@ -56,12 +71,11 @@ abbrev pub code_put : OpPast → Entry OpAsk → OpReply → Option CodeRow
 code_put past e reply =
     code_made_by (length past) e.at (code_in reply) (wish_found past e.at e.ask) (session_found past e e.ask)
 
-abbrev pub access_put_by : OpPast → Entry OpAsk → OpAsk → OpReply → Option TokenRow
-access_put_by past e (Token (Ok grant)) (Tokens w id) =
+abbrev pub access_put_by : OpPast → Entry OpAsk → OpAsk → OpReply → Option Wish → Option SessionRow → Option TokenRow
+access_put_by past e (Token (Ok grant)) (Tokens w id) wish session =
     access_redeemed (length past) e.at w (held_code past e.at (word_of_text grant.code))
-access_put_by past e ask (Answered answer given) =
-    access_answered (length past) e.at answer.access (wish_found past e.at ask) (session_found past e ask)
-access_put_by past e ask reply = None
+access_put_by past e ask (Answered answer given) wish session = access_answered (length past) e.at answer.access wish session
+access_put_by past e ask reply wish session = None
 
 abbrev pub access_put : OpPast → Entry OpAsk → OpReply → Option TokenRow
-access_put past e reply = access_put_by past e e.ask reply
+access_put past e reply = access_put_by past e e.ask reply (wish_found past e.at e.ask) (session_found past e e.ask)

@@ -10,21 +10,25 @@ use Rattle.op_exchange.specs.declared.ask.OpAsk.{OpAsk}
 use Rattle.op_exchange.specs.declared.ask.OpAsk.TheVariants.{Authorize, Login, Consent}
 use Rattle.op_exchange.specs.declared.reply.OpReply.{OpReply}
 use Rattle.op_answer.specs.Past.{OpPair, OpPast}
-use Rattle.op_answer.specs.Turns.{turns, turn_made, live_turn}
+use Rattle.op_answer.specs.Turns.{turns, turn_made}
 use Rattle.op_answer.specs.Sessions.{sessions, session_made, session_set, session_used, client_answered}
 use Rattle.op_answer.specs.Codes.{codes_issued, code_made}
 use Rattle.op_answer.specs.AccessTokens.{accesses, access_made}
+use Rattle.op_core.specs.Making.{turn_found}
 
--- the session of a reply: presented, from the login, or the live turn's
+-- the session of a reply: presented, from the login, or that of the turn of the form
+abbrev pub used_for : OpAsk → OpReply → Option TurnRow → Option Word
+used_for (Authorize verdict b session) reply turn = session
+used_for (Login word signed b session) reply turn = session_set (Login word signed b session) reply
+used_for (Consent word agree b session) reply turn = option_and_then (λ (row : TurnRow). row.session) turn
+used_for ask reply turn = None
+
 abbrev pub used_found : OpPast → Entry OpAsk → OpAsk → OpReply → Option Word
-used_found past e (Authorize verdict b session) reply = session
-used_found past e (Login turn signed b session) reply = session_set (Login turn signed b session) reply
-used_found past e (Consent turn agree b session) reply = option_and_then (λ (row : TurnRow). row.session) (live_turn past e.at turn)
-used_found past e ask reply = None
+used_found past e ask reply = used_for ask reply (turn_found past e.at ask)
 
 -- these are the rows that the definitions of turns, sessions, codes and access tokens make; the session counts only if a client
 -- was answered
-pub record Brings (past : OpPast) (p : OpPair) (turn : Option TurnRow) (session : Option SessionRow) (code : Option CodeRow) (token : Option TokenRow) (used : Option Word) (client : Option ℕ) : Type 0 where
+pub record MakesRows (past : OpPast) (p : OpPair) (turn : Option TurnRow) (session : Option SessionRow) (code : Option CodeRow) (token : Option TokenRow) (used : Option Word) (client : Option ℕ) : Type 0 where
   pub turn_is : turn ≡ turn_made (turns past) past p
   pub session_is : session ≡ session_made (sessions past) past p
   pub code_is : code ≡ code_made (codes_issued past) past p

@@ -1,13 +1,18 @@
 // The provider's reply.
 
-ghost use Rattle.std.specs.Prelude.{◌≡◌, ◌≤◌, true, IfOk};
+ghost use Rattle.std.specs.Prelude.{◌≡◌, ◌≤◌, true, IfOk, IfSome};
+ghost use Rattle.std.specs.Option.{option_copied};
 ghost use Rattle.sso_base.specs.Legal.{last_moment};
 ghost use Rattle.op_exchange.specs.Asks as asks;
 ghost use Rattle.op_answer.specs.Answering as spec;
+ghost use Rattle.op_tables.specs.Agreeing.{is_own_turn, is_own_session};
 ghost use Rattle.op_core.specs.Providing.{past_of};
+ghost use Rattle.op_core.specs.Making.{turn_found, session_of_turn};
+ghost use Rattle.op_core.specs.FormReplies.{reply_for};
 
 use crate::state::OpCore;
 use auth_request::{PageNo, Verdict, Wish, is_short_nonce};
+use code_grant::{SessionRow, TurnRow};
 use discovery_doc::print_discovery;
 use op_exchange::{OpAsk, OpReply};
 use sso_base::{Entry, NoMemory};
@@ -55,11 +60,19 @@ impl OpCore {
         }
     }
 
-    // The reply, if no table were full.
-    fn reply(&self, alloc: Global, entry: &Entry<OpAsk>) -> Result<OpReply, NoMemory>
+    // The reply for the turn of the form and the live session of that turn, if no table were full.
+    fn reply_for(
+        &self,
+        alloc: Global,
+        entry: &Entry<OpAsk>,
+        turn: Option<&TurnRow>,
+        own: Option<&SessionRow>,
+    ) -> Result<OpReply, NoMemory>
         requires moment { last_moment (past_of self.now) ≤ entry.now.at }
         requires prepared { asks.is_prepared self.now.registry entry.now.ask ≡ true }
-        ensures { IfOk result (λ r. r ≡ spec.op_reply self.now.registry (past_of self.now) entry.now entry.now.ask) }
+        requires turn { IfSome (option_copied turn) (λ row. is_own_turn self.now.registry row ≡ true) }
+        requires own { IfSome (option_copied own) (λ row. is_own_session self.now.registry row ≡ true) }
+        ensures { IfOk result (λ r. r ≡ reply_for self.now.registry (past_of self.now) entry.now entry.now.ask (option_copied turn.entry) (option_copied own.entry)) }
     {
         match &entry.ask {
             OpAsk::Authorize {
@@ -68,23 +81,17 @@ impl OpCore {
                 session,
             } => self.authorize(alloc, entry, verdict, *browser, *session),
             OpAsk::Login {
-                turn,
                 signed,
                 browser,
                 session,
-            } => {
-                let turn = self.live_turn(entry.at, *turn);
-                self.login(alloc, entry, turn, *signed, *browser, *session)
-            }
+                ..
+            } => self.login(alloc, entry, turn, *signed, *browser, *session),
             OpAsk::Consent {
-                turn,
                 agree,
                 browser,
                 session,
-            } => {
-                let turn = self.live_turn(entry.at, *turn);
-                self.consent(alloc, entry, turn, *agree, *browser, *session)
-            }
+                ..
+            } => self.consent(alloc, entry, turn, own, *agree, *browser, *session),
             OpAsk::Token { grant } => self.token(alloc, entry, grant),
             OpAsk::Info { bearer } => self.info(alloc, entry, bearer),
             OpAsk::SignOut { session } => self.sign_out(alloc, entry, *session),
@@ -97,16 +104,46 @@ impl OpCore {
         }
     }
 
-    // The reply. A value that no request produces gets `NotHere`, and with a full table nothing changes.
+    // The reply, if no table were full. The turn of a form and its live session were found.
+    fn reply(
+        &self,
+        alloc: Global,
+        entry: &Entry<OpAsk>,
+        turn: Option<&TurnRow>,
+        own: Option<&SessionRow>,
+    ) -> Result<OpReply, NoMemory>
+        requires moment { last_moment (past_of self.now) ≤ entry.now.at }
+        requires prepared { asks.is_prepared self.now.registry entry.now.ask ≡ true }
+        requires turn { option_copied turn ≡ turn_found (past_of self.now) entry.now.at entry.now.ask }
+        requires session { option_copied own ≡ session_of_turn (past_of self.now) entry.now.at (option_copied turn) }
+        requires turn_is_own { IfSome (option_copied turn) (λ row. is_own_turn self.now.registry row ≡ true) }
+        requires session_is_own { IfSome (option_copied own) (λ row. is_own_session self.now.registry row ≡ true) }
+        ensures { IfOk result (λ r. r ≡ spec.op_reply self.now.registry (past_of self.now) entry.now entry.now.ask) }
+    {
+        self.reply_for(alloc, entry, turn, own)
+    }
+
+    // The reply. A value that no request produces gets `NotHere`, and with a full table nothing changes. The turn of a form and
+    // its live session were found.
     #[tactic(auto, unfolding(op_answer::specs::Answering::op_answer))]
-    pub(crate) fn answer(&self, alloc: Global, entry: &Entry<OpAsk>) -> Result<OpReply, NoMemory>
-        requires { last_moment (past_of self.now) ≤ entry.now.at }
+    pub(crate) fn answer(
+        &self,
+        alloc: Global,
+        entry: &Entry<OpAsk>,
+        turn: Option<&TurnRow>,
+        own: Option<&SessionRow>,
+    ) -> Result<OpReply, NoMemory>
+        requires moment { last_moment (past_of self.now) ≤ entry.now.at }
+        requires turn { option_copied turn ≡ turn_found (past_of self.now) entry.now.at entry.now.ask }
+        requires session { option_copied own ≡ session_of_turn (past_of self.now) entry.now.at (option_copied turn) }
+        requires turn_is_own { IfSome (option_copied turn) (λ row. is_own_turn self.now.registry row ≡ true) }
+        requires session_is_own { IfSome (option_copied own) (λ row. is_own_session self.now.registry row ≡ true) }
         ensures { IfOk result (λ r. r ≡ spec.op_answer self.now.registry (past_of self.now) entry.now) }
     {
         if !self.is_prepared(&entry.ask) {
             return Ok(OpReply::NotHere);
         }
-        let reply = self.reply(alloc, entry)?;
+        let reply = self.reply(alloc, entry, turn, own)?;
         if self.lacks_room(entry, &reply) {
             Ok(OpReply::Full)
         } else {

@@ -10,7 +10,7 @@
 //! | `answering`, `replying`, `redeeming`, `info`, `sign_out` | the reply, from the live rows |
 //! | `authentications` | the login in tokens |
 //! | `questions`, `room` | lookups in the tables, and whether they have room |
-//! | `outcome`, `making` | the effects of a reply: rows, the session that it used, the client that it answered |
+//! | `outcome`, `making` | a reply with its effects: rows, the session that it used, the client that it answered |
 //!
 //! The crate `op_tables` updates the tables with a pair.
 #![tactic(auto)]

@@ -6,11 +6,13 @@ ghost use Rattle.sso_base.specs.Words.{word_of_text};
 ghost use Rattle.sso_base.specs.Legal.{last_moment};
 ghost use Rattle.code_grant.specs.declared.rows.TurnRow.{TurnRow};
 ghost use Rattle.op_exchange.specs.Asks.{is_prepared, is_prepared_wish};
+ghost use Rattle.op_exchange.specs.Replied.{code_in};
 ghost use Rattle.client_registry.specs.Numbers.{is_user};
 ghost use Rattle.op_core.specs.Providing.{past_of};
 ghost use Rattle.op_tables.specs.Agreeing.{is_own_turn, is_own_session, is_own_code, is_own_token};
 ghost use Rattle.op_core.specs.Making as spec;
 ghost use Rattle.op_answer.specs.Turns as turns;
+ghost use Rattle.op_answer.specs.Sessions as sessions;
 ghost use Rattle.op_answer.specs.Codes as codes;
 ghost use Rattle.op_answer.specs.AccessTokens as tokens;
 ghost use Rattle.op_answer.specs.Replies.{session_after};
@@ -134,23 +136,52 @@ impl OpCore {
 
     // ---- the wish, the session and the client of a reply
 
-    // The wish of a live turn.
-    fn turn_wish(&self, at: Moment, turn: Option<Word>) -> Option<&Wish>
+    // The live turn of a login form or a consent form.
+    pub(crate) fn turn_found(&self, entry: &Entry<OpAsk>) -> Option<&TurnRow>
+        requires { last_moment (past_of self.now) ≤ entry.now.at }
+        ensures row { option_copied result ≡ spec.turn_found (past_of self.now) entry.now.at entry.now.ask }
+        ensures own { IfSome (option_copied result) (λ row. is_own_turn self.now.registry row ≡ true) }
+    {
+        match &entry.ask {
+            OpAsk::Login { turn, .. } => self.live_turn(entry.at, *turn),
+            OpAsk::Consent { turn, .. } => self.live_turn(entry.at, *turn),
+            _ => None,
+        }
+    }
+
+    // The live session of a turn.
+    pub(crate) fn session_of_turn(&self, at: Moment, turn: Option<&TurnRow>) -> Option<&SessionRow>
         requires { last_moment (past_of self.now) ≤ at }
-        ensures wish { option_copied result ≡ option_map (λ (row : TurnRow). row.wish) (turns.live_turn (past_of self.now) at turn) }
+        ensures row { option_copied result ≡ spec.session_of_turn (past_of self.now) at (option_copied turn.entry) }
+        ensures own { IfSome (option_copied result) (λ row. is_own_session self.now.registry row ≡ true) }
+    {
+        let Some(turn) = turn else {
+            return None;
+        };
+        self.live_session(at, turn.session)
+    }
+
+    // The wish of a turn.
+    fn turn_wish<'a>(&self, turn: Option<&'a TurnRow>) -> Option<&'a Wish>
+        requires { IfSome (option_copied turn) (λ row. is_own_turn self.now.registry row ≡ true) }
+        ensures wish { option_copied result ≡ option_map (λ (row : TurnRow). row.wish) (option_copied turn.entry) }
         ensures own { IfSome (option_copied result) (λ wish. is_prepared_wish self.now.registry wish ≡ true) }
     {
-        match self.live_turn(at, turn) {
+        match turn {
             Some(row) => Some(&row.wish),
             None => None,
         }
     }
 
-    // The wish of the request, or of the live turn.
-    fn wish_found<'a>(&'a self, at: Moment, ask: &'a OpAsk) -> Option<&'a Wish>
-        requires moment { last_moment (past_of self.now) ≤ at }
+    // The wish of the request, or of the turn of its form.
+    pub(crate) fn wish_for<'a>(
+        &self,
+        ask: &'a OpAsk,
+        turn: Option<&'a TurnRow>,
+    ) -> Option<&'a Wish>
         requires prepared { is_prepared self.now.registry ask.now ≡ true }
-        ensures wish { option_copied result ≡ spec.wish_found (past_of self.now) at ask.now }
+        requires turn { IfSome (option_copied turn) (λ row. is_own_turn self.now.registry row ≡ true) }
+        ensures wish { option_copied result ≡ spec.wish_for ask.now (option_copied turn.entry) }
         ensures own { IfSome (option_copied result) (λ wish. is_prepared_wish self.now.registry wish ≡ true) }
     {
         match ask {
@@ -158,8 +189,8 @@ impl OpCore {
                 verdict: Verdict::Grant(wish),
                 ..
             } => Some(wish),
-            OpAsk::Login { turn, .. } => self.turn_wish(at, *turn),
-            OpAsk::Consent { turn, .. } => self.turn_wish(at, *turn),
+            OpAsk::Login { .. } => self.turn_wish(turn),
+            OpAsk::Consent { .. } => self.turn_wish(turn),
             _ => None,
         }
     }
@@ -191,11 +222,16 @@ impl OpCore {
         }
     }
 
-    // The live session that was presented, the one after a correct password, or the live turn's.
-    fn session_found(&self, entry: &Entry<OpAsk>) -> Option<SessionRow>
+    // The live session that was presented, the one after a correct password, or that of the turn of the form.
+    pub(crate) fn session_for(
+        &self,
+        entry: &Entry<OpAsk>,
+        own: Option<&SessionRow>,
+    ) -> Option<SessionRow>
         requires moment { last_moment (past_of self.now) ≤ entry.now.at }
         requires prepared { is_prepared self.now.registry entry.now.ask ≡ true }
-        ensures row { result ≡ spec.session_found (past_of self.now) entry.now entry.now.ask }
+        requires own { IfSome (option_copied own) (λ row. is_own_session self.now.registry row ≡ true) }
+        ensures row { result ≡ spec.session_for (past_of self.now) entry.now entry.now.ask (option_copied own.entry) }
         ensures own { IfSome result (λ row. is_own_session self.now.registry row ≡ true) }
     {
         match &entry.ask {
@@ -205,25 +241,21 @@ impl OpCore {
                 session,
                 ..
             } => Some(self.session_after(entry, *user, *session)),
-            OpAsk::Consent { turn, .. } => {
-                let turn = self.live_turn(entry.at, *turn)?;
-                self.live_session(entry.at, turn.session).copied()
-            }
+            OpAsk::Consent { .. } => own.copied(),
             _ => None,
         }
     }
 
-    // The client that the reply answers.
-    pub(crate) fn client_found(&self, entry: &Entry<OpAsk>, reply: &OpReply) -> Option<u32>
-        requires moment { last_moment (past_of self.now) ≤ entry.now.at }
-        requires prepared { is_prepared self.now.registry entry.now.ask ≡ true }
-        ensures client { result ≡ spec.client_found (past_of self.now) entry.now reply.now }
+    // The client that the reply answers, with this wish.
+    pub(crate) fn client_for(&self, reply: &OpReply, wish: Option<&Wish>) -> Option<u32>
+        requires { IfSome (option_copied wish) (λ w. is_prepared_wish self.now.registry w ≡ true) }
+        ensures client { result ≡ sessions.client_of_wish (sessions.is_answered reply.now) (option_copied wish.entry) }
         ensures in_range { IfSome result (λ client. client < 128) }
     {
         let OpReply::Answered { .. } = reply else {
             return None;
         };
-        let wish = self.wish_found(entry.at, &entry.ask)?;
+        let wish = wish?;
         self.bound_client(wish);
         Some(wish.client)
     }
@@ -260,11 +292,17 @@ impl OpCore {
         Ok(Some(turn))
     }
 
-    // The session after a login whose reply sets a session word.
-    fn session_put(&self, entry: &Entry<OpAsk>, reply: &OpReply) -> Option<SessionRow>
+    // The session after a login whose reply sets a session word, with the client that the reply answers.
+    fn session_put(
+        &self,
+        entry: &Entry<OpAsk>,
+        reply: &OpReply,
+        client: Option<u32>,
+    ) -> Option<SessionRow>
         requires moment { last_moment (past_of self.now) ≤ entry.now.at }
         requires prepared { is_prepared self.now.registry entry.now.ask ≡ true }
-        ensures row { result ≡ spec.session_put (past_of self.now) entry.now reply.now }
+        requires client { IfSome client (λ n. n < 128) }
+        ensures row { result ≡ spec.session_put_by (past_of self.now) entry.now client entry.now.ask (sessions.session_set entry.now.ask reply.now) }
         ensures own { IfSome result (λ row. is_own_session self.now.registry row ≡ true) }
         ensures in_range { IfSome result (λ row. row.user < 512) }
     {
@@ -279,19 +317,21 @@ impl OpCore {
         session_set(&entry.ask, reply)?;
         let session = self.session_after(entry, *user, *presented);
         self.bound_user(session.user);
-        Some(session_with(self.client_found(entry, reply), &session))
+        Some(session_with(client, &session))
     }
 
-    // The code of a response.
+    // The code of a response, for this wish and session.
     fn code_put(
         &self,
         alloc: Global,
-        entry: &Entry<OpAsk>,
+        at: Moment,
         reply: &OpReply,
+        wish: Option<&Wish>,
+        session: &Option<SessionRow>,
     ) -> Result<Option<CodeRow>, NoMemory>
-        requires moment { last_moment (past_of self.now) ≤ entry.now.at }
-        requires prepared { is_prepared self.now.registry entry.now.ask ≡ true }
-        ensures row { IfOk result (λ row. row ≡ spec.code_put (past_of self.now) entry.now reply.now) }
+        requires wish { IfSome (option_copied wish) (λ w. is_prepared_wish self.now.registry w ≡ true) }
+        requires session { IfSome session.now (λ row. is_own_session self.now.registry row ≡ true) }
+        ensures row { IfOk result (λ row. row ≡ codes.code_made_by (length (past_of self.now)) at (code_in reply.now) (option_copied wish.entry) session.now) }
         ensures own { IfOk result (λ row. IfSome row (λ code. is_own_code self.now.registry code ≡ true)) }
         ensures user { IfOk result (λ row. IfSome row (λ code. code.user < 512)) }
         ensures client { IfOk result (λ row. IfSome row (λ code. code.wish.client < 128)) }
@@ -299,15 +339,15 @@ impl OpCore {
         let Some(word) = reply.code() else {
             return Ok(None);
         };
-        let Some(wish) = self.wish_found(entry.at, &entry.ask) else {
+        let Some(wish) = wish else {
             return Ok(None);
         };
-        let Some(session) = self.session_found(entry) else {
+        let Some(session) = session else {
             return Ok(None);
         };
         self.bound_client(wish);
         self.bound_user(session.user);
-        let code = code_issued(alloc, self.place(), entry.at, word, wish, &session)?;
+        let code = code_issued(alloc, self.place(), at, word, wish, session)?;
         Ok(Some(code))
     }
 
@@ -356,16 +396,18 @@ impl OpCore {
         Ok(Some(token))
     }
 
-    // The access token of an authorization response.
+    // The access token of an authorization response, for this wish and session.
     fn access_answered(
         &self,
         alloc: Global,
-        entry: &Entry<OpAsk>,
+        at: Moment,
         word: Option<Word>,
+        wish: Option<&Wish>,
+        session: &Option<SessionRow>,
     ) -> Result<Option<TokenRow>, NoMemory>
-        requires moment { last_moment (past_of self.now) ≤ entry.now.at }
-        requires prepared { is_prepared self.now.registry entry.now.ask ≡ true }
-        ensures row { IfOk result (λ row. row ≡ tokens.access_answered (length (past_of self.now)) entry.now.at word (spec.wish_found (past_of self.now) entry.now.at entry.now.ask) (spec.session_found (past_of self.now) entry.now entry.now.ask)) }
+        requires wish { IfSome (option_copied wish) (λ w. is_prepared_wish self.now.registry w ≡ true) }
+        requires session { IfSome session.now (λ row. is_own_session self.now.registry row ≡ true) }
+        ensures row { IfOk result (λ row. row ≡ tokens.access_answered (length (past_of self.now)) at word (option_copied wish.entry) session.now) }
         ensures own { IfOk result (λ row. IfSome row (λ token. is_own_token self.now.registry token ≡ true)) }
         ensures user { IfOk result (λ row. IfSome row (λ token. token.user < 512)) }
         ensures client { IfOk result (λ row. IfSome row (λ token. token.client < 128)) }
@@ -373,13 +415,13 @@ impl OpCore {
         let Some(word) = word else {
             return Ok(None);
         };
-        let Some(wish) = self.wish_found(entry.at, &entry.ask) else {
+        let Some(wish) = wish else {
             return Ok(None);
         };
-        let Some(session) = self.session_found(entry) else {
+        let Some(session) = session else {
             return Ok(None);
         };
-        let token = self.access_made(alloc, entry.at, word, None, wish, session.user)?;
+        let token = self.access_made(alloc, at, word, None, wish, session.user)?;
         Ok(Some(token))
     }
 
@@ -389,10 +431,13 @@ impl OpCore {
         alloc: Global,
         entry: &Entry<OpAsk>,
         reply: &OpReply,
+        wish: Option<&Wish>,
+        session: &Option<SessionRow>,
     ) -> Result<Option<TokenRow>, NoMemory>
         requires moment { last_moment (past_of self.now) ≤ entry.now.at }
-        requires prepared { is_prepared self.now.registry entry.now.ask ≡ true }
-        ensures row { IfOk result (λ row. row ≡ spec.access_put (past_of self.now) entry.now reply.now) }
+        requires wish { IfSome (option_copied wish) (λ w. is_prepared_wish self.now.registry w ≡ true) }
+        requires session { IfSome session.now (λ row. is_own_session self.now.registry row ≡ true) }
+        ensures row { IfOk result (λ row. row ≡ spec.access_put_by (past_of self.now) entry.now entry.now.ask reply.now (option_copied wish.entry) session.now) }
         ensures own { IfOk result (λ row. IfSome row (λ token. is_own_token self.now.registry token ≡ true)) }
         ensures user { IfOk result (λ row. IfSome row (λ token. token.user < 512)) }
         ensures client { IfOk result (λ row. IfSome row (λ token. token.client < 128)) }
@@ -404,24 +449,33 @@ impl OpCore {
                 }
                 _ => Ok(None),
             },
-            OpReply::Answered { answer, .. } => self.access_answered(alloc, entry, answer.access),
+            OpReply::Answered { answer, .. } => {
+                self.access_answered(alloc, entry.at, answer.access, wish, session)
+            }
             _ => Ok(None),
         }
     }
 
-    /// The rows that a possible request and its reply make.
+    /// The rows that a possible request and its reply make, from the wish and the session that were found and the client that
+    /// the reply answers.
     pub(crate) fn made(
         &self,
         alloc: Global,
         entry: &Entry<OpAsk>,
         reply: &OpReply,
+        wish: Option<&Wish>,
+        session: &Option<SessionRow>,
+        client: Option<u32>,
     ) -> Result<Made, NoMemory>
         requires moment { last_moment (past_of self.now) ≤ entry.now.at }
         requires prepared { is_prepared self.now.registry entry.now.ask ≡ true }
+        requires wish { IfSome (option_copied wish) (λ w. is_prepared_wish self.now.registry w ≡ true) }
+        requires session { IfSome session.now (λ row. is_own_session self.now.registry row ≡ true) }
+        requires client { IfSome client (λ n. n < 128) }
         ensures turn { IfOk result (λ m. m.turn ≡ turns.turn_started entry.now.at entry.now.ask reply.now) }
-        ensures session { IfOk result (λ m. m.session ≡ spec.session_put (past_of self.now) entry.now reply.now) }
-        ensures code { IfOk result (λ m. m.code ≡ spec.code_put (past_of self.now) entry.now reply.now) }
-        ensures token { IfOk result (λ m. m.token ≡ spec.access_put (past_of self.now) entry.now reply.now) }
+        ensures session { IfOk result (λ m. m.session ≡ spec.session_put_by (past_of self.now) entry.now client entry.now.ask (sessions.session_set entry.now.ask reply.now)) }
+        ensures code { IfOk result (λ m. m.code ≡ codes.code_made_by (length (past_of self.now)) entry.now.at (code_in reply.now) (option_copied wish.entry) session.now) }
+        ensures token { IfOk result (λ m. m.token ≡ spec.access_put_by (past_of self.now) entry.now entry.now.ask reply.now (option_copied wish.entry) session.now) }
         ensures own_turn { IfOk result (λ m. IfSome m.turn (λ row. is_own_turn self.now.registry row ≡ true)) }
         ensures own_session { IfOk result (λ m. IfSome m.session (λ row. is_own_session self.now.registry row ≡ true)) }
         ensures own_code { IfOk result (λ m. IfSome m.code (λ row. is_own_code self.now.registry row ≡ true)) }
@@ -435,9 +489,9 @@ impl OpCore {
     {
         Ok(Made {
             turn: self.turn_put(alloc, entry, reply)?,
-            session: self.session_put(entry, reply),
-            code: self.code_put(alloc, entry, reply)?,
-            token: self.access_put(alloc, entry, reply)?,
+            session: self.session_put(entry, reply, client),
+            code: self.code_put(alloc, entry.at, reply, wish, session)?,
+            token: self.access_put(alloc, entry, reply, wish, session)?,
         })
     }
 }

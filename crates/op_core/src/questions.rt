@@ -16,8 +16,8 @@ ghost use Rattle.op_answer.specs.Consents.{grant_of};
 
 use crate::state::OpCore;
 use code_grant::{CodeRow, SessionRow, Table, TokenRow, TurnRow};
-use oidc_words::{ACCESS_LIFE, CODE_LIFE, SESSION_LIFE, Scopes, TURN_LIFE};
-use sso_base::{Moment, Word, is_live};
+use oidc_words::Scopes;
+use sso_base::{Moment, Word};
 
 impl OpCore {
     /// The live turn of a word.
@@ -29,14 +29,7 @@ impl OpCore {
         let Some(word) = word else {
             return None;
         };
-        let Some(row) = self.grants.turn(word) else {
-            return None;
-        };
-        if is_live(TURN_LIFE, row.begun, at) {
-            Some(row)
-        } else {
-            None
-        }
+        self.grants.live_turn(word, at)
     }
 
     /// The live session of a word.
@@ -48,14 +41,7 @@ impl OpCore {
         let Some(word) = word else {
             return None;
         };
-        let Some(row) = self.grants.session(word) else {
-            return None;
-        };
-        if is_live(SESSION_LIFE, row.auth_time, at) {
-            Some(row)
-        } else {
-            None
-        }
+        self.grants.live_session(word, at)
     }
 
     /// The code of a word that is kept.
@@ -67,14 +53,7 @@ impl OpCore {
         let Some(word) = word else {
             return None;
         };
-        let Some(row) = self.grants.code(word) else {
-            return None;
-        };
-        if is_live(CODE_LIFE, row.issued, at) {
-            Some(row)
-        } else {
-            None
-        }
+        self.grants.held_code(word, at)
     }
 
     /// The live access token of a word.
@@ -83,14 +62,7 @@ impl OpCore {
         ensures row { option_copied result ≡ tokens.live_access_token (past_of self.now) at word }
         ensures own { IfSome (option_copied result) (λ row. is_own_token self.now.registry row ≡ true) }
     {
-        let Some(row) = self.grants.live(word) else {
-            return None;
-        };
-        if is_live(ACCESS_LIFE, row.issued, at) {
-            Some(row)
-        } else {
-            None
-        }
+        self.grants.live_token(word, at)
     }
 
     /// Whether a live turn belongs to this browser.

@@ -8,9 +8,10 @@ ghost use Rattle.op_exchange.specs.Asks.{is_prepared_wish, is_prepared_verdict};
 ghost use Rattle.op_exchange.specs.declared.reply.OpReply.TheVariants as reply;
 ghost use Rattle.client_registry.specs.Numbers.{is_user};
 ghost use Rattle.op_tables.specs.Agreeing.{is_own_turn, is_own_session};
+ghost use Rattle.op_core.specs.FormReplies.{consent_for};
 ghost use Rattle.op_core.specs.Providing.{past_of};
 ghost use Rattle.op_answer.specs.Replies as spec;
-ghost use Rattle.request_need.specs.Need.{needed};
+ghost use Rattle.user_interaction.specs.Need.{needed};
 
 use crate::authentications::authentication_of_session;
 use crate::state::OpCore;
@@ -19,9 +20,9 @@ use code_grant::{SessionRow, TurnRow};
 use oidc_words::{AuthError, Refusal};
 use op_exchange::{OpAsk, OpReply};
 use op_issue::issue;
-use request_need::{Need, Standing, decide, needed_scopes};
 use sso_base::{Entry, NoMemory, Word, copied_text};
 use std::alloc::Global;
+use user_interaction::{Need, Standing, decide, needed_scopes};
 
 // Whether the presented session is the turn's.
 fn is_turns(presented: Option<Word>, session: Option<Word>) -> bool
@@ -337,24 +338,25 @@ impl OpCore {
         self.consent_by(alloc, entry, turn, session, need)
     }
 
-    // The reply to a consent form.
+    // The reply to a consent form, from its turn and the live session of that turn.
     pub(crate) fn consent(
         &self,
         alloc: Global,
         entry: &Entry<OpAsk>,
         turn: Option<&TurnRow>,
+        own: Option<&SessionRow>,
         agree: bool,
         browser: Option<Word>,
         presented: Option<Word>,
     ) -> Result<OpReply, NoMemory>
-        requires moment { last_moment (past_of self.now) ≤ entry.now.at }
         requires turn { IfSome (option_copied turn) (λ row. is_own_turn self.now.registry row ≡ true) }
-        ensures { IfOk result (λ r. r ≡ spec.consent self.now.registry (past_of self.now) entry.now (option_copied turn.entry) agree browser presented) }
+        requires own { IfSome (option_copied own) (λ row. is_own_session self.now.registry row ≡ true) }
+        ensures { IfOk result (λ r. r ≡ consent_for self.now.registry (past_of self.now) entry.now (option_copied turn.entry) (option_copied own.entry) agree browser presented) }
     {
         let Some(turn) = turn else {
             return Ok(OpReply::ErrorPage { why: PageNo::Turn });
         };
-        let Some(session) = self.live_session(entry.at, turn.session) else {
+        let Some(session) = own else {
             return Ok(OpReply::ErrorPage { why: PageNo::Turn });
         };
         if !turn.browser.is_presented(browser) || !is_turns(presented, turn.session) {

@@ -10,16 +10,16 @@ ghost use Rattle.op_exchange.specs.Weight as weights;
 ghost use Rattle.op_answer.specs.Answering.{op_answer};
 ghost use Rattle.op_answer.specs.Past.{OpPast};
 ghost use Rattle.op_tables.specs.Agreeing.{is_own_turn, is_own_session, is_own_code, is_own_token};
-ghost use Rattle.op_tables.specs.Keeping.{FollowsPair};
-ghost use Rattle.op_tables.specs.Taking.{TakesUp};
-ghost use Rattle.op_core.specs.Outcome.{Brings};
+ghost use Rattle.op_tables.specs.Keeping.{IsUpdate};
+ghost use Rattle.op_tables.specs.Updating.{MayUpdate};
+ghost use Rattle.op_core.specs.Outcome.{MakesRows};
 ghost use Rattle.op_core.specs.Providing.{past_of};
 
-use crate::outcome::Outcome;
+use crate::outcome::{Decision, Outcome};
 use crate::state::OpCore;
 use code_grant::Grants;
 use op_exchange::{OpAsk, OpReply, know_op_entry};
-use op_tables::take_up;
+use op_tables::update_tables;
 use sso_base::{Core, CoreNo, Entry, Journal, Moment, NoMemory, Pair, Weighed, Word};
 use std::alloc::Global;
 
@@ -44,7 +44,7 @@ fn put(
     weight: u64,
 )
     requires reserved { length journal.old.pairs < journal.old.capacity }
-    requires may { (c : Configuration) × (past : OpPast) × (before : ℕ) × TakesUp grants.old (record { entry = entry; reply = reply }) outcome.made.turn outcome.made.session outcome.made.code outcome.made.token outcome.used outcome.client c past before }
+    requires may { (c : Configuration) × (past : OpPast) × (before : ℕ) × MayUpdate grants.old (record { entry = entry; reply = reply }) outcome.made.turn outcome.made.session outcome.made.code outcome.made.token outcome.used outcome.client c past before }
     requires tables { grants.old.reserved ≡ record { turns = true; sessions = true; codes = true; tokens = true } }
     requires client { IfSome outcome.client (λ n. n < 128) }
     requires turn { IfSome outcome.made.turn (λ row. row.wish.client < 128) }
@@ -54,11 +54,11 @@ fn put(
     requires weight { weight ≡ weights.ask_weight entry.ask }
     requires room { history_weight weights.ask_weight journal.old.pairs + weight ≤ most_weight }
     ensures pairs { journal.new.pairs ≡ journal.old.pairs ++ (record { entry = entry; reply = reply }) ∷ [] }
-    ensures tables { (c : Configuration) (past : OpPast) (before : ℕ) → TakesUp grants.old (record { entry = entry; reply = reply }) outcome.made.turn outcome.made.session outcome.made.code outcome.made.token outcome.used outcome.client c past before → FollowsPair grants.old grants.new past (record { entry = entry; reply = reply }) }
+    ensures tables { (c : Configuration) (past : OpPast) (before : ℕ) → MayUpdate grants.old (record { entry = entry; reply = reply }) outcome.made.turn outcome.made.session outcome.made.code outcome.made.token outcome.used outcome.client c past before → IsUpdate grants.old grants.new past (record { entry = entry; reply = reply }) }
 {
     let pair = Pair { entry, reply };
     let Outcome { made, used, client } = outcome;
-    take_up(grants, &pair, made, used, client);
+    update_tables(grants, &pair, made, used, client);
     journal.push(pair, weight);
 }
 
@@ -71,7 +71,7 @@ fn take_in(
     outcome: Outcome,
     weight: u64,
 ) -> Result<(), NoMemory>
-    requires may { (c : Configuration) × (past : OpPast) × (before : ℕ) × TakesUp (with_room grants.old) (record { entry = entry; reply = reply }) outcome.made.turn outcome.made.session outcome.made.code outcome.made.token outcome.used outcome.client c past before }
+    requires may { (c : Configuration) × (past : OpPast) × (before : ℕ) × MayUpdate (with_room grants.old) (record { entry = entry; reply = reply }) outcome.made.turn outcome.made.session outcome.made.code outcome.made.token outcome.used outcome.client c past before }
     requires client { IfSome outcome.client (λ n. n < 128) }
     requires turn { IfSome outcome.made.turn (λ row. row.wish.client < 128) }
     requires session { IfSome outcome.made.session (λ row. row.user < 512) }
@@ -80,7 +80,7 @@ fn take_in(
     requires weight { weight ≡ weights.ask_weight entry.ask }
     requires room { history_weight weights.ask_weight journal.old.pairs + weight ≤ most_weight }
     ensures pairs { OnOk result (journal.new.pairs ≡ journal.old.pairs ++ (record { entry = entry; reply = reply }) ∷ []) }
-    ensures tables { OnOk result ((c : Configuration) (past : OpPast) (before : ℕ) → TakesUp (with_room grants.old) (record { entry = entry; reply = reply }) outcome.made.turn outcome.made.session outcome.made.code outcome.made.token outcome.used outcome.client c past before → FollowsPair (with_room grants.old) grants.new past (record { entry = entry; reply = reply })) }
+    ensures tables { OnOk result ((c : Configuration) (past : OpPast) (before : ℕ) → MayUpdate (with_room grants.old) (record { entry = entry; reply = reply }) outcome.made.turn outcome.made.session outcome.made.code outcome.made.token outcome.used outcome.client c past before → IsUpdate (with_room grants.old) grants.new past (record { entry = entry; reply = reply })) }
     ensures same_pairs { OnErr result (journal.new.pairs ≡ journal.old.pairs) }
     ensures same_tables { OnErr result (grants.new ≡ grants.old) }
 {
@@ -111,7 +111,7 @@ impl OpCore {
         requires moment { last_moment (past_of self.old) ≤ entry.at }
         requires answer { reply ≡ op_answer self.old.registry (past_of self.old) entry }
         requires entry { IsEntry IsOpAsk entry }
-        requires brings { Brings (past_of self.old) (record { entry = entry; reply = reply }) outcome.made.turn outcome.made.session outcome.made.code outcome.made.token outcome.used outcome.client }
+        requires rows { MakesRows (past_of self.old) (record { entry = entry; reply = reply }) outcome.made.turn outcome.made.session outcome.made.code outcome.made.token outcome.used outcome.client }
         requires own_turn { IfSome outcome.made.turn (λ row. is_own_turn self.old.registry row ≡ true) }
         requires own_session { IfSome outcome.made.session (λ row. is_own_session self.old.registry row ≡ true) }
         requires own_code { IfSome outcome.made.code (λ row. is_own_code self.old.registry row ≡ true) }
@@ -138,60 +138,44 @@ impl OpCore {
         Ok(())
     }
 
-    // Adds an entry with its reply.
-    fn take(
-        &mut self,
-        alloc: Global,
-        entry: Entry<OpAsk>,
-        reply: OpReply,
-        weight: u64,
-    ) -> Result<(), NoMemory>
-        requires moment { last_moment (past_of self.old) ≤ entry.at }
-        requires answer { reply ≡ op_answer self.old.registry (past_of self.old) entry }
-        requires entry { IsEntry IsOpAsk entry }
-        requires weight { weight ≡ weights.ask_weight entry.ask }
-        requires room { history_weight weights.ask_weight self.old.history + weight ≤ most_weight }
-        ensures history { OnOk result (self.new.history ≡ self.old.history ++ (record { entry = entry; reply = reply }) ∷ []) }
-        ensures registry { OnOk result (self.new.registry ≡ self.old.registry) }
-        ensures err { OnErr result (self.new ≡ self.old) }
-    {
-        match self.outcome(alloc, &entry, &reply) {
-            Ok(outcome) => self.commit(entry, reply, outcome, weight),
-            Err(no) => {
-                drop(entry);
-                drop(reply);
-                Err(no)
-            }
-        }
-    }
-
-    // Adds an entry with its reply, and returns a copy of the reply.
+    // Adds an entry with its reply and its effects, and returns a copy of the reply.
     fn take_and_answer(
         &mut self,
         alloc: Global,
         entry: Entry<OpAsk>,
-        reply: OpReply,
+        decision: Decision,
         weight: u64,
     ) -> Result<OpReply, NoMemory>
         requires moment { last_moment (past_of self.old) ≤ entry.at }
-        requires answer { reply ≡ op_answer self.old.registry (past_of self.old) entry }
+        requires answer { decision.reply ≡ op_answer self.old.registry (past_of self.old) entry }
         requires entry { IsEntry IsOpAsk entry }
+        requires rows { MakesRows (past_of self.old) (record { entry = entry; reply = decision.reply }) decision.outcome.made.turn decision.outcome.made.session decision.outcome.made.code decision.outcome.made.token decision.outcome.used decision.outcome.client }
+        requires own_turn { IfSome decision.outcome.made.turn (λ row. is_own_turn self.old.registry row ≡ true) }
+        requires own_session { IfSome decision.outcome.made.session (λ row. is_own_session self.old.registry row ≡ true) }
+        requires own_code { IfSome decision.outcome.made.code (λ row. is_own_code self.old.registry row ≡ true) }
+        requires own_token { IfSome decision.outcome.made.token (λ row. is_own_token self.old.registry row ≡ true) }
+        requires client { IfSome decision.outcome.client (λ n. n < 128) }
+        requires turn { IfSome decision.outcome.made.turn (λ row. row.wish.client < 128) }
+        requires session { IfSome decision.outcome.made.session (λ row. row.user < 512) }
+        requires code { IfSome decision.outcome.made.code (λ row. (row.user < 512) × (row.wish.client < 128)) }
+        requires token { IfSome decision.outcome.made.token (λ row. (row.user < 512) × (row.client < 128)) }
         requires weight { weight ≡ weights.ask_weight entry.ask }
         requires room { history_weight weights.ask_weight self.old.history + weight ≤ most_weight }
-        ensures told { IfOk result (λ told. told ≡ reply) }
-        ensures history { OnOk result (self.new.history ≡ self.old.history ++ (record { entry = entry; reply = reply }) ∷ []) }
+        ensures told { IfOk result (λ told. told ≡ decision.reply) }
+        ensures history { OnOk result (self.new.history ≡ self.old.history ++ (record { entry = entry; reply = decision.reply }) ∷ []) }
         ensures registry { OnOk result (self.new.registry ≡ self.old.registry) }
         ensures err { OnErr result (self.new ≡ self.old) }
     {
-        let told = match reply.copy(alloc) {
+        let told = match decision.reply.copy(alloc) {
             Ok(told) => told,
             Err(no) => {
                 drop(entry);
-                drop(reply);
+                drop(decision);
                 return Err(no);
             }
         };
-        match self.take(alloc, entry, reply, weight) {
+        let Decision { reply, outcome } = decision;
+        match self.commit(entry, reply, outcome, weight) {
             Ok(()) => Ok(told),
             Err(no) => {
                 drop(told);
@@ -233,8 +217,8 @@ impl Core for OpCore {
         let weight = self.journal.admit(&ask)?;
         let entry = self.journal.entry(at, fresh, ask);
         know_op_entry(&entry);
-        let reply = self.answer(alloc, &entry)?;
-        Ok(self.take_and_answer(alloc, entry, reply, weight)?)
+        let decision = self.decision(alloc, &entry)?;
+        Ok(self.take_and_answer(alloc, entry, decision, weight)?)
     }
 
     fn weight(ask: &OpAsk) -> Result<u64, NoMemory> {

@@ -1,7 +1,8 @@
 -- Requests to the provider and their values, stated literally.
-use Rattle.std.specs.Prelude.{◌≡◌, ◌⊎◌, ℕ, false, true, List, [], ◌∷◌, ◌++◌, Option, Some, None}
+use Rattle.std.specs.Prelude.{◌≡◌, ◌⊎◌, ℕ, false, true, List, [], ◌++◌, Option, Some, None}
 use Rattle.sso_base.specs.Words.{Word, Text, IsWord, word_text}
 use Rattle.sso_base.specs.declared.http.Ask.{Ask}
+use Rattle.oidc_words.specs.Routes.{IsListed}
 use Rattle.hmac256.specs.Hmac.{proof_of}
 use Rattle.sso_base.specs.Texts.{has_text}
 use Rattle.client_registry.specs.declared.records.User.{User}
@@ -22,14 +23,10 @@ use Rattle.op_exchange.specs.declared.ask.OpAsk.TheVariants as ask
 use Rattle.op_exchange.specs.Fields.{turn_field, user_field, password_field}
 use Rattle.op_request.specs.declared.routes.Endpoint.{Endpoint}
 use Rattle.op_request.specs.declared.routes.Endpoint.TheVariants as endpoint
-use Rattle.op_request.specs.Routes.{Route, routes_of}
+use Rattle.op_request.specs.Routes.{routes_of}
 use Rattle.op_request.specs.PostedForms.{login_names, consent_names, fields_of}
 
 -- ---- endpoints
-
-abbrev pub IsListed : Route → List Route → Type 0
-IsListed route [] = ⊥
-IsListed route (first ∷ routes) = (first ≡ route) ⊎ IsListed route routes
 
 -- the request is to this endpoint: its path is the provider's, followed by a path that is listed for its method
 pub record IsTo (c : Configuration) (request : Ask) (e : Endpoint) : Type 0 where

@@ -7,6 +7,7 @@ use Rattle.sso_base.specs.declared.http.Method.{Method}
 use Rattle.sso_base.specs.declared.http.Method.TheVariants.{Get, Post, Other}
 use Rattle.sso_base.specs.declared.http.Ask.{Ask}
 use Rattle.oidc_words.specs.Paths.{metadata_path, keys_path, authorize_path, token_path, userinfo_path, login_path, consent_path, signout_path}
+use Rattle.oidc_words.specs.Routes.{Route, endpoint_of}
 use Rattle.op_request.specs.declared.routes.Endpoint.{Endpoint}
 use Rattle.op_request.specs.declared.routes.Endpoint.TheVariants.{Metadata, Keys, Authorization, Login, Consent, Token, UserInfo, SignOut}
 
@@ -14,10 +15,7 @@ use Rattle.op_request.specs.declared.routes.Endpoint.TheVariants.{Metadata, Keys
 abbrev pub below : Text → Text → Option Text
 below prefix path = if bytes_eq (take (length prefix) path) prefix then Some (drop (length prefix) path) else None
 
-abbrev pub Route : Type 0
-Route = Text × Endpoint
-
-abbrev pub get_routes : List Route
+abbrev pub get_routes : List (Route Endpoint)
 get_routes =
     (metadata_path, Metadata)
     ∷ (keys_path, Keys)
@@ -25,7 +23,7 @@ get_routes =
     ∷ (userinfo_path, UserInfo)
     ∷ []
 
-abbrev pub post_routes : List Route
+abbrev pub post_routes : List (Route Endpoint)
 post_routes =
     (authorize_path, Authorization)
     ∷ (login_path, Login)
@@ -35,15 +33,10 @@ post_routes =
     ∷ (signout_path, SignOut)
     ∷ []
 
-abbrev pub routes_of : Method → List Route
+abbrev pub routes_of : Method → List (Route Endpoint)
 routes_of Get = get_routes
 routes_of Post = post_routes
 routes_of Other = []
-
--- the endpoint with this path
-abbrev pub endpoint_of : List Route → Text → Option Endpoint
-endpoint_of [] path = None
-endpoint_of (route ∷ routes) path = if bytes_eq path route.0 then Some route.1 else endpoint_of routes path
 
 -- the endpoint of a request, if the provider's paths are below this prefix
 abbrev pub endpoint_asked : Text → Ask → Option Endpoint

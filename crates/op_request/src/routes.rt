@@ -1,6 +1,7 @@
 // The endpoint of a request to the provider.
 
 ghost use Rattle.std.specs.Prelude.{◌≡◌, option_map};
+ghost use Rattle.oidc_words.specs.Routes.{endpoint_of};
 ghost use Rattle.op_request.specs.Routes as spec;
 
 use oidc_words::{
@@ -32,7 +33,7 @@ fn below<'a>(prefix: &Text, path: &'a Text) -> Option<&'a [u8]>
 
 // The endpoint of a GET of the path.
 fn got(path: &[u8]) -> Option<Endpoint>
-    ensures { result ≡ spec.endpoint_of spec.get_routes path.now }
+    ensures { result ≡ endpoint_of spec.get_routes path.now }
 {
     if path == METADATA_PATH.as_bytes() {
         return Some(Endpoint::Metadata);
@@ -51,7 +52,7 @@ fn got(path: &[u8]) -> Option<Endpoint>
 
 // The endpoint of a POST to the path.
 fn posted_to(path: &[u8]) -> Option<Endpoint>
-    ensures { result ≡ spec.endpoint_of spec.post_routes path.now }
+    ensures { result ≡ endpoint_of spec.post_routes path.now }
 {
     if path == AUTHORIZE_PATH.as_bytes() {
         return Some(Endpoint::Authorization);

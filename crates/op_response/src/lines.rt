@@ -5,7 +5,7 @@ ghost use Rattle.op_response.specs.Lines as spec;
 
 use auth_answer::Answer;
 use auth_request::PageNo;
-use http_reply::phrase;
+use http_reply::concatenated;
 use oidc_words::{INVALID_TOKEN, error_text, spaced};
 use op_exchange::OpReply;
 use sso_base::{NoMemory, Text};
@@ -41,7 +41,7 @@ fn signed_out(alloc: Global, messages: usize) -> Result<Text, NoMemory>
     ensures { IfOk result (λ t. t ≡ spec.signed_out messages) }
 {
     let count = messages.to_string(alloc)?;
-    phrase(alloc, "signout ", count.as_str())
+    concatenated(alloc, "signout ", count.as_str())
 }
 
 /// The line of this reply in the text of a replay, without its index and its role:
@@ -61,12 +61,12 @@ pub fn op_line(alloc: Global, reply: &OpReply) -> Result<Text, NoMemory>
         OpReply::LoginPage { again: true, .. } => Text::new(alloc, "login again"),
         OpReply::ConsentPage { .. } => Text::new(alloc, "consent"),
         OpReply::Answered { answer, .. } => answer_words(alloc, answer),
-        OpReply::Refused { refusal, .. } => phrase(alloc, "error ", error_text(refusal.code)),
-        OpReply::ErrorPage { why } => phrase(alloc, "page ", page_word(*why)),
+        OpReply::Refused { refusal, .. } => concatenated(alloc, "error ", error_text(refusal.code)),
+        OpReply::ErrorPage { why } => concatenated(alloc, "page ", page_word(*why)),
         OpReply::Tokens { .. } => Text::new(alloc, "tokens"),
-        OpReply::TokenRefused { code } => phrase(alloc, "refused ", code.as_str()),
+        OpReply::TokenRefused { code } => concatenated(alloc, "refused ", code.as_str()),
         OpReply::Info { .. } => Text::new(alloc, "info"),
-        OpReply::InfoRefused { given: true } => phrase(alloc, "info ", INVALID_TOKEN),
+        OpReply::InfoRefused { given: true } => concatenated(alloc, "info ", INVALID_TOKEN),
         OpReply::InfoRefused { given: false } => Text::new(alloc, "info no_token"),
         OpReply::SignedOut { messages } => signed_out(alloc, messages.count()),
         OpReply::Metadata { .. } => Text::new(alloc, "metadata"),

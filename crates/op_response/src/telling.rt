@@ -11,7 +11,7 @@ use crate::lines::page_word;
 use auth_answer::{print_answer, print_refusal};
 use auth_request::PageNo;
 use client_registry::Registry;
-use http_reply::{html, joined, phrase, plain};
+use http_reply::{concatenated, html, joined, plain};
 use oidc_words::{BEARER, INVALID_TOKEN, Scopes};
 use op_exchange::OpReply;
 use sso_base::{Blob, HttpReply, Kind, NoMemory, Text, Texts, Word};
@@ -136,7 +136,7 @@ fn consent_shown(
 fn error_shown(alloc: Global, why: PageNo) -> Result<HttpReply, NoMemory>
     ensures { IfOk result (λ h. h ≡ spec.error_shown why) }
 {
-    let line = phrase(alloc, "error ", page_word(why))?;
+    let line = concatenated(alloc, "error ", page_word(why))?;
     plain(alloc, 400, line.as_str())
 }
 

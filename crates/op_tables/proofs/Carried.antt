@@ -24,7 +24,7 @@ use Rattle.op_answer.specs.Codes.{codes_issued, code_issued, code_made_by, code_
 use Rattle.op_answer.specs.AccessTokens.{accesses, access_issued, access_answered, access_redeemed, access_given, access_made, access_kept}
 use Rattle.op_answer.specs.Consents.{granted_by, turn_agreed}
 use Rattle.op_tables.specs.Agreeing.{Agrees, IsBegun}
-use Rattle.op_tables.specs.Keeping.{FollowsPair}
+use Rattle.op_tables.specs.Keeping.{IsUpdate}
 use Rattle.op_answer.proofs.KeptNames.{some_same}
 use Rattle.op_answer.proofs.KeptRows.{turn_begun_kept, session_begun_kept, code_begun_kept, access_begun_kept}
 use Rattle.held_rows.proofs.Added.{rows_carried, begun_carried}
@@ -86,7 +86,7 @@ access_made_begun held past p row h = given_begun past p p.entry.ask p.reply row
 
 -- ---- one more pair
 
-pub agrees_carried : (t u : Tables) (past : OpPast) (p : OpPair) (before : ℕ) → before ≤ p.entry.at → Agrees t past before → FollowsPair t u past p → Agrees u (p ∷ past) p.entry.at
+pub agrees_carried : (t u : Tables) (past : OpPast) (p : OpPair) (before : ℕ) → before ≤ p.entry.at → Agrees t past before → IsUpdate t u past p → Agrees u (p ∷ past) p.entry.at
 agrees_carried t u past p before order agrees follows =
     let at : ℕ = p.entry.at in
     let one = rows_carried turn_name turn_life turn_begun before at (turn_kept past p) (turn_made (turns past) past p) t.turns u.turns order (turn_begun_kept past p) (turns past) agrees.turns follows.turns_are in
@@ -109,7 +109,7 @@ agrees_carried t u past p before order agrees follows =
           follows.grants_are user client low few ∙ ap J (agrees.granted user client low few);
     }
 
-pub is_begun_carried : (t u : Tables) (past : OpPast) (p : OpPair) (before : ℕ) → before ≤ p.entry.at → IsBegun t before → FollowsPair t u past p → IsBegun u p.entry.at
+pub is_begun_carried : (t u : Tables) (past : OpPast) (p : OpPair) (before : ℕ) → before ≤ p.entry.at → IsBegun t before → IsUpdate t u past p → IsBegun u p.entry.at
 is_begun_carried t u past p before order low follows =
     let at : ℕ = p.entry.at in
     let one =

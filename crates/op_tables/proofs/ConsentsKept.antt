@@ -4,7 +4,7 @@ use Rattle.std.proofs.lemmas.Bool.{eqb-true, eq-eqb, and_parts}
 use Rattle.sso_base.proofs.RowLaws.{bool_cases, option_cases}
 use Rattle.oidc_words.specs.declared.scopes.Scopes.{Scopes}
 use Rattle.oidc_words.specs.Scopes.{no_scopes, joined}
-use Rattle.request_need.specs.Need.{needed_scopes}
+use Rattle.user_interaction.specs.Need.{needed_scopes}
 use Rattle.code_grant.specs.declared.rows.TurnRow.{TurnRow}
 use Rattle.code_grant.specs.declared.rows.SessionRow.{SessionRow}
 use Rattle.code_grant.specs.Consents.{granted_to, with_grant}

@@ -5,7 +5,7 @@ use Rattle.sso_base.specs.Words.{Text, word_of_text}
 use Rattle.sso_base.specs.Rows.{row_of}
 use Rattle.oidc_words.specs.Scopes.{joined}
 use Rattle.oidc_words.specs.Claims.{scopes_with_any}
-use Rattle.request_need.specs.Need.{needed_scopes}
+use Rattle.user_interaction.specs.Need.{needed_scopes}
 use Rattle.token_endpoint.specs.declared.granting.Grant.{Grant}
 use Rattle.token_endpoint.specs.declared.error.TokenError.TheVariants.{InvalidGrant}
 use Rattle.code_grant.specs.declared.rows.TurnRow.{TurnRow}
@@ -23,8 +23,8 @@ use Rattle.op_exchange.specs.declared.reply.OpReply.TheVariants.{TokenRefused, S
 use Rattle.op_answer.specs.Sessions.{sessions}
 use Rattle.op_tables.specs.declared.keeping.Agreement.{Agreement}
 use Rattle.op_tables.specs.Agreeing.{Agrees, IsBegun, AreOwn, is_own_turn, is_own_session, is_own_code, is_own_token}
-use Rattle.op_tables.specs.Keeping.{session_taken, turn_moved, session_replaced, session_ended, ended_if, visited_if, grant_answered, code_asked, TellsRedeem, TellsRedemption, FindsCode, agreed_turn, session_in, turn_in, agreement_of, FindsAgreement, MayPut, turn_put, session_put, code_put, token_put, FollowsPair}
-use Rattle.op_tables.specs.Taking.{TakesUp}
+use Rattle.op_tables.specs.Keeping.{session_taken, turn_moved, session_replaced, session_ended, ended_if, visited_if, grant_answered, code_asked, TellsRedeem, TellsRedemption, FindsCode, agreed_turn, session_in, turn_in, agreement_of, FindsAgreement, MayPut, turn_put, session_put, code_put, token_put, IsUpdate}
+use Rattle.op_tables.specs.Updating.{MayUpdate}
 use Rattle.op_tables.proofs.ConsentsKept.{consent_is_granted}
 use Rattle.op_exchange.proofs.Sample.{word, words, wish, sample, profile_scopes, callback_uri}
 use Rattle.op_answer.proofs.FirstLogin.{pair_of, login_entry, consent_page, past_consent, consent_entry, code_answer, consent_gets_code, past_code, token_entry, tokens_reply}
@@ -269,7 +269,7 @@ no_token_is_put = refl
 
 -- ---- one more pair
 
-pub the_consent_is_followed : FollowsPair before_consent after_consent past_consent (pair_of consent_entry code_answer)
+pub the_consent_is_followed : IsUpdate before_consent after_consent past_consent (pair_of consent_entry code_answer)
 unfolding needed_scopes joined scopes_with_any
 the_consent_is_followed =
     record {
@@ -281,10 +281,10 @@ the_consent_is_followed =
           consent_is_granted before_consent past_consent consent_entry.ask code_answer alice_agrees refl (omega arith) length-no_consents the_agreement_is_found user client low few;
     }
 
-an_answered_turn_does_not_stay : FollowsPair before_consent before_consent past_consent (pair_of consent_entry code_answer) → ⊥
+an_answered_turn_does_not_stay : IsUpdate before_consent before_consent past_consent (pair_of consent_entry code_answer) → ⊥
 an_answered_turn_does_not_stay follows = (let k : taken ∷ [] ≡ [] = follows.turns_are in cc)
 
-pub the_consent_is_taken_up : TakesUp before_consent (pair_of consent_entry code_answer) None None (Some alice_code) None (Some (word 9)) (Some 0) sample past_consent 1000
+pub the_consent_is_taken_up : MayUpdate before_consent (pair_of consent_entry code_answer) None None (Some alice_code) None (Some (word 9)) (Some 0) sample past_consent 1000
 the_consent_is_taken_up =
     record {
       order = omega arith;
@@ -300,8 +300,8 @@ the_consent_is_taken_up =
       token_is = refl;
     }
 
-not_without_its_code : TakesUp before_consent (pair_of consent_entry code_answer) None None None None (Some (word 9)) (Some 0) sample past_consent 1000 → ⊥
+not_without_its_code : MayUpdate before_consent (pair_of consent_entry code_answer) None None None None (Some (word 9)) (Some 0) sample past_consent 1000 → ⊥
 not_without_its_code up = (let k : None ≡ Some alice_code = up.code_is in cc)
 
-not_before_the_moment_of_the_tables : TakesUp before_consent (pair_of consent_entry code_answer) None None (Some alice_code) None (Some (word 9)) (Some 0) sample past_consent 1001 → ⊥
+not_before_the_moment_of_the_tables : MayUpdate before_consent (pair_of consent_entry code_answer) None None (Some alice_code) None (Some (word 9)) (Some 0) sample past_consent 1001 → ⊥
 not_before_the_moment_of_the_tables up = (let k : 1001 ≤ 1000 = up.order in absurd (omega arith))

@@ -1,4 +1,4 @@
--- What a step takes up: its calls may be made, and after them the tables are those after the pair.
+-- What a step updates: its calls may be made, and after them the tables are those after the pair.
 use Rattle.std.proofs.Common.{◌≡◌, ◌<◌, ◌≤◌, ℕ, Bool, true, false, ◌&&◌, ◌||◌, List, length, filter_map, ◌∷◌, Option, Some, None, option_and_then, Ok, IfSome, refl, sym, ◌∙◌, ap, subst, arith}
 use Rattle.std.proofs.lemmas.Bool.{and_parts}
 use Rattle.sso_base.specs.Words.{Word, word_of_text}
@@ -38,8 +38,8 @@ use Rattle.op_answer.specs.Causes.{is_own}
 use Rattle.op_answer.proofs.KeptNames.{some_same, turn_names, code_names, access_names}
 use Rattle.op_answer.proofs.Standing.{own_replies_stand}
 use Rattle.op_tables.specs.Agreeing.{is_own_code}
-use Rattle.op_tables.specs.Keeping.{FindsCode, FindsAgreement, TellsRedemption, MayPut, FollowsPair}
-use Rattle.op_tables.specs.Taking.{TakesUp}
+use Rattle.op_tables.specs.Keeping.{FindsCode, FindsAgreement, TellsRedemption, MayPut, IsUpdate}
+use Rattle.op_tables.specs.Updating.{MayUpdate}
 use Rattle.op_tables.proofs.AnswerTells.{IsOfClient, answer_tells}
 use Rattle.op_answer.proofs.KeptRows.{turn_begun_kept, session_begun_kept, code_begun_kept, access_begun_kept}
 use Rattle.op_tables.proofs.Carried.{turn_made_begun, session_made_begun, code_made_begun, access_made_begun}
@@ -191,7 +191,7 @@ prepared_client c wish h =
     (and_parts (is_client c wish.client) (is_short_nonce wish.nonce) both.0).0
 
 module _ {t : Tables} {p : OpPair} {turn : Option TurnRow} {session : Option SessionRow} {code : Option CodeRow} {token : Option TokenRow} {used : Option Word} {client : Option ℕ} {c : Configuration} {past : OpPast} {before : ℕ}
-    (up : TakesUp t p turn session code token used client c past before) where
+    (up : MayUpdate t p turn session code token used client c past before) where
   abbrev at : ℕ
   at = p.entry.at
 
@@ -310,7 +310,7 @@ module _ {t : Tables} {p : OpPair} {turn : Option TurnRow} {session : Option Ses
 
   module _ {a b v u : Tables} (purge : a ≡ purged at t) (kept : IsKept t past p b v) where
     pub follows : u.turns ≡ put turn_name turn v.turns → u.sessions ≡ put session_name session v.sessions → u.codes ≡ put code_name code v.codes → u.tokens ≡ put access_name token v.tokens
-        → u.consents ≡ v.consents → Grants past p a b → FollowsPair t u past p
+        → u.consents ≡ v.consents → Grants past p a b → IsUpdate t u past p
     follows one two three four same granted =
         let T : Option TurnRow → List TurnRow → List TurnRow = λ m xs. put turn_name m xs in
         let S : Option SessionRow → List SessionRow → List SessionRow = λ m xs. put session_name m xs in

@@ -5,7 +5,7 @@ use Rattle.std.specs.Str.{bytes_eq}
 use Rattle.sso_base.specs.Words.{Word}
 use Rattle.sso_base.specs.Rows.{without, put, row_of, live_rows}
 use Rattle.oidc_words.specs.Scopes.{joined}
-use Rattle.request_need.specs.Need.{needed_scopes}
+use Rattle.user_interaction.specs.Need.{needed_scopes}
 use Rattle.token_endpoint.specs.declared.granting.Grant.{Grant}
 use Rattle.code_grant.specs.declared.rows.TurnRow.{TurnRow}
 use Rattle.code_grant.specs.declared.rows.SessionRow.{SessionRow}
@@ -148,7 +148,7 @@ token_put (Some row) t = record t { tokens = put access_name (Some row) t.tokens
 -- ---- one more pair
 
 -- the tables after a pair: the rows that lived at its moment, as the pair leaves them, the rows that it makes, and its grants
-pub record FollowsPair (before after : Tables) (past : OpPast) (p : OpPair) : Type 0 where
+pub record IsUpdate (before after : Tables) (past : OpPast) (p : OpPair) : Type 0 where
   pub turns_are : after.turns ≡ put turn_name (turn_made (turns past) past p) (filter_map (turn_kept past p) (live_rows turn_life turn_begun p.entry.at before.turns))
   pub sessions_are : after.sessions ≡ put session_name (session_made (sessions past) past p) (filter_map (session_kept past p) (live_rows session_life session_begun p.entry.at before.sessions))
   pub codes_are : after.codes ≡ put code_name (code_made (codes_issued past) past p) (filter_map (code_kept past p) (live_rows code_life code_begun p.entry.at before.codes))

@@ -1,3 +1,3 @@
 pub mod Agreeing
 pub mod Keeping
-pub mod Taking
+pub mod Updating

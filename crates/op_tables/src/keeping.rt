@@ -19,9 +19,9 @@ ghost use Rattle.op_tables.specs.Keeping as spec;
 use code_grant::{CodeRow, Grants, SessionRow, TokenRow, TurnRow};
 use oidc_words::Scopes;
 use op_exchange::{OpAsk, OpReply};
-use request_need::needed_scopes;
 use sso_base::{Moment, Pair, Word};
 use token_endpoint::Grant;
+use user_interaction::needed_scopes;
 
 // ---- turns
 

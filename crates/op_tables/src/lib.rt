@@ -2,20 +2,20 @@
 //! agreement with the past.
 //!
 //! The tables are `Grants` of `code_grant`. After a pair they have the rows that lived at its moment, as the pair leaves them,
-//! the rows that it makes, and the scopes that it grants (`FollowsPair`). Nothing here allocates, so a step can allocate
+//! the rows that it makes, and the scopes that it grants (`IsUpdate`). Nothing here allocates, so a step can allocate
 //! everything before.
 //!
 //! | Module | What it has |
 //! |---|---|
 //! | `made` | [`Made`], the rows that a pair makes |
-//! | `taking` | [`take_up`] updates the tables with a pair |
+//! | `updating` | [`update_tables`] updates the tables with a pair |
 //! | `keeping` | the changes in each table, and [`session_set`], the session after a login |
 #![tactic(auto)]
 
 mod keeping;
 mod made;
-mod taking;
+mod updating;
 
 pub use keeping::session_set;
 pub use made::Made;
-pub use taking::take_up;
+pub use updating::update_tables;

@@ -3,7 +3,7 @@
 #![tactic(auto)]
 
 use crate::desks::desks;
-use machine::{FileShelf, WriterSink, read_words};
+use platform::{FileShelf, WriterSink, read_words};
 use sso::sso;
 use std::process::ExitCode;
 

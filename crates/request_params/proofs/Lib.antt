@@ -9,6 +9,6 @@ pub mod OnLiterals
 pub mod Printed
 pub mod MergeLaws
 pub mod Whole
-pub mod Cuts
+pub mod Splits
 pub mod Schemes
 mod Samples

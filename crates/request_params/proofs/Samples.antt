@@ -2,7 +2,7 @@
 use Rattle.std.proofs.Common.{◌≡◌, [], ◌∷◌, codes, true, false, Option, Some, None, Result, Ok, Err, refl, sym, ap, ◌∙◌, true≢false}
 use Rattle.std.specs.Str.{bytes_eq}
 use Rattle.sso_base.specs.Words.{Text}
-use Rattle.request_params.specs.Scheme.{cut, scheme_of, is_bearer, IsScheme}
+use Rattle.request_params.specs.Scheme.{split_once, scheme_of, is_bearer, IsScheme}
 use Rattle.request_params.proofs.Schemes.{scheme_is, has_scheme}
 use Rattle.request_params.specs.declared.params.Params.{Params}
 use Rattle.request_params.specs.declared.name.ParamName.{ParamName}
@@ -199,11 +199,11 @@ is_openid-not_without_a_scope o = (let no : None ≡ Some o.words = o.there in c
 
 -- ---- schemes
 
-cut-at_the_first : cut 58 (codes "a:b:c") ≡ Some (codes "a", codes "b:c")
-cut-at_the_first = refl
+split_once-at_the_first : split_once 58 (codes "a:b:c") ≡ Some (codes "a", codes "b:c")
+split_once-at_the_first = refl
 
-cut-nowhere : cut 58 (codes "abc") ≡ None
-cut-nowhere = refl
+split_once-nowhere : split_once 58 (codes "abc") ≡ None
+split_once-nowhere = refl
 
 scheme-before_the_space : scheme_of (codes "Bearer x y") ≡ codes "Bearer"
 scheme-before_the_space = refl

@@ -4,14 +4,14 @@ use Rattle.std.specs.Str.{str_to_ascii_lowercase}
 use Rattle.std.specs.Char.{to_ascii_lowercase}
 use Rattle.std.proofs.lemmas.Bool.Decides.{nat_tests}
 use Rattle.std.proofs.lemmas.Slice.Eq.{bytes_eq-Decides}
-use Rattle.request_params.specs.Scheme.{cut, first_part, scheme_of, is_bearer, has_byte, IsScheme}
-use Rattle.request_params.proofs.Cuts.{either_false, cut_join, cut_absent, cut_joins, absent_cut}
+use Rattle.request_params.specs.Scheme.{split_once, first_part, scheme_of, is_bearer, has_byte, IsScheme}
+use Rattle.request_params.proofs.Splits.{either_false, split_join, split_absent, split_joins, absent_split}
 
 -- ---- one scheme
 
 pub scheme_parts : (s h : List ℕ) → has_byte 32 s ≡ false → (h ≡ s) ⊎ ((rest : List ℕ) × (h ≡ s ++ 32 ∷ rest)) → scheme_of h ≡ s
-scheme_parts s h free (inl is) = ap scheme_of is ∙ ap (first_part s) (cut_absent 32 s free)
-scheme_parts s h free (inr p) = ap scheme_of p.1 ∙ ap (first_part (s ++ 32 ∷ p.0)) (cut_join 32 s p.0 free)
+scheme_parts s h free (inl is) = ap scheme_of is ∙ ap (first_part s) (split_absent 32 s free)
+scheme_parts s h free (inr p) = ap scheme_of p.1 ∙ ap (first_part (s ++ 32 ∷ p.0)) (split_join 32 s p.0 free)
 
 pub scheme_is : (s h : List ℕ) → IsScheme s h → scheme_of h ≡ s
 scheme_is s h i = scheme_parts s h i.no_space i.parts
@@ -19,12 +19,12 @@ scheme_is s h i = scheme_parts s h i.no_space i.parts
 pub one_scheme : (s t h : List ℕ) → IsScheme s h → IsScheme t h → s ≡ t
 one_scheme s t h i j = sym (scheme_is s h i) ∙ scheme_is t h j
 
-scheme_at : (h : List ℕ) (o : Option (List ℕ × List ℕ)) → cut 32 h ≡ o → IsScheme (first_part h o) h
-scheme_at h None is = record { no_space = absent_cut 32 h is; parts = inl refl }
-scheme_at h (Some q) is = let joins = cut_joins 32 h q is in record { no_space = joins.1; parts = inr (q.1, joins.0) }
+scheme_at : (h : List ℕ) (o : Option (List ℕ × List ℕ)) → split_once 32 h ≡ o → IsScheme (first_part h o) h
+scheme_at h None is = record { no_space = absent_split 32 h is; parts = inl refl }
+scheme_at h (Some q) is = let joins = split_joins 32 h q is in record { no_space = joins.1; parts = inr (q.1, joins.0) }
 
 pub has_scheme : (h : List ℕ) → IsScheme (scheme_of h) h
-has_scheme h = scheme_at h (cut 32 h) refl
+has_scheme h = scheme_at h (split_once 32 h) refl
 
 pub some_scheme : (h : List ℕ) → (s : List ℕ) × IsScheme s h
 some_scheme h = (scheme_of h, has_scheme h)

@@ -4,9 +4,9 @@ use Rattle.std.specs.List.{list_any}
 use Rattle.std.specs.Str.{bytes_eq, str_to_ascii_lowercase}
 
 -- the parts before and after the first such byte, if there is one
-abbrev pub cut : ℕ → List ℕ → Option (List ℕ × List ℕ)
-cut mark [] = None
-cut mark (x ∷ t) = if x == mark then Some ([], t) else option_map (λ parts. (x ∷ parts.0, parts.1)) (cut mark t)
+abbrev pub split_once : ℕ → List ℕ → Option (List ℕ × List ℕ)
+split_once mark [] = None
+split_once mark (x ∷ t) = if x == mark then Some ([], t) else option_map (λ parts. (x ∷ parts.0, parts.1)) (split_once mark t)
 
 abbrev pub first_part : List ℕ → Option (List ℕ × List ℕ) → List ℕ
 first_part whole None = whole
@@ -14,7 +14,7 @@ first_part whole (Some parts) = parts.0
 
 -- the scheme of a header: the text before its first space, or the whole header if there is none
 abbrev pub scheme_of : List ℕ → List ℕ
-scheme_of header = first_part header (cut 32 header)
+scheme_of header = first_part header (split_once 32 header)
 
 -- the scheme, or the type of a token, is `Bearer`, in any case (RFC 6750, 2.1 and 4)
 abbrev pub is_bearer : List ℕ → Bool

@@ -12,7 +12,7 @@
 //! | `merging` | [`merge`] merges the parameters of a request object with those outside it |
 //! | `location` | [`with_query`] and [`with_fragment`] append pairs to a URL |
 //! | `printing` | [`print_request`] writes the location of a request |
-//! | `scheme` | [`scheme_of`] is the scheme of an `Authorization` header; [`cut`] splits bytes at the first given byte |
+//! | `scheme` | [`scheme_of`] is the scheme of an `Authorization` header; [`split_once`] splits bytes at the first given byte |
 //! | `law` | laws about requests, for the crates above |
 #![tactic(auto)]
 
@@ -42,4 +42,4 @@ pub use pairs::{Pair, read_pairs, value_of};
 pub use params::Params;
 pub use printing::print_request;
 pub use reading::read_request;
-pub use scheme::{cut, scheme_of};
+pub use scheme::{scheme_of, split_once};

@@ -1,6 +1,8 @@
 // The configurations of the table `provider`, by the names in its call `provider`.
 
-use sample_rows::{ALICE, ALICES_CLAIMS, BOB, MAIL_CLIENT, NEWS_CLIENT, PROVIDER, SHOP_CLIENT};
+use sample_configuration::{
+    ALICE, ALICES_CLAIMS, BOB, MAIL_CLIENT, NEWS_CLIENT, PROVIDER, SHOP_CLIENT,
+};
 use sso_base::NoMemory;
 use std::alloc::Global;
 

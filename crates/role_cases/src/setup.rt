@@ -1,6 +1,6 @@
 // The relying parties of the table `party` and their provider.
 
-use sample_rows::{
+use sample_configuration::{
     ALICE, ALICES_CLAIMS, BOB, MAIL_CLIENT, MAIL_PARTY, NEWS_CLIENT, NEWS_PARTY, PROVIDER,
     SHOP_CLIENT, SHOP_PARTY,
 };

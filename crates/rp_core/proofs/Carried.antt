@@ -25,7 +25,7 @@ use Rattle.rp_answer.proofs.KeptNames.{some_same, login_same, pending_same, visi
 use Rattle.rp_answer.proofs.Sending.{Sent, sent}
 use Rattle.held_rows.proofs.Added.{rows_carried, begun_carried}
 use Rattle.rp_core.specs.Agreeing.{Agrees, IsBegun}
-use Rattle.rp_core.specs.Keeping.{FollowsPair}
+use Rattle.rp_core.specs.Keeping.{IsUpdate}
 
 -- ---- a pair keeps the moment from which a row lives
 
@@ -96,7 +96,7 @@ seen_made_begun held past p row h = seen_of_begun (length past) p.entry.at (toke
 
 -- ---- the tables
 
-pub agrees_carried : (types : Types) (t u : Tables) (past : RpPast) (p : RpPair) (before : ℕ) → before ≤ p.entry.at → Agrees types t past before → FollowsPair types t u past p → Agrees types u (p ∷ past) p.entry.at
+pub agrees_carried : (types : Types) (t u : Tables) (past : RpPast) (p : RpPair) (before : ℕ) → before ≤ p.entry.at → Agrees types t past before → IsUpdate types t u past p → Agrees types u (p ∷ past) p.entry.at
 agrees_carried types t u past p before order agrees follows =
     let at : ℕ = p.entry.at in
     record {
@@ -108,7 +108,7 @@ agrees_carried types t u past p before order agrees follows =
       seens = rows_carried seen_name seen_life seen_begun before at (seen_kept past p) (seen_made (seens past) past p) t.seens u.seens order (seen_begun_kept past p) (seens past) agrees.seens follows.seens_are;
     }
 
-pub is_begun_carried : (types : Types) (t u : Tables) (past : RpPast) (p : RpPair) (before : ℕ) → before ≤ p.entry.at → IsBegun t before → FollowsPair types t u past p → IsBegun u p.entry.at
+pub is_begun_carried : (types : Types) (t u : Tables) (past : RpPast) (p : RpPair) (before : ℕ) → before ≤ p.entry.at → IsBegun t before → IsUpdate types t u past p → IsBegun u p.entry.at
 is_begun_carried types t u past p before order low follows =
     let at : ℕ = p.entry.at in
     record {

@@ -16,8 +16,8 @@ use Rattle.rp_answer.specs.Answering.{rp_answer}
 use Rattle.sso_base.proofs.Histories.{longer_is_legal, past_more}
 use Rattle.rp_core.specs.Relying.{Relying, past_of}
 use Rattle.rp_core.specs.Agreeing.{KeepsPast, Keeps}
-use Rattle.rp_core.specs.Making.{Brings}
-use Rattle.rp_core.specs.Keeping.{TakesUp, FollowsPair}
+use Rattle.rp_core.specs.Making.{MakesRows}
+use Rattle.rp_core.specs.Keeping.{MayUpdate, IsUpdate}
 use Rattle.rp_core.proofs.Carried.{agrees_carried, is_begun_carried}
 
 -- room changes no row
@@ -34,19 +34,19 @@ module _ (s : PartySetup) (history items : List RpPair) (more : ℕ) (t u : Tabl
   Shown r =
       (last_moment (past_of r) ≤ p.entry.at)
       × (p.reply ≡ rp_answer r.setup (past_of r) p.entry)
-      × Brings (party_of r.setup).types (past_of r) p login pending visit seen
+      × MakesRows (party_of r.setup).types (past_of r) p login pending visit seen
       × (history_weight ask_weight r.history + more ≤ most_weight)
 
   abbrev pub Follows : Type 0
-  Follows = (d : PartySetup) (past : RpPast) (before : ℕ) → TakesUp d past before (with_room t) p login pending visit seen → FollowsPair (party_of d).types (with_room t) u past p
+  Follows = (d : PartySetup) (past : RpPast) (before : ℕ) → MayUpdate d past before (with_room t) p login pending visit seen → IsUpdate (party_of d).types (with_room t) u past p
 
   committed : Keeps s history t → IsEntry IsRpAsk p.entry → more ≡ ask_weight p.entry.ask → items ≡ history ++ p ∷ [] → Follows
       → Shown (record { setup = s; history = history; tables = t }) → Keeps s items u
   committed keeps entry more_is items_are follows shown =
       let past : RpPast = reverse history in
       let kept : KeepsPast (party_of s).types past (with_room t) = with_room_keeps (party_of s).types past t keeps.tables in
-      let up : TakesUp s past (last_moment past) (with_room t) p login pending visit seen = record { order = shown.0; agrees = kept.agrees; begun = kept.begun; reply_is = shown.1; brings = shown.2 } in
-      let one : FollowsPair (party_of s).types (with_room t) u past p = follows s past (last_moment past) up in
+      let up : MayUpdate s past (last_moment past) (with_room t) p login pending visit seen = record { order = shown.0; agrees = kept.agrees; begun = kept.begun; reply_is = shown.1; rows = shown.2 } in
+      let one : IsUpdate (party_of s).types (with_room t) u past p = follows s past (last_moment past) up in
       let K : RpPast → Type 0 = λ q. KeepsPast (party_of s).types q u in
       let I : List RpPair → Type 0 = λ x. Keeps s x u in
       let W : ℕ → Type 0 = λ n. history_weight ask_weight history + n ≤ most_weight in

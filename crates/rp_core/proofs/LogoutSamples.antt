@@ -6,8 +6,8 @@ use Rattle.rp_exchange.specs.declared.no.RpNo.TheVariants as no
 use Rattle.rp_exchange.specs.declared.reply.RpReply.TheVariants.{Left, Ended, Refused}
 use Rattle.rp_answer.specs.Past.{RpPair}
 use Rattle.rp_core.specs.Agreeing.{Agrees, IsBegun}
-use Rattle.rp_core.specs.Making.{Brings}
-use Rattle.rp_core.specs.Keeping.{FollowsPair, NamesSomebody, seen_put}
+use Rattle.rp_core.specs.Making.{MakesRows}
+use Rattle.rp_core.specs.Keeping.{IsUpdate, NamesSomebody, seen_put}
 use Rattle.rp_answer.proofs.Sample.{pair_of, only_code}
 use Rattle.rp_answer.proofs.FirstVisit.{past_entered}
 use Rattle.rp_answer.proofs.RowSamples.{visit}
@@ -47,11 +47,11 @@ a_token_is_put = refl
 no_token_is_put : seen_put None without_session ≡ without_session
 no_token_is_put = refl
 
-a_logout_brings_its_token : (t : Text) → Brings only_code (past_entered t) logout None None None (Some seen)
+a_logout_brings_its_token : (t : Text) → MakesRows only_code (past_entered t) logout None None None (Some seen)
 a_logout_brings_its_token t = record { login_is = refl; pending_is = refl; visit_is = refl; seen_is = refl }
 
-a_refused_one_does_not : (t : Text) → Brings only_code (past_entered t) refused None None None (Some seen) → ⊥
-a_refused_one_does_not t brings = (let k : Some seen ≡ None = brings.seen_is in cc)
+a_refused_one_does_not : (t : Text) → MakesRows only_code (past_entered t) refused None None None (Some seen) → ⊥
+a_refused_one_does_not t rows = (let k : Some seen ≡ None = rows.seen_is in cc)
 
 they_agree : (t : Text) → Agrees only_code with_token (past_out t) 1760
 they_agree t = record { logins = refl; pendings = refl; visits = refl; seens = refl }
@@ -70,17 +70,17 @@ not_one_second_before begun = (let k : false ≡ true = begun.seens in cc)
 
 -- ---- one more pair
 
-the_user_has_left : (t : Text) → FollowsPair only_code with_session without_session (past_entered t) leaving
+the_user_has_left : (t : Text) → IsUpdate only_code with_session without_session (past_entered t) leaving
 the_user_has_left t = record { logins_are = refl; pendings_are = refl; visits_are = refl; seens_are = refl }
 
-the_session_does_not_stay : (t : Text) → FollowsPair only_code with_session with_session (past_entered t) leaving → ⊥
+the_session_does_not_stay : (t : Text) → IsUpdate only_code with_session with_session (past_entered t) leaving → ⊥
 the_session_does_not_stay t follows = (let k : visit ∷ [] ≡ [] = follows.visits_are in cc)
 
-the_token_is_followed : (t : Text) → FollowsPair only_code with_session with_token (past_entered t) logout
+the_token_is_followed : (t : Text) → IsUpdate only_code with_session with_token (past_entered t) logout
 the_token_is_followed t = record { logins_are = refl; pendings_are = refl; visits_are = refl; seens_are = refl }
 
-not_without_its_row : (t : Text) → FollowsPair only_code with_session without_session (past_entered t) logout → ⊥
+not_without_its_row : (t : Text) → IsUpdate only_code with_session without_session (past_entered t) logout → ⊥
 not_without_its_row t follows = (let k : [] ≡ seen ∷ [] = follows.seens_are in cc)
 
-a_refused_one_ends_nothing : (t : Text) → FollowsPair only_code with_session with_session (past_entered t) refused
+a_refused_one_ends_nothing : (t : Text) → IsUpdate only_code with_session with_session (past_entered t) refused
 a_refused_one_ends_nothing t = record { logins_are = refl; pendings_are = refl; visits_are = refl; seens_are = refl }

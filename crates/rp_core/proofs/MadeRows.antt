@@ -27,7 +27,7 @@ use Rattle.rp_answer.specs.Answering.{rp_answer}
 use Rattle.rp_answer.specs.Causes.{ExchangeCause, FetchCause, EnteredCause}
 use Rattle.rp_answer.proofs.Answers.{exchanges_have_a_cause, fetches_have_a_cause, entered_have_a_cause}
 use Rattle.rp_answer.proofs.Sending as found
-use Rattle.rp_core.specs.Making.{fetched_found, pending_found, nonce_found, visit_judged, visit_in, visit_found, Brings}
+use Rattle.rp_core.specs.Making.{fetched_found, pending_found, nonce_found, visit_judged, visit_in, visit_found, MakesRows}
 
 module _ (s : PartySetup) (past : RpPast) (e : Entry RpAsk) where
   types : Types
@@ -95,8 +95,8 @@ module _ (s : PartySetup) (past : RpPast) (e : Entry RpAsk) where
   visit_same (reply.Entered w sub) answered = entered_same e.ask w sub (entered_have_a_cause s past e w sub (sym answered))
   visit_same told answered = refl
 
-  pub brings : (told : RpReply) (login : Option LoginRow) (pending : Option PendingRow) (visit : Option SessionRow) (seen : Option SeenRow) → told ≡ rp_answer s past e
+  pub makes_rows : (told : RpReply) (login : Option LoginRow) (pending : Option PendingRow) (visit : Option SessionRow) (seen : Option SeenRow) → told ≡ rp_answer s past e
       → login ≡ login_started (length past) e.at e.fresh e.ask told → pending ≡ pending_found (party_of s).types past e told → visit ≡ visit_found (party_of s).types past e told
-      → seen ≡ seen_by (length past) e.at e.ask told → Brings (party_of s).types past (record { entry = e; reply = told }) login pending visit seen
-  brings told login pending visit seen answered one two three four =
+      → seen ≡ seen_by (length past) e.at e.ask told → MakesRows (party_of s).types past (record { entry = e; reply = told }) login pending visit seen
+  makes_rows told login pending visit seen answered one two three four =
       record { login_is = one; pending_is = two ∙ pending_same told answered; visit_is = three ∙ visit_same told answered; seen_is = four }

@@ -11,8 +11,8 @@ use Rattle.rp_answer.specs.Past.{RpPair, RpPast}
 use Rattle.held_rows.specs.Held.{MayAddRow}
 use Rattle.rp_core.specs.Relying.{past_of}
 use Rattle.rp_core.specs.Agreeing.{Agrees, IsBegun, KeepsPast, Keeps}
-use Rattle.rp_core.specs.Making.{pending_found, nonce_found, visit_found, Brings}
-use Rattle.rp_core.specs.Keeping.{FollowsPair, TakesUp, login_put, pending_put, visit_put}
+use Rattle.rp_core.specs.Making.{pending_found, nonce_found, visit_found, MakesRows}
+use Rattle.rp_core.specs.Keeping.{IsUpdate, MayUpdate, login_put, pending_put, visit_put}
 use Rattle.rp_core.proofs.Beginning.{begins}
 use Rattle.rp_answer.proofs.Sample.{word, entry_at, pair_of, only_code, shop_setup}
 use Rattle.rp_answer.proofs.FirstVisit.{begin_entry, asked, past_begin, callback_entry, exchange, callback_exchanges_at_once, past_callback, tokens_entry, entered}
@@ -95,7 +95,7 @@ a_begun_login_is_kept =
 not_without_the_rows_of_its_login : Keeps shop_setup (begin_pair ∷ []) no_tables → ⊥
 not_without_the_rows_of_its_login keeps = not_without_the_login keeps.tables
 
--- ---- the rows that a pair brings
+-- ---- the rows that a pair makes
 
 a_response_leaves_its_exchange : pending_found only_code past_begin (callback_entry 1599 (word 1)) exchange ≡ Some (record waiting { since = 1599 })
 a_response_leaves_its_exchange = refl
@@ -124,17 +124,17 @@ late_ones_let_none_in t = refl
 refused_ones_let_none_in : (t : Text) → visit_found only_code past_callback (tokens_entry 1119 t) (Refused no.SubjectDiffers) ≡ None
 refused_ones_let_none_in t = refl
 
-begin_brings_a_login : Brings only_code [] begin_pair (Some login) None None None
+begin_brings_a_login : MakesRows only_code [] begin_pair (Some login) None None None
 begin_brings_a_login = record { login_is = refl; pending_is = refl; visit_is = refl; seen_is = refl }
 
-a_callback_brings_an_exchange : Brings only_code past_begin callback_pair None (Some waiting) None None
+a_callback_brings_an_exchange : MakesRows only_code past_begin callback_pair None (Some waiting) None None
 a_callback_brings_an_exchange = record { login_is = refl; pending_is = refl; visit_is = refl; seen_is = refl }
 
-tokens_bring_a_session : (t : Text) → Brings only_code past_callback (tokens_pair t) None None (Some visit) None
+tokens_bring_a_session : (t : Text) → MakesRows only_code past_callback (tokens_pair t) None None (Some visit) None
 tokens_bring_a_session t = record { login_is = refl; pending_is = refl; visit_is = refl; seen_is = refl }
 
-a_callback_does_not_bring_nothing : Brings only_code past_begin callback_pair None None None None → ⊥
-a_callback_does_not_bring_nothing brings = (let k : None ≡ Some waiting = brings.pending_is in cc)
+a_callback_does_not_bring_nothing : MakesRows only_code past_begin callback_pair None None None None → ⊥
+a_callback_does_not_bring_nothing rows = (let k : None ≡ Some waiting = rows.pending_is in cc)
 
 -- ---- rows that are put
 
@@ -170,24 +170,24 @@ no_session_is_put = refl
 
 -- ---- one more pair
 
-the_callback_is_followed : FollowsPair only_code with_login_begun with_exchange past_begin callback_pair
+the_callback_is_followed : IsUpdate only_code with_login_begun with_exchange past_begin callback_pair
 the_callback_is_followed = record { logins_are = refl; pendings_are = refl; visits_are = refl; seens_are = refl }
 
-its_login_does_not_stay : FollowsPair only_code with_login_begun (record with_exchange { logins = login ∷ [] }) past_begin callback_pair → ⊥
+its_login_does_not_stay : IsUpdate only_code with_login_begun (record with_exchange { logins = login ∷ [] }) past_begin callback_pair → ⊥
 its_login_does_not_stay follows = (let k : login ∷ [] ≡ [] = follows.logins_are in cc)
 
-the_tokens_are_followed : (t : Text) → FollowsPair only_code with_exchange with_session past_callback (tokens_pair t)
+the_tokens_are_followed : (t : Text) → IsUpdate only_code with_exchange with_session past_callback (tokens_pair t)
 the_tokens_are_followed t = record { logins_are = refl; pendings_are = refl; visits_are = refl; seens_are = refl }
 
-their_exchange_does_not_stay : (t : Text) → FollowsPair only_code with_exchange (record with_session { pendings = waiting ∷ [] }) past_callback (tokens_pair t) → ⊥
+their_exchange_does_not_stay : (t : Text) → IsUpdate only_code with_exchange (record with_session { pendings = waiting ∷ [] }) past_callback (tokens_pair t) → ⊥
 their_exchange_does_not_stay t follows = (let k : waiting ∷ [] ≡ [] = follows.pendings_are in cc)
 
-the_callback_is_taken_up : TakesUp shop_setup past_begin 1000 with_login_begun callback_pair None (Some waiting) None None
+the_callback_is_taken_up : MayUpdate shop_setup past_begin 1000 with_login_begun callback_pair None (Some waiting) None None
 the_callback_is_taken_up =
-    record { order = omega arith; agrees = they_agree; begun = they_are_begun; reply_is = sym callback_exchanges_at_once; brings = a_callback_brings_an_exchange }
+    record { order = omega arith; agrees = they_agree; begun = they_are_begun; reply_is = sym callback_exchanges_at_once; rows = a_callback_brings_an_exchange }
 
-not_without_its_exchange : TakesUp shop_setup past_begin 1000 with_login_begun callback_pair None None None None → ⊥
-not_without_its_exchange up = (let k : None ≡ Some waiting = up.brings.pending_is in cc)
+not_without_its_exchange : MayUpdate shop_setup past_begin 1000 with_login_begun callback_pair None None None None → ⊥
+not_without_its_exchange up = (let k : None ≡ Some waiting = up.rows.pending_is in cc)
 
-not_before_the_moment_of_the_tables : TakesUp shop_setup past_begin 1001 with_login_begun callback_pair None (Some waiting) None None → ⊥
+not_before_the_moment_of_the_tables : MayUpdate shop_setup past_begin 1001 with_login_begun callback_pair None (Some waiting) None None → ⊥
 not_before_the_moment_of_the_tables up = (let k : 1001 ≤ 1000 = up.order in absurd (omega arith))

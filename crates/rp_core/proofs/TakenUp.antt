@@ -1,4 +1,4 @@
--- What a step takes up: its calls may be made, and after them the tables are those after the pair.
+-- What a step updates: its calls may be made, and after them the tables are those after the pair.
 use Rattle.std.proofs.Common.{◌≡◌, ◌≤◌, ℕ, Bool, true, false, List, length, filter_map, Option, Some, None, Ok, IfSome, refl, sym, ◌∙◌, ap, subst}
 use Rattle.sso_base.specs.Words.{Word}
 use Rattle.sso_base.specs.Rows.{put, live_rows}
@@ -30,7 +30,7 @@ use Rattle.rp_answer.proofs.KeptNames.{login_names, visit_names, seen_names}
 use Rattle.held_rows.proofs.Kept.{all_kept, put_pushes}
 use Rattle.held_rows.proofs.Added.{MayAdd, may_add, few_there, unnamed_there, kept_latest}
 use Rattle.held_rows.proofs.Found.{same_later}
-use Rattle.rp_core.specs.Keeping.{TakesUp, FollowsPair, NamesSomebody, login_put, pending_put, visit_put, seen_put}
+use Rattle.rp_core.specs.Keeping.{MayUpdate, IsUpdate, NamesSomebody, login_put, pending_put, visit_put, seen_put}
 use Rattle.rp_core.proofs.Carried.{login_begun_kept, pending_begun_kept, visit_begun_kept, seen_begun_kept, login_made_begun, pending_made_begun, visit_made_begun, seen_made_begun}
 use Rattle.rp_core.proofs.KeptTables.{with_logins, with_pendings, with_visits}
 use Rattle.rp_core.proofs.RoomFor.{login_fits, pending_fits, visit_fits, seen_fits}
@@ -148,11 +148,11 @@ module _ (past : RpPast) (p : RpPair) (t a b d v : Tables) (purge : a ≡ purged
 
 -- ---- the rows may be added, and then the tables are those after the pair
 
-module _ {s : PartySetup} {past : RpPast} {before : ℕ} {t : Tables} {p : RpPair} {login : Option LoginRow} {pending : Option PendingRow} {visit : Option SessionRow} {seen : Option SeenRow} (up : TakesUp s past before t p login pending visit seen) {v : Tables} (kept : IsKept t v past p) (reserved : t.reserved ≡ all_reserved) where
+module _ {s : PartySetup} {past : RpPast} {before : ℕ} {t : Tables} {p : RpPair} {login : Option LoginRow} {pending : Option PendingRow} {visit : Option SessionRow} {seen : Option SeenRow} (up : MayUpdate s past before t p login pending visit seen) {v : Tables} (kept : IsKept t v past p) (reserved : t.reserved ≡ all_reserved) where
   pub login_may : IfSome login (λ r. MayAddRow login_name login_begun v.reserved.logins v.logins r)
   login_may =
       if_made (λ r. MayAddRow login_name login_begun v.reserved.logins v.logins r) login (λ row is.
-      let made : login_made (logins past) past p ≡ Some row = sym up.brings.login_is ∙ is in
+      let made : login_made (logins past) past p ≡ Some row = sym up.rows.login_is ∙ is in
       let R : Reserved → Bool = λ x. x.logins in
       let M : List LoginRow → Type 0 = λ xs. MayAdd most_rows login_name login_begun xs row in
       may_row login_name login_begun v.reserved.logins v.logins row (ap R (kept.reserved ∙ reserved))
@@ -163,7 +163,7 @@ module _ {s : PartySetup} {past : RpPast} {before : ℕ} {t : Tables} {p : RpPai
   pub pending_may_before : IfSome pending (λ r. MayAddRow pending_name pending_begun v.reserved.pendings v.pendings r)
   pending_may_before =
       if_made (λ r. MayAddRow pending_name pending_begun v.reserved.pendings v.pendings r) pending (λ row is.
-      let made : pending_made (party_of s).types (pendings (party_of s).types past) past p ≡ Some row = sym up.brings.pending_is ∙ is in
+      let made : pending_made (party_of s).types (pendings (party_of s).types past) past p ≡ Some row = sym up.rows.pending_is ∙ is in
       let R : Reserved → Bool = λ x. x.pendings in
       let M : List PendingRow → Type 0 = λ xs. MayAdd most_rows pending_name pending_begun xs row in
       may_row pending_name pending_begun v.reserved.pendings v.pendings row (ap R (kept.reserved ∙ reserved))
@@ -175,7 +175,7 @@ module _ {s : PartySetup} {past : RpPast} {before : ℕ} {t : Tables} {p : RpPai
   pub visit_may_before : IfSome visit (λ r. MayAddRow visit_name visit_begun v.reserved.visits v.visits r)
   visit_may_before =
       if_made (λ r. MayAddRow visit_name visit_begun v.reserved.visits v.visits r) visit (λ row is.
-      let made : visit_made (party_of s).types (visits (party_of s).types past) past p ≡ Some row = sym up.brings.visit_is ∙ is in
+      let made : visit_made (party_of s).types (visits (party_of s).types past) past p ≡ Some row = sym up.rows.visit_is ∙ is in
       let R : Reserved → Bool = λ x. x.visits in
       let M : List SessionRow → Type 0 = λ xs. MayAdd most_rows visit_name visit_begun xs row in
       may_row visit_name visit_begun v.reserved.visits v.visits row (ap R (kept.reserved ∙ reserved))
@@ -187,7 +187,7 @@ module _ {s : PartySetup} {past : RpPast} {before : ℕ} {t : Tables} {p : RpPai
   pub seen_may_before : IfSome seen (λ r. MayAddRow seen_name seen_begun v.reserved.seens v.seens r)
   seen_may_before =
       if_made (λ r. MayAddRow seen_name seen_begun v.reserved.seens v.seens r) seen (λ row is.
-      let made : seen_made (seens past) past p ≡ Some row = sym up.brings.seen_is ∙ is in
+      let made : seen_made (seens past) past p ≡ Some row = sym up.rows.seen_is ∙ is in
       let R : Reserved → Bool = λ x. x.seens in
       let M : List SeenRow → Type 0 = λ xs. MayAdd most_rows seen_name seen_begun xs row in
       may_row seen_name seen_begun v.reserved.seens v.seens row (ap R (kept.reserved ∙ reserved))
@@ -229,7 +229,7 @@ module _ {s : PartySetup} {past : RpPast} {before : ℕ} {t : Tables} {p : RpPai
             ap R then_seen ∙ (visit_leaves visit x).reserved_seens ∙ ap R next ∙ (pending_leaves pending w).reserved_seens ∙ ap R first ∙ (login_leaves login v).reserved_seens in
             subst N (sym same) (subst M (sym same_seens) seen_may_before)
 
-        pub follows : (u : Tables) → u ≡ seen_put seen y → FollowsPair (party_of s).types t u past p
+        pub follows : (u : Tables) → u ≡ seen_put seen y → IsUpdate (party_of s).types t u past p
         follows u last =
             let L : Tables → List LoginRow = λ z. z.logins in
             let P : Tables → List PendingRow = λ z. z.pendings in
@@ -247,12 +247,12 @@ module _ {s : PartySetup} {past : RpPast} {before : ℕ} {t : Tables} {p : RpPai
             record {
               logins_are =
                   ap L last ∙ more.logins ∙ ap L then_seen ∙ (visit_leaves visit x).logins ∙ ap L next ∙ (pending_leaves pending w).logins ∙ ap L first ∙ logins_put login v login_may ∙ ap LL kept.logins
-                  ∙ ap HL up.brings.login_is;
+                  ∙ ap HL up.rows.login_is;
               pendings_are =
                   ap P last ∙ more.pendings ∙ ap P then_seen ∙ (visit_leaves visit x).pendings ∙ ap P next ∙ pendings_put pending w pending_may ∙ ap LP (ap P first ∙ (login_leaves login v).pendings ∙ kept.pendings)
-                  ∙ ap HP up.brings.pending_is;
-              visits_are = ap V last ∙ more.visits ∙ ap V then_seen ∙ visits_put visit x visit_may ∙ ap LV (same_visits ∙ kept.visits) ∙ ap HV up.brings.visit_is;
-              seens_are = ap S last ∙ seens_put seen y seen_may ∙ ap LS (same_seens ∙ kept.seens) ∙ ap HS up.brings.seen_is;
+                  ∙ ap HP up.rows.pending_is;
+              visits_are = ap V last ∙ more.visits ∙ ap V then_seen ∙ visits_put visit x visit_may ∙ ap LV (same_visits ∙ kept.visits) ∙ ap HV up.rows.visit_is;
+              seens_are = ap S last ∙ seens_put seen y seen_may ∙ ap LS (same_seens ∙ kept.seens) ∙ ap HS up.rows.seen_is;
             }
 
 -- ---- an accepted logout token names somebody

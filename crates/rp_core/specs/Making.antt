@@ -59,7 +59,7 @@ visit_found types past e (Entered w sub) = visit_in types past e w e.ask
 visit_found types past e reply = None
 
 -- these are the rows that the definitions make
-pub record Brings (types : Types) (past : RpPast) (p : RpPair) (login : Option LoginRow) (pending : Option PendingRow) (visit : Option SessionRow) (seen : Option SeenRow) : Type 0 where
+pub record MakesRows (types : Types) (past : RpPast) (p : RpPair) (login : Option LoginRow) (pending : Option PendingRow) (visit : Option SessionRow) (seen : Option SeenRow) : Type 0 where
   pub login_is : login ≡ login_made (logins past) past p
   pub pending_is : pending ≡ pending_made types (pendings types past) past p
   pub visit_is : visit ≡ visit_made types (visits types past) past p

@@ -175,10 +175,10 @@ fn add_seen(tables: &mut Logins, row: Option<SeenRow>)
 }
 
 /// Updates the tables with a pair: expired rows are removed, the pair changes the other rows, and its new rows are added.
-pub(crate) fn take_up(tables: &mut Logins, pair: &Pair<RpAsk, RpReply>, made: Made)
-    requires may { (s : PartySetup) × (past : RpPast) × (before : ℕ) × spec.TakesUp s past before tables.old pair.now made.login made.pending made.visit made.seen }
+pub(crate) fn update_tables(tables: &mut Logins, pair: &Pair<RpAsk, RpReply>, made: Made)
+    requires may { (s : PartySetup) × (past : RpPast) × (before : ℕ) × spec.MayUpdate s past before tables.old pair.now made.login made.pending made.visit made.seen }
     requires reserved { tables.old.reserved ≡ record { logins = true; pendings = true; visits = true; seens = true } }
-    ensures { (s : PartySetup) (past : RpPast) (before : ℕ) → spec.TakesUp s past before tables.old pair.now made.login made.pending made.visit made.seen → spec.FollowsPair (party_of s).types tables.old tables.new past pair.now }
+    ensures { (s : PartySetup) (past : RpPast) (before : ℕ) → spec.MayUpdate s past before tables.old pair.now made.login made.pending made.visit made.seen → spec.IsUpdate (party_of s).types tables.old tables.new past pair.now }
 {
     tables.purge(pair.entry.at);
     keep_logins(tables, pair);

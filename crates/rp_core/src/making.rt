@@ -431,7 +431,7 @@ impl RpCore {
     ) -> Result<Made, NoMemory>
         requires moment { last_moment (past_of self.now) ≤ entry.now.at }
         requires answer { reply.now ≡ rp_answer self.now.setup (past_of self.now) entry.now }
-        ensures { IfOk result (λ m. spec.Brings (party_of self.now.setup).types (past_of self.now) (record { entry = entry.now; reply = reply.now }) m.login m.pending m.visit m.seen) }
+        ensures { IfOk result (λ m. spec.MakesRows (party_of self.now.setup).types (past_of self.now) (record { entry = entry.now; reply = reply.now }) m.login m.pending m.visit m.seen) }
     {
         Ok(Made {
             login: self.login_started(entry, reply),

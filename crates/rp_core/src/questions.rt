@@ -16,9 +16,8 @@ ghost use Rattle.rp_core.specs.Relying.{past_of};
 
 use crate::state::RpCore;
 use logout_token::LogoutClaims;
-use oidc_words::{LOGIN_LIFE, PENDING_LIFE, SEEN_LIFE, VISIT_LIFE};
 use rp_login::{LoginRow, PendingRow, RpTable, SeenRow, SessionRow, Stage};
-use sso_base::{Moment, Word, bytes_if, is_live};
+use sso_base::{Moment, Word, bytes_if};
 
 // Whether the response is the one that is pending.
 pub(crate) fn is_stage(waits: Stage, stage: Stage) -> bool
@@ -39,14 +38,7 @@ impl RpCore {
         let Some(state) = state else {
             return None;
         };
-        let Some(row) = self.logins.login(state) else {
-            return None;
-        };
-        if is_live(LOGIN_LIFE, row.begun, at) {
-            Some(row)
-        } else {
-            None
-        }
+        self.logins.live_login(state, at)
     }
 
     /// The live pending exchange with a word, with any response pending.
@@ -54,14 +46,7 @@ impl RpCore {
         requires { last_moment (past_of self.now) ≤ at }
         ensures { option_copied result ≡ pendings.any_live_pending (party_of self.now.setup).types (past_of self.now) at word }
     {
-        let Some(row) = self.logins.pending(word) else {
-            return None;
-        };
-        if is_live(PENDING_LIFE, row.since, at) {
-            Some(row)
-        } else {
-            None
-        }
+        self.logins.live_pending(word, at)
     }
 
     /// The live pending exchange with a word that is waiting for this response.
@@ -87,14 +72,7 @@ impl RpCore {
         let Some(session) = session else {
             return None;
         };
-        let Some(row) = self.logins.session(session) else {
-            return None;
-        };
-        if is_live(VISIT_LIFE, row.entered, at) {
-            Some(row)
-        } else {
-            None
-        }
+        self.logins.live_session(session, at)
     }
 
     /// The accepted logout token with that `jti`, if it is still remembered.
@@ -102,14 +80,7 @@ impl RpCore {
         requires { last_moment (past_of self.now) ≤ at }
         ensures { option_copied result ≡ seens.live_seen (past_of self.now) at jti.now }
     {
-        let Some(row) = self.logins.seen(jti) else {
-            return None;
-        };
-        if is_live(SEEN_LIFE, row.accepted, at) {
-            Some(row)
-        } else {
-            None
-        }
+        self.logins.live_seen(jti, at)
     }
 
     /// How many live sessions a logout token names.

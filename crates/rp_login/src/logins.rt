@@ -1,51 +1,20 @@
 // The logins of a relying party.
 
-ghost use Rattle.std.specs.Prelude.{◌≡◌, ◌<◌, true, length, Some, None};
+ghost use Rattle.std.specs.Prelude.{◌≡◌, ◌<◌, true, length, None, option_and_then};
 ghost use Rattle.std.specs.List.{list_any};
 ghost use Rattle.std.specs.Option.{option_copied};
 ghost use Rattle.std.specs.Str.{bytes_eq};
-ghost use Rattle.std.proofs.Common.{ap};
-ghost use Rattle.sso_base.specs.Rows.{row_of, live_rows};
-ghost use Rattle.sso_base.proofs.RowLaws.{bytes_same};
+ghost use Rattle.sso_base.specs.Rows.{row_of, live_rows, if_lives};
 ghost use Rattle.rp_login.specs.declared.rows.LoginRow.{LoginRow};
 ghost use Rattle.held_rows.specs.Held.{none_after, most_rows};
-ghost use Rattle.held_rows.specs.declared.row.By.TheVariants.{First};
 ghost use Rattle.rp_login.specs.Rows.{login_name, login_begun};
 ghost use Rattle.oidc_words.specs.Lives.{login_life};
 ghost use Rattle.rp_login.specs.Tables as spec;
 
 use crate::rows::LoginRow;
 use crate::tables::Logins;
-use held_rows::{By, Test};
+use held_rows::{By, Keyed};
 use sso_base::{Moment, Word};
-
-// The logins of one browser.
-#[derive(Clone, Copy)]
-struct OfBrowser {
-    browser: Word,
-}
-
-impl Test<LoginRow> for OfBrowser {
-    ghost passes = { λ t login. bytes_eq login.browser t.browser };
-
-    ghost by = { λ t. First };
-
-    ghost key = { λ t. t.browser };
-
-    fn passes(&self, login: &LoginRow) -> bool {
-        login.browser == self.browser
-    }
-
-    fn by(&self) -> By {
-        By::First
-    }
-
-    fn key(&self) -> &[u8] {
-        self.browser.as_bytes()
-    }
-
-    ghost are_found = { λ t login passes. ap Some (bytes_same login.browser t.browser passes) };
-}
 
 impl Logins {
     /// Adds a login. Room was reserved, the table is not full, its state is new, and no other login began later.
@@ -64,7 +33,8 @@ impl Logins {
     pub fn has_browser(&self, browser: Word, at: Moment) -> bool
         ensures { result ≡ list_any (λ (login : LoginRow). bytes_eq login.browser browser) (live_rows login_life login_begun at self.now.logins) }
     {
-        self.logins.any_live(&OfBrowser { browser }, at)
+        let by = By::Group;
+        self.logins.any_live(&Keyed { by, word: browser }, at)
     }
 
     /// The login with this state; `None` if and only if no login in the table has it. Its life may have ended.
@@ -73,6 +43,14 @@ impl Logins {
         ensures held { spec.AreLogins self.now.logins }
     {
         self.logins.find(&state.bytes())
+    }
+
+    /// The login with this state, if it lives at the moment; `None` if and only if no such login does.
+    pub fn live_login(&self, state: Word, at: Moment) -> Option<&LoginRow>
+        ensures row { option_copied result ≡ option_and_then (if_lives login_life login_begun at) (row_of login_name state self.now.logins) }
+        ensures held { spec.AreLogins self.now.logins }
+    {
+        self.logins.living(&state.bytes(), at)
     }
 
     /// Removes the login with this state. If no login in the table has it, nothing changes.

@@ -83,12 +83,13 @@ pub struct SeenRow {
 
 impl Row for LoginRow {
     ghost use Rattle.oidc_words.specs.Lives.{login_life};
+    ghost use Rattle.rp_login.specs.Rows.{login_name, login_begun};
 
-    ghost name = { λ row. row.state };
+    ghost name = { login_name };
 
     ghost key = { λ by row. one_of (Some row.state) (Some row.browser) None by };
 
-    ghost begun = { λ row. row.begun };
+    ghost begun = { login_begun };
 
     ghost IsSound = { AnyRow };
 
@@ -99,8 +100,8 @@ impl Row for LoginRow {
     fn key(&self, by: By) -> Option<&[u8]> {
         match by {
             By::Name => Some(self.state.as_bytes()),
-            By::First => Some(self.browser.as_bytes()),
-            By::Second => None,
+            By::Group => Some(self.browser.as_bytes()),
+            By::OtherGroup => None,
         }
     }
 
@@ -113,12 +114,13 @@ impl Row for LoginRow {
 
 impl Row for PendingRow {
     ghost use Rattle.oidc_words.specs.Lives.{pending_life};
+    ghost use Rattle.rp_login.specs.Rows.{pending_name, pending_begun};
 
-    ghost name = { λ row. row.word };
+    ghost name = { pending_name };
 
     ghost key = { λ by row. one_of (Some row.word) None None by };
 
-    ghost begun = { λ row. row.since };
+    ghost begun = { pending_begun };
 
     ghost IsSound = { AnyRow };
 
@@ -129,7 +131,7 @@ impl Row for PendingRow {
     fn key(&self, by: By) -> Option<&[u8]> {
         match by {
             By::Name => Some(self.word.as_bytes()),
-            By::First | By::Second => None,
+            By::Group | By::OtherGroup => None,
         }
     }
 
@@ -142,12 +144,13 @@ impl Row for PendingRow {
 
 impl Row for SessionRow {
     ghost use Rattle.oidc_words.specs.Lives.{visit_life};
+    ghost use Rattle.rp_login.specs.Rows.{visit_name, visit_begun};
 
-    ghost name = { λ row. row.word };
+    ghost name = { visit_name };
 
     ghost key = { λ by row. one_of (Some row.word) (Some row.sub) row.sid by };
 
-    ghost begun = { λ row. row.entered };
+    ghost begun = { visit_begun };
 
     ghost IsSound = { AnyRow };
 
@@ -158,8 +161,8 @@ impl Row for SessionRow {
     fn key(&self, by: By) -> Option<&[u8]> {
         match by {
             By::Name => Some(self.word.as_bytes()),
-            By::First => Some(self.sub.as_str().as_bytes()),
-            By::Second => bytes_if(&self.sid),
+            By::Group => Some(self.sub.as_str().as_bytes()),
+            By::OtherGroup => bytes_if(&self.sid),
         }
     }
 
@@ -172,12 +175,13 @@ impl Row for SessionRow {
 
 impl Row for SeenRow {
     ghost use Rattle.oidc_words.specs.Lives.{seen_life};
+    ghost use Rattle.rp_login.specs.Rows.{seen_name, seen_begun};
 
-    ghost name = { λ row. row.jti };
+    ghost name = { seen_name };
 
     ghost key = { λ by row. one_of (Some row.jti) None None by };
 
-    ghost begun = { λ row. row.accepted };
+    ghost begun = { seen_begun };
 
     ghost IsSound = { AnyRow };
 
@@ -188,7 +192,7 @@ impl Row for SeenRow {
     fn key(&self, by: By) -> Option<&[u8]> {
         match by {
             By::Name => Some(self.jti.as_str().as_bytes()),
-            By::First | By::Second => None,
+            By::Group | By::OtherGroup => None,
         }
     }
 

@@ -1,17 +1,18 @@
 // The sessions of a relying party.
 
-ghost use Rattle.std.specs.Prelude.{◌≡◌, ◌<◌, true, ◌||◌, length, Some, None, is_some, option_map, refl};
+ghost use Rattle.std.specs.Prelude.{◌≡◌, ◌<◌, true, ◌||◌, length, Some, None, is_some, option_map, option_and_then, refl};
 ghost use Rattle.std.specs.Option.{option_copied};
 ghost use Rattle.std.specs.Str.{bytes_eq};
 ghost use Rattle.std.proofs.Common.{sym, ap};
 ghost use Rattle.std.proofs.lemmas.Bool.{and_parts};
-ghost use Rattle.sso_base.specs.Rows.{row_of};
+ghost use Rattle.sso_base.specs.Rows.{row_of, if_lives};
 ghost use Rattle.sso_base.proofs.RowLaws.{bytes_same};
 ghost use Rattle.held_rows.proofs.FoundBy.{found_by};
 ghost use Rattle.held_rows.specs.Held.{none_after, most_rows};
-ghost use Rattle.held_rows.specs.declared.row.By.TheVariants.{First, Second};
+ghost use Rattle.held_rows.specs.declared.row.By.TheVariants.{Group, OtherGroup};
 ghost use Rattle.rp_login.specs.Named.{fits_text, is_meant};
 ghost use Rattle.rp_login.specs.Rows.{visit_name, visit_begun};
+ghost use Rattle.oidc_words.specs.Lives.{visit_life};
 ghost use Rattle.rp_login.specs.Tables as spec;
 
 use crate::rows::SessionRow;
@@ -47,7 +48,7 @@ struct OfSid<'a> {
 impl Test<SessionRow> for OfSid<'_> {
     ghost passes = { λ t visit. is_meant (option_map (λ p. p.now) t.sub) (Some t.sid.now) visit };
 
-    ghost by = { λ t. Second };
+    ghost by = { λ t. OtherGroup };
 
     ghost key = { λ t. t.sid.now };
 
@@ -56,7 +57,7 @@ impl Test<SessionRow> for OfSid<'_> {
     }
 
     fn by(&self) -> By {
-        By::Second
+        By::OtherGroup
     }
 
     fn key(&self) -> &[u8] {
@@ -75,7 +76,7 @@ struct OfSub<'a> {
 impl Test<SessionRow> for OfSub<'_> {
     ghost passes = { λ t visit. is_meant (Some t.sub.now) None visit };
 
-    ghost by = { λ t. First };
+    ghost by = { λ t. Group };
 
     ghost key = { λ t. t.sub.now };
 
@@ -84,7 +85,7 @@ impl Test<SessionRow> for OfSub<'_> {
     }
 
     fn by(&self) -> By {
-        By::First
+        By::Group
     }
 
     fn key(&self) -> &[u8] {
@@ -113,6 +114,14 @@ impl Logins {
         ensures held { spec.AreVisits self.now.visits }
     {
         self.visits.find(&word.bytes())
+    }
+
+    /// The session with this word, if it lives at the moment; `None` if and only if no such session does.
+    pub fn live_session(&self, word: Word, at: Moment) -> Option<&SessionRow>
+        ensures row { option_copied result ≡ option_and_then (if_lives visit_life visit_begun at) (row_of visit_name word self.now.visits) }
+        ensures held { spec.AreVisits self.now.visits }
+    {
+        self.visits.living(&word.bytes(), at)
     }
 
     /// Removes the session with this word, and returns whether the table had one.

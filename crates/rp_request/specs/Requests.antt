@@ -1,7 +1,8 @@
 -- Requests to a relying party and their values, stated literally.
-use Rattle.std.specs.Prelude.{◌≡◌, ◌⊎◌, ℕ, List, [], ◌∷◌, ◌++◌, IsFalse, Option, Some, None, Result, Ok, Err}
+use Rattle.std.specs.Prelude.{◌≡◌, ℕ, List, ◌∷◌, ◌++◌, IsFalse, Option, Some, None, Result, Ok, Err}
 use Rattle.sso_base.specs.Words.{Text}
 use Rattle.sso_base.specs.declared.http.Ask.{Ask}
+use Rattle.oidc_words.specs.Routes.{IsListed}
 use Rattle.client_registry.specs.declared.records.Party.{Party}
 use Rattle.client_registry.specs.Configuration.{Configuration}
 use Rattle.client_registry.specs.Numbers.{party_at}
@@ -17,14 +18,10 @@ use Rattle.rp_exchange.specs.declared.ask.RpAsk.{RpAsk}
 use Rattle.rp_exchange.specs.declared.ask.RpAsk.TheVariants as ask
 use Rattle.rp_request.specs.declared.routes.Endpoint.{Endpoint}
 use Rattle.rp_request.specs.declared.routes.Endpoint.TheVariants as endpoint
-use Rattle.rp_request.specs.Routes.{Route, routes_of}
+use Rattle.rp_request.specs.Routes.{routes_of}
 use Rattle.rp_request.specs.Prepared.{logout_path}
 
 -- ---- endpoints
-
-abbrev pub IsListed : Route → List Route → Type 0
-IsListed route [] = ⊥
-IsListed route (first ∷ routes) = (first ≡ route) ⊎ IsListed route routes
 
 -- the request is to this endpoint of the party with this number: its path is listed for its method, or is that of the party's
 -- redirect URI or of its client's logout URI

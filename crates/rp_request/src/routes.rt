@@ -2,6 +2,7 @@
 
 ghost use Rattle.std.specs.Prelude.{◌≡◌};
 ghost use Rattle.std.specs.Option.{option_copied};
+ghost use Rattle.oidc_words.specs.Routes.{endpoint_of};
 ghost use Rattle.rp_request.specs.Routes as spec;
 
 use oidc_words::{BEGIN_PATH, HOME_PATH, LEAVE_PATH};
@@ -24,7 +25,7 @@ pub(crate) enum Endpoint {
 
 // The endpoint of a GET of the path.
 fn got(redirection: &Text, path: &Text) -> Option<Endpoint>
-    ensures { result ≡ spec.endpoint_of (spec.get_routes redirection.now) path.now }
+    ensures { result ≡ endpoint_of (spec.get_routes redirection.now) path.now }
 {
     let path = path.as_str();
     if path == BEGIN_PATH {
@@ -41,7 +42,7 @@ fn got(redirection: &Text, path: &Text) -> Option<Endpoint>
 
 // The logout endpoint, if the path is that of the logout URI.
 fn logged_out(logout: Option<&Text>, path: &Text) -> Option<Endpoint>
-    ensures { result ≡ spec.endpoint_of (spec.logout_routes (option_copied logout.entry)) path.now }
+    ensures { result ≡ endpoint_of (spec.logout_routes (option_copied logout.entry)) path.now }
 {
     match logout {
         Some(logout) if path.as_str() == logout.as_str() => Some(Endpoint::Logout),
@@ -51,7 +52,7 @@ fn logged_out(logout: Option<&Text>, path: &Text) -> Option<Endpoint>
 
 // The endpoint of a POST to the path.
 fn posted_to(redirection: &Text, logout: Option<&Text>, path: &Text) -> Option<Endpoint>
-    ensures { result ≡ spec.endpoint_of (spec.post_routes redirection.now (option_copied logout.entry)) path.now }
+    ensures { result ≡ endpoint_of (spec.post_routes redirection.now (option_copied logout.entry)) path.now }
 {
     if path.as_str() == redirection.as_str() {
         return Some(Endpoint::Redirection);

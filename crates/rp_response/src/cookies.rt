@@ -4,7 +4,7 @@ ghost use Rattle.std.specs.Prelude.{◌≡◌, ◌++◌, [], ◌∷◌, IfOk};
 ghost use Rattle.http_reply.specs.Cookies.{cookie};
 ghost use Rattle.rp_response.specs.Cookies as spec;
 
-use http_reply::{cookie, phrase};
+use http_reply::{concatenated, cookie};
 use sso_base::{NoMemory, Text, Texts, Word};
 use std::alloc::Global;
 
@@ -18,7 +18,7 @@ fn one_cookie(
 ) -> Result<Texts, NoMemory>
     ensures { IfOk result (λ t. t ≡ cookie secure (party.now ++ ending.now) word.now ∷ []) }
 {
-    let name = phrase(alloc, party.as_str(), ending)?;
+    let name = concatenated(alloc, party.as_str(), ending)?;
     let mut cookies = Texts::new(alloc);
     cookies.push(cookie(alloc, secure, name.as_str(), word)?)?;
     Ok(cookies)

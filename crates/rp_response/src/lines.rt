@@ -4,7 +4,7 @@ ghost use Rattle.std.specs.Prelude.{◌≡◌, IfOk};
 ghost use Rattle.rp_response.specs.Lines as spec;
 
 use crate::refusals::refusal_line;
-use http_reply::phrase;
+use http_reply::concatenated;
 use rp_exchange::RpReply;
 use sso_base::{NoMemory, Text};
 use std::alloc::Global;
@@ -14,7 +14,7 @@ fn ended(alloc: Global, count: u32) -> Result<Text, NoMemory>
     ensures { IfOk result (λ t. t ≡ spec.ended count) }
 {
     let count = count.to_string(alloc)?;
-    phrase(alloc, "ended ", count.as_str())
+    concatenated(alloc, "ended ", count.as_str())
 }
 
 /// The line of this reply in the text of a replay, without its index and its party:
@@ -34,8 +34,8 @@ pub fn rp_line(alloc: Global, reply: &RpReply) -> Result<Text, NoMemory>
         RpReply::Fragment => Text::new(alloc, "fragment"),
         RpReply::Exchange { .. } => Text::new(alloc, "exchange"),
         RpReply::Fetch { .. } => Text::new(alloc, "fetch"),
-        RpReply::Entered { sub, .. } => phrase(alloc, "session ", sub.as_str()),
-        RpReply::User { sub } => phrase(alloc, "user ", sub.as_str()),
+        RpReply::Entered { sub, .. } => concatenated(alloc, "session ", sub.as_str()),
+        RpReply::User { sub } => concatenated(alloc, "user ", sub.as_str()),
         RpReply::Nobody => Text::new(alloc, "nobody"),
         RpReply::Left { ended: true } => Text::new(alloc, "left"),
         RpReply::Left { ended: false } => Text::new(alloc, "left nothing"),

@@ -4,7 +4,7 @@ ghost use Rattle.std.specs.Prelude.{◌≡◌, ◌++◌, IfOk};
 ghost use Rattle.rp_response.specs.Refusals as spec;
 
 use claim_set::ClaimNo;
-use http_reply::phrase;
+use http_reply::concatenated;
 use id_token::IdNo;
 use logout_token::LogoutNo;
 use oidc_words::error_text;
@@ -98,8 +98,8 @@ fn logout_words(why: &LogoutNo) -> (&'static str, &'static str)
 fn told(alloc: Global, first: &str, own: &str, inside: &str) -> Result<Text, NoMemory>
     ensures { IfOk result (λ t. t ≡ first.now ++ (own.now ++ inside.now)) }
 {
-    let words = phrase(alloc, own, inside)?;
-    phrase(alloc, first, words.as_str())
+    let words = concatenated(alloc, own, inside)?;
+    concatenated(alloc, first, words.as_str())
 }
 
 // The line of an error.
@@ -111,7 +111,7 @@ pub(crate) fn refusal_line(alloc: Global, why: &RpNo) -> Result<Text, NoMemory>
         RpNo::NoState => Text::new(alloc, "refused NoState"),
         RpNo::StaleLogin => Text::new(alloc, "refused StaleLogin"),
         RpNo::WrongBrowser => Text::new(alloc, "refused WrongBrowser"),
-        RpNo::Provider(code) => phrase(alloc, "refused Provider ", error_text(*code)),
+        RpNo::Provider(code) => concatenated(alloc, "refused Provider ", error_text(*code)),
         RpNo::Missing(_) => Text::new(alloc, "refused Missing"),
         RpNo::Id(why) => {
             let (own, inside) = id_words(why);

@@ -7,7 +7,7 @@ use crate::cookies::{browser_cookies, session_cookies};
 use crate::page::fragment_page;
 use crate::refusals::refusal_line;
 use client_registry::Registry;
-use http_reply::{empty, html, phrase, plain, sent_to};
+use http_reply::{concatenated, empty, html, plain, sent_to};
 use oidc_words::HOME_PATH;
 use rp_exchange::{RpNo, RpReply};
 use sso_base::{HttpReply, NoMemory, Text, Texts, Word};
@@ -43,7 +43,7 @@ fn fragment(alloc: Global) -> Result<HttpReply, NoMemory>
 fn user(alloc: Global, sub: &Text) -> Result<HttpReply, NoMemory>
     ensures { IfOk result (λ h. h ≡ spec.user sub.now) }
 {
-    let line = phrase(alloc, "user ", sub.as_str())?;
+    let line = concatenated(alloc, "user ", sub.as_str())?;
     plain(alloc, 200, line.as_str())
 }
 

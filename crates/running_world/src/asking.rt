@@ -14,7 +14,7 @@ ghost use Rattle.running_world.specs.Worlds.{shown, OpAsked, RpAsked};
 
 use crate::foreknown::nothing_foreknown;
 use crate::kept::Asked;
-use crate::roles::{OpRole, RpRole, step_at};
+use crate::roles::{TimedParty, TimedProvider, step_at};
 use crate::transcript::Transcript;
 use client_registry::Registry;
 use op_request::prepare_op;
@@ -26,7 +26,7 @@ use std::alloc::Global;
 
 /// Sends a request to the provider.
 pub(crate) fn ask_provider(
-    provider: &mut OpRole,
+    provider: &mut TimedProvider,
     transcript: &mut Transcript,
     alloc: Global,
     from: u32,
@@ -79,7 +79,7 @@ fn prepare_party(
 
 /// Sends a request to the party with this number.
 pub(crate) fn ask_party(
-    parties: &mut Vec<RpRole>,
+    parties: &mut Vec<TimedParty>,
     transcript: &mut Transcript,
     alloc: Global,
     from: u32,

@@ -31,12 +31,12 @@ use std::marker::Model;
 
 /// A provider with the moment of its last entry. Its model is its core's.
 #[derive(Drop)]
-pub(crate) struct OpRole {
+pub(crate) struct TimedProvider {
     core: OpCore,
     last: Moment,
 }
 
-impl Model for OpRole {
+impl Model for TimedProvider {
     ghost use Rattle.op_core.specs.Providing.{Providing};
     ghost use Rattle.running_world.specs.Roles.{IsLegalAt};
 
@@ -49,12 +49,12 @@ impl Model for OpRole {
 
 /// A relying party with the moment of its last entry. Its model is its core's.
 #[derive(Drop)]
-pub(crate) struct RpRole {
+pub(crate) struct TimedParty {
     core: RpCore,
     last: Moment,
 }
 
-impl Model for RpRole {
+impl Model for TimedParty {
     ghost use Rattle.std.specs.Prelude.{◌≡◌};
     ghost use Rattle.sso_base.specs.Legal.{last_moment};
     ghost use Rattle.rp_core.specs.Relying.{Relying, past_of};
@@ -102,13 +102,13 @@ fn first_moment() -> Moment
     Moment::new(0).unwrap()
 }
 
-impl OpRole {
+impl TimedProvider {
     /// The provider of the registry, with an empty history.
-    pub(crate) fn new(alloc: Global, registry: &Registry) -> Result<OpRole, NoMemory>
+    pub(crate) fn new(alloc: Global, registry: &Registry) -> Result<TimedProvider, NoMemory>
         ensures registry { IfOk result (λ r. r.registry ≡ registry.now) }
         ensures history { IfOk result (λ r. r.history ≡ []) }
     {
-        Ok(OpRole {
+        Ok(TimedProvider {
             core: OpCore::new(alloc, registry.copy(alloc)?)?,
             last: first_moment(),
         })
@@ -181,15 +181,19 @@ impl OpRole {
     }
 }
 
-impl RpRole {
+impl TimedParty {
     /// The party with this number, with an empty history. It trusts the registry's provider.
-    pub(crate) fn new(alloc: Global, registry: &Registry, number: u32) -> Result<RpRole, NoMemory>
+    pub(crate) fn new(
+        alloc: Global,
+        registry: &Registry,
+        number: u32,
+    ) -> Result<TimedParty, NoMemory>
         requires { number < length registry.now.parties }
         ensures setup { IfOk result (λ r. r.setup ≡ setup_of registry.now number registry.now.provider) }
         ensures history { IfOk result (λ r. r.history ≡ []) }
     {
         let provider = registry.provider().copy(alloc)?;
-        Ok(RpRole {
+        Ok(TimedParty {
             core: RpCore::new(alloc, registry.copy(alloc)?, number, provider)?,
             last: first_moment(),
         })
@@ -216,19 +220,19 @@ impl RpRole {
 }
 
 /// All parties of the registry, with empty histories.
-pub(crate) fn new_parties(alloc: Global, registry: &Registry) -> Result<Vec<RpRole>, NoMemory>
+pub(crate) fn new_parties(alloc: Global, registry: &Registry) -> Result<Vec<TimedParty>, NoMemory>
     ensures { IfOk result (λ v. AreNewParties registry.now v.items) }
 {
     let mut parties = Vec::new(alloc);
     for number in 0..registry.parties() {
-        parties.push(RpRole::new(alloc, registry, number)?)?;
+        parties.push(TimedParty::new(alloc, registry, number)?)?;
     }
     Ok(parties)
 }
 
 /// Sends a request to the party with this number.
 pub(crate) fn step_at(
-    roles: &mut Vec<RpRole>,
+    roles: &mut Vec<TimedParty>,
     alloc: Global,
     number: u32,
     at: Moment,

@@ -12,7 +12,7 @@ ghost use Rattle.running_world.specs.Stepping.{IsForRole, stepped, role_weight, 
 ghost use Rattle.running_world.specs.Theorem.{TheoremHolds};
 
 use crate::asking::{ask_party, ask_provider};
-use crate::roles::{OpRole, RpRole, new_parties};
+use crate::roles::{TimedParty, TimedProvider, new_parties};
 use crate::transcript::Transcript;
 use client_registry::Registry;
 use sso_base::{CoreNo, Moment, NoMemory, Word};
@@ -25,8 +25,8 @@ use std::marker::Model;
 #[derive(Drop)]
 pub struct World {
     transcript: Transcript,
-    provider: OpRole,
-    parties: Vec<RpRole>,
+    provider: TimedProvider,
+    parties: Vec<TimedParty>,
 }
 
 impl Model for World {
@@ -45,7 +45,7 @@ impl World {
     pub fn new(alloc: Global, registry: Registry) -> Result<World, NoMemory>
         ensures { IfOk result (λ w. w ≡ record { registry = registry; kept = []; jars = [] }) }
     {
-        let Ok(provider) = OpRole::new(alloc, &registry) else {
+        let Ok(provider) = TimedProvider::new(alloc, &registry) else {
             drop(registry);
             return Err(NoMemory);
         };

@@ -2,7 +2,7 @@
 
 ghost use Rattle.std.specs.Prelude.{◌≡◌, ◌<◌, ◌≤◌, IfOk};
 ghost use Rattle.server_desk.specs.Doors.{with_served};
-ghost use Rattle.machine.specs.Doors.{counted};
+ghost use Rattle.platform.specs.Doors.{counted};
 
 use case_lines::as_text;
 use server_desk::{Connection, Door, DoorFault, MemorySource};

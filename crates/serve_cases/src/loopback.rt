@@ -4,7 +4,7 @@ ghost use Rattle.std.specs.Prelude.{◌≡◌, length};
 
 use crate::top::{Call, run};
 use case_lines::{as_text, push_part, told, told_quoted};
-use machine::{TcpDoor, TcpLink, desk};
+use platform::{TcpDoor, TcpLink, desk};
 use server_desk::{Door, Link, LinkNo, Source, read_whole};
 use sso_base::{Blob, File, NoMemory, Text, write_whole};
 use std::alloc::{AllocGlobal, Global};

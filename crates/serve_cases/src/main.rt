@@ -67,8 +67,7 @@ mod two_passes;
 mod workers;
 
 use case_lines::{Cases, print_lines, told, written_out};
-use sample_configuration::sample;
-use sample_rows::{ALICE, PROVIDER};
+use sample_configuration::{ALICE, PROVIDER, sample};
 use sso_base::{File, NoMemory, Text};
 use std::alloc::{AllocGlobal, Global};
 use std::io;

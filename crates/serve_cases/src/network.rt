@@ -2,7 +2,7 @@
 
 use crate::loopback::told_closed;
 use case_lines::{or_else, push_part};
-use machine::TcpLink;
+use platform::TcpLink;
 use sso_base::{NoMemory, Text};
 use std::alloc::Global;
 use std::io;

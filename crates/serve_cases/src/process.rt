@@ -1,7 +1,7 @@
 // A writer as a sink, and the words of a process.
 
 use case_lines::{as_text, bytes, number, or_else, push_part, told_quoted};
-use machine::{WriterSink, read_words};
+use platform::{WriterSink, read_words};
 use sso_base::{NoMemory, Text, write_whole};
 use std::alloc::Global;
 use std::env::{Env, FillError};

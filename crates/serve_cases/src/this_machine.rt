@@ -2,7 +2,7 @@
 
 use crate::loopback;
 use case_lines::told;
-use machine::{RandomDraw, SystemClock};
+use platform::{RandomDraw, SystemClock};
 use server_desk::{Clock, Draw};
 use sso_base::NoMemory;
 use std::alloc::{AllocGlobal, Global};

@@ -9,6 +9,7 @@ use Rattle.sso_base.specs.declared.http.Ask.{Ask}
 use Rattle.sso_base.specs.declared.message.Answered.{Answered}
 use Rattle.sso_base.proofs.RowLaws.{bool_cases}
 use Rattle.oidc_words.specs.declared.response_types.Types.{Types}
+use Rattle.oidc_words.specs.Routes.{Route, endpoint_of}
 use Rattle.client_registry.specs.Configuration.{Configuration}
 use Rattle.client_registry.specs.declared.records.Party.{Party as PartyRow}
 use Rattle.client_registry.specs.Numbers.{party_at, party_row, party_secret}
@@ -23,7 +24,8 @@ use Rattle.token_endpoint.specs.Answer.{tokens_read}
 use Rattle.userinfo.specs.declared.no.InfoNo.{InfoNo}
 use Rattle.rp_exchange.specs.declared.ask.RpAsk.{RpAsk}
 use Rattle.rp_exchange.specs.declared.ask.RpAsk.TheVariants as ask
-use Rattle.rp_request.specs.Routes.{Route, logout_routes, routes_of, endpoint_of, endpoint_asked}
+use Rattle.rp_request.specs.declared.routes.Endpoint.{Endpoint}
+use Rattle.rp_request.specs.Routes.{logout_routes, routes_of, endpoint_asked}
 use Rattle.rp_request.specs.Prepared.{callback_asked, wants_page, redirected, asked_at, logout_path, prepared, tokens_asked, tokens_prepared, info_prepared}
 use Rattle.sso_places.specs.declared.types.WorldAsk.{WorldAsk}
 use Rattle.sso_places.specs.declared.types.WorldAsk.TheVariants.{Http, Tokens, Info}
@@ -49,10 +51,11 @@ redirected_kind secret types request =
     elim (bool_cases (wants_page types request)) [ inl page ↦ ap F page | inr none ↦ ap F none ∙ heard_kind secret request.first (answer_read (form_of request.method request)) ]
 
 -- at every endpoint of the list
-abbrev IsKind : Text → Types → Ask → Route → Type 0
+abbrev IsKind : Text → Types → Ask → Route Endpoint → Type 0
 IsKind secret types request route = is_answer (asked_at secret types request (Some route.1)) ≡ false
 
-found_kind : (secret : Text) (types : Types) (request : Ask) (routes : List Route) (path : Text) → AllByRecursion (IsKind secret types request) routes → is_answer (asked_at secret types request (endpoint_of routes path)) ≡ false
+found_kind : (secret : Text) (types : Types) (request : Ask) (routes : List (Route Endpoint)) (path : Text)
+    → AllByRecursion (IsKind secret types request) routes → is_answer (asked_at secret types request (endpoint_of routes path)) ≡ false
 found_kind secret types request [] path all = refl
 found_kind secret types request (route ∷ routes) path all =
     let F : Bool → Bool = λ b. is_answer (asked_at secret types request (cond b (Some route.1) (endpoint_of routes path))) in

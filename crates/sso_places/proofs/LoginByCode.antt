@@ -28,7 +28,7 @@ use Rattle.auth_answer.proofs.OnLiterals.{auth_answer_on_literals}
 use Rattle.token_endpoint.specs.Request.{token_message}
 use Rattle.token_endpoint.specs.declared.granting.Grant.{Grant as CodeGrant}
 use Rattle.token_endpoint.proofs.RoundTrip.{printed_granted}
-use Rattle.request_need.specs.Need.{needed, needed_scopes}
+use Rattle.user_interaction.specs.Need.{needed, needed_scopes}
 use Rattle.login_request.specs.Request.{login_location}
 use Rattle.op_exchange.specs.declared.ask.OpAsk.{OpAsk}
 use Rattle.op_exchange.specs.declared.ask.OpAsk.TheVariants as op_ask

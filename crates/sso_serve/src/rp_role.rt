@@ -3,7 +3,7 @@
 ghost use Rattle.std.specs.Prelude.{◌<◌, length};
 
 use client_registry::Registry;
-use http_reply::phrase;
+use http_reply::concatenated;
 use rp_core::RpCore;
 use rp_exchange::{RpAsk, RpReply};
 use rp_request::{prepare_info, prepare_rp, prepare_tokens};
@@ -35,7 +35,10 @@ impl<'a> Role for RpRole<'a> {
 
     fn cookies(&self, alloc: Global) -> Result<(Text, Text), NoMemory> {
         let name = self.registry.party(self.party).name.as_str();
-        Ok((phrase(alloc, name, "_b")?, phrase(alloc, name, "_s")?))
+        Ok((
+            concatenated(alloc, name, "_b")?,
+            concatenated(alloc, name, "_s")?,
+        ))
     }
 
     fn prepare(&self, alloc: Global, request: &Ask) -> Result<RpAsk, NoMemory> {

@@ -6,8 +6,8 @@ use Rattle.base64.specs.GeneralPurpose.{IsBytes}
 use Rattle.request_params.specs.Form.{text_of}
 use Rattle.token_endpoint.specs.declared.basic.Credentials.{Credentials}
 use Rattle.token_endpoint.specs.Base64.{b64, unb64}
-use Rattle.request_params.specs.Scheme.{cut, first_part, scheme_of, has_byte, IsScheme}
-use Rattle.request_params.proofs.Cuts.{cut_join, cut_joins}
+use Rattle.request_params.specs.Scheme.{split_once, first_part, scheme_of, has_byte, IsScheme}
+use Rattle.request_params.proofs.Splits.{split_join, split_joins}
 use Rattle.request_params.proofs.Schemes.{scheme_parts, scheme_is, has_scheme, no_space_lower}
 use Rattle.token_endpoint.specs.Basic.{is_basic_scheme, basic_header, decoded, divided, basic_read, IsBasic}
 use Rattle.token_endpoint.proofs.Spelled.{unb64_some, unb64-b64}
@@ -58,7 +58,7 @@ same_shown : (id secret : List ℕ) (k : Credentials) → k.id ≡ text_of id �
 same_shown id secret k a b = λ i. record { id = sym a i; secret = sym b i }
 
 divided_of : (id secret : List ℕ) (k : Credentials) → has_byte 58 id ≡ false → k.id ≡ text_of id → k.secret ≡ text_of secret → divided (id ++ 58 ∷ secret) ≡ Some k
-divided_of id secret k free a b = ap (option_map decoded) (cut_join 58 id secret free) ∙ ap Some (same_shown id secret k a b)
+divided_of id secret k free a b = ap (option_map decoded) (split_join 58 id secret free) ∙ ap Some (same_shown id secret k a b)
 
 basic_scheme_of : (h : List ℕ) (k : Credentials) → IsBasic h k → IsScheme (scheme_of h) h × (is_basic_scheme (scheme_of h) ≡ true)
 basic_scheme_of h k b =
@@ -73,15 +73,15 @@ pub basic_is_read : (h : List ℕ) (k : Credentials) → IsBasic h k → basic_r
 unfolding basic_read
 basic_is_read h k b =
     let m = b.id ++ 58 ∷ b.secret in
-    ap (λ t. read_from (cut 32 t)) b.text
-    ∙ ap read_from (cut_join 32 b.scheme (b64 m) (basic_no_space b.scheme b.name))
+    ap (λ t. read_from (split_once 32 t)) b.text
+    ∙ ap read_from (split_join 32 b.scheme (b64 m) (basic_no_space b.scheme b.name))
     ∙ ap (option_and_then divided) (unb64-b64 m b.bytes)
     ∙ divided_of b.id b.secret k b.no_colon b.is_id b.is_secret
 
-shown_at : (h : List ℕ) (k : Credentials) (q : List ℕ × List ℕ) → cut 32 h ≡ Some q → is_basic_scheme q.0 ≡ true → (m : List ℕ) → unb64 q.1 ≡ Some m → (p : List ℕ × List ℕ) → cut 58 m ≡ Some p → decoded p ≡ k → IsBasic h k
+shown_at : (h : List ℕ) (k : Credentials) (q : List ℕ × List ℕ) → split_once 32 h ≡ Some q → is_basic_scheme q.0 ≡ true → (m : List ℕ) → unb64 q.1 ≡ Some m → (p : List ℕ × List ℕ) → split_once 58 m ≡ Some p → decoded p ≡ k → IsBasic h k
 shown_at h k q at is m spelled p colon shows =
-    let header = cut_joins 32 h q at in
-    let bytes = cut_joins 58 m p colon in
+    let header = split_joins 32 h q at in
+    let bytes = split_joins 58 m p colon in
     let text = unb64_some q.1 m spelled in
     record {
       scheme = q.0;
@@ -98,7 +98,7 @@ shown_at h k q at is m spelled p colon shows =
 pub read_is_basic : (h : List ℕ) (k : Credentials) → is_basic_scheme (scheme_of h) ≡ true → basic_read h ≡ Some k → IsBasic h k
 unfolding basic_read
 read_is_basic h k is e =
-    let at = and_found (cut 32 h) (λ (parts : List ℕ × List ℕ). option_and_then divided (unb64 parts.1)) k e in
+    let at = and_found (split_once 32 h) (λ (parts : List ℕ × List ℕ). option_and_then divided (unb64 parts.1)) k e in
     let spelled = and_found (unb64 at.0.1) divided k at.2 in
-    let colon = map_found (cut 58 spelled.0) decoded k spelled.2 in
+    let colon = map_found (split_once 58 spelled.0) decoded k spelled.2 in
     shown_at h k at.0 at.1 (ap (λ o. is_basic_scheme (first_part h o)) (sym at.1) ∙ is) spelled.0 spelled.1 colon.0 colon.1 colon.2

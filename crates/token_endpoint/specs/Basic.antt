@@ -7,7 +7,7 @@ use Rattle.form_urlencoded.specs.Form.{byte_serialize}
 use Rattle.sso_base.specs.Words.{Text}
 use Rattle.client_registry.specs.declared.records.Client.{Client}
 use Rattle.request_params.specs.Form.{text_of}
-use Rattle.request_params.specs.Scheme.{cut, scheme_of, has_byte}
+use Rattle.request_params.specs.Scheme.{split_once, scheme_of, has_byte}
 use Rattle.token_endpoint.specs.declared.basic.Credentials.{Credentials}
 use Rattle.token_endpoint.specs.Base64.{b64, unb64}
 
@@ -28,11 +28,11 @@ decoded parts = record { id = text_of parts.0; secret = text_of parts.1 }
 
 -- the id and the secret in bytes, separated by the first colon
 abbrev pub divided : List ℕ → Option Credentials
-divided bytes = option_map decoded (cut 58 bytes)
+divided bytes = option_map decoded (split_once 58 bytes)
 
 -- the credentials after the first space of a header, if they can be read
 unfoldable pub basic_read : List ℕ → Option Credentials
-basic_read header = option_and_then (λ parts. option_and_then divided (unb64 parts.1)) (cut 32 header)
+basic_read header = option_and_then (λ parts. option_and_then divided (unb64 parts.1)) (split_once 32 header)
 
 -- ---- writing
 

@@ -10,7 +10,7 @@ use base64::DecodeAllocError;
 use base64::engine::general_purpose::STANDARD;
 use client_registry::Client;
 use form_urlencoded::{Serializer, decode};
-use request_params::{cut, scheme_of};
+use request_params::{scheme_of, split_once};
 use sso_base::{NoMemory, Text};
 use std::alloc::Global;
 
@@ -62,7 +62,7 @@ fn spelled(alloc: Global, text: &[u8]) -> Result<Option<Vec<u8>>, NoMemory>
 fn divided(alloc: Global, bytes: &[u8]) -> Result<Option<Credentials>, NoMemory>
     ensures { IfOk result (λ o. o ≡ divided_of bytes.now) }
 {
-    let Some((id, secret)) = cut(bytes, b':') else {
+    let Some((id, secret)) = split_once(bytes, b':') else {
         return Ok(None);
     };
     Ok(Some(Credentials {
@@ -76,7 +76,7 @@ fn divided(alloc: Global, bytes: &[u8]) -> Result<Option<Credentials>, NoMemory>
 pub(crate) fn read_basic(alloc: Global, header: &[u8]) -> Result<Option<Credentials>, NoMemory>
     ensures { IfOk result (λ o. o ≡ basic_read header.now) }
 {
-    let Some((_scheme, text)) = cut(header, b' ') else {
+    let Some((_scheme, text)) = split_once(header, b' ') else {
         return Ok(None);
     };
     match spelled(alloc, text)? {

@@ -1,10 +1,9 @@
 // The configurations of the cases.
 
 use client_registry::{Registry, read_registry};
-use sample_configuration::{news_alone, sample};
-use sample_rows::{
+use sample_configuration::{
     ALICE, ALICES_CLAIMS, ANY_CLIENT, BOB, MAIL_CLIENT, MAIL_PARTY, NEWS_CLIENT, NEWS_PARTY,
-    PROVIDER, SHOP_CLIENT, SHOP_PARTY,
+    PROVIDER, SHOP_CLIENT, SHOP_PARTY, news_alone, sample,
 };
 use sso_base::NoMemory;
 use std::alloc::Global;

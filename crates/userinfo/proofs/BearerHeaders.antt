@@ -3,8 +3,8 @@ use Rattle.std.proofs.Common.{◌≡◌, inr, ℕ, List, ◌∷◌, ◌++◌, Bo
 use Rattle.std.specs.Str.{str_to_ascii_lowercase}
 use Rattle.sso_base.specs.Words.{Word, IsWord, word_text, word_of_text}
 use Rattle.sso_base.proofs.WordTexts.{word_of_text-word_text, word_of_text_some}
-use Rattle.request_params.specs.Scheme.{cut, first_part, scheme_of, is_bearer, IsScheme}
-use Rattle.request_params.proofs.Cuts.{cut_join, cut_joins}
+use Rattle.request_params.specs.Scheme.{split_once, first_part, scheme_of, is_bearer, IsScheme}
+use Rattle.request_params.proofs.Splits.{split_join, split_joins}
 use Rattle.request_params.proofs.Schemes.{scheme_parts, scheme_is, bearer_no_space, bearer_is, is_bearer_of}
 use Rattle.userinfo.specs.declared.header.Bearer.TheVariants.{Absent, Unreadable, Given}
 use Rattle.userinfo.specs.Header.{if_word, word_after, header_read, bearer_read, IsBearer}
@@ -26,7 +26,7 @@ bearer_header s w name word =
     let free = bearer_no_space s name in
     header_at (s ++ 32 ∷ word_text w) s (Some w) true
     (scheme_parts s (s ++ 32 ∷ word_text w) free (inr (word_text w, refl)))
-    (ap word_from (cut_join 32 s (word_text w) free) ∙ word_of_text-word_text w word)
+    (ap word_from (split_join 32 s (word_text w) free) ∙ word_of_text-word_text w word)
     (is_bearer_of s name)
 
 pub bearer_is_read : (h : List ℕ) (w : Word) → IsBearer h w → bearer_read (Some h) ≡ Given w
@@ -47,13 +47,13 @@ text_after (Some parts) w h = (parts, refl, h)
 
 given_at : (h : List ℕ) (w : Word) (b : Bool) → is_bearer (scheme_of h) ≡ b → cond b (if_word (word_after h)) Absent ≡ Given w → IsBearer h w
 given_at h w true is e =
-    let found = text_after (cut 32 h) w (word_given (word_after h) w e) in
+    let found = text_after (split_once 32 h) w (word_given (word_after h) w e) in
     let spelled = word_of_text_some found.0.1 w found.2 in
     record {
       scheme = found.0.0;
       name = bearer_is found.0.0 (ap (λ (o : Option Parts). is_bearer (first_part h o)) (sym found.1) ∙ is);
       word = spelled.1;
-      text = (cut_joins 32 h found.0 found.1).0 ∙ ap (λ r. found.0.0 ++ 32 ∷ r) spelled.0;
+      text = (split_joins 32 h found.0 found.1).0 ∙ ap (λ r. found.0.0 ++ 32 ∷ r) spelled.0;
     }
 given_at h w false is e = absurd (cc)
 

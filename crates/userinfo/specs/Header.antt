@@ -2,7 +2,7 @@
 use Rattle.std.specs.Prelude.{◌≡◌, ℕ, List, ◌∷◌, ◌++◌, codes, Option, Some, None, option_and_then, if◌then◌else◌}
 use Rattle.std.specs.Str.{str_to_ascii_lowercase}
 use Rattle.sso_base.specs.Words.{Word, IsWord, word_text, word_of_text}
-use Rattle.request_params.specs.Scheme.{cut, scheme_of, is_bearer}
+use Rattle.request_params.specs.Scheme.{split_once, scheme_of, is_bearer}
 use Rattle.userinfo.specs.declared.header.Bearer.{Bearer}
 use Rattle.userinfo.specs.declared.header.Bearer.TheVariants.{Absent, Unreadable, Given}
 
@@ -12,7 +12,7 @@ if_word (Some w) = Given w
 
 -- the word whose text follows the first space
 abbrev pub word_after : List ℕ → Option Word
-word_after h = option_and_then (λ parts. word_of_text parts.1) (cut 32 h)
+word_after h = option_and_then (λ parts. word_of_text parts.1) (split_once 32 h)
 
 abbrev pub header_read : List ℕ → Bearer
 header_read h = if is_bearer (scheme_of h) then if_word (word_after h) else Absent

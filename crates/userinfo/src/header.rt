@@ -5,7 +5,7 @@ ghost use Rattle.sso_base.specs.Words.{word_of_text};
 ghost use Rattle.request_params.specs.Scheme.{is_bearer as is_bearer_scheme};
 ghost use Rattle.userinfo.specs.Header.{if_word, header_read, bearer_read};
 
-use request_params::{cut, scheme_of};
+use request_params::{scheme_of, split_once};
 use sso_base::Word;
 
 /// The bearer token that a request presents (RFC 6750, 2.1).
@@ -43,7 +43,7 @@ fn read_header(header: &[u8]) -> Bearer
     if !is_bearer(scheme_of(header)) {
         return Bearer::Absent;
     }
-    match cut(header, b' ') {
+    match split_once(header, b' ') {
         Some((_scheme, text)) => read_word(text),
         None => Bearer::Unreadable,
     }

@@ -6,6 +6,7 @@ use Rattle.sso_base.specs.Words.{Text}
 use Rattle.sso_base.specs.declared.http.Ask.{Ask}
 use Rattle.sso_base.proofs.RowLaws.{bytes_true, bytes_turn}
 use Rattle.oidc_words.specs.Paths.{leave_path}
+use Rattle.oidc_words.specs.Routes.{endpoint_of}
 use Rattle.client_registry.specs.declared.records.Party.{Party}
 use Rattle.client_registry.specs.Configuration.{Configuration}
 use Rattle.client_registry.specs.Numbers.{party_row, party_secret, no_party}
@@ -20,21 +21,21 @@ use Rattle.web_requests.proofs.RegistryRows.{some_row}
 
 -- ---- paths that another route does not hide: a path without a name of its own stands for the endpoint
 
-leave_route : (redirection : Text) (logout : Option Text) → bytes_eq leave_path redirection ≡ false → rp_routes.endpoint_of (rp_routes.post_routes redirection logout) leave_path ≡ rp_routes.endpoint_of (rp_routes.post_routes [] logout) leave_path
+leave_route : (redirection : Text) (logout : Option Text) → bytes_eq leave_path redirection ≡ false → endpoint_of (rp_routes.post_routes redirection logout) leave_path ≡ endpoint_of (rp_routes.post_routes [] logout) leave_path
 leave_route redirection logout h = rw h refl
 
 logout_route : (redirection path : Text) → bytes_eq path redirection ≡ false → bytes_eq path leave_path ≡ false
-    → rp_routes.endpoint_of (rp_routes.post_routes redirection (Some path)) path ≡ rp_routes.endpoint_of (rp_routes.post_routes [] (Some (codes "/l"))) (codes "/l")
+    → endpoint_of (rp_routes.post_routes redirection (Some path)) path ≡ endpoint_of (rp_routes.post_routes [] (Some (codes "/l"))) (codes "/l")
 logout_route redirection path h k = rw (h, k, bytes_true path path refl) refl
 
 -- ---- the roles
 
 -- the provider, below the path of its issuer
-pub provider_reads : (c : Configuration) (request : Ask) (rest : Text) → request.path ≡ c.prefix ++ rest → op.prepared c request ≡ op.asked_at c request (op_routes.endpoint_of (op_routes.routes_of request.method) rest)
+pub provider_reads : (c : Configuration) (request : Ask) (rest : Text) → request.path ≡ c.prefix ++ rest → op.prepared c request ≡ op.asked_at c request (endpoint_of (op_routes.routes_of request.method) rest)
 unfolding op.prepared
 provider_reads c request rest is =
-    ap (λ path. op.asked_at c request (option_and_then (op_routes.endpoint_of (op_routes.routes_of request.method)) (op_routes.below c.prefix path))) is
-    ∙ ap (λ o. op.asked_at c request (option_and_then (op_routes.endpoint_of (op_routes.routes_of request.method)) o)) (below_front c.prefix rest)
+    ap (λ path. op.asked_at c request (option_and_then (endpoint_of (op_routes.routes_of request.method)) (op_routes.below c.prefix path))) is
+    ∙ ap (λ o. op.asked_at c request (option_and_then (endpoint_of (op_routes.routes_of request.method)) o)) (below_front c.prefix rest)
 
 module _ (c : Configuration) (n : ℕ) (r : IsRegistry c) (low : n < length c.parties) where
   abbrev party : Party
@@ -50,12 +51,12 @@ module _ (c : Configuration) (n : ℕ) (r : IsRegistry c) (low : n < length c.pa
   leaves_elsewhere : bytes_eq leave_path party.redirect_url.path ≡ false
   leaves_elsewhere = bytes_turn party.redirect_url.path leave_path (redirects_elsewhere c n party r (some_row c.parties n no_party low)).leave
 
-  pub leave_asked : rp_routes.endpoint_of (rp_routes.post_routes party.redirect_url.path (rp.logout_path c party)) leave_path ≡ rp_routes.endpoint_of (rp_routes.post_routes [] (rp.logout_path c party)) leave_path
+  pub leave_asked : endpoint_of (rp_routes.post_routes party.redirect_url.path (rp.logout_path c party)) leave_path ≡ endpoint_of (rp_routes.post_routes [] (rp.logout_path c party)) leave_path
   leave_asked = leave_route party.redirect_url.path (rp.logout_path c party) leaves_elsewhere
 
   pub logout_asked : (path : Text) → rp.logout_path c party ≡ Some path
-      → rp_routes.endpoint_of (rp_routes.post_routes party.redirect_url.path (rp.logout_path c party)) path ≡ rp_routes.endpoint_of (rp_routes.post_routes [] (Some (codes "/l"))) (codes "/l")
+      → endpoint_of (rp_routes.post_routes party.redirect_url.path (rp.logout_path c party)) path ≡ endpoint_of (rp_routes.post_routes [] (Some (codes "/l"))) (codes "/l")
   logout_asked path is =
       let P : Option Text → Type 0 = λ o. IfSome o (IsApart party) in
       let apart : IsApart party path = subst P is (logs_out_elsewhere c n party r (some_row c.parties n no_party low)) in
-      ap (λ o. rp_routes.endpoint_of (rp_routes.post_routes party.redirect_url.path o) path) is ∙ logout_route party.redirect_url.path path apart.redirect apart.leave
+      ap (λ o. endpoint_of (rp_routes.post_routes party.redirect_url.path o) path) is ∙ logout_route party.redirect_url.path path apart.redirect apart.leave

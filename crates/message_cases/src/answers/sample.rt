@@ -1,6 +1,8 @@
 // The clients and users of the cases, and named texts.
 
-use sample_rows::{ALICE, ALICES_CLAIMS, BOB, ESCAPED_CLIENT, NEWS_CLIENT, PROVIDER, SHOP_CLIENT};
+use sample_configuration::{
+    ALICE, ALICES_CLAIMS, BOB, ESCAPED_CLIENT, NEWS_CLIENT, PROVIDER, SHOP_CLIENT,
+};
 use sso_base::NoMemory;
 use std::alloc::Global;
 

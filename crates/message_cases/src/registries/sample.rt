@@ -1,6 +1,6 @@
 // The configuration that the cases use and change, and named texts.
 
-use sample_rows::{
+use sample_configuration::{
     ALICE, ALICES_CLAIMS, ANY_CLIENT, BOB, ESCAPED_CLIENT, MAIL_CLIENT, MAIL_PARTY, NEWS_CLIENT,
     NEWS_PARTY, PROVIDER, SHOP_CLIENT, SHOP_PARTY,
 };

@@ -5,9 +5,9 @@ use auth_request::{Verdict, Wish};
 use case_lines::{moment, scopes, told, told_scopes};
 use client_registry::Registry;
 use oidc_words::error_text;
-use request_need::{Need, Standing, decide, needed_scopes};
 use sso_base::{Moment, NoMemory};
 use std::alloc::Global;
+use user_interaction::{Need, Standing, decide, needed_scopes};
 
 // The session in a field: `session`, then `in_turn`, `agreed` and the granted scope values.
 fn standing(alloc: Global, session: &str) -> Result<Option<Standing>, NoMemory> {

@@ -1,6 +1,6 @@
 // The configuration of the cases, and named texts.
 
-use sample_rows::{ALICE, ANY_CLIENT, MAIL_CLIENT, NEWS_CLIENT, PROVIDER, SHOP_CLIENT};
+use sample_configuration::{ALICE, ANY_CLIENT, MAIL_CLIENT, NEWS_CLIENT, PROVIDER, SHOP_CLIENT};
 use sso_base::NoMemory;
 use std::alloc::Global;
 

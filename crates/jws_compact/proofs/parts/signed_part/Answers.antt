@@ -1,6 +1,6 @@
 use Rattle.std.proofs.Common.{arith, ◌+◌, length}
 use Rattle.std.proofs.lemmas.List.{length-take-le}
-use Rattle.jws_compact.proofs.Cut.{front}
+use Rattle.jws_compact.proofs.Splits.{front}
 use Rattle.jws_compact.proofs.parts.signed_part.Goals as goal
 
 pub slice_bounds-result-end : goal.slice_bounds-result-end

@@ -2,7 +2,7 @@ use Rattle.std.proofs.Common.{◌≡◌, length, ap, ◌∙◌, List, ℕ, arith
 use Rattle.held_rows.specs.declared.stored.Issued.{Issued}
 use Rattle.held_rows.specs.Index.{rows_at, stored_rows}
 use Rattle.held_rows.specs.SlotList.{SlotList}
-use Rattle.held_rows.proofs.Parts.{as_many, names_short, firsts_short, seconds_short}
+use Rattle.held_rows.proofs.Parts.{as_many, names_short, groups_short, other_groups_short}
 use Rattle.held_rows.proofs.stored.Stored.reserve.Goals as goal
 
 pub overflow_sub-most : goal.overflow_sub-most
@@ -16,19 +16,19 @@ overflow_sub-most g c =
 
 pub overflow_sub-most-2 : goal.overflow_sub-most-2
 overflow_sub-most-2 g c =
-    let short = firsts_short g.R.Row.name g.R.Row.key g.R.Row.begun g.R.Row.IsSound c.args.self.now c.requires in
+    let short = groups_short g.R.Row.name g.R.Row.key g.R.Row.begun g.R.Row.IsSound c.args.self.now c.requires in
     let len = c.len-2.ensures in
     let most = c.len-most.ensures in
-    let as_long = c.args.self.now.by_first.ok.0 in
+    let as_long = c.args.self.now.by_group.ok.0 in
     let as_long-2 = c.args.self.now.by_issue.ok.0 in
     omega (arith, short, len, most, as_long, as_long-2)
 
 pub overflow_sub-most-3 : goal.overflow_sub-most-3
 overflow_sub-most-3 g c =
-    let short = seconds_short g.R.Row.name g.R.Row.key g.R.Row.begun g.R.Row.IsSound c.args.self.now c.requires in
+    let short = other_groups_short g.R.Row.name g.R.Row.key g.R.Row.begun g.R.Row.IsSound c.args.self.now c.requires in
     let len = c.len-3.ensures in
     let most = c.len-most.ensures in
-    let as_long = c.args.self.now.by_second.ok.0 in
+    let as_long = c.args.self.now.by_other.ok.0 in
     let as_long-2 = c.args.self.now.by_issue.ok.0 in
     omega (arith, short, len, most, as_long, as_long-2)
 

@@ -1,22 +1,8 @@
 use Rattle.std.proofs.Common.{◌∙◌}
-use Rattle.sso_base.specs.Rows.{row_of}
-use Rattle.rp_login.specs.Rows.{pending_name, pending_begun}
-use Rattle.oidc_words.specs.Lives.{pending_life}
-use Rattle.held_rows.proofs.Found.{is_found, is_gone, is_absent}
 use Rattle.rp_core.proofs.LiveInBoth.{pending_live}
 use Rattle.rp_core.proofs.state.RpCore.any_live_pending.Goals as goal
 
-pub returns-in_default : goal.returns-in_default
-returns-in_default c =
-    is_absent pending_life pending_begun c.args.at (row_of pending_name c.args.word c.self.inside.logins.pendings) c.in_default.ensures.row
-    ∙ pending_live c.self.inside.setup c.self.inside.journal.pairs c.self.inside.logins c.self.invariant.tables c.args.self.now c.self.view_is c.args.at c.requires c.args.word c.in_default.ensures.held
-
-pub returns-then-is_live : goal.returns-then-is_live
-returns-then-is_live c =
-    is_found pending_life pending_begun c.args.at c.in-Some.row.now (row_of pending_name c.args.word c.self.inside.logins.pendings) c.in-Some.ensures.row c.if-is_live.ensures
-    ∙ pending_live c.self.inside.setup c.self.inside.journal.pairs c.self.inside.logins c.self.invariant.tables c.args.self.now c.self.view_is c.args.at c.requires c.args.word c.in-Some.ensures.held
-
-pub returns-else-is_live : goal.returns-else-is_live
-returns-else-is_live c =
-    is_gone pending_life pending_begun c.args.at c.in-Some.row.now (row_of pending_name c.args.word c.self.inside.logins.pendings) c.in-Some.ensures.row c.if-is_live.ensures
-    ∙ pending_live c.self.inside.setup c.self.inside.journal.pairs c.self.inside.logins c.self.invariant.tables c.args.self.now c.self.view_is c.args.at c.requires c.args.word c.in-Some.ensures.held
+pub returns : goal.returns
+returns c =
+    c.live_pending.ensures.row
+    ∙ pending_live c.self.inside.setup c.self.inside.journal.pairs c.self.inside.logins c.self.invariant.tables c.args.self.now c.self.view_is c.args.at c.requires c.args.word c.live_pending.ensures.held

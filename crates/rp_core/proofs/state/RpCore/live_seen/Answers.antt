@@ -1,22 +1,8 @@
 use Rattle.std.proofs.Common.{◌∙◌}
-use Rattle.sso_base.specs.Rows.{row_of}
-use Rattle.rp_login.specs.Rows.{seen_name, seen_begun}
-use Rattle.oidc_words.specs.Lives.{seen_life}
-use Rattle.held_rows.proofs.Found.{is_found, is_gone, is_absent}
 use Rattle.rp_core.proofs.LiveInBoth.{seen_live}
 use Rattle.rp_core.proofs.state.RpCore.live_seen.Goals as goal
 
-pub returns-in_default : goal.returns-in_default
-returns-in_default c =
-    is_absent seen_life seen_begun c.args.at (row_of seen_name c.args.jti.now c.self.inside.logins.seens) c.in_default.ensures.row
-    ∙ seen_live c.self.inside.setup c.self.inside.journal.pairs c.self.inside.logins c.self.invariant.tables c.args.self.now c.self.view_is c.args.at c.requires c.args.jti.now c.in_default.ensures.held
-
-pub returns-then-is_live : goal.returns-then-is_live
-returns-then-is_live c =
-    is_found seen_life seen_begun c.args.at c.in-Some.row.now (row_of seen_name c.args.jti.now c.self.inside.logins.seens) c.in-Some.ensures.row c.if-is_live.ensures
-    ∙ seen_live c.self.inside.setup c.self.inside.journal.pairs c.self.inside.logins c.self.invariant.tables c.args.self.now c.self.view_is c.args.at c.requires c.args.jti.now c.in-Some.ensures.held
-
-pub returns-else-is_live : goal.returns-else-is_live
-returns-else-is_live c =
-    is_gone seen_life seen_begun c.args.at c.in-Some.row.now (row_of seen_name c.args.jti.now c.self.inside.logins.seens) c.in-Some.ensures.row c.if-is_live.ensures
-    ∙ seen_live c.self.inside.setup c.self.inside.journal.pairs c.self.inside.logins c.self.invariant.tables c.args.self.now c.self.view_is c.args.at c.requires c.args.jti.now c.in-Some.ensures.held
+pub returns : goal.returns
+returns c =
+    c.live_seen.ensures.row
+    ∙ seen_live c.self.inside.setup c.self.inside.journal.pairs c.self.inside.logins c.self.invariant.tables c.args.self.now c.self.view_is c.args.at c.requires c.args.jti.now c.live_seen.ensures.held

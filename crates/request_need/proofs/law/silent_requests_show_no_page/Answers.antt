@@ -1,8 +1,0 @@
-use Rattle.request_need.proofs.Needing.{shows_no_login, shows_no_consent}
-use Rattle.request_need.proofs.law.silent_requests_show_no_page.Goals as goal
-
-pub returns-clause-login : goal.returns-clause-login
-returns-clause-login c = shows_no_login
-
-pub returns-clause-consent : goal.returns-clause-consent
-returns-clause-consent c = shows_no_consent
