@@ -39,14 +39,7 @@ fn push_end<R: Wait, X: Role>(
         role,
         store,
     };
-    let served = serve_connection(
-        &backend,
-        pass,
-        &mut connection,
-        &mut desk.link,
-        &mut desk.clock,
-        &mut desk.draw,
-    );
+    let served = serve_connection(&backend, pass, &mut connection, &mut desk.tools);
     if served.end == ServedEnd::NoMemory {
         return Err(NoMemory);
     }
