@@ -3,7 +3,7 @@
 //!
 //! The file `stdin` has the cases, and `stdout` has them with their answers. The crate `case_lines` documents how a line is
 //! read. The comments in the table name the source of the expected answers: standards, and other programs. A line `table|NAME`
-//! begins one of three tables. The lines below it are calls of that table, in which `$NAME$` is a text of the table.
+//! begins one of two tables. The lines below it are calls of that table, in which `$NAME$` is a text of the table.
 //!
 //! | Module | Its calls |
 //! |---|---|
@@ -13,12 +13,6 @@
 //! | `registries::registered` | `provider`, `find`, `row` and `subject` query the sample's registry |
 //! | `registries::discovery` | `document`, `discovery` and `less` |
 //! | `registries::sample` | none; the configuration of the other cases, and named texts |
-//! | `requests` | the table of authorization requests: |
-//! | `requests::parameters` | `form`, `merge`, `location`, `query` and `fragment` |
-//! | `requests::judgement` | `judge` and `judge_whole` |
-//! | `requests::needs` | `need` and `needed_scopes` |
-//! | `requests::request_objects` | `object`, `unseal_request` and `seal_request`: request objects |
-//! | `requests::sample` | none; the configuration of the cases, and named texts |
 //! | `answers` | the table of the answers of a sign-on: |
 //! | `answers::token_requests` | `read_grant` and `print_grant`: token requests |
 //! | `answers::token_answers` | `print_tokens`, `print_token_error` and `read_tokens`: their answers |
@@ -27,28 +21,23 @@
 //! | `answers::responses` | `print_answer`, `print_refusal` and `read_answer`: authorization responses |
 //! | `answers::messages` | none; prints messages from server to server |
 //! | `answers::sample` | none; the clients and users of the cases, and named texts |
-//! | `clients` | none; the clients of a registry |
 #![tactic(auto)]
 
 mod answers;
-mod clients;
 mod registries;
-mod requests;
 
 use crate::answers::AnswerCases;
 use crate::registries::RegistryCases;
-use crate::requests::RequestCases;
 use case_lines::{Cases, print_cases, told};
 use client_registry::RegNo;
 use sso_base::NoMemory;
 use std::alloc::Global;
 use std::{io, mem};
 
-// One of the three tables.
+// One of the two tables.
 #[derive(Drop)]
 enum Table {
     Registries(RegistryCases),
-    Requests(RequestCases),
     Answers(AnswerCases),
 }
 
@@ -56,7 +45,6 @@ impl Cases for Table {
     fn answer(&mut self, alloc: Global, fields: &[&str]) -> Result<String, NoMemory> {
         match self {
             Table::Registries(cases) => cases.answer(alloc, fields),
-            Table::Requests(cases) => cases.answer(alloc, fields),
             Table::Answers(cases) => cases.answer(alloc, fields),
         }
     }
@@ -64,7 +52,6 @@ impl Cases for Table {
     fn text(&self, name: &str) -> Option<&str> {
         match self {
             Table::Registries(cases) => cases.text(name),
-            Table::Requests(cases) => cases.text(name),
             Table::Answers(cases) => cases.text(name),
         }
     }
@@ -72,10 +59,6 @@ impl Cases for Table {
 
 fn registry_table(alloc: Global) -> Result<Option<Table>, RegNo> {
     Ok(Some(Table::Registries(RegistryCases::new(alloc)?)))
-}
-
-fn request_table(alloc: Global) -> Result<Option<Table>, RegNo> {
-    Ok(Some(Table::Requests(RequestCases::new(alloc)?)))
 }
 
 fn answer_table(alloc: Global) -> Result<Option<Table>, RegNo> {
@@ -86,7 +69,6 @@ fn answer_table(alloc: Global) -> Result<Option<Table>, RegNo> {
 fn table_of(alloc: Global, name: &str) -> Result<Option<Table>, RegNo> {
     match name {
         "registries" => registry_table(alloc),
-        "requests" => request_table(alloc),
         "answers" => answer_table(alloc),
         _ => Ok(None),
     }

@@ -8,7 +8,7 @@ use crate::clock::SystemClock;
 use crate::door::TcpDoor;
 use crate::draw::RandomDraw;
 use crate::link::TcpLink;
-use server_desk::{Desk, Door, Link};
+use server_desk::{Desk, Door, Link, Tools};
 use std::io;
 use std::net::{Net, TcpListener, TcpStream};
 use std::random::RandomSource;
@@ -27,13 +27,15 @@ where
     ensures turns { IfOk result (λ desk. desk.turns ≡ 2 ^ 56) }
     ensures door { IfOk result (λ desk. ⟦<TcpDoor<'a, R> as Door>⟧.state desk.door ≡ counted 0 0) }
     ensures door_faults { IfOk result (λ desk. ⟦<TcpDoor<'a, R> as Door>⟧.faults desk.door ≡ 0) }
-    ensures link { IfOk result (λ desk. ⟦<TcpLink<'a, R> as Link>⟧.state desk.link ≡ untold_link 0 0) }
+    ensures link { IfOk result (λ desk. ⟦<TcpLink<'a, R> as Link>⟧.state desk.tools.link ≡ untold_link 0 0) }
 {
     Ok(Desk {
         door: TcpDoor::new(rt),
-        link: TcpLink::new(rt),
-        clock: SystemClock::new(rt),
-        draw: RandomDraw::new(rt)?,
+        tools: Tools {
+            link: TcpLink::new(rt),
+            clock: SystemClock::new(rt),
+            draw: RandomDraw::new(rt)?,
+        },
         turns: TURNS,
     })
 }

@@ -18,7 +18,7 @@ use crate::sources::SlowSource;
 use case_lines::{as_text, bytes, field, number, push_field, told_quoted};
 use server_desk::{
     Connection, Desk, Door, Exchanged, FaultyDoor, FaultyLink, FaultySource, MemoryClock,
-    MemoryDoor, MemoryDraw, MemoryLink,
+    MemoryDoor, MemoryDraw, MemoryLink, Tools,
 };
 use sso_base::{Blob, FaultySink, Moment, NoMemory};
 use std::alloc::Global;
@@ -148,9 +148,11 @@ pub fn desk_in(alloc: Global, text: &str, place: u8) -> Result<CaseDesk, NoMemor
     let link = MemoryLink::new(alloc, answers);
     Ok(Desk {
         door: FaultyDoor::new(door, failing(alloc, number(field(numbers, 1)))?),
-        link: FaultyLink::new(link, failing(alloc, number(field(numbers, 2)))?),
-        clock: clock(alloc),
-        draw: draw(place),
+        tools: Tools {
+            link: FaultyLink::new(link, failing(alloc, number(field(numbers, 2)))?),
+            clock: clock(alloc),
+            draw: draw(place),
+        },
         turns: u64::from(number(field(numbers, 0))),
     })
 }
@@ -199,7 +201,7 @@ fn push_exchange(alloc: Global, out: &mut String, exchanged: &Exchanged) -> Resu
 
 /// Adds the messages that were sent over the link of a desk.
 pub fn push_sent(alloc: Global, out: &mut String, desk: &CaseDesk) -> Result<(), NoMemory> {
-    for exchanged in desk.link.link().exchanges() {
+    for exchanged in desk.tools.link.link().exchanges() {
         push_exchange(alloc, out, exchanged)?;
     }
     Ok(())

@@ -9,7 +9,7 @@ use crate::desks::{clock, draw, line_bytes, push_bytes};
 use crate::top::{Call, run};
 use case_lines::number;
 use server_desk::{
-    Connection, Desk, Door, Link, LinkNo, MemoryClock, MemoryDoor, MemoryDraw, MemorySource,
+    Connection, Desk, Door, Link, LinkNo, MemoryClock, MemoryDoor, MemoryDraw, MemorySource, Tools,
 };
 use sso_base::{Blob, File, MemorySink, NoMemory, Sink, SinkFault, Text};
 use std::alloc::Global;
@@ -139,12 +139,14 @@ fn desk_in<'a>(alloc: Global, text: &str, calls: &'a AtomicU64) -> Result<LateDe
     let connections = connections_in(alloc, parts, calls)?;
     Ok(Desk {
         door: MemoryDoor::new(alloc, connections)?,
-        link: CountedLink {
-            seen: calls,
-            calls: 0,
+        tools: Tools {
+            link: CountedLink {
+                seen: calls,
+                calls: 0,
+            },
+            clock: clock(alloc),
+            draw: draw(0),
         },
-        clock: clock(alloc),
-        draw: draw(0),
         turns: u64::from(number(turns)),
     })
 }

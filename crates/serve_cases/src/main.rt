@@ -19,10 +19,6 @@
 //! | `sso|SHELF|SINK|WORDS|two logins` or `two keys` | the same for two desks that wait for each other |
 //! | `sso|SHELF|SINK|WORDS|late|DESK` | the same for a desk at which connections take nothing before calls of its link |
 //! | `last|SHELF|SINK|WORDS` | the exit status for the words with no desk, how many lines the text has, and the last of them |
-//! | `writer|CALL` | the bytes that a writer takes as a sink, if its call CALL fails |
-//! | `words|NAME|WORD|..` | the words of a process |
-//! | `tries|ADDRESS|..` | to which of these addresses a link tries to connect, over a network in memory |
-//! | `machine|CALL` | the answers of the clock, the random words, a door, a link or the desk of this machine |
 //!
 //! `ends`, `work` and `serve` use their own role, whose core is full after one request. `calls` and `two threads` use only that
 //! core, which replies with the number of the entries before. The top call serves the provider and the parties. SHELF and SINK
@@ -39,27 +35,20 @@
 //! | `files`, `top` | the calls `file`, `lines`, `sso` and `last` |
 //! | `meeting`, `login_door`, `two` | desks that wait for each other |
 //! | `late` | a desk at which connections take nothing before calls of its link |
-//! | `process` | the calls `writer` and `words` |
-//! | `network` | the call `tries`: a link over a network in memory |
-//! | `this_machine`, `loopback` | the call `machine` |
 #![tactic(auto)]
 
 mod desks;
 mod files;
 mod late;
 mod login_door;
-mod loopback;
 mod meeting;
-mod network;
 mod one_pass;
 mod passes;
-mod process;
 mod servers;
 mod sinks;
 mod sources;
 mod tally;
 mod tally_role;
-mod this_machine;
 mod tick;
 mod top;
 mod two;
@@ -69,13 +58,10 @@ mod workers;
 use case_lines::{Cases, print_lines, told, written_out};
 use sample_configuration::{ALICE, PROVIDER, sample};
 use sso_base::{File, NoMemory, Text};
-use std::alloc::{AllocGlobal, Global};
+use std::alloc::Global;
 use std::io;
-use std::net::{Net, TcpListener, TcpStream};
-use std::random::RandomSource;
 use std::sync::Wait;
 use std::thread::Threads;
-use std::time::Clock;
 
 #[derive(Drop)]
 struct ServeCases {
@@ -87,9 +73,6 @@ impl Cases for ServeCases {
         match fields {
             ["file", name, bytes] => files::put_bytes(alloc, &mut self.files, name, bytes),
             ["lines", name, lines] => files::put_lines(alloc, &mut self.files, name, lines),
-            ["writer", call] => process::writer(alloc, call),
-            ["words", words @ ..] => process::words(alloc, words),
-            ["tries", addresses @ ..] => network::tries(alloc, addresses),
             _ => told(alloc, "no such call"),
         }
     }
@@ -113,12 +96,13 @@ impl Cases for ServeCases {
     }
 }
 
-// The answer to a line. The calls that need the machine are answered here, and the others by the table.
-fn answer<R>(rt: &R, alloc: Global, cases: &mut ServeCases, line: &str) -> Result<String, NoMemory>
-where
-    R: Threads + Wait + Net<Listener = TcpListener, Stream = TcpStream>,
-    R: Clock + RandomSource + Sync + AllocGlobal,
-{
+// The answer to a line. The calls that need threads are answered here, and the others by the table.
+fn answer<R: Threads + Wait + Sync>(
+    rt: &R,
+    alloc: Global,
+    cases: &mut ServeCases,
+    line: &str,
+) -> Result<String, NoMemory> {
     let whole = written_out(alloc, cases, line)?;
     let fields: Vec<&str> = whole.as_str().split('|').collect(alloc)?;
     match fields.as_slice() {
@@ -135,7 +119,6 @@ where
         ["serve", desks @ ..] => servers::answer(rt, alloc, desks),
         ["calls", asks @ ..] => one_pass::answer(rt, alloc, asks),
         ["two threads"] => two_passes::answer(rt, alloc),
-        ["machine", call] => this_machine::answer(rt, alloc, call),
         fields => cases.answer(alloc, fields),
     }
 }

@@ -8,7 +8,7 @@ use crate::login_door::LoginDoor;
 use crate::meeting::{MeetingLink, MeetingSource};
 use crate::top::{Call, run};
 use server_desk::{
-    Connection, Desk, Door, MemoryClock, MemoryDoor, MemoryDraw, MemoryLink, MemorySource,
+    Connection, Desk, Door, MemoryClock, MemoryDoor, MemoryDraw, MemoryLink, MemorySource, Tools,
 };
 use sso_base::{File, MemorySink, NoMemory};
 use std::alloc::Global;
@@ -29,9 +29,11 @@ fn login_desk<'a>(alloc: Global, begun: &'a AtomicU64, place: u8) -> Result<Logi
 {
     Ok(Desk {
         door: LoginDoor::new(alloc)?,
-        link: MeetingLink::new(begun),
-        clock: clock(alloc),
-        draw: draw(place),
+        tools: Tools {
+            link: MeetingLink::new(begun),
+            clock: clock(alloc),
+            draw: draw(place),
+        },
         turns: 2,
     })
 }
@@ -59,9 +61,11 @@ fn keys_desk<'a>(alloc: Global, begun: &'a AtomicU64, place: u8) -> Result<KeysD
     };
     Ok(Desk {
         door: MemoryDoor::new(alloc, vec![in alloc; connection]?)?,
-        link: MemoryLink::new(alloc, Vec::new(alloc)),
-        clock: clock(alloc),
-        draw: draw(place),
+        tools: Tools {
+            link: MemoryLink::new(alloc, Vec::new(alloc)),
+            clock: clock(alloc),
+            draw: draw(place),
+        },
         turns: 1,
     })
 }

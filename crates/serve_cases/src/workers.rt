@@ -9,7 +9,7 @@ use crate::tally::Tally;
 use crate::tally_role::TallyRole;
 use case_lines::{push_part, told};
 use server_desk::Door;
-use serving::{Role, ServedEnd, serve_connection, serve_desk};
+use serving::{Backend, Role, ServedEnd, serve_connection, serve_desk};
 use sso_base::{Core, NoMemory};
 use std::alloc::Global;
 use std::sync::Wait;
@@ -33,17 +33,13 @@ fn push_end<R: Wait, X: Role>(
     let Ok(Some(mut connection)) = desk.door.next() else {
         return Ok(false);
     };
-    let served = serve_connection(
+    let backend = Backend {
         rt,
         alloc,
         role,
         store,
-        pass,
-        &mut connection,
-        &mut desk.link,
-        &mut desk.clock,
-        &mut desk.draw,
-    );
+    };
+    let served = serve_connection(&backend, pass, &mut connection, &mut desk.tools);
     if served.end == ServedEnd::NoMemory {
         return Err(NoMemory);
     }
@@ -89,7 +85,13 @@ fn work<R: Wait, X: Role>(
     requires given { (⟦<CaseDoor as Door>⟧.state desk.old.door).given < 2 ^ 63 }
     requires turns { desk.old.turns ≤ 2 ^ 56 }
 {
-    let worked = serve_desk(rt, alloc, role, store, pass, desk);
+    let backend = Backend {
+        rt,
+        alloc,
+        role,
+        store,
+    };
+    let worked = serve_desk(&backend, pass, desk);
     Ok(format!(in alloc; "{:?} {}", worked.end, worked.served)?)
 }
 

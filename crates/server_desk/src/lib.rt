@@ -7,7 +7,7 @@
 //! | `door` | [`Door`], which accepts connections |
 //! | `link` | [`Link`], which carries messages to other servers |
 //! | `clock`, `draw` | [`Clock`] and [`Draw`]: moments and random words |
-//! | `desk` | [`Desk`], all of these together |
+//! | `desk` | [`Desk`], all of these together; [`Tools`], those for one connection |
 //! | `source_memory` | [`MemorySource`] and [`FaultySource`], sources in memory |
 //! | `door_memory` | [`MemoryDoor`] and [`FaultyDoor`], doors in memory |
 //! | `link_memory` | [`MemoryLink`] and [`FaultyLink`], links in memory, and [`Exchanged`], what they keep |
@@ -30,7 +30,7 @@ mod source_memory;
 pub use clock::Clock;
 pub use clock_memory::MemoryClock;
 pub use connection::Connection;
-pub use desk::Desk;
+pub use desk::{Desk, Tools};
 pub use door::{Door, DoorFault};
 pub use door_memory::{FaultyDoor, MemoryDoor};
 pub use draw::Draw;

@@ -54,9 +54,9 @@ module _ {S K : Type 0} where
 module _ {O A R D L C W S K : Type 0} (t : Telling D L C W S K) where
   -- what is known of an opened seat, by the desk and the pass that it was dealt
   pub record OpenedAs (listening : Bool) (at : Option Text → Option Text) (desk : Desk D L C W) (pass : Pass O A R) (mid : Seat O D L C W A R) : Type 0 where
-    pub link : mid.desk.link ≡ desk.link
-    pub clock : mid.desk.clock ≡ desk.clock
-    pub draw : mid.desk.draw ≡ desk.draw
+    pub link : mid.desk.tools.link ≡ desk.tools.link
+    pub clock : mid.desk.tools.clock ≡ desk.tools.clock
+    pub draw : mid.desk.tools.draw ≡ desk.tools.draw
     pub turns : mid.desk.turns ≡ desk.turns
     pub pass_is : mid.pass ≡ pass
     pub worked : mid.worked ≡ record { served = 0; end = DoorFault }
@@ -124,7 +124,7 @@ module _ {O A R D L C W S K : Type 0} (t : Telling D L C W S K) where
       services = [];
       number = refl;
       made = made_none seat.pass;
-      served = at_desk_none m t.left t.read_faults t.taken t.write_faults (front_of seat.pass) (t.link_state seat.desk.link) (t.moments seat.desk.clock) (t.words seat.desk.draw) (t.state seat.desk.door);
+      served = at_desk_none m t.left t.read_faults t.taken t.write_faults (front_of seat.pass) (t.link_state seat.desk.tools.link) (t.moments seat.desk.tools.clock) (t.words seat.desk.tools.draw) (t.state seat.desk.door);
       count = none;
       bound = omega arith;
       turns = refl;
@@ -177,7 +177,7 @@ module _ {O A R D L C W S K : Type 0} (t : Telling D L C W S K) where
       served_as history b =
           let a = s.served in
           let all = serves_all_on m t.left t.read_faults t.taken t.write_faults (front_of new.pass) history b s.services a.served in
-          let sent : TookCalls (t.link_state desk.link) (t.link_state new.desk.link) (calls_in s.services) = subst (λ (l : L). TookCalls (t.link_state l) (t.link_state new.desk.link) (calls_in s.services)) o.link a.sent in
+          let sent : TookCalls (t.link_state desk.tools.link) (t.link_state new.desk.tools.link) (calls_in s.services) = subst (λ (l : L). TookCalls (t.link_state l) (t.link_state new.desk.tools.link) (calls_in s.services)) o.link a.sent in
           record {
             passed = record {
               coming = sym o.coming ∙ a.passed.coming;
@@ -185,11 +185,11 @@ module _ {O A R D L C W S K : Type 0} (t : Telling D L C W S K) where
               given = a.passed.given ∙ ap (λ (n : ℕ). n + length s.services) o.given;
             };
             sent = sent;
-            drawn = subst (λ (x : C). DrawnIn (t.moments x) (t.words desk.draw) 0 s.services) o.clock (subst (λ (x : W). DrawnIn (t.moments mid.desk.clock) (t.words x) 0 s.services) o.draw a.drawn);
-            clock = subst (λ (x : C). MovedOn (t.moments x) (t.moments new.desk.clock) (readings_in s.services)) o.clock a.clock;
-            draw = subst (λ (x : W). MovedOn (t.words x) (t.words new.desk.draw) (4 * readings_in s.services)) o.draw a.draw;
+            drawn = subst (λ (x : C). DrawnIn (t.moments x) (t.words desk.tools.draw) 0 s.services) o.clock (subst (λ (x : W). DrawnIn (t.moments mid.desk.tools.clock) (t.words x) 0 s.services) o.draw a.drawn);
+            clock = subst (λ (x : C). MovedOn (t.moments x) (t.moments new.desk.tools.clock) (readings_in s.services)) o.clock a.clock;
+            draw = subst (λ (x : W). MovedOn (t.words x) (t.words new.desk.tools.draw) (4 * readings_in s.services)) o.draw a.draw;
             served = all;
-            failed = rose_by_some m t.left t.read_faults t.taken t.write_faults history s.services (t.link_state desk.link) (t.link_state new.desk.link) sent all;
+            failed = rose_by_some m t.left t.read_faults t.taken t.write_faults history s.services (t.link_state desk.tools.link) (t.link_state new.desk.tools.link) sent all;
           }
 
       pub desk_served : (history : List (Pair A R)) → Begins (front_of new.pass) history → DeskServed t m history listening at desk new.desk s.services

@@ -52,7 +52,7 @@ telling = record {
 
 -- a desk whose clock was not read yet
 abbrev desk_at : Door → Place
-desk_at door = record { door = door; link = link_with [] 0; clock = moments; draw = words; turns = 1 }
+desk_at door = record { door = door; tools = record { link = link_with [] 0; clock = moments; draw = words }; turns = 1 }
 
 -- how many connections the first of some desks gave
 abbrev given_at : List Place → ℕ
@@ -67,7 +67,7 @@ abbrev served_door : Door
 served_door = record (new_door []) { place = codes "h:1"; served = went (bytes_by manner 1) ∷ []; given = 1 }
 
 abbrev after : Place
-after = record (desk_at served_door) { clock = λ i. moments (i + 1); draw = λ i. words (i + 4) }
+after = record (desk_at served_door) { tools = record { link = link_with [] 0; clock = λ i. moments (i + 1); draw = λ i. words (i + 4) } }
 
 abbrev service : Service Stream Stream ℕ ℕ
 service = record { came = came get_text; went = went (bytes_by manner 1); work = done_in (lone ∷ []) []; served = record { places = 1; end = end.Written } }

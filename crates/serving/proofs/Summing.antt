@@ -175,7 +175,7 @@ module _ {O A R D L C W S K : Type 0} (t : Telling D L C W S K) where
         let shut = door_failed mid.listens off o.opened in
         let still = (s.idle off).0 in
         let as_was : mid.desk ≡ record d { door = mid.desk.door } =
-        λ i. record { door = mid.desk.door; link = o.same.link i; clock = o.same.clock i; draw = o.same.draw i; turns = o.same.turns i } in
+        λ i. record { door = mid.desk.door; tools = record { link = o.same.link i; clock = o.same.clock i; draw = o.same.draw i }; turns = o.same.turns i } in
         record {
           failed = rose_after (t.door_faults d.door) (t.door_faults mid.desk.door) (t.door_faults new.desk.door) shut.1 s.later.1;
           held = ap (λ (x : Seat O D L C W A R). t.state x.desk.door) still ∙ shut.0;

@@ -33,9 +33,9 @@ module _ {O A R D L C W : Type 0} where
 
   -- the other parts of a seat are unchanged
   pub record SameSeat (old new : Seat O D L C W A R) : Type 0 where
-    pub link : new.desk.link ≡ old.desk.link
-    pub clock : new.desk.clock ≡ old.desk.clock
-    pub draw : new.desk.draw ≡ old.desk.draw
+    pub link : new.desk.tools.link ≡ old.desk.tools.link
+    pub clock : new.desk.tools.clock ≡ old.desk.tools.clock
+    pub draw : new.desk.tools.draw ≡ old.desk.tools.draw
     pub turns : new.desk.turns ≡ old.desk.turns
     pub pass : new.pass ≡ old.pass
     pub worked : new.worked ≡ old.worked

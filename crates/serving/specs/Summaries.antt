@@ -49,7 +49,7 @@ module _ {D L C W S K : Type 0} (t : Telling D L C W S K) where
     -- the connections that it served, and its part of the history
     abbrev pub ServedAt : List (Pair A R) → Desk D L C W → Desk D L C W → List (Service S K A R) → Type 0
     ServedAt history old new services =
-        AtDesk m t.left t.read_faults t.taken t.write_faults history (t.state old.door) (t.state new.door) (t.link_state old.link) (t.link_state new.link) (t.moments old.clock) (t.moments new.clock) (t.words old.draw) (t.words new.draw) services
+        AtDesk m t.left t.read_faults t.taken t.write_faults history (t.state old.door) (t.state new.door) (t.link_state old.tools.link) (t.link_state new.tools.link) (t.moments old.tools.clock) (t.moments new.tools.clock) (t.words old.tools.draw) (t.words new.tools.draw) services
 
     -- One desk: it ended well or its door failed. If the first door could not listen, it served nobody. A door that did not
     -- fail listens at the right place. Its steps are in the history, in their order.

@@ -3,6 +3,7 @@
 //! | Module | What it has |
 //! |---|---|
 //! | `role` | [`Role`]: the role that a server has |
+//! | `backend` | [`Backend`]: what the workers of a server share |
 //! | `step` | one step of a core, with a moment of the clock and four random words |
 //! | `sending` | sends messages over a link |
 //! | `no_reply` | why a connection gets no reply of a core, and what is sent instead |
@@ -15,6 +16,7 @@
 //! | `summary`, `tells` | [`Summary`], what a server did, and [`Tells`], the ghost contents of its desks |
 #![tactic(auto)]
 
+mod backend;
 mod ends;
 mod no_reply;
 mod role;
@@ -28,6 +30,7 @@ mod tells;
 mod work;
 mod writing;
 
+pub use backend::Backend;
 pub use ends::{Served, ServedEnd};
 pub use role::Role;
 pub use serve_one::serve_connection;

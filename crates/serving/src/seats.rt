@@ -9,15 +9,15 @@ ghost use Rattle.turn_store.specs.Passes.{IsPassOf, number_of, front_of};
 ghost use Rattle.serving.specs.Work.{MadeAll};
 ghost use Rattle.serving.specs.Working as spec;
 
+use crate::backend::Backend;
 use crate::role::Role;
 use crate::tells::Tells;
 use crate::work::{WorkEnd, Worked, serve_desk};
 use server_desk::{Clock, Desk, Door, Draw, Link};
 use sso_base::{Core, Text};
-use std::alloc::Global;
 use std::sync::Wait;
 use std::thread::{Threads, for_each_mut};
-use turn_store::{Pass, Turn};
+use turn_store::Pass;
 
 /// A desk with its pass.
 #[derive(Drop)]
@@ -109,74 +109,65 @@ pub fn open_doors<O: Core, D: Door, L: Link, C: Clock, W: Draw>(
 
 // Serves at one seat, if it is open.
 fn serve_seat<R: Wait, X: Role, D: Door, L: Link, C: Clock, W: Draw>(
-    rt: &R,
-    alloc: Global,
-    role: &X,
-    store: &Turn<X::Core>,
+    backend: &Backend<'_, R, X, X::Core>,
     seat: &mut Seat<X::Core, D, L, C, W>,
 )
-    requires ready { X.ready role.now }
-    requires pass { IsPassOf X.Core.setup X.Core.is_legal store.now seat.old.pass }
+    requires ready { X.ready backend.now.role.now }
+    requires pass { IsPassOf X.Core.setup X.Core.is_legal backend.now.store.now seat.old.pass }
     requires given { (D.state seat.old.desk.door).given < 2 ^ 63 }
     requires turns { seat.old.desk.turns ≤ 2 ^ 56 }
     requires idle { seat.old.worked.served ≡ 0 }
-    ensures pass { IsPassOf X.Core.setup X.Core.is_legal store.now seat.new.pass }
-    ensures served { SeatServed ⟦<Desk<D, L, C, W> as Tells>⟧.telling (X.manner role.now) seat.old seat.new }
+    ensures pass { IsPassOf X.Core.setup X.Core.is_legal backend.now.store.now seat.new.pass }
+    ensures served { SeatServed ⟦<Desk<D, L, C, W> as Tells>⟧.telling (X.manner backend.now.role.now) seat.old seat.new }
 {
     if seat.listens {
-        seat.worked = serve_desk(rt, alloc, role, store, &mut seat.pass, &mut seat.desk);
+        seat.worked = serve_desk(backend, &mut seat.pass, &mut seat.desk);
     }
 }
 
 /// Serves at all open seats concurrently, one thread for each. If a thread can't be created, the calling thread serves there.
 pub fn serve_seats<R: Threads + Wait + Sync, X: Role, D: Door, L: Link, C: Clock, W: Draw>(
-    rt: &R,
-    alloc: Global,
-    role: &X,
-    store: &Turn<X::Core>,
+    backend: &Backend<'_, R, X, X::Core>,
     seats: &mut [Seat<X::Core, D, L, C, W>],
 )
 where
     <X::Core as Core>::Ask: Send,
     <X::Core as Core>::Reply: Send,
-    requires ready { X.ready role.now }
+    requires ready { X.ready backend.now.role.now }
     requires some { 0 < length seats.old }
-    requires seats { All (λ seat. IsPassOf X.Core.setup X.Core.is_legal store.now seat.pass × ((D.state seat.desk.door).given < 2 ^ 63) × (seat.desk.turns ≤ 2 ^ 56) × (seat.worked.served ≡ 0)) seats.old }
-    ensures passes { All (λ seat. IsPassOf X.Core.setup X.Core.is_legal store.now seat.pass) seats.new }
-    ensures served { SeatsServed ⟦<Desk<D, L, C, W> as Tells>⟧.telling (X.manner role.now) seats.old seats.new }
+    requires seats { All (λ seat. IsPassOf X.Core.setup X.Core.is_legal backend.now.store.now seat.pass × ((D.state seat.desk.door).given < 2 ^ 63) × (seat.desk.turns ≤ 2 ^ 56) × (seat.worked.served ≡ 0)) seats.old }
+    ensures passes { All (λ seat. IsPassOf X.Core.setup X.Core.is_legal backend.now.store.now seat.pass) seats.new }
+    ensures served { SeatsServed ⟦<Desk<D, L, C, W> as Tells>⟧.telling (X.manner backend.now.role.now) seats.old seats.new }
 {
     let count = seats.len();
     for_each_mut(
-        rt,
+        backend.rt,
         seats,
         count,
         &|_, seat: &mut Seat<X::Core, D, L, C, W>|
-            requires { X.ready role.now × IsPassOf X.Core.setup X.Core.is_legal store.now seat.now.pass × ((D.state seat.now.desk.door).given < 2 ^ 63) × (seat.now.desk.turns ≤ 2 ^ 56) × (seat.now.worked.served ≡ 0) }
-            ensures { IsPassOf X.Core.setup X.Core.is_legal store.entry.now seat.exit.now.pass × SeatServed (record { state = D.state; closings = D.closings; door_faults = D.faults; link_state = L.state; moments = C.ahead; words = W.ahead; left = D.Source.left; read_faults = D.Source.faults; taken = D.Sink.taken; write_faults = D.Sink.faults }) (X.manner role.entry.now) seat.entry.now seat.exit.now }
-        { serve_seat(rt, alloc, role, store, seat) },
+            requires { X.ready backend.now.role.now × IsPassOf X.Core.setup X.Core.is_legal backend.now.store.now seat.now.pass × ((D.state seat.now.desk.door).given < 2 ^ 63) × (seat.now.desk.turns ≤ 2 ^ 56) × (seat.now.worked.served ≡ 0) }
+            ensures { IsPassOf X.Core.setup X.Core.is_legal backend.entry.now.store.now seat.exit.now.pass × SeatServed (record { state = D.state; closings = D.closings; door_faults = D.faults; link_state = L.state; moments = C.ahead; words = W.ahead; left = D.Source.left; read_faults = D.Source.faults; taken = D.Sink.taken; write_faults = D.Sink.faults }) (X.manner backend.entry.now.role.now) seat.entry.now seat.exit.now }
+        { serve_seat(backend, seat) },
     );
 }
 
 /// Opens the doors, the first at the place and the others at its address, and then serves at all open seats.
 pub fn open_and_serve<R: Threads + Wait + Sync, X: Role, D: Door, L: Link, C: Clock, W: Draw>(
-    rt: &R,
-    alloc: Global,
-    role: &X,
-    store: &Turn<X::Core>,
+    backend: &Backend<'_, R, X, X::Core>,
     seats: &mut [Seat<X::Core, D, L, C, W>],
     place: &Text,
 )
 where
     <X::Core as Core>::Ask: Send,
     <X::Core as Core>::Reply: Send,
-    requires ready { X.ready role.now }
+    requires ready { X.ready backend.now.role.now }
     requires some { 0 < length seats.old }
-    requires seats { All (λ seat. IsPassOf X.Core.setup X.Core.is_legal store.now seat.pass × ((D.state seat.desk.door).given < 2 ^ 63) × (seat.desk.turns ≤ 2 ^ 56) × (seat.worked.served ≡ 0)) seats.old }
-    ensures passes { All (λ seat. IsPassOf X.Core.setup X.Core.is_legal store.now seat.pass) seats.new }
-    ensures served { OpenedAndServed ⟦<Desk<D, L, C, W> as Tells>⟧.telling (X.manner role.now) place.now seats.old seats.new }
+    requires seats { All (λ seat. IsPassOf X.Core.setup X.Core.is_legal backend.now.store.now seat.pass × ((D.state seat.desk.door).given < 2 ^ 63) × (seat.desk.turns ≤ 2 ^ 56) × (seat.worked.served ≡ 0)) seats.old }
+    ensures passes { All (λ seat. IsPassOf X.Core.setup X.Core.is_legal backend.now.store.now seat.pass) seats.new }
+    ensures served { OpenedAndServed ⟦<Desk<D, L, C, W> as Tells>⟧.telling (X.manner backend.now.role.now) place.now seats.old seats.new }
 {
     open_doors(seats, place);
-    serve_seats(rt, alloc, role, store, seats);
+    serve_seats(backend, seats);
 }
 
 /// The number of connections that were served at all seats, and whether a door failed.

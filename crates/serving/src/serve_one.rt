@@ -10,18 +10,19 @@ ghost use Rattle.serving.specs.Told.{bytes_of, end_of};
 ghost use Rattle.serving.specs.Work.{Work, Did};
 ghost use Rattle.serving.specs.Writing.{Wrote};
 
+use crate::backend::Backend;
 use crate::ends::{Served, ServedEnd};
 use crate::no_reply::NoReply;
 use crate::role::Role;
 use crate::sending::{Page, printed, printed_all, send};
 use crate::step::step;
 use crate::writing::{write_page, write_without};
-use server_desk::{Clock, Connection, Draw, Link, LinkNo, Source};
+use server_desk::{Clock, Connection, Draw, Link, LinkNo, Source, Tools};
 use sso_base::{Answered, Blob, Core, Message, NoMemory, Sink};
 use sso_http::{HttpNo, print_reply, read_ask, read_peer};
 use std::alloc::Global;
 use std::sync::Wait;
-use turn_store::{Pass, Turn};
+use turn_store::Pass;
 
 // What the request of a connection asks.
 fn asked<X: Role, S: Source>(
@@ -82,91 +83,76 @@ fn asked_back<X: Role, L: Link>(
 
 // The reply after the question of a reply was answered, or that reply where it puts none.
 fn follow<R: Wait, X: Role, L: Link, C: Clock, W: Draw>(
-    rt: &R,
-    alloc: Global,
-    role: &X,
-    store: &Turn<X::Core>,
+    backend: &Backend<'_, R, X, X::Core>,
     pass: &mut Pass<X::Core>,
-    link: &mut L,
-    clock: &mut C,
-    draw: &mut W,
+    tools: &mut Tools<L, C, W>,
     places: &mut u64,
     reply: <X::Core as Core>::Reply,
 ) -> Result<<X::Core as Core>::Reply, NoReply>
-    requires ready { X.ready role.now }
-    requires pass { IsPassOf X.Core.setup X.Core.is_legal store.now pass.old }
+    requires ready { X.ready backend.now.role.now }
+    requires pass { IsPassOf X.Core.setup X.Core.is_legal backend.now.store.now pass.old }
     requires places { places.old ≤ 2 }
-    ensures pass { IsPassOf X.Core.setup X.Core.is_legal store.now pass.new }
+    ensures pass { IsPassOf X.Core.setup X.Core.is_legal backend.now.store.now pass.new }
     ensures number { number_of pass.new ≡ number_of pass.old }
-    ensures followed { (w : Work X.Core.Ask X.Core.Reply) × Did pass.old pass.new (L.state link.old) (L.state link.new) (C.ahead clock.old) (C.ahead clock.new) (W.ahead draw.old) (W.ahead draw.new) w × spec.Round (X.manner role.now) X.rounds (front_of pass.new) reply w result × (places.new ≡ places.old + length w.steps) }
+    ensures followed { (w : Work X.Core.Ask X.Core.Reply) × Did pass.old pass.new (L.state tools.old.link) (L.state tools.new.link) (C.ahead tools.old.clock) (C.ahead tools.new.clock) (W.ahead tools.old.draw) (W.ahead tools.new.draw) w × spec.Round (X.manner backend.now.role.now) X.rounds (front_of pass.new) reply w result × (places.new ≡ places.old + length w.steps) }
 {
-    let ask = match role.question(&reply) {
+    let ask = match backend.role.question(&reply) {
         None => return Ok(reply),
-        Some(question) => asked_back(alloc, role, link, &reply, question)?,
+        Some(question) => asked_back(
+            backend.alloc,
+            backend.role,
+            &mut tools.link,
+            &reply,
+            question,
+        )?,
     };
     drop(reply);
-    let next = step(rt, alloc, store, pass, clock, draw, ask)?;
+    let next = step(backend, pass, &mut tools.clock, &mut tools.draw, ask)?;
     *places += 1;
     Ok(next)
 }
 
 // The last reply, from a first one on: at most two questions are put.
 fn last_reply<R: Wait, X: Role, L: Link, C: Clock, W: Draw>(
-    rt: &R,
-    alloc: Global,
-    role: &X,
-    store: &Turn<X::Core>,
+    backend: &Backend<'_, R, X, X::Core>,
     pass: &mut Pass<X::Core>,
-    link: &mut L,
-    clock: &mut C,
-    draw: &mut W,
+    tools: &mut Tools<L, C, W>,
     places: &mut u64,
     reply: <X::Core as Core>::Reply,
 ) -> Result<<X::Core as Core>::Reply, NoReply>
-    requires ready { X.ready role.now }
-    requires pass { IsPassOf X.Core.setup X.Core.is_legal store.now pass.old }
+    requires ready { X.ready backend.now.role.now }
+    requires pass { IsPassOf X.Core.setup X.Core.is_legal backend.now.store.now pass.old }
     requires places { places.old ≡ 1 }
-    ensures pass { IsPassOf X.Core.setup X.Core.is_legal store.now pass.new }
+    ensures pass { IsPassOf X.Core.setup X.Core.is_legal backend.now.store.now pass.new }
     ensures number { number_of pass.new ≡ number_of pass.old }
     ensures places { places.new ≤ 3 }
-    ensures followed { (w : Work X.Core.Ask X.Core.Reply) × Did pass.old pass.new (L.state link.old) (L.state link.new) (C.ahead clock.old) (C.ahead clock.new) (W.ahead draw.old) (W.ahead draw.new) w × spec.Rest (X.manner role.now) (front_of pass.new) reply w.steps w.calls result × (places.new ≡ places.old + length w.steps) }
+    ensures followed { (w : Work X.Core.Ask X.Core.Reply) × Did pass.old pass.new (L.state tools.old.link) (L.state tools.new.link) (C.ahead tools.old.clock) (C.ahead tools.new.clock) (W.ahead tools.old.draw) (W.ahead tools.new.draw) w × spec.Rest (X.manner backend.now.role.now) (front_of pass.new) reply w.steps w.calls result × (places.new ≡ places.old + length w.steps) }
 {
-    let second = follow(
-        rt, alloc, role, store, pass, link, clock, draw, places, reply,
-    )?;
-    follow(
-        rt, alloc, role, store, pass, link, clock, draw, places, second,
-    )
+    let second = follow(backend, pass, tools, places, reply)?;
+    follow(backend, pass, tools, places, second)
 }
 
 // The reply to the request of a connection, after all questions, or why there is none.
 fn reply_to<R: Wait, X: Role, S: Source, L: Link, C: Clock, W: Draw>(
-    rt: &R,
-    alloc: Global,
-    role: &X,
-    store: &Turn<X::Core>,
+    backend: &Backend<'_, R, X, X::Core>,
     pass: &mut Pass<X::Core>,
     source: &mut S,
-    link: &mut L,
-    clock: &mut C,
-    draw: &mut W,
+    tools: &mut Tools<L, C, W>,
     places: &mut u64,
 ) -> Result<<X::Core as Core>::Reply, NoReply>
-    requires ready { X.ready role.now }
-    requires pass { IsPassOf X.Core.setup X.Core.is_legal store.now pass.old }
+    requires ready { X.ready backend.now.role.now }
+    requires pass { IsPassOf X.Core.setup X.Core.is_legal backend.now.store.now pass.old }
     requires places { places.old ≡ 0 }
-    ensures pass { IsPassOf X.Core.setup X.Core.is_legal store.now pass.new }
+    ensures pass { IsPassOf X.Core.setup X.Core.is_legal backend.now.store.now pass.new }
     ensures number { number_of pass.new ≡ number_of pass.old }
     ensures places { places.new ≤ 3 }
     ensures memory { result ≢ Err (NoReply.Http HttpNo.NoMemory) }
-    ensures replied { (w : Work X.Core.Ask X.Core.Reply) × Did pass.old pass.new (L.state link.old) (L.state link.new) (C.ahead clock.old) (C.ahead clock.new) (W.ahead draw.old) (W.ahead draw.new) w × spec.IsRun (X.manner role.now) (S.left source.old) (S.left source.new) w.steps w.calls × spec.Cause (X.manner role.now) (S.left source.old) (S.left source.new) (S.faults source.old) (S.faults source.new) (front_of pass.new) w.steps w.calls result × (places.new ≡ length w.steps) }
+    ensures replied { (w : Work X.Core.Ask X.Core.Reply) × Did pass.old pass.new (L.state tools.old.link) (L.state tools.new.link) (C.ahead tools.old.clock) (C.ahead tools.new.clock) (W.ahead tools.old.draw) (W.ahead tools.new.draw) w × spec.IsRun (X.manner backend.now.role.now) (S.left source.old) (S.left source.new) w.steps w.calls × spec.Cause (X.manner backend.now.role.now) (S.left source.old) (S.left source.new) (S.faults source.old) (S.faults source.new) (front_of pass.new) w.steps w.calls result × (places.new ≡ length w.steps) }
 {
-    let ask = asked(alloc, role, source)?;
-    let first = step(rt, alloc, store, pass, clock, draw, ask)?;
+    let ask = asked(backend.alloc, backend.role, source)?;
+    let first = step(backend, pass, &mut tools.clock, &mut tools.draw, ask)?;
     *places += 1;
-    last_reply(
-        rt, alloc, role, store, pass, link, clock, draw, places, first,
-    )
+    last_reply(backend, pass, tools, places, first)
 }
 
 // A reply as it goes out, with its notices.
@@ -218,39 +204,29 @@ pub fn serve_connection<
     C: Clock,
     W: Draw,
 >(
-    rt: &R,
-    alloc: Global,
-    role: &X,
-    store: &Turn<X::Core>,
+    backend: &Backend<'_, R, X, X::Core>,
     pass: &mut Pass<X::Core>,
     connection: &mut Connection<S, K>,
-    link: &mut L,
-    clock: &mut C,
-    draw: &mut W,
+    tools: &mut Tools<L, C, W>,
 ) -> Served
-    requires ready { X.ready role.now }
-    requires pass { IsPassOf X.Core.setup X.Core.is_legal store.now pass.old }
-    ensures pass { IsPassOf X.Core.setup X.Core.is_legal store.now pass.new }
+    requires ready { X.ready backend.now.role.now }
+    requires pass { IsPassOf X.Core.setup X.Core.is_legal backend.now.store.now pass.old }
+    ensures pass { IsPassOf X.Core.setup X.Core.is_legal backend.now.store.now pass.new }
     ensures number { number_of pass.new ≡ number_of pass.old }
-    ensures served { (w : Work X.Core.Ask X.Core.Reply) × Did pass.old pass.new (L.state link.old) (L.state link.new) (C.ahead clock.old) (C.ahead clock.new) (W.ahead draw.old) (W.ahead draw.new) w × spec.Serves (X.manner role.now) S.left S.faults K.taken K.faults (front_of pass.new) connection.old connection.new w result }
-    ensures link { result.end ≡ ServedEnd.Link → Rose (L.state link.old).faults (L.state link.new).faults }
+    ensures served { (w : Work X.Core.Ask X.Core.Reply) × Did pass.old pass.new (L.state tools.old.link) (L.state tools.new.link) (C.ahead tools.old.clock) (C.ahead tools.new.clock) (W.ahead tools.old.draw) (W.ahead tools.new.draw) w × spec.Serves (X.manner backend.now.role.now) S.left S.faults K.taken K.faults (front_of pass.new) connection.old connection.new w result }
+    ensures link { result.end ≡ ServedEnd.Link → Rose (L.state tools.old.link).faults (L.state tools.new.link).faults }
 {
     let mut places = 0;
-    let outcome = reply_to(
-        rt,
-        alloc,
-        role,
-        store,
-        pass,
-        &mut connection.source,
-        link,
-        clock,
-        draw,
-        &mut places,
-    );
+    let outcome = reply_to(backend, pass, &mut connection.source, tools, &mut places);
     let end = match outcome {
-        Ok(reply) => tell(alloc, role, &mut connection.sink, link, &reply),
-        Err(why) => write_without(alloc, &mut connection.sink, why),
+        Ok(reply) => tell(
+            backend.alloc,
+            backend.role,
+            &mut connection.sink,
+            &mut tools.link,
+            &reply,
+        ),
+        Err(why) => write_without(backend.alloc, &mut connection.sink, why),
     };
     Served { places, end }
 }

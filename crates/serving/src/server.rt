@@ -6,6 +6,7 @@ ghost use Rattle.turn_store.specs.Passes.{IsPassOf, HasDoneNothing, number_of, p
 ghost use Rattle.turn_store.specs.Places.{numbers_from};
 ghost use Rattle.serving.specs.Summaries.{Summarises};
 
+use crate::backend::Backend;
 use crate::role::Role;
 use crate::seats::{Seat, open_and_serve, rise, sit};
 use crate::summary::Summary;
@@ -43,7 +44,16 @@ where
     ensures { Summarises ⟦<Desk<D, L, C, W> as Tells>⟧.telling (X.manner role.now) X.Core.setup X.Core.history X.Core.is_legal (setup_of X.Core.setup store) place.now desks.old.items desks.new.items result }
 {
     sit(desks, &mut passes, &mut seats);
-    open_and_serve(rt, alloc, role, &store, seats.as_mut_slice(), place);
+    open_and_serve(
+        &Backend {
+            rt,
+            alloc,
+            role,
+            store: &store,
+        },
+        seats.as_mut_slice(),
+        place,
+    );
     let count = rise(&mut seats, desks, &mut passes);
     let closed = store.close(passes);
     Summary {

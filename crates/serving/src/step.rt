@@ -7,12 +7,13 @@ ghost use Rattle.turn_store.specs.Places.{Begins};
 ghost use Rattle.turn_store.specs.Passes.{IsPassOf, number_of, front_of, calls_of};
 ghost use Rattle.serving.specs.Steps.{Stepped, IsDrawn, IsNoStep, Made};
 
+use crate::backend::Backend;
 use crate::no_reply::NoReply;
+use crate::role::Role;
 use server_desk::{Clock, Draw};
 use sso_base::{Core, CoreNo, Word};
-use std::alloc::Global;
 use std::sync::Wait;
-use turn_store::{Pass, Turn};
+use turn_store::Pass;
 
 // Four words, in the order in which they were drawn.
 fn draw_four<W: Draw>(draw: &mut W) -> [Word; 4]
@@ -28,28 +29,27 @@ fn draw_four<W: Draw>(draw: &mut W) -> [Word; 4]
 
 /// Steps the core of the store with the next moment of the clock and the next four words of the draw. It may wait for another
 /// pass.
-pub fn step<R: Wait, C: Core, K: Clock, W: Draw>(
-    rt: &R,
-    alloc: Global,
-    store: &Turn<C>,
-    pass: &mut Pass<C>,
+pub fn step<R: Wait, X: Role, K: Clock, W: Draw>(
+    backend: &Backend<'_, R, X, X::Core>,
+    pass: &mut Pass<X::Core>,
     clock: &mut K,
     draw: &mut W,
-    ask: C::Ask,
-) -> Result<C::Reply, NoReply>
-    requires { IsPassOf C.setup C.is_legal store.now pass.old }
-    ensures pass { IsPassOf C.setup C.is_legal store.now pass.new }
+    ask: <X::Core as Core>::Ask,
+) -> Result<<X::Core as Core>::Reply, NoReply>
+    requires { IsPassOf X.Core.setup X.Core.is_legal backend.now.store.now pass.old }
+    ensures pass { IsPassOf X.Core.setup X.Core.is_legal backend.now.store.now pass.new }
     ensures number { number_of pass.new ≡ number_of pass.old }
-    ensures made { IfOk result (λ reply. (s : Stepped C.Ask C.Reply) × Made pass.old pass.new s × (s.asked ≡ ask) × (s.reply ≡ reply) × IsDrawn (K.ahead clock.old) (W.ahead draw.old) 0 s) }
+    ensures made { IfOk result (λ reply. (s : Stepped X.Core.Ask X.Core.Reply) × Made pass.old pass.new s × (s.asked ≡ ask) × (s.reply ≡ reply) × IsDrawn (K.ahead clock.old) (W.ahead draw.old) 0 s) }
     ensures refused { OnErr result (calls_of pass.new ≡ calls_of pass.old) }
     ensures later { OnErr result (Begins (front_of pass.old) (front_of pass.new)) }
-    ensures why { IfErr result (IsNoStep C.weighs (front_of pass.new) ask) }
+    ensures why { IfErr result (IsNoStep X.Core.weighs (front_of pass.new) ask) }
     ensures clock { MovedOn (K.ahead clock.old) (K.ahead clock.new) 1 }
     ensures draw { MovedOn (W.ahead draw.old) (W.ahead draw.new) 4 }
 {
     let at = clock.now();
     let fresh = draw_four(draw);
-    match store.call(rt, alloc, pass, at, fresh, ask) {
+    let store = backend.store;
+    match store.call(backend.rt, backend.alloc, pass, at, fresh, ask) {
         Ok(placed) => Ok(placed.reply),
         Err(CoreNo::NoMemory) => Err(NoReply::NoMemory),
         Err(CoreNo::JournalFull(_)) => Err(NoReply::Full),

@@ -7,12 +7,12 @@ ghost use Rattle.turn_store.specs.Passes.{IsPassOf, number_of, front_of};
 ghost use Rattle.serving.specs.Work.{MadeAll};
 ghost use Rattle.serving.specs.Working as spec;
 
+use crate::backend::Backend;
 use crate::role::Role;
 use crate::serve_one::serve_connection;
 use server_desk::{Clock, Connection, Desk, Door, DoorFault, Draw, Link};
-use std::alloc::Global;
 use std::sync::Wait;
-use turn_store::{Pass, Turn};
+use turn_store::Pass;
 
 /// Why a worker ended.
 #[derive(Clone, Copy, Debug, PartialEq, Eq)]
@@ -54,17 +54,14 @@ fn give_back<D: Door>(door: &mut D, connection: Connection<D::Source, D::Sink>)
 
 // Waits for the next connection, serves it, and gives it back.
 fn serve_next<R: Wait, X: Role, D: Door, L: Link, C: Clock, W: Draw>(
-    rt: &R,
-    alloc: Global,
-    role: &X,
-    store: &Turn<X::Core>,
+    backend: &Backend<'_, R, X, X::Core>,
     pass: &mut Pass<X::Core>,
     desk: &mut Desk<D, L, C, W>,
 ) -> Next
-    requires ready { X.ready role.now }
-    requires pass { IsPassOf X.Core.setup X.Core.is_legal store.now pass.old }
+    requires ready { X.ready backend.now.role.now }
+    requires pass { IsPassOf X.Core.setup X.Core.is_legal backend.now.store.now pass.old }
     requires given { (D.state desk.old.door).given + 1 < 2 ^ 64 }
-    ensures pass { IsPassOf X.Core.setup X.Core.is_legal store.now pass.new }
+    ensures pass { IsPassOf X.Core.setup X.Core.is_legal backend.now.store.now pass.new }
     ensures number { number_of pass.new ≡ number_of pass.old }
     ensures turns { desk.new.turns ≡ desk.old.turns }
     ensures place { (D.state desk.new.door).place ≡ (D.state desk.old.door).place }
@@ -72,21 +69,11 @@ fn serve_next<R: Wait, X: Role, D: Door, L: Link, C: Clock, W: Draw>(
     ensures faults { D.faults desk.old.door ≤ D.faults desk.new.door }
     ensures closed { result ≡ Next.Closed → Rose (D.closings desk.old.door) (D.closings desk.new.door) }
     ensures fault { result ≡ Next.Fault → Rose (D.faults desk.old.door) (D.faults desk.new.door) }
-    ensures worked { (services : List (spec.Service D.Source D.Sink X.Core.Ask X.Core.Reply)) × MadeAll pass.old pass.new (spec.steps_in services) × spec.AtDesk (X.manner role.now) D.Source.left D.Source.faults D.Sink.taken D.Sink.faults (front_of pass.new) (D.state desk.old.door) (D.state desk.new.door) (L.state desk.old.link) (L.state desk.new.link) (C.ahead desk.old.clock) (C.ahead desk.new.clock) (W.ahead desk.old.draw) (W.ahead desk.new.draw) services × spec.IsNumber result (length services) }
+    ensures worked { (services : List (spec.Service D.Source D.Sink X.Core.Ask X.Core.Reply)) × MadeAll pass.old pass.new (spec.steps_in services) × spec.AtDesk (X.manner backend.now.role.now) D.Source.left D.Source.faults D.Sink.taken D.Sink.faults (front_of pass.new) (D.state desk.old.door) (D.state desk.new.door) (L.state desk.old.tools.link) (L.state desk.new.tools.link) (C.ahead desk.old.tools.clock) (C.ahead desk.new.tools.clock) (W.ahead desk.old.tools.draw) (W.ahead desk.new.tools.draw) services × spec.IsNumber result (length services) }
 {
     match desk.door.next() {
         Ok(Some(mut connection)) => {
-            serve_connection(
-                rt,
-                alloc,
-                role,
-                store,
-                pass,
-                &mut connection,
-                &mut desk.link,
-                &mut desk.clock,
-                &mut desk.draw,
-            );
+            serve_connection(backend, pass, &mut connection, &mut desk.tools);
             give_back(&mut desk.door, connection);
             Next::Served
         }
@@ -98,18 +85,15 @@ fn serve_next<R: Wait, X: Role, D: Door, L: Link, C: Clock, W: Draw>(
 /// Serves connections of the desk's door, one after another, until it has served as many as the desk has turns, or the door is
 /// closed or fails. Each served connection is given back to the door.
 pub fn serve_desk<R: Wait, X: Role, D: Door, L: Link, C: Clock, W: Draw>(
-    rt: &R,
-    alloc: Global,
-    role: &X,
-    store: &Turn<X::Core>,
+    backend: &Backend<'_, R, X, X::Core>,
     pass: &mut Pass<X::Core>,
     desk: &mut Desk<D, L, C, W>,
 ) -> Worked
-    requires ready { X.ready role.now }
-    requires pass { IsPassOf X.Core.setup X.Core.is_legal store.now pass.old }
+    requires ready { X.ready backend.now.role.now }
+    requires pass { IsPassOf X.Core.setup X.Core.is_legal backend.now.store.now pass.old }
     requires given { (D.state desk.old.door).given < 2 ^ 63 }
     requires turns { desk.old.turns ≤ 2 ^ 56 }
-    ensures pass { IsPassOf X.Core.setup X.Core.is_legal store.now pass.new }
+    ensures pass { IsPassOf X.Core.setup X.Core.is_legal backend.now.store.now pass.new }
     ensures number { number_of pass.new ≡ number_of pass.old }
     ensures turns { desk.new.turns ≡ desk.old.turns }
     ensures place { (D.state desk.new.door).place ≡ (D.state desk.old.door).place }
@@ -119,10 +103,10 @@ pub fn serve_desk<R: Wait, X: Role, D: Door, L: Link, C: Clock, W: Draw>(
     ensures used { (result.end ≡ WorkEnd.Turns → result.served ≡ desk.old.turns) × (result.served ≡ desk.old.turns → result.end ≡ WorkEnd.Turns) }
     ensures closed { result.end ≡ WorkEnd.DoorClosed → Rose (D.closings desk.old.door) (D.closings desk.new.door) }
     ensures fault { result.end ≡ WorkEnd.DoorFault → Rose (D.faults desk.old.door) (D.faults desk.new.door) }
-    ensures worked { (services : List (spec.Service D.Source D.Sink X.Core.Ask X.Core.Reply)) × MadeAll pass.old pass.new (spec.steps_in services) × spec.AtDesk (X.manner role.now) D.Source.left D.Source.faults D.Sink.taken D.Sink.faults (front_of pass.new) (D.state desk.old.door) (D.state desk.new.door) (L.state desk.old.link) (L.state desk.new.link) (C.ahead desk.old.clock) (C.ahead desk.new.clock) (W.ahead desk.old.draw) (W.ahead desk.new.draw) services × (result.served ≡ length services) }
+    ensures worked { (services : List (spec.Service D.Source D.Sink X.Core.Ask X.Core.Reply)) × MadeAll pass.old pass.new (spec.steps_in services) × spec.AtDesk (X.manner backend.now.role.now) D.Source.left D.Source.faults D.Sink.taken D.Sink.faults (front_of pass.new) (D.state desk.old.door) (D.state desk.new.door) (L.state desk.old.tools.link) (L.state desk.new.tools.link) (C.ahead desk.old.tools.clock) (C.ahead desk.new.tools.clock) (W.ahead desk.old.tools.draw) (W.ahead desk.new.tools.draw) services × (result.served ≡ length services) }
 {
     for served in 0..desk.turns {
-        match serve_next(rt, alloc, role, store, pass, desk) {
+        match serve_next(backend, pass, desk) {
             Next::Served => {}
             Next::Closed => {
                 return Worked {

@@ -1,12 +1,19 @@
 // Reads and writes token requests.
 
 use crate::answers::messages::told_message;
-use crate::clients::client_of;
 use case_lines::{given, told, told_refusal};
 use client_registry::{Client, Registry};
 use sso_base::{Message, NoMemory, Text};
 use std::alloc::Global;
 use token_endpoint::{Grant, GrantNo, print_grant, read_grant, token_error};
+
+// The client with this id.
+fn client_of<'a>(registry: &'a Registry, id: &str) -> Option<&'a Client> {
+    match registry.find_client(id.as_bytes()) {
+        Some(place) if place < registry.clients() => Some(registry.client(place)),
+        _ => None,
+    }
+}
 
 // The name of a refusal, and the parameter that it names.
 fn refusal(why: &GrantNo) -> (&str, &str) {

@@ -10,7 +10,7 @@ use Rattle.serving.proofs.serve_one.follow.Goals as goal
 pub returns-in-None-clause-followed : goal.returns-in-None-clause-followed
 returns-in-None-clause-followed g c = (
   calls_alone [],
-  did_calls c.args.pass.now (g.L.Link.state c.args.link.now) (g.L.Link.state c.args.link.now) (g.C.Clock.ahead c.args.clock.now) (g.W.Draw.ahead c.args.draw.now) [] (took_none (g.L.Link.state c.args.link.now)),
+  did_calls c.args.pass.now (g.L.Link.state c.args.tools.now.link) (g.L.Link.state c.args.tools.now.link) (g.C.Clock.ahead c.args.tools.now.clock) (g.W.Draw.ahead c.args.tools.now.draw) [] (took_none (g.L.Link.state c.args.tools.now.link)),
   (inl (refl, refl, refl, sym c.in-None.ensures), refl),
   omega arith,
 )
@@ -21,8 +21,8 @@ returns-in_err-ask-in-Some-clause-followed g c =
     let p = err_from_is_err_and c.from_residual.result c.from_residual.ensures.1 in
     let asked = c.in_err-ask-in-Some.ensures in (
       calls_alone asked.0,
-      did_calls c.args.pass.now (g.L.Link.state c.args.link.now) (g.L.Link.state c.asked_back.new.link) (g.C.Clock.ahead c.args.clock.now) (g.W.Draw.ahead c.args.draw.now) asked.0 asked.1,
-      rw (p.1, p.2) (refl, round_unanswered (g.X.Role.manner c.args.role.now) (front_of c.args.pass.now) c.args.reply asked.0 c.in_err-ask-in-Some.field-0.0 asked.2),
+      did_calls c.args.pass.now (g.L.Link.state c.args.tools.now.link) (g.L.Link.state c.asked_back.new.link) (g.C.Clock.ahead c.args.tools.now.clock) (g.W.Draw.ahead c.args.tools.now.draw) asked.0 asked.1,
+      rw (p.1, p.2) (refl, round_unanswered (g.X.Role.manner c.args.backend.now.role.now) (front_of c.args.pass.now) c.args.reply asked.0 c.in_err-ask-in-Some.field-0.0 asked.2),
       omega arith,
     )
 
@@ -34,8 +34,8 @@ returns-in_err-next-clause-followed g c =
     let asked = c.in_ok-ask-in-Some.ensures in
     let end = c.in_err-next.ensures in (
       no_step asked.0,
-      did_no_step c.args.pass.now c.step.new.pass (g.L.Link.state c.args.link.now) (g.L.Link.state c.asked_back.new.link) (g.C.Clock.ahead c.args.clock.now) (g.C.Clock.ahead c.step.new.clock) (g.W.Draw.ahead c.args.draw.now) (g.W.Draw.ahead c.step.new.draw) asked.0 asked.1 end.later end.refused end.clock end.draw,
-      rw (p.1, p.2) (refl, round_refused (g.X.Role.manner c.args.role.now) g.X.Core.Core.weighs (front_of c.step.new.pass) c.args.reply asked.0 c.in_ok-ask-in-Some.ask c.in_err-next.field-0.0 (laws.same_weights c.args.role.now) asked.2 end.why),
+      did_no_step c.args.pass.now c.step.new.pass (g.L.Link.state c.args.tools.now.link) (g.L.Link.state c.asked_back.new.link) (g.C.Clock.ahead c.args.tools.now.clock) (g.C.Clock.ahead c.step.new.clock) (g.W.Draw.ahead c.args.tools.now.draw) (g.W.Draw.ahead c.step.new.draw) asked.0 asked.1 end.later end.refused end.clock end.draw,
+      rw (p.1, p.2) (refl, round_refused (g.X.Role.manner c.args.backend.now.role.now) g.X.Core.Core.weighs (front_of c.step.new.pass) c.args.reply asked.0 c.in_ok-ask-in-Some.ask c.in_err-next.field-0.0 (laws.same_weights c.args.backend.now.role.now) asked.2 end.why),
       omega arith,
     )
 
@@ -46,11 +46,11 @@ returns-clause-followed g c =
     let asked = c.in_ok-ask-in-Some.ensures in
     let end = c.in_ok-next.ensures in
     let s = end.made.0 in
-    let setup = setup_of g.X.Core.Core.setup c.args.store.now in (
+    let setup = setup_of g.X.Core.Core.setup c.args.backend.now.store.now in (
       one_step asked.0 s,
-      did_one_step c.args.pass.now c.step.new.pass (g.L.Link.state c.args.link.now) (g.L.Link.state c.asked_back.new.link) (g.C.Clock.ahead c.args.clock.now) (g.C.Clock.ahead c.step.new.clock) (g.W.Draw.ahead c.args.draw.now) (g.W.Draw.ahead c.step.new.draw) asked.0 s asked.1 end.made.1 end.made.4 end.clock end.draw,
+      did_one_step c.args.pass.now c.step.new.pass (g.L.Link.state c.args.tools.now.link) (g.L.Link.state c.asked_back.new.link) (g.C.Clock.ahead c.args.tools.now.clock) (g.C.Clock.ahead c.step.new.clock) (g.W.Draw.ahead c.args.tools.now.draw) (g.W.Draw.ahead c.step.new.draw) asked.0 s asked.1 end.made.1 end.made.4 end.clock end.draw,
       (
-        round_made (g.X.Role.manner c.args.role.now) g.X.Role.rounds (g.X.Core.Core.is_legal setup) (laws.fewer_rounds c.args.role.now setup) c.args.reply c.in_ok-next.next asked.0 c.in_ok-ask-in-Some.ask s (front_of c.step.new.pass) end.made.1.front end.pass.legal asked.2 end.made.2 end.made.3,
+        round_made (g.X.Role.manner c.args.backend.now.role.now) g.X.Role.rounds (g.X.Core.Core.is_legal setup) (laws.fewer_rounds c.args.backend.now.role.now setup) c.args.reply c.in_ok-next.next asked.0 c.in_ok-ask-in-Some.ask s (front_of c.step.new.pass) end.made.1.front end.pass.legal asked.2 end.made.2 end.made.3,
         refl,
       ),
       omega arith,

@@ -11,7 +11,7 @@ returns-in_err-second-clause-followed g c =
     let first = c.in_err-second.ensures.followed in (
       first.0,
       first.1,
-      rw (p.1, p.2) (failed_round (g.X.Role.manner c.args.role.now) g.X.Role.rounds (front_of c.follow.new.pass) c.args.reply first.0 c.in_err-second.field-0.0 first.2),
+      rw (p.1, p.2) (failed_round (g.X.Role.manner c.args.backend.now.role.now) g.X.Role.rounds (front_of c.follow.new.pass) c.args.reply first.0 c.in_err-second.field-0.0 first.2),
       first.3,
     )
 
@@ -22,7 +22,7 @@ returns-clause-followed g c =
     let first = c.in_ok-second.ensures.followed in
     let second = c.follow-2.ensures.followed in (
       with_work first.0 second.0,
-      did_both c.args.pass.now c.follow.new.pass c.follow-2.new.pass (g.L.Link.state c.args.link.now) (g.L.Link.state c.follow.new.link) (g.L.Link.state c.follow-2.new.link) (g.C.Clock.ahead c.args.clock.now) (g.C.Clock.ahead c.follow.new.clock) (g.C.Clock.ahead c.follow-2.new.clock) (g.W.Draw.ahead c.args.draw.now) (g.W.Draw.ahead c.follow.new.draw) (g.W.Draw.ahead c.follow-2.new.draw) first.0 second.0 first.1 first.2.1 second.1,
-      both_rounds (g.X.Role.manner c.args.role.now) g.X.Role.rounds (laws.few_rounds c.args.role.now) (front_of c.follow-2.new.pass) (front_of c.follow.new.pass) c.args.reply c.in_ok-second.second first.0 second.0 c.follow-2.result first.2 second.2,
+      did_both c.args.pass.now c.follow.new.pass c.follow-2.new.pass (g.L.Link.state c.args.tools.now.link) (g.L.Link.state c.follow.new.tools.link) (g.L.Link.state c.follow-2.new.tools.link) (g.C.Clock.ahead c.args.tools.now.clock) (g.C.Clock.ahead c.follow.new.tools.clock) (g.C.Clock.ahead c.follow-2.new.tools.clock) (g.W.Draw.ahead c.args.tools.now.draw) (g.W.Draw.ahead c.follow.new.tools.draw) (g.W.Draw.ahead c.follow-2.new.tools.draw) first.0 second.0 first.1 first.2.1 second.1,
+      both_rounds (g.X.Role.manner c.args.backend.now.role.now) g.X.Role.rounds (laws.few_rounds c.args.backend.now.role.now) (front_of c.follow-2.new.pass) (front_of c.follow.new.pass) c.args.reply c.in_ok-second.second first.0 second.0 c.follow-2.result first.2 second.2,
       places_both c.args.places.now c.follow.new.places c.follow-2.new.places first.0 second.0 first.3 second.3,
     )

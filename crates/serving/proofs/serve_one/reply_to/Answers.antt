@@ -13,9 +13,9 @@ pub returns-in_err-ask-clause-replied : goal.returns-in_err-ask-clause-replied
 returns-in_err-ask-clause-replied g c =
     let p = err_from_is_err_and c.from_residual.result c.from_residual.ensures.1 in (
       calls_alone [],
-      did_calls c.args.pass.now (g.L.Link.state c.args.link.now) (g.L.Link.state c.args.link.now) (g.C.Clock.ahead c.args.clock.now) (g.W.Draw.ahead c.args.draw.now) [] (took_none (g.L.Link.state c.args.link.now)),
+      did_calls c.args.pass.now (g.L.Link.state c.args.tools.now.link) (g.L.Link.state c.args.tools.now.link) (g.C.Clock.ahead c.args.tools.now.clock) (g.W.Draw.ahead c.args.tools.now.draw) [] (took_none (g.L.Link.state c.args.tools.now.link)),
       refl,
-      rw (p.1, p.2) (cause_unread (g.X.Role.manner c.args.role.now) (g.S.Source.left c.args.source.now) (g.S.Source.left c.asked.new.source) (g.S.Source.faults c.args.source.now) (g.S.Source.faults c.asked.new.source) (front_of c.args.pass.now) c.in_err-ask.field-0.0 c.in_err-ask.ensures.err),
+      rw (p.1, p.2) (cause_unread (g.X.Role.manner c.args.backend.now.role.now) (g.S.Source.left c.args.source.now) (g.S.Source.left c.asked.new.source) (g.S.Source.faults c.args.source.now) (g.S.Source.faults c.asked.new.source) (front_of c.args.pass.now) c.in_err-ask.field-0.0 c.in_err-ask.ensures.err),
       c.requires.places,
     )
 
@@ -26,9 +26,9 @@ returns-in_err-first-clause-replied g c =
     let p = err_from_is_err_and c.from_residual-in_err-first.result c.from_residual-in_err-first.ensures.1 in
     let end = c.in_err-first.ensures in (
       no_step [],
-      did_no_step c.args.pass.now c.step.new.pass (g.L.Link.state c.args.link.now) (g.L.Link.state c.args.link.now) (g.C.Clock.ahead c.args.clock.now) (g.C.Clock.ahead c.step.new.clock) (g.W.Draw.ahead c.args.draw.now) (g.W.Draw.ahead c.step.new.draw) [] (took_none (g.L.Link.state c.args.link.now)) end.later end.refused end.clock end.draw,
+      did_no_step c.args.pass.now c.step.new.pass (g.L.Link.state c.args.tools.now.link) (g.L.Link.state c.args.tools.now.link) (g.C.Clock.ahead c.args.tools.now.clock) (g.C.Clock.ahead c.step.new.clock) (g.W.Draw.ahead c.args.tools.now.draw) (g.W.Draw.ahead c.step.new.draw) [] (took_none (g.L.Link.state c.args.tools.now.link)) end.later end.refused end.clock end.draw,
       refl,
-      rw (p.1, p.2) (cause_refused (g.X.Role.manner c.args.role.now) g.X.Core.Core.weighs (g.S.Source.left c.args.source.now) (g.S.Source.left c.asked.new.source) (g.S.Source.faults c.args.source.now) (g.S.Source.faults c.asked.new.source) (front_of c.step.new.pass) c.in_ok-ask.ask c.in_err-first.field-0.0 (laws.same_weights c.args.role.now) c.in_ok-ask.ensures.ok end.why),
+      rw (p.1, p.2) (cause_refused (g.X.Role.manner c.args.backend.now.role.now) g.X.Core.Core.weighs (g.S.Source.left c.args.source.now) (g.S.Source.left c.asked.new.source) (g.S.Source.faults c.args.source.now) (g.S.Source.faults c.asked.new.source) (front_of c.step.new.pass) c.in_ok-ask.ask c.in_err-first.field-0.0 (laws.same_weights c.args.backend.now.role.now) c.in_ok-ask.ensures.ok end.why),
       c.requires.places,
     )
 
@@ -38,14 +38,14 @@ returns-clause-replied g c =
     let end = c.in_ok-first.ensures in
     let s = end.made.0 in
     let rest = c.last_reply.ensures.followed in
-    let asked : IsAsked (g.X.Role.manner c.args.role.now) (g.S.Source.left c.args.source.now) (g.S.Source.left c.asked.new.source) s.asked
-    = subst (λ (a : g.row.X-Core-Ask.Denot). IsAsked (g.X.Role.manner c.args.role.now) (g.S.Source.left c.args.source.now) (g.S.Source.left c.asked.new.source) a) (sym end.made.2) c.in_ok-ask.ensures.ok in (
+    let asked : IsAsked (g.X.Role.manner c.args.backend.now.role.now) (g.S.Source.left c.args.source.now) (g.S.Source.left c.asked.new.source) s.asked
+    = subst (λ (a : g.row.X-Core-Ask.Denot). IsAsked (g.X.Role.manner c.args.backend.now.role.now) (g.S.Source.left c.args.source.now) (g.S.Source.left c.asked.new.source) a) (sym end.made.2) c.in_ok-ask.ensures.ok in (
       with_work (one_step [] s) rest.0,
-      did_both c.args.pass.now c.step.new.pass c.last_reply.new.pass (g.L.Link.state c.args.link.now) (g.L.Link.state c.args.link.now) (g.L.Link.state c.last_reply.new.link) (g.C.Clock.ahead c.args.clock.now) (g.C.Clock.ahead c.step.new.clock) (g.C.Clock.ahead c.last_reply.new.clock) (g.W.Draw.ahead c.args.draw.now) (g.W.Draw.ahead c.step.new.draw) (g.W.Draw.ahead c.last_reply.new.draw) (one_step [] s) rest.0
-          (did_one_step c.args.pass.now c.step.new.pass (g.L.Link.state c.args.link.now) (g.L.Link.state c.args.link.now) (g.C.Clock.ahead c.args.clock.now) (g.C.Clock.ahead c.step.new.clock) (g.W.Draw.ahead c.args.draw.now) (g.W.Draw.ahead c.step.new.draw) [] s (took_none (g.L.Link.state c.args.link.now)) end.made.1 end.made.4 end.clock end.draw)
+      did_both c.args.pass.now c.step.new.pass c.last_reply.new.pass (g.L.Link.state c.args.tools.now.link) (g.L.Link.state c.args.tools.now.link) (g.L.Link.state c.last_reply.new.tools.link) (g.C.Clock.ahead c.args.tools.now.clock) (g.C.Clock.ahead c.step.new.clock) (g.C.Clock.ahead c.last_reply.new.tools.clock) (g.W.Draw.ahead c.args.tools.now.draw) (g.W.Draw.ahead c.step.new.draw) (g.W.Draw.ahead c.last_reply.new.tools.draw) (one_step [] s) rest.0
+          (did_one_step c.args.pass.now c.step.new.pass (g.L.Link.state c.args.tools.now.link) (g.L.Link.state c.args.tools.now.link) (g.C.Clock.ahead c.args.tools.now.clock) (g.C.Clock.ahead c.step.new.clock) (g.W.Draw.ahead c.args.tools.now.draw) (g.W.Draw.ahead c.step.new.draw) [] s (took_none (g.L.Link.state c.args.tools.now.link)) end.made.1 end.made.4 end.clock end.draw)
           refl
           rest.1,
-      is_run (g.X.Role.manner c.args.role.now) (g.S.Source.left c.args.source.now) (g.S.Source.left c.asked.new.source) (front_of c.last_reply.new.pass) s c.in_ok-first.first rest.0.steps rest.0.calls c.last_reply.result asked end.made.3 rest.2,
-      is_cause (g.X.Role.manner c.args.role.now) (g.S.Source.left c.args.source.now) (g.S.Source.left c.asked.new.source) (g.S.Source.faults c.args.source.now) (g.S.Source.faults c.asked.new.source) (front_of c.last_reply.new.pass) s c.in_ok-first.first rest.0.steps rest.0.calls c.last_reply.result asked end.made.3 rest.2,
+      is_run (g.X.Role.manner c.args.backend.now.role.now) (g.S.Source.left c.args.source.now) (g.S.Source.left c.asked.new.source) (front_of c.last_reply.new.pass) s c.in_ok-first.first rest.0.steps rest.0.calls c.last_reply.result asked end.made.3 rest.2,
+      is_cause (g.X.Role.manner c.args.backend.now.role.now) (g.S.Source.left c.args.source.now) (g.S.Source.left c.asked.new.source) (g.S.Source.faults c.args.source.now) (g.S.Source.faults c.asked.new.source) (front_of c.last_reply.new.pass) s c.in_ok-first.first rest.0.steps rest.0.calls c.last_reply.result asked end.made.3 rest.2,
       (let a = c.requires.places in let b = rest.3 in omega arith),
     )

@@ -2,7 +2,7 @@
 
 ghost use Rattle.std.specs.Prelude.{◌≡◌, length};
 
-use crate::top::{Call, run};
+use crate::running::run_op;
 use case_lines::{as_text, push_part, told, told_quoted};
 use platform::{TcpDoor, TcpLink, desk};
 use server_desk::{Door, Link, LinkNo, Source, read_whole};
@@ -323,18 +323,12 @@ where
     R: Clock + RandomSource + Sync + AllocGlobal,
 {
     let file = file_at(alloc, place)?;
-    let files = vec![in alloc; file]?;
     let Ok(mut one) = desk(rt) else {
         return told(alloc, "no random bytes");
     };
     one.turns = 1;
     let mut desks = vec![in alloc; one]?;
-    let call = Call {
-        shelf: "0",
-        sink: "0",
-        words: "op config",
-    };
-    run(rt, alloc, files.as_slice(), &call, &mut desks)
+    run_op(rt, alloc, file, &mut desks)
 }
 
 // Requests the keys as soon as somebody listens, with at most 500 attempts.

@@ -1,6 +1,5 @@
 // Writes and reads request objects of the client `mail-client`.
 
-use crate::clients::client_of;
 use crate::requests::parameters::params_of;
 use case_lines::{claim_refusal, or_else, push_named, told, told_refusal};
 use client_registry::{Client, Registry};
@@ -9,6 +8,14 @@ use request_object::{ObjNo, seal_request, unseal_request, written_len};
 use request_params::{ALL_NAMES, Params};
 use sso_base::{NoMemory, Text};
 use std::alloc::Global;
+
+// The client with this id.
+fn client_of<'a>(registry: &'a Registry, id: &str) -> Option<&'a Client> {
+    match registry.find_client(id.as_bytes()) {
+        Some(place) if place < registry.clients() => Some(registry.client(place)),
+        _ => None,
+    }
+}
 
 // The parameters that are present, by name.
 fn listed(alloc: Global, params: &Params) -> Result<String, NoMemory> {

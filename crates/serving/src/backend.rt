@@ -1,0 +1,18 @@
+// What the workers of a server share.
+
+use sso_base::Core;
+use std::alloc::Global;
+use turn_store::Turn;
+
+/// What the workers of a server share: its role, and the store with the role's core.
+#[derive(Drop)]
+pub struct Backend<'a, R, X, O: Core> {
+    /// The runtime. A worker waits by it for the store.
+    pub rt: &'a R,
+    /// The allocator.
+    pub alloc: Global,
+    /// The role.
+    pub role: &'a X,
+    /// The core of the role. The workers step it in turns.
+    pub store: &'a Turn<O>,
+}
