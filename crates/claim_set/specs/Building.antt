@@ -1,5 +1,5 @@
 -- Claim sets that are built by setting names, and their parts.
-use Rattle.std.specs.Prelude.{◌≡◌, ℕ, List, [], ◌∷◌, Bool, true, not, ◌&&◌, Option, Some, None, if◌then◌else◌}
+use Rattle.std.specs.Prelude.{◌≡◌, ℕ, List, [], ◌∷◌, Bool, true, not, ◌&&◌, Option, Some, None, option_map, if◌then◌else◌}
 use Rattle.std.specs.Str.{bytes_eq}
 use Rattle.serde_json.specs.Data.{Data, string, number, unsigned, array, Members, put}
 use Rattle.serde_json.specs.Find.{get_member}
@@ -18,6 +18,10 @@ audience (a ∷ b ∷ rest) = array (text_items (a ∷ b ∷ rest))
 -- a name, and its value if there is one
 abbrev pub Entry : Type 0
 Entry = List ℕ × Option Data
+
+-- a name, and a text as its value if there is one
+abbrev pub text_entry : List ℕ → Option (List ℕ) → Entry
+text_entry name o = (name, option_map string o)
 
 abbrev pub put_if : List ℕ → Option Data → Members → Members
 put_if k None ms = ms
