@@ -3,6 +3,7 @@ use Rattle.std.proofs.Common.{◌≡◌, ℕ, drop, List, ◌∷◌, Bool, true,
 use Rattle.serde_json.specs.Data.{Data, Members}
 use Rattle.serde_json.specs.Find.{get_member, as_str}
 use Rattle.sso_base.specs.Refusals.{first_refusal, and_then, forbid}
+use Rattle.sso_base.specs.Texts.{is_other}
 use Rattle.claim_set.specs.Kinds.{of_kind, kind_found, data_texts}
 use Rattle.claim_set.specs.declared.no.ClaimNo.{ClaimNo}
 use Rattle.claim_set.proofs.KindLaws.{is_there, after_kind, refused_of, is_refused, is_accepted}
@@ -12,7 +13,7 @@ use Rattle.request_object.specs.declared.raw.FirstClaims.{FirstClaims}
 use Rattle.request_object.specs.declared.raw.LastClaims.{LastClaims}
 use Rattle.request_object.specs.declared.no.ObjNo.{ObjNo}
 use Rattle.request_object.specs.declared.no.ObjNo.TheVariants.{Claims, Issuer, Audience, Nested}
-use Rattle.request_object.specs.Reading.{digits_in, object_text, text_or, first_in, last_in, is_other, lacks, judged, if_raw, request_of}
+use Rattle.request_object.specs.Reading.{digits_in, object_text, text_or, first_in, last_in, lacks, judged, if_raw, request_of}
 use Rattle.request_object.specs.Object.{request_refusals}
 
 after_test : (e : ObjNo) (b c : Bool) (r : Result Params ObjNo) (cs : List (Bool × ObjNo)) → b ≡ c → refused_of r ≡ first_refusal cs → refused_of (forbid e b r) ≡ first_refusal ((c, e) ∷ cs)

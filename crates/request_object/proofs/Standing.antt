@@ -4,7 +4,7 @@ use Rattle.std.specs.Prelude.{IfSome}
 use Rattle.serde_json.specs.Data.{Data, Members, string}
 use Rattle.serde_json.specs.Find.{get_member, as_str}
 use Rattle.sso_base.proofs.Refusals.{and_then_ok, forbid_ok}
-use Rattle.sso_base.specs.Texts.{has_text}
+use Rattle.sso_base.specs.Texts.{has_text, is_other}
 use Rattle.sso_base.proofs.Decided.{not_not, same, are_same}
 use Rattle.claim_set.specs.Kinds.{of_kind, kind_found, data_texts, text_claim, texts_claim}
 use Rattle.claim_set.specs.declared.no.ClaimNo.{ClaimNo}
@@ -15,7 +15,7 @@ use Rattle.request_object.specs.declared.raw.FirstClaims.{FirstClaims}
 use Rattle.request_object.specs.declared.raw.LastClaims.{LastClaims}
 use Rattle.request_object.specs.declared.raw.RawRequest.{RawRequest}
 use Rattle.request_object.specs.declared.no.ObjNo.{ObjNo}
-use Rattle.request_object.specs.Reading.{digits_in, object_text, age_claim, claims_claim, first_in, last_in, raw_in, is_other, lacks, judged, if_raw, request_of}
+use Rattle.request_object.specs.Reading.{digits_in, object_text, age_claim, claims_claim, first_in, last_in, raw_in, lacks, judged, if_raw, request_of}
 use Rattle.request_object.specs.Object.{IsFor, HasRequest}
 use Rattle.request_object.proofs.Forms.{no_digits, no_object, read_form, stands_form}
 

@@ -1,10 +1,9 @@
 -- The parameters in a request object, or why it is rejected (OpenID Connect Core 1.0, 6.1 and 6.3).
 use Rattle.std.specs.Prelude.{ℕ, List, Bool, true, false, not, ◌||◌, Option, Some, None, option_map, is_some, Result, Ok, Err, codes, decimal}
-use Rattle.std.specs.Str.{bytes_eq}
 use Rattle.serde_json.specs.Data.{Data, Members}
 use Rattle.serde_json.specs.Find.{get_member, as_str, as_object}
 use Rattle.sso_base.specs.Refusals.{and_then, forbid}
-use Rattle.sso_base.specs.Texts.{has_text}
+use Rattle.sso_base.specs.Texts.{has_text, is_other}
 use Rattle.claim_set.specs.Kinds.{of_kind, small_number, text_claim, texts_claim}
 use Rattle.claim_set.specs.Reading.{claims_read, claims_text}
 use Rattle.claim_set.specs.declared.no.ClaimNo.{ClaimNo}
@@ -74,11 +73,6 @@ abbrev pub raw_in : Members → Result RawRequest ClaimNo
 raw_in ms = and_then (first_in ms) (λ first. and_then (last_in ms) (λ last. Ok (record { first = first; last = last })))
 
 -- ---- the errors, in order
-
--- the text is present, and differs from this one
-abbrev pub is_other : List ℕ → Option (List ℕ) → Bool
-is_other t None = false
-is_other t (Some s) = not (bytes_eq s t)
 
 -- the texts are present, and the text is not among them
 abbrev pub lacks : List ℕ → Option (List (List ℕ)) → Bool

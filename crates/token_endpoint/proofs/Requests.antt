@@ -4,6 +4,7 @@ use Rattle.std.specs.Str.{IsUtf8}
 use Rattle.form_urlencoded.specs.Form.{raw_pairs}
 use Rattle.sso_base.specs.Words.{Text}
 use Rattle.sso_base.specs.Refusals.{first_refusal, NoneHolds, and_then}
+use Rattle.sso_base.specs.Texts.{is_other}
 use Rattle.sso_base.proofs.Refusals.{none_holds, and_then_ok}
 use Rattle.client_registry.specs.declared.records.Client.{Client}
 use Rattle.client_registry.specs.Configuration.{Configuration}
@@ -14,7 +15,7 @@ use Rattle.request_params.proofs.Lossy.{pair_read}
 use Rattle.token_endpoint.specs.declared.granting.Grant.{Grant}
 use Rattle.token_endpoint.specs.declared.no.GrantNo.{GrantNo}
 use Rattle.token_endpoint.specs.declared.no.GrantNo.TheVariants.{OtherGrant, Missing}
-use Rattle.token_endpoint.specs.Authentication.{is_other, client_read}
+use Rattle.token_endpoint.specs.Authentication.{client_read}
 use Rattle.token_endpoint.specs.Request.{code_refusals, grant_in, code_read, grant_read}
 use Rattle.token_endpoint.specs.Granted.{Shows, credentials_of, Authenticates, IsGrant}
 use Rattle.token_endpoint.proofs.Lookups.{there_of}
