@@ -9,7 +9,7 @@ use Rattle.sso_base.proofs.OnLiterals.{base64url_on_literals}
 use Rattle.sso_base.proofs.Spelling.{IsBytes-from_all_bytes}
 use Rattle.sso_base.specs.Faults.{Rose, HasCause}
 use Rattle.sso_base.specs.Outside.{Content, Takes, TakesFront, content_of, Fetches}
-use Rattle.sso_base.specs.Texts.{is_ascii, has_text, is_other, is_only}
+use Rattle.sso_base.specs.Texts.{is_ascii, has_text, is_given, is_other, is_only}
 use Rattle.sso_base.specs.TextBuffer.{buffer_of, texts_in, IsBuffer}
 use Rattle.sso_base.proofs.Utf8Bytes.{IsUtf8-are_ascii}
 use Rattle.sso_base.specs.Values.{AreWords}
@@ -433,6 +433,15 @@ has_text-the_second = refl
 
 has_text-not_a_part : has_text (codes "a") (codes "ab" ∷ []) ≡ false
 has_text-not_a_part = refl
+
+is_given-the_same : is_given (codes "c") (Some (codes "c")) ≡ true
+is_given-the_same = refl
+
+is_given-not_another_text : is_given (codes "c") (Some (codes "i")) ≡ false
+is_given-not_another_text = refl
+
+is_given-not_without_a_text : is_given (codes "c") None ≡ false
+is_given-not_without_a_text = refl
 
 is_other-another_text : is_other (codes "c") (Some (codes "i")) ≡ true
 is_other-another_text = refl

@@ -12,6 +12,11 @@ is_ascii t = list_all (λ b. nat_lt b 128) t
 abbrev pub has_text : Text → List Text → Bool
 has_text t ts = list_any (bytes_eq t) ts
 
+-- a text is present, and it is equal to this one
+abbrev pub is_given : Text → Option Text → Bool
+is_given t None = false
+is_given t (Some s) = bytes_eq s t
+
 -- a text is present, and it differs from this one
 abbrev pub is_other : Text → Option Text → Bool
 is_other t None = false
