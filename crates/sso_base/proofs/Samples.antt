@@ -9,6 +9,8 @@ use Rattle.sso_base.proofs.OnLiterals.{base64url_on_literals}
 use Rattle.sso_base.proofs.Spelling.{IsBytes-from_all_bytes}
 use Rattle.sso_base.specs.Faults.{Rose, HasCause}
 use Rattle.sso_base.specs.Outside.{Content, Takes, TakesFront, content_of, Fetches}
+use Rattle.sso_base.specs.RequestLine.{method_of, is_question}
+use Rattle.sso_base.specs.declared.http.Method.TheVariants.{Post, Other}
 use Rattle.sso_base.specs.Texts.{is_ascii, has_text, is_given, is_other, is_only}
 use Rattle.sso_base.specs.TextBuffer.{buffer_of, texts_in, IsBuffer}
 use Rattle.sso_base.proofs.Utf8Bytes.{IsUtf8-are_ascii}
@@ -451,6 +453,20 @@ is_other-not_the_same = refl
 
 is_other-not_without_a_text : is_other (codes "c") None ≡ false
 is_other-not_without_a_text = refl
+
+-- ---- the method and the target of a request
+
+method_of-post : method_of (codes "POST") ≡ Post
+method_of-post = refl
+
+method_of-not_in_lower_case : method_of (codes "post") ≡ Other
+method_of-not_in_lower_case = refl
+
+is_question-begins_the_query : is_question 63 ≡ true
+is_question-begins_the_query = refl
+
+is_question-not_another_mark : is_question 38 ≡ false
+is_question-not_another_mark = refl
 
 -- ---- texts in one buffer
 
