@@ -15,7 +15,7 @@ use Rattle.jws_compact.specs.Jws.{verdict}
 use Rattle.id_token.specs.declared.claims.IdClaims.{IdClaims}
 use Rattle.id_token.specs.declared.claims.RawClaims.{RawClaims}
 use Rattle.id_token.specs.declared.no.IdNo.{IdNo}
-use Rattle.id_token.specs.declared.no.IdNo.TheVariants.{NoMemory, Jws, Claims, Missing}
+use Rattle.id_token.specs.declared.no.IdNo.TheVariants.{Jws, Claims, Missing}
 use Rattle.id_token.specs.Claims.{is_subject, id_names}
 
 abbrev pub if_subject : Option (List ℕ) → Result (Option (List ℕ)) ClaimNo
@@ -74,12 +74,3 @@ abbrev pub hides_memory : IdNo → Bool
 hides_memory (Jws jws.NoMemory) = true
 hides_memory (Claims claims.NoMemory) = true
 hides_memory e = false
-
--- an error of a sealed text or of claims, as an error of the token; `NoMemory` stays `NoMemory`
-abbrev pub as_jws : JwsNo → IdNo
-as_jws jws.NoMemory = NoMemory
-as_jws e = Jws e
-
-abbrev pub as_claims : ClaimNo → IdNo
-as_claims claims.NoMemory = NoMemory
-as_claims e = Claims e

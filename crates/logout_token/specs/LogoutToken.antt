@@ -17,7 +17,7 @@ use Rattle.claim_set.specs.declared.no.ClaimNo.TheVariants as claims
 use Rattle.logout_token.specs.declared.claims.LogoutClaims.{LogoutClaims}
 use Rattle.logout_token.specs.declared.claims.RawLogout.{RawLogout}
 use Rattle.logout_token.specs.declared.no.LogoutNo.{LogoutNo}
-use Rattle.logout_token.specs.declared.no.LogoutNo.TheVariants.{NoMemory, Jws, Claims, WrongTyp, Missing, NoEvent, HasNonce, NamesNobody}
+use Rattle.logout_token.specs.declared.no.LogoutNo.TheVariants.{Jws, Claims, WrongTyp, Missing, NoEvent, HasNonce, NamesNobody}
 
 -- ---- writing
 
@@ -110,12 +110,3 @@ abbrev pub hides_memory : LogoutNo → Bool
 hides_memory (Jws jws.NoMemory) = true
 hides_memory (Claims claims.NoMemory) = true
 hides_memory e = false
-
--- an error of a sealed text or of claims, as an error of the token; `NoMemory` stays `NoMemory`
-abbrev pub as_jws : JwsNo → LogoutNo
-as_jws jws.NoMemory = NoMemory
-as_jws e = Jws e
-
-abbrev pub as_claims : ClaimNo → LogoutNo
-as_claims claims.NoMemory = NoMemory
-as_claims e = Claims e

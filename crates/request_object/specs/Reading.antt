@@ -18,7 +18,7 @@ use Rattle.request_object.specs.declared.raw.FirstClaims.{FirstClaims}
 use Rattle.request_object.specs.declared.raw.LastClaims.{LastClaims}
 use Rattle.request_object.specs.declared.raw.RawRequest.{RawRequest}
 use Rattle.request_object.specs.declared.no.ObjNo.{ObjNo}
-use Rattle.request_object.specs.declared.no.ObjNo.TheVariants.{NoMemory, Jws, Claims, Issuer, Audience, Nested}
+use Rattle.request_object.specs.declared.no.ObjNo.TheVariants.{Jws, Claims, Issuer, Audience, Nested}
 
 -- ---- the claims, each of its kind
 
@@ -126,12 +126,3 @@ abbrev pub hides_memory : ObjNo → Bool
 hides_memory (Jws jws.NoMemory) = true
 hides_memory (Claims claims.NoMemory) = true
 hides_memory e = false
-
--- an error of a sealed text or of claims, as an error of the request object; `NoMemory` stays `NoMemory`
-abbrev pub as_jws : JwsNo → ObjNo
-as_jws jws.NoMemory = NoMemory
-as_jws e = Jws e
-
-abbrev pub as_claims : ClaimNo → ObjNo
-as_claims claims.NoMemory = NoMemory
-as_claims e = Claims e

@@ -17,7 +17,7 @@ use Rattle.claim_set.specs.declared.no.ClaimNo.TheVariants as claims
 use Rattle.token_endpoint.specs.declared.reading.Tokens.{Tokens}
 use Rattle.token_endpoint.specs.declared.reading.RawTokens.{RawTokens}
 use Rattle.token_endpoint.specs.declared.no.TokensNo.{TokensNo}
-use Rattle.token_endpoint.specs.declared.no.TokensNo.TheVariants.{Status, Claims, Missing, NotBearer, NoMemory}
+use Rattle.token_endpoint.specs.declared.no.TokensNo.TheVariants.{Status, Claims, Missing, NotBearer}
 
 -- ---- writing
 
@@ -102,8 +102,3 @@ token_refusals ms =
 abbrev pub hides_memory : TokensNo → Bool
 hides_memory (Claims claims.NoMemory) = true
 hides_memory e = false
-
--- an error of claims, as an error of the response; `NoMemory` stays `NoMemory`
-abbrev pub as_claims : ClaimNo → TokensNo
-as_claims claims.NoMemory = NoMemory
-as_claims e = Claims e

@@ -9,7 +9,7 @@ use Rattle.claim_set.specs.declared.no.ClaimNo.TheVariants as claims
 use Rattle.claim_set.specs.Kinds.{text_claim}
 use Rattle.claim_set.specs.Reading.{Reads, claims_read}
 use Rattle.userinfo.specs.declared.no.InfoNo.{InfoNo}
-use Rattle.userinfo.specs.declared.no.InfoNo.TheVariants.{NoMemory, Status, Claims, NoSub}
+use Rattle.userinfo.specs.declared.no.InfoNo.TheVariants.{Status, Claims, NoSub}
 
 abbrev pub if_there : Result (Option (List ℕ)) ClaimNo → Result (List ℕ) InfoNo
 if_there (Ok None) = Err NoSub
@@ -39,8 +39,3 @@ pub record IsUserInfo (a : Answered) (sub : List ℕ) : Type 0 where
 abbrev pub hides_memory : InfoNo → Bool
 hides_memory (Claims claims.NoMemory) = true
 hides_memory e = false
-
--- an error of claims, as an error of the response; `NoMemory` stays `NoMemory`
-abbrev pub as_claims : ClaimNo → InfoNo
-as_claims claims.NoMemory = NoMemory
-as_claims e = Claims e
