@@ -1,5 +1,5 @@
 -- What an answer that is no refusal says: no condition holds, and what was looked for was found.
-use Rattle.std.proofs.Common.{◌≡◌, List, [], ◌∷◌, Bool, true, false, Option, Some, None, Result, Ok, Err, refl}
+use Rattle.std.proofs.Common.{◌≡◌, List, [], ◌∷◌, Bool, true, false, Option, Some, None, Result, Ok, Err, refl, subst}
 use Rattle.sso_base.specs.Refusals.{first_refusal, NoneHolds, and_then, demand, forbid}
 
 pub none_holds : {E : Type 0} (cs : List (Bool × E)) → first_refusal cs ≡ Ok tt → NoneHolds cs
@@ -19,3 +19,14 @@ demand_ok e (Some a) f v h = (a, refl, h)
 pub forbid_ok : {B E : Type 0} (e : E) (b : Bool) (r : Result B E) (v : B) → forbid e b r ≡ Ok v → (b ≡ false) × (r ≡ Ok v)
 forbid_ok e true r v h = absurd (cc)
 forbid_ok e false r v h = (refl, h)
+
+-- ---- an answer has one value, and what holds of one holds of the other
+
+abbrev pub ok_of : {A : Type 0} (E : Type 0) → A → Result A E
+ok_of E a = Ok a
+
+pub one_value : {A : Type 0} (E : Type 0) (a b : A) → ok_of E a ≡ ok_of E b → a ≡ b
+one_value E a b h = cc
+
+pub holds_as : {A : Type 0} (E : Type 0) (P : A → Type 0) (a b : A) → ok_of E a ≡ ok_of E b → P a → P b
+holds_as E P a b h holds = subst P (one_value E a b h) holds

@@ -9,7 +9,7 @@ use Rattle.serde_json.specs.Find.{get_member, as_str}
 use Rattle.sso_base.specs.Words.{Text, Word, word_text}
 use Rattle.sso_base.specs.Refusals.{first_refusal, demand, forbid}
 use Rattle.sso_base.specs.declared.message.Answered.{Answered}
-use Rattle.sso_base.proofs.Refusals.{and_then_ok, demand_ok, forbid_ok}
+use Rattle.sso_base.proofs.Refusals.{and_then_ok, demand_ok, forbid_ok, one_value, holds_as}
 use Rattle.sso_base.proofs.Decided.{not_not}
 use Rattle.claim_set.specs.Building.{put_all}
 use Rattle.claim_set.specs.Kinds.{text_claim}
@@ -36,9 +36,6 @@ use Rattle.token_endpoint.proofs.Fitting.{tokens_fit}
 
 abbrev tokens_ok : Tokens → Result Tokens TokensNo
 tokens_ok t = Ok t
-
-one_answer : (s t : Tokens) → tokens_ok s ≡ tokens_ok t → s ≡ t
-one_answer s t h = cc
 
 -- ---- the status
 
@@ -106,22 +103,13 @@ record RawStands (ms : Members) (r : RawTokens) : Type 0 where
   id : get_member (codes "id_token") ms ≡ option_map string r.id
   kind : get_member (codes "token_type") ms ≡ option_map string r.kind
 
-abbrev raw_ok : RawTokens → Result RawTokens ClaimNo
-raw_ok r = Ok r
-
-one_raw : (q r : RawTokens) → raw_ok q ≡ raw_ok r → q ≡ r
-one_raw q r h = cc
-
-same_raw : (ms : Members) (q r : RawTokens) → q ≡ r → RawStands ms q → RawStands ms r
-same_raw ms q r h stands = rw (h) at stands
-
 raw_stands : (ms : Members) (r : RawTokens) → raw_in ms ≡ Ok r → RawStands ms r
 unfolding raw_in
 raw_stands ms r h =
     let access = and_then_ok (text_claim (codes "access_token") ms) _ r h in
     let id = and_then_ok (text_claim (codes "id_token") ms) _ r access.2 in
     let kind = and_then_ok (text_claim (codes "token_type") ms) _ r id.2 in
-    same_raw ms _ r (one_raw _ r kind.2) (record {
+    holds_as ClaimNo (RawStands ms) _ r kind.2 (record {
       access = text_there ms (codes "access_token") access.0 access.1;
       id = text_there ms (codes "id_token") id.0 id.1;
       kind = text_there ms (codes "token_type") kind.0 kind.1;
@@ -137,7 +125,7 @@ whole_stands ms r t stands h =
     let kind = demand_ok (Missing (codes "token_type")) r.kind _ t access.2 in
     let id = demand_ok (Missing (codes "id_token")) r.id _ t kind.2 in
     let bearer = forbid_ok NotBearer (not (is_bearer kind.0)) _ t id.2 in
-    let this = one_answer _ t bearer.1 in
+    let this = one_value TokensNo _ t bearer.1 in
     record {
       access = text_in _ r.access t.access stands.access (access.1 ∙ ap (λ (x : Tokens). Some x.access) this);
       id = text_in _ r.id t.id stands.id (id.1 ∙ ap (λ (x : Tokens). Some x.id) this);
