@@ -1,9 +1,8 @@
 -- No definition of reading refuses for want of memory.
-use Rattle.std.proofs.Common.{◌≡◌, ◌≢◌, ◌==◌, ℕ, List, [], ◌∷◌, ◌++◌, length, Bool, true, false, not, nat_lt, Option, Some, None, Result, Ok, Err, IsOk, codes, refl, sym, ap, ◌∙◌, subst, true≢false, arith}
+use Rattle.std.proofs.Common.{◌≡◌, ◌≢◌, ◌==◌, ℕ, List, [], ◌∷◌, ◌++◌, length, Bool, true, false, not, nat_lt, Option, Some, None, Result, Ok, Err, IsOk, codes, refl, sym, ap, ◌∙◌, subst, true≢false}
 use Rattle.std.specs.Prelude.{IfErr}
 use Rattle.std.specs.List.{AllByRecursion}
 use Rattle.std.specs.Str.{bytes_eq}
-use Rattle.std.proofs.lemmas.Bool.Decides.{nat_tests}
 use Rattle.serde_json.specs.Data.{Data, Members}
 use Rattle.serde_json.specs.Find.{get_member, as_object, as_str}
 use Rattle.claim_set.specs.Kinds.{of_kind, kind_found}
@@ -11,6 +10,7 @@ use Rattle.hmac256.specs.Hmac.{hmac_of}
 use Rattle.sso_base.specs.Base64Url.{unb64u, unb64u_32}
 use Rattle.sso_base.specs.Refusals.{first_refusal, demand, forbid}
 use Rattle.sso_base.specs.declared.message.Answered.{Answered}
+use Rattle.sso_base.proofs.Statuses.{is_200}
 use Rattle.claim_set.specs.declared.no.ClaimNo.{ClaimNo}
 use Rattle.claim_set.specs.declared.no.ClaimNo.TheVariants as claim_no
 use Rattle.claim_set.specs.Reading.{first_float, if_whole, if_members, if_read, json_in, Reads, claims_read}
@@ -155,9 +155,6 @@ IsTokensRefusal e = is_tokens_refusal e ≡ true
 
 abbrev InTokens : ClaimNo → Type 0
 InTokens e = is_tokens_refusal (tokens_no.Claims e) ≡ true
-
-is_200 : (n : ℕ) → (n == 200) ≡ true → n ≡ 200
-is_200 n h = grind (arith, nat_tests)
 
 not_200 : (n : ℕ) → (n == 200) ≡ false → n ≢ 200
 not_200 n h = λ e. true≢false (sym (ap (λ m. m == 200) e) ∙ h)

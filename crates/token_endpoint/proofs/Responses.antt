@@ -1,7 +1,6 @@
 -- A token response is read exactly where it has tokens, and others are refused for the first reason.
-use Rattle.std.proofs.Common.{◌≡◌, ◌≢◌, ◌==◌, ℕ, drop, List, [], ◌∷◌, ◌++◌, Bool, true, false, not, codes, Option, Some, None, option_map, option_and_then, is_none, Result, Ok, Err, IsOk, refl, sym, ap, ◌∙◌, arith}
+use Rattle.std.proofs.Common.{◌≡◌, ◌≢◌, ℕ, drop, List, [], ◌∷◌, ◌++◌, Bool, true, false, not, codes, Option, Some, None, option_map, option_and_then, is_none, Result, Ok, Err, IsOk, refl, sym, ap, ◌∙◌}
 use Rattle.std.specs.Str.{IsUtf8, str_to_ascii_lowercase}
-use Rattle.std.proofs.lemmas.Bool.Decides.{nat_tests}
 use Rattle.std.proofs.lemmas.Slice.Eq.{bytes_eq-Decides}
 use Rattle.json.specs.Print.{quoted}
 use Rattle.serde_json.specs.Data.{Data, string, Members, no_members}
@@ -11,6 +10,7 @@ use Rattle.sso_base.specs.Refusals.{first_refusal, demand, forbid}
 use Rattle.sso_base.specs.declared.message.Answered.{Answered}
 use Rattle.sso_base.proofs.Refusals.{and_then_ok, demand_ok, forbid_ok, one_value, holds_as}
 use Rattle.sso_base.proofs.Decided.{not_not}
+use Rattle.sso_base.proofs.Statuses.{status_judged, status_refused, status_accepted}
 use Rattle.claim_set.specs.Building.{put_all}
 use Rattle.claim_set.specs.Kinds.{text_claim}
 use Rattle.claim_set.specs.Reading.{Reads, claims_read, claims_text}
@@ -39,28 +39,17 @@ tokens_ok t = Ok t
 
 -- ---- the status
 
-is_200 : (n : ℕ) → (n == 200) ≡ true → n ≡ 200
-is_200 n h = grind (arith, nat_tests)
-
-are_200 : (n : ℕ) → n ≡ 200 → not (n == 200) ≡ false
-are_200 n h = grind (arith, nat_tests)
-
-not_200 : (n : ℕ) → n ≢ 200 → not (n == 200) ≡ true
-not_200 n h = grind (arith, nat_tests)
-
 claims_judged : (a : Answered) → a.status ≡ 200 → tokens_read a ≡ if_claims (claims_read a.body)
 unfolding tokens_read
-claims_judged a h = ap (λ b. forbid (Status a.status) b (if_claims (claims_read a.body))) (are_200 a.status h)
+claims_judged a h = status_judged (Status a.status) a.status (if_claims (claims_read a.body)) h
 
 pub other_status : (a : Answered) → a.status ≢ 200 → tokens_read a ≡ Err (Status a.status)
 unfolding tokens_read
-other_status a h = ap (λ b. forbid (Status a.status) b (if_claims (claims_read a.body))) (not_200 a.status h)
+other_status a h = status_refused (Status a.status) a.status (if_claims (claims_read a.body)) h
 
 accepted_status : (a : Answered) (t : Tokens) → tokens_read a ≡ Ok t → (a.status ≡ 200) × (if_claims (claims_read a.body) ≡ Ok t)
 unfolding tokens_read
-accepted_status a t h =
-    let parts = forbid_ok (Status a.status) (not (a.status == 200)) (if_claims (claims_read a.body)) t h in
-    (is_200 a.status (not_not (a.status == 200) parts.0), parts.1)
+accepted_status a t h = status_accepted (Status a.status) a.status (if_claims (claims_read a.body)) t h
 
 members_judged : (a : Answered) (ms : Members) → a.status ≡ 200 → Reads a.body ms → tokens_read a ≡ tokens_in ms
 members_judged a ms h r = claims_judged a h ∙ ap if_claims (reads_read a.body ms r)

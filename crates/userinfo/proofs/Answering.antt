@@ -1,12 +1,9 @@
 -- An answer is read exactly where it is a UserInfo response, and others are refused for the first reason.
-use Rattle.std.proofs.Common.{◌≡◌, ◌≢◌, ◌==◌, ℕ, true, false, not, List, Option, Some, None, Result, Ok, Err, codes, refl, ap, ◌∙◌, arith}
-use Rattle.std.proofs.lemmas.Bool.Decides.{nat_tests}
+use Rattle.std.proofs.Common.{◌≡◌, ◌≢◌, ℕ, List, Option, Some, None, Result, Ok, Err, codes, refl, ap, ◌∙◌}
 use Rattle.serde_json.specs.Data.{string, Members}
 use Rattle.serde_json.specs.Find.{get_member}
 use Rattle.sso_base.specs.declared.message.Answered.{Answered}
-use Rattle.sso_base.specs.Refusals.{forbid}
-use Rattle.sso_base.proofs.Refusals.{forbid_ok}
-use Rattle.sso_base.proofs.Decided.{not_not}
+use Rattle.sso_base.proofs.Statuses.{status_judged, status_refused, status_accepted}
 use Rattle.claim_set.specs.declared.no.ClaimNo.{ClaimNo}
 use Rattle.claim_set.specs.Kinds.{text_claim}
 use Rattle.claim_set.specs.Reading.{claims_read, Reads}
@@ -21,28 +18,17 @@ sub_ok t = Ok t
 
 -- ---- the status
 
-is_200 : (n : ℕ) → (n == 200) ≡ true → n ≡ 200
-is_200 n h = grind (arith, nat_tests, h)
-
-are_200 : (n : ℕ) → n ≡ 200 → not (n == 200) ≡ false
-are_200 n h = grind (arith, nat_tests, h)
-
-not_200 : (n : ℕ) → n ≢ 200 → not (n == 200) ≡ true
-not_200 n h = grind (arith, nat_tests, h)
-
 pub claims_judged : (a : Answered) → a.status ≡ 200 → info_read a ≡ if_claims (claims_read a.body)
 unfolding info_read
-claims_judged a h = ap (λ b. forbid (no.Status a.status) b (if_claims (claims_read a.body))) (are_200 a.status h)
+claims_judged a h = status_judged (no.Status a.status) a.status (if_claims (claims_read a.body)) h
 
-pub status_refused : (a : Answered) → a.status ≢ 200 → info_read a ≡ Err (no.Status a.status)
+pub other_status : (a : Answered) → a.status ≢ 200 → info_read a ≡ Err (no.Status a.status)
 unfolding info_read
-status_refused a h = ap (λ b. forbid (no.Status a.status) b (if_claims (claims_read a.body))) (not_200 a.status h)
+other_status a h = status_refused (no.Status a.status) a.status (if_claims (claims_read a.body)) h
 
 accepted : (a : Answered) (t : List ℕ) → info_read a ≡ sub_ok t → (a.status ≡ 200) × (if_claims (claims_read a.body) ≡ sub_ok t)
 unfolding info_read
-accepted a t h =
-    let parts = forbid_ok (no.Status a.status) (not (a.status == 200)) (if_claims (claims_read a.body)) t h in
-    (is_200 a.status (not_not (a.status == 200) parts.0), parts.1)
+accepted a t h = status_accepted (no.Status a.status) a.status (if_claims (claims_read a.body)) t h
 
 -- ---- the claims
 
