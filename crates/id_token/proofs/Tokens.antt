@@ -1,7 +1,8 @@
 -- A text is read exactly where it is an ID Token, and one that is none is refused for the first reason.
-use Rattle.std.proofs.Common.{◌≡◌, ℕ, List, Result, Ok, Err, IsOk, IfOk, IfErr, ◌⊎◌, inl, inr, refl, ◌∙◌}
+use Rattle.std.proofs.Common.{◌≡◌, ℕ, List, Result, Ok, Err, IsOk, IfOk, IfErr, ◌⊎◌, refl, ◌∙◌}
 use Rattle.serde_json.specs.Data.{Members}
 use Rattle.sso_base.specs.Refusals.{first_refusal, and_then}
+use Rattle.sso_base.proofs.Answering.{if_answered, only_at, only_memory}
 use Rattle.claim_set.specs.Reading.{Reads, claims_read}
 use Rattle.claim_set.specs.declared.no.ClaimNo.{ClaimNo}
 use Rattle.claim_set.proofs.Parsing.{read_reads, reads_read}
@@ -61,24 +62,14 @@ accepted k h p t ms s r f = rw (sealed_claims k h p t ms s r) (id_of-accepted ms
 -- ---- what the calls answer
 
 pub answered_token : (k t : List ℕ) (r : Result IdClaims IdNo) → IfOk r (λ x. id_read k t ≡ Ok x) → IfOk r (λ x. IsIdToken k t x)
-answered_token k t (Ok x) h = id_read-token k t x h
-answered_token k t (Err e) h = tt
-
-no_cause : (e : IdNo) (r : Result (Unit {0}) IdNo) → r ≡ Ok tt → (e ≡ NoMemory) ⊎ (r ≡ Err e) → e ≡ NoMemory
-no_cause e r is (inl h) = h
-no_cause e r is (inr h) = absurd (cc)
-
-no_refusal : (e : IdNo) (r : Result IdClaims IdNo) (x : IdClaims) → r ≡ Ok x → (e ≡ NoMemory) ⊎ (r ≡ Err e) → e ≡ NoMemory
-no_refusal e r x is (inl h) = h
-no_refusal e r x is (inr h) = absurd (cc)
+answered_token k t r h = if_answered (id_read k t) (IsIdToken k t) (id_read-token k t) r h
 
 pub accepts_token : (k t : List ℕ) (r : Result IdClaims IdNo) → IfErr r (λ e. (e ≡ NoMemory) ⊎ (id_read k t ≡ Err e)) → (x : IdClaims) → IsIdToken k t x → IfErr r (λ e. e ≡ NoMemory)
-accepts_token k t (Ok y) h x token = tt
-accepts_token k t (Err e) h x token = no_refusal e (id_read k t) x (token-id_read k t x token) h
+accepts_token k t r h x token = only_memory NoMemory (id_read k t) x (token-id_read k t x token) r h
 
 pub accepts_good : (k t : List ℕ) (rules : IdRules) (at : ℕ) (r : Result IdClaims IdNo) → IfErr r (λ e. (e ≡ NoMemory) ⊎ (and_then (id_read k t) (λ x. id_judged rules x at) ≡ Err e))
     → (x : IdClaims) → IsIdToken k t x → IsGoodIdToken rules x at → IfErr r (λ e. e ≡ NoMemory)
 accepts_good k t rules at (Ok y) h x token good = tt
 accepts_good k t rules at (Err e) h x token good =
     let passes : and_then (id_read k t) (λ y. id_judged rules y at) ≡ Ok tt = rw (token-id_read k t x token) (good_passes rules x at good) in
-    no_cause e _ passes h
+    only_at NoMemory (and_then (id_read k t) (λ y. id_judged rules y at)) tt passes e h

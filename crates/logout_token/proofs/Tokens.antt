@@ -1,8 +1,9 @@
 -- Texts as logout tokens: what is read is sealed and stands there, and what is refused is refused for the first reason.
-use Rattle.std.proofs.Common.{◌≡◌, ℕ, List, Result, Ok, Err, IsOk, IfOk, IfErr, ◌⊎◌, inl, inr, refl}
+use Rattle.std.proofs.Common.{◌≡◌, ℕ, List, Result, Ok, Err, IsOk, IfOk, IfErr, ◌⊎◌, refl}
 use Rattle.std.specs.Prelude.{Option}
 use Rattle.serde_json.specs.Data.{Members}
 use Rattle.sso_base.specs.Refusals.{first_refusal}
+use Rattle.sso_base.proofs.Answering.{if_answered, only_memory}
 use Rattle.claim_set.specs.Reading.{Reads, claims_read}
 use Rattle.claim_set.specs.declared.no.ClaimNo.{ClaimNo}
 use Rattle.claim_set.proofs.Parsing.{read_reads, reads_read}
@@ -67,13 +68,7 @@ logout_read-IsLogoutToken k t x is =
 -- ---- what the call answers
 
 pub answered_token : (k t : List ℕ) (r : Result LogoutClaims LogoutNo) → IfOk r (λ x. logout_read k t ≡ Ok x) → IfOk r (λ x. IsLogoutToken k t x)
-answered_token k t (Ok x) h = IsLogoutToken-read k t x h
-answered_token k t (Err e) h = tt
-
-no_refusal : (e : LogoutNo) (r : Result LogoutClaims LogoutNo) (x : LogoutClaims) → r ≡ Ok x → (e ≡ NoMemory) ⊎ (r ≡ Err e) → e ≡ NoMemory
-no_refusal e r x is (inl h) = h
-no_refusal e r x is (inr h) = absurd (cc)
+answered_token k t r h = if_answered (logout_read k t) (IsLogoutToken k t) (IsLogoutToken-read k t) r h
 
 pub accepts_token : (k t : List ℕ) (r : Result LogoutClaims LogoutNo) → IfErr r (λ e. (e ≡ NoMemory) ⊎ (logout_read k t ≡ Err e)) → (x : LogoutClaims) → IsLogoutToken k t x → IfErr r (λ e. e ≡ NoMemory)
-accepts_token k t (Ok y) h x token = tt
-accepts_token k t (Err e) h x token = no_refusal e (logout_read k t) x (logout_read-IsLogoutToken k t x token) h
+accepts_token k t r h x token = only_memory NoMemory (logout_read k t) x (logout_read-IsLogoutToken k t x token) r h

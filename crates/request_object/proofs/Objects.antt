@@ -1,7 +1,8 @@
 -- A text is read exactly where it is a request object, and one that is none is refused for the first reason.
-use Rattle.std.proofs.Common.{◌≡◌, ℕ, List, Result, Ok, Err, IsOk, IfOk, IfErr, ◌⊎◌, inl, inr, refl, ◌∙◌}
+use Rattle.std.proofs.Common.{◌≡◌, ℕ, List, Result, Ok, Err, IsOk, IfOk, IfErr, ◌⊎◌, refl, ◌∙◌}
 use Rattle.serde_json.specs.Data.{Members}
 use Rattle.sso_base.specs.Refusals.{first_refusal}
+use Rattle.sso_base.proofs.Answering.{if_answered, only_memory}
 use Rattle.claim_set.specs.Reading.{Reads, claims_read}
 use Rattle.claim_set.specs.declared.no.ClaimNo.{ClaimNo}
 use Rattle.claim_set.proofs.Parsing.{read_reads, reads_read}
@@ -60,13 +61,7 @@ module _ (client : Client) (issuer : List ℕ) where
   -- ---- what the call answers
 
   pub answered_object : (t : List ℕ) (r : Result Params ObjNo) → IfOk r (λ p. request_read client issuer t ≡ Ok p) → IfOk r (λ p. IsRequestObject client issuer t p)
-  answered_object t (Ok p) h = request_read-object t p h
-  answered_object t (Err e) h = tt
-
-  no_refusal : (e : ObjNo) (r : Result Params ObjNo) (p : Params) → r ≡ Ok p → (e ≡ NoMemory) ⊎ (r ≡ Err e) → e ≡ NoMemory
-  no_refusal e r p is (inl h) = h
-  no_refusal e r p is (inr h) = absurd (cc)
+  answered_object t r h = if_answered (request_read client issuer t) (IsRequestObject client issuer t) (request_read-object t) r h
 
   pub accepts_object : (t : List ℕ) (r : Result Params ObjNo) → IfErr r (λ e. (e ≡ NoMemory) ⊎ (request_read client issuer t ≡ Err e)) → (p : Params) → IsRequestObject client issuer t p → IfErr r (λ e. e ≡ NoMemory)
-  accepts_object t (Ok q) h p object = tt
-  accepts_object t (Err e) h p object = no_refusal e (request_read client issuer t) p (object-request_read t p object) h
+  accepts_object t r h p object = only_memory NoMemory (request_read client issuer t) p (object-request_read t p object) r h
