@@ -1,9 +1,9 @@
 -- What is read is exactly what stands in the claim set.
-use Rattle.std.proofs.Common.{◌≡◌, ◌<◌, ◌^◌, ℕ, List, Bool, true, false, cond, Option, Some, None, option_map, Result, Ok, Err, codes, refl, ap, ◌∙◌}
+use Rattle.std.proofs.Common.{◌≡◌, ◌<◌, ◌^◌, ℕ, List, Bool, true, false, cond, Option, Some, None, option_map, Ok, Err, codes, refl, ap, ◌∙◌}
 use Rattle.std.specs.Prelude.{IfSome, IsTrue}
 use Rattle.serde_json.specs.Data.{Members, string}
 use Rattle.serde_json.specs.Find.{get_member}
-use Rattle.sso_base.proofs.Refusals.{and_then_ok, demand_ok, holds_as}
+use Rattle.sso_base.proofs.Refusals.{and_then_ok, and_then_as_ok, demand_ok, holds_as}
 use Rattle.claim_set.specs.Kinds.{data_texts, text_claim, number_claim, texts_claim}
 use Rattle.claim_set.specs.Building.{number_value, without_all}
 use Rattle.claim_set.specs.declared.no.ClaimNo.{ClaimNo}
@@ -12,9 +12,9 @@ use Rattle.claim_set.proofs.KindLaws.{text_read, number_read, text_there, number
 use Rattle.id_token.specs.declared.claims.IdClaims.{IdClaims}
 use Rattle.id_token.specs.declared.claims.RawClaims.{RawClaims}
 use Rattle.id_token.specs.declared.no.IdNo.{IdNo}
-use Rattle.id_token.specs.declared.no.IdNo.TheVariants.{Missing}
+use Rattle.id_token.specs.declared.no.IdNo.TheVariants.{Claims, Missing}
 use Rattle.id_token.specs.Claims.{is_subject, id_names}
-use Rattle.id_token.specs.Reading.{if_subject, raw_in, whole, if_raw, id_of}
+use Rattle.id_token.specs.Reading.{if_subject, raw_in, whole, id_of}
 use Rattle.id_token.specs.Token.{HasClaims}
 
 -- ---- what stands there is read
@@ -135,10 +135,8 @@ whole_stands ms more r x raw others h =
       auth_time_fits = raw.auth_time.1;
     })
 
-id_stands : (ms : Members) (x : IdClaims) (r : Result RawClaims ClaimNo) → raw_in ms ≡ r → if_raw ms r ≡ Ok x → HasClaims ms x
-id_stands ms x (Ok r) is h = whole_stands ms (without_all id_names ms) r x (raw_stands ms r is) refl h
-id_stands ms x (Err e) is h = absurd (cc)
-
 pub has-id_of : (ms : Members) (x : IdClaims) → id_of ms ≡ Ok x → HasClaims ms x
 unfolding id_of
-has-id_of ms x h = id_stands ms x (raw_in ms) refl h
+has-id_of ms x h =
+    let raw = and_then_as_ok Claims (raw_in ms) _ x h in
+    whole_stands ms (without_all id_names ms) raw.0 x (raw_stands ms raw.0 raw.1) refl raw.2

@@ -2,7 +2,7 @@
 use Rattle.std.proofs.Common.{◌≡◌, ◌↔◌, ℕ, List, [], ◌∷◌, Bool, true, false, Result, Ok, Err, refl, sym, ap, ◌∙◌, true≢false}
 use Rattle.std.specs.List.{AllByRecursion}
 use Rattle.serde_json.specs.Data.{Members}
-use Rattle.sso_base.specs.Refusals.{first_refusal}
+use Rattle.sso_base.specs.Refusals.{first_refusal, and_then_as}
 use Rattle.claim_set.specs.declared.no.ClaimNo.{ClaimNo}
 use Rattle.claim_set.specs.Reading.{claims_read}
 use Rattle.claim_set.proofs.KindLaws.{refused_of}
@@ -12,8 +12,8 @@ use Rattle.jws_compact.specs.Jws.{Opens, opened, verdict}
 use Rattle.jws_compact.proofs.Opening.{sealed_verdict, verdict_sealed}
 use Rattle.id_token.specs.declared.claims.IdClaims.{IdClaims}
 use Rattle.id_token.specs.declared.no.IdNo.{IdNo}
-use Rattle.id_token.specs.declared.no.IdNo.TheVariants.{Jws}
-use Rattle.id_token.specs.Reading.{if_claims, if_opened, id_read}
+use Rattle.id_token.specs.declared.no.IdNo.TheVariants.{Jws, Claims}
+use Rattle.id_token.specs.Reading.{id_of, id_read}
 use Rattle.id_token.specs.Token.{id_refusals}
 use Rattle.id_token.proofs.Refused.{refusals_of}
 use Rattle.id_token.proofs.Tokens.{id_read-token, unopened}
@@ -31,7 +31,7 @@ not_among ((true, n) ∷ cs) e all h =
     true≢false (sym (ap is_unsealed same) ∙ all.0)
 not_among ((false, n) ∷ cs) e all h = not_among cs e all.1 h
 
-not_of_claims : (r : Result Members ClaimNo) (e : JwsNo) → if_claims r ≡ Err (Jws e) → ⊥
+not_of_claims : (r : Result Members ClaimNo) (e : JwsNo) → and_then_as Claims r id_of ≡ Err (Jws e) → ⊥
 not_of_claims (Err n) e h = cc
 not_of_claims (Ok ms) e h =
     not_among (id_refusals ms) e (refl, (refl, (refl, (refl, (refl, (refl, (refl, (refl, (refl, (refl, (refl, (refl, (refl, (refl, (refl, (refl, tt))))))))))))))))
@@ -39,7 +39,7 @@ not_of_claims (Ok ms) e h =
 
 -- ---- the reason is that of the sealed text
 
-by_verdict : (r : Result Unsealed JwsNo) (e : JwsNo) → if_opened r ≡ Err (Jws e) → r ≡ Err e
+by_verdict : (r : Result Unsealed JwsNo) (e : JwsNo) → and_then_as Jws r (λ (u : Unsealed). and_then_as Claims (claims_read u.payload) id_of) ≡ Err (Jws e) → r ≡ Err e
 by_verdict (Ok u) e h = absurd (not_of_claims (claims_read u.payload) e h)
 by_verdict (Err f) e h =
     let same : f ≡ e = cc in

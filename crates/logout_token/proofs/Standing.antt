@@ -1,11 +1,11 @@
 -- What is read is exactly what stands in the claim set.
-use Rattle.std.proofs.Common.{◌≡◌, ◌<◌, ◌^◌, ℕ, List, Bool, true, false, not, ◌&&◌, ◌||◌, Option, Some, None, option_map, option_and_then, is_some, Result, Ok, Err, codes, refl, sym, ap, ◌∙◌, true≢false, inl, inr}
+use Rattle.std.proofs.Common.{◌≡◌, ◌<◌, ◌^◌, ℕ, List, Bool, true, false, not, ◌&&◌, ◌||◌, Option, Some, None, option_map, option_and_then, is_some, Ok, codes, refl, sym, ap, ◌∙◌, true≢false, inl, inr}
 use Rattle.std.specs.Prelude.{IfSome, ◌⊎◌}
 use Rattle.std.specs.Str.{bytes_eq, str_to_ascii_lowercase}
 use Rattle.std.proofs.lemmas.Slice.Eq.{bytes_eq-Decides}
 use Rattle.serde_json.specs.Data.{Data, null, boolean, number, string, array, object, Members}
 use Rattle.serde_json.specs.Find.{get_member, as_object}
-use Rattle.sso_base.proofs.Refusals.{and_then_ok, demand_ok, forbid_ok, holds_as}
+use Rattle.sso_base.proofs.Refusals.{and_then_ok, and_then_as_ok, demand_ok, forbid_ok, holds_as}
 use Rattle.sso_base.proofs.Decided.{not_not}
 use Rattle.claim_set.specs.Kinds.{data_texts, text_claim, number_claim, texts_claim}
 use Rattle.claim_set.specs.Building.{number_value}
@@ -14,8 +14,8 @@ use Rattle.claim_set.proofs.KindLaws.{text_read, number_read, text_there, number
 use Rattle.logout_token.specs.declared.claims.LogoutClaims.{LogoutClaims}
 use Rattle.logout_token.specs.declared.claims.RawLogout.{RawLogout}
 use Rattle.logout_token.specs.declared.no.LogoutNo.{LogoutNo}
-use Rattle.logout_token.specs.declared.no.LogoutNo.TheVariants.{Missing}
-use Rattle.logout_token.specs.LogoutToken.{event_name, raw_in, typ_fits, has_event, whole, if_raw, logout_of}
+use Rattle.logout_token.specs.declared.no.LogoutNo.TheVariants.{Claims, Missing}
+use Rattle.logout_token.specs.LogoutToken.{event_name, raw_in, typ_fits, has_event, whole, logout_of}
 use Rattle.logout_token.specs.Token.{HasEvent, HasLogoutClaims, IsLogoutTyp}
 
 -- ---- the kind of token, and the logout event
@@ -166,12 +166,9 @@ whole_stands ms r x raw h =
       exp_fits = holds_of r.exp (λ n. n < 2 ^ 40) exp.0 exp.1 raw.exp.1;
     })
 
-logout_stands : (typ : Option (List ℕ)) (ms : Members) (x : LogoutClaims) (r : Result RawLogout ClaimNo) → raw_in ms ≡ r → if_raw typ ms r ≡ Ok x → IsLogoutTyp typ × HasLogoutClaims ms x
-logout_stands typ ms x (Ok r) is h =
-    let kind = forbid_ok _ (not (typ_fits typ)) (whole r ms) x h in
-    (IsLogoutTyp-fits typ (not_not (typ_fits typ) kind.0), whole_stands ms r x (raw_stands ms r is) kind.1)
-logout_stands typ ms x (Err e) is h = absurd (cc)
-
 pub has-logout_of : (typ : Option (List ℕ)) (ms : Members) (x : LogoutClaims) → logout_of typ ms ≡ Ok x → IsLogoutTyp typ × HasLogoutClaims ms x
 unfolding logout_of
-has-logout_of typ ms x h = logout_stands typ ms x (raw_in ms) refl h
+has-logout_of typ ms x h =
+    let raw = and_then_as_ok Claims (raw_in ms) _ x h in
+    let kind = forbid_ok _ (not (typ_fits typ)) (whole raw.0 ms) x raw.2 in
+    (IsLogoutTyp-fits typ (not_not (typ_fits typ) kind.0), whole_stands ms raw.0 x (raw_stands ms raw.0 raw.1) kind.1)

@@ -2,7 +2,7 @@
 use Rattle.std.proofs.Common.{◌≡◌, ◌↔◌, ℕ, List, [], ◌∷◌, Bool, true, false, Option, Result, Ok, Err, refl, sym, ap, ◌∙◌, true≢false}
 use Rattle.std.specs.List.{AllByRecursion}
 use Rattle.serde_json.specs.Data.{Members}
-use Rattle.sso_base.specs.Refusals.{first_refusal}
+use Rattle.sso_base.specs.Refusals.{first_refusal, and_then_as}
 use Rattle.claim_set.specs.declared.no.ClaimNo.{ClaimNo}
 use Rattle.claim_set.specs.Reading.{claims_read}
 use Rattle.claim_set.proofs.KindLaws.{refused_of}
@@ -12,8 +12,8 @@ use Rattle.jws_compact.specs.Jws.{Opens, opened, verdict}
 use Rattle.jws_compact.proofs.Opening.{sealed_verdict, verdict_sealed}
 use Rattle.logout_token.specs.declared.claims.LogoutClaims.{LogoutClaims}
 use Rattle.logout_token.specs.declared.no.LogoutNo.{LogoutNo}
-use Rattle.logout_token.specs.declared.no.LogoutNo.TheVariants.{Jws}
-use Rattle.logout_token.specs.LogoutToken.{if_claims, if_opened, logout_read}
+use Rattle.logout_token.specs.declared.no.LogoutNo.TheVariants.{Jws, Claims}
+use Rattle.logout_token.specs.LogoutToken.{logout_of, logout_read}
 use Rattle.logout_token.specs.Token.{logout_refusals}
 use Rattle.logout_token.proofs.Refused.{refusals_of}
 use Rattle.logout_token.proofs.Tokens.{IsLogoutToken-read, logout_read-unopened}
@@ -31,7 +31,7 @@ not_among ((true, n) ∷ cs) e all h =
     true≢false (sym (ap is_unsealed same) ∙ all.0)
 not_among ((false, n) ∷ cs) e all h = not_among cs e all.1 h
 
-not_of_claims : (typ : Option (List ℕ)) (r : Result Members ClaimNo) (e : JwsNo) → if_claims typ r ≡ Err (Jws e) → ⊥
+not_of_claims : (typ : Option (List ℕ)) (r : Result Members ClaimNo) (e : JwsNo) → and_then_as Claims r (logout_of typ) ≡ Err (Jws e) → ⊥
 not_of_claims typ (Err n) e h = cc
 not_of_claims typ (Ok ms) e h =
     not_among (logout_refusals typ ms) e (refl, (refl, (refl, (refl, (refl, (refl, (refl, (refl, (refl, (refl, (refl, (refl, (refl, (refl, (refl, (refl, tt))))))))))))))))
@@ -39,7 +39,7 @@ not_of_claims typ (Ok ms) e h =
 
 -- ---- the reason is that of the sealed text
 
-by_verdict : (r : Result Unsealed JwsNo) (e : JwsNo) → if_opened r ≡ Err (Jws e) → r ≡ Err e
+by_verdict : (r : Result Unsealed JwsNo) (e : JwsNo) → and_then_as Jws r (λ (u : Unsealed). and_then_as Claims (claims_read u.payload) (logout_of u.typ)) ≡ Err (Jws e) → r ≡ Err e
 by_verdict (Ok u) e h = absurd (not_of_claims u.typ (claims_read u.payload) e h)
 by_verdict (Err f) e h =
     let same : f ≡ e = cc in

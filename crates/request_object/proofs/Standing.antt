@@ -1,9 +1,9 @@
 -- What is read is exactly what stands in the claim set.
-use Rattle.std.proofs.Common.{◌≡◌, ℕ, List, false, ◌||◌, Option, Some, None, option_map, option_and_then, is_some, Result, Ok, Err, codes, refl, ap, ◌∙◌}
+use Rattle.std.proofs.Common.{◌≡◌, ℕ, List, false, ◌||◌, Option, Some, None, option_map, option_and_then, is_some, Ok, codes, refl, ap, ◌∙◌}
 use Rattle.std.specs.Prelude.{IfSome}
 use Rattle.serde_json.specs.Data.{Data, Members, string}
 use Rattle.serde_json.specs.Find.{get_member, as_str}
-use Rattle.sso_base.proofs.Refusals.{and_then_ok, forbid_ok, holds_as}
+use Rattle.sso_base.proofs.Refusals.{and_then_ok, and_then_as_ok, forbid_ok, holds_as}
 use Rattle.sso_base.specs.Texts.{has_text, is_other}
 use Rattle.sso_base.proofs.Decided.{not_not, same, are_same}
 use Rattle.claim_set.specs.Kinds.{of_kind, kind_found, data_texts, text_claim, texts_claim}
@@ -15,7 +15,8 @@ use Rattle.request_object.specs.declared.raw.FirstClaims.{FirstClaims}
 use Rattle.request_object.specs.declared.raw.LastClaims.{LastClaims}
 use Rattle.request_object.specs.declared.raw.RawRequest.{RawRequest}
 use Rattle.request_object.specs.declared.no.ObjNo.{ObjNo}
-use Rattle.request_object.specs.Reading.{digits_in, object_text, age_claim, claims_claim, first_in, last_in, raw_in, lacks, judged, if_raw, request_of}
+use Rattle.request_object.specs.declared.no.ObjNo.TheVariants.{Claims}
+use Rattle.request_object.specs.Reading.{digits_in, object_text, age_claim, claims_claim, first_in, last_in, raw_in, lacks, judged, request_of}
 use Rattle.request_object.specs.Object.{IsFor, HasRequest}
 use Rattle.request_object.proofs.Forms.{no_digits, no_object, read_form, stands_form}
 
@@ -229,10 +230,8 @@ judged_stands client issuer ms r p raw h =
       request_uri = none.1;
     })
 
-request_stands : (client : Client) (issuer : List ℕ) (ms : Members) (p : Params) (r : Result RawRequest ClaimNo) → raw_in ms ≡ r → if_raw client issuer r ≡ Ok p → HasRequest client issuer ms p
-request_stands client issuer ms p (Ok r) is h = judged_stands client issuer ms r p (raw_stands ms r is) h
-request_stands client issuer ms p (Err e) is h = absurd (cc)
-
 pub has-request_of : (client : Client) (issuer : List ℕ) (ms : Members) (p : Params) → request_of client issuer ms ≡ Ok p → HasRequest client issuer ms p
 unfolding request_of
-has-request_of client issuer ms p h = request_stands client issuer ms p (raw_in ms) refl h
+has-request_of client issuer ms p h =
+    let raw = and_then_as_ok Claims (raw_in ms) (judged client issuer) p h in
+    judged_stands client issuer ms raw.0 p (raw_stands ms raw.0 raw.1) raw.2

@@ -1,14 +1,13 @@
 -- The parameters in a request object, or why it is rejected (OpenID Connect Core 1.0, 6.1 and 6.3).
-use Rattle.std.specs.Prelude.{ℕ, List, Bool, true, false, not, ◌||◌, Option, Some, None, option_map, is_some, Result, Ok, Err, codes, decimal}
+use Rattle.std.specs.Prelude.{ℕ, List, Bool, true, false, not, ◌||◌, Option, Some, None, option_map, is_some, Result, Ok, codes, decimal}
 use Rattle.serde_json.specs.Data.{Data, Members}
 use Rattle.serde_json.specs.Find.{get_member, as_str, as_object}
-use Rattle.sso_base.specs.Refusals.{and_then, forbid}
+use Rattle.sso_base.specs.Refusals.{and_then, and_then_as, forbid}
 use Rattle.sso_base.specs.Texts.{has_text, is_other}
 use Rattle.claim_set.specs.Kinds.{of_kind, small_number, text_claim, texts_claim}
 use Rattle.claim_set.specs.Reading.{claims_read, claims_text}
 use Rattle.claim_set.specs.declared.no.ClaimNo.{ClaimNo}
 use Rattle.claim_set.specs.declared.no.ClaimNo.TheVariants as claims
-use Rattle.jws_compact.specs.declared.no.JwsNo.{JwsNo}
 use Rattle.jws_compact.specs.declared.no.JwsNo.TheVariants as jws
 use Rattle.jws_compact.specs.declared.unsealing.Unsealed.{Unsealed}
 use Rattle.jws_compact.specs.Jws.{verdict}
@@ -101,25 +100,14 @@ judged client issuer r =
       registration = r.last.registration;
     }))))
 
-abbrev pub if_raw : Client → List ℕ → Result RawRequest ClaimNo → Result Params ObjNo
-if_raw client issuer (Ok r) = judged client issuer r
-if_raw client issuer (Err e) = Err (Claims e)
-
 -- the parameters in a claim set
 unfoldable pub request_of : Client → List ℕ → Members → Result Params ObjNo
-request_of client issuer ms = if_raw client issuer (raw_in ms)
-
-abbrev pub if_claims : Client → List ℕ → Result Members ClaimNo → Result Params ObjNo
-if_claims client issuer (Ok ms) = request_of client issuer ms
-if_claims client issuer (Err e) = Err (Claims e)
-
-abbrev pub if_opened : Client → List ℕ → Result Unsealed JwsNo → Result Params ObjNo
-if_opened client issuer (Ok o) = if_claims client issuer (claims_read o.payload)
-if_opened client issuer (Err e) = Err (Jws e)
+request_of client issuer ms = and_then_as Claims (raw_in ms) (judged client issuer)
 
 -- the parameters in a text as a request object of the client for the issuer, or the first error that applies
 unfoldable pub request_read : Client → List ℕ → List ℕ → Result Params ObjNo
-request_read client issuer t = if_opened client issuer (verdict client.secret t)
+request_read client issuer t =
+    and_then_as Jws (verdict client.secret t) (λ (o : Unsealed). and_then_as Claims (claims_read o.payload) (request_of client issuer))
 
 -- `NoMemory` is wrapped in another error
 abbrev pub hides_memory : ObjNo → Bool

@@ -1,6 +1,6 @@
 -- What an answer that is no refusal says: no condition holds, and what was looked for was found.
 use Rattle.std.proofs.Common.{◌≡◌, List, [], ◌∷◌, Bool, true, false, Option, Some, None, Result, Ok, Err, refl, subst}
-use Rattle.sso_base.specs.Refusals.{first_refusal, NoneHolds, and_then, demand, forbid}
+use Rattle.sso_base.specs.Refusals.{first_refusal, NoneHolds, and_then, and_then_as, demand, forbid}
 
 pub none_holds : {E : Type 0} (cs : List (Bool × E)) → first_refusal cs ≡ Ok tt → NoneHolds cs
 none_holds [] h = tt
@@ -11,6 +11,10 @@ none_holds ((false, e) ∷ cs) h = (refl, none_holds cs h)
 pub and_then_ok : {A B E : Type 0} (r : Result A E) (f : A → Result B E) (v : B) → and_then r f ≡ Ok v → (a : A) × (r ≡ Ok a) × (f a ≡ Ok v)
 and_then_ok (Ok a) f v h = (a, refl, h)
 and_then_ok (Err e) f v h = absurd (cc)
+
+pub and_then_as_ok : {A B E F : Type 0} (wrap : E → F) (r : Result A E) (f : A → Result B F) (v : B) → and_then_as wrap r f ≡ Ok v → (a : A) × (r ≡ Ok a) × (f a ≡ Ok v)
+and_then_as_ok wrap (Ok a) f v h = (a, refl, h)
+and_then_as_ok wrap (Err e) f v h = absurd (cc)
 
 pub demand_ok : {A B E : Type 0} (e : E) (o : Option A) (f : A → Result B E) (v : B) → demand e o f ≡ Ok v → (a : A) × (o ≡ Some a) × (f a ≡ Ok v)
 demand_ok e None f v h = absurd (cc)

@@ -17,7 +17,7 @@ use Rattle.sso_base.proofs.Utf8Bytes.{IsUtf8-are_ascii}
 use Rattle.sso_base.specs.Values.{AreWords}
 use Rattle.sso_base.specs.Weights.{told_weight, texts_bytes}
 use Rattle.sso_base.specs.Journal.{IsLegalHistoryBy, entry_moment, extended, history_weight}
-use Rattle.sso_base.specs.Refusals.{first_refusal, and_then, demand, forbid}
+use Rattle.sso_base.specs.Refusals.{first_refusal, and_then, and_then_as, demand, forbid}
 use Rattle.sso_base.specs.Rows.{without, put, row_of, rows_by, lives, if_lives, live_rows}
 use Rattle.sso_base.specs.Stands.{is_named, carried, NoneMakes, Stands, KeepsNames, IsDistinct}
 use Rattle.sso_base.specs.Legal.{last_moment, IsEntry, IsLegalBy}
@@ -501,6 +501,15 @@ what_is_found-is_handed_on = refl
 
 a_refusal-stays : and_then (tested 10) (λ _. tested 9) ≡ Err (codes "many")
 a_refusal-stays = refl
+
+abbrev wrapped : ℕ → Result (Unit {0}) (Option (List ℕ))
+wrapped n = and_then_as Some (tested n) (λ _. Err None)
+
+what_is_found-is_passed_on : wrapped 9 ≡ Err None
+what_is_found-is_passed_on = refl
+
+a_refusal-is_wrapped : wrapped 10 ≡ Err (Some (codes "many"))
+a_refusal-is_wrapped = refl
 
 only-the_client : is_only (codes "c") (codes "c" ∷ codes "c" ∷ []) ≡ true
 only-the_client = refl

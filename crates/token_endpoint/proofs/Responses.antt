@@ -6,9 +6,9 @@ use Rattle.json.specs.Print.{quoted}
 use Rattle.serde_json.specs.Data.{Data, string, Members, no_members}
 use Rattle.serde_json.specs.Find.{get_member, as_str}
 use Rattle.sso_base.specs.Words.{Text, Word, word_text}
-use Rattle.sso_base.specs.Refusals.{first_refusal, demand, forbid}
+use Rattle.sso_base.specs.Refusals.{first_refusal, and_then_as, demand, forbid}
 use Rattle.sso_base.specs.declared.message.Answered.{Answered}
-use Rattle.sso_base.proofs.Refusals.{and_then_ok, demand_ok, forbid_ok, one_value, holds_as}
+use Rattle.sso_base.proofs.Refusals.{and_then_ok, and_then_as_ok, demand_ok, forbid_ok, one_value, holds_as}
 use Rattle.sso_base.proofs.Decided.{not_not}
 use Rattle.sso_base.proofs.Statuses.{status_judged, status_refused, status_accepted}
 use Rattle.claim_set.specs.Building.{put_all}
@@ -30,7 +30,7 @@ use Rattle.token_endpoint.specs.Errors.{error_code, error_text}
 use Rattle.oidc_words.specs.Errors as oidc
 use Rattle.oidc_words.specs.TokenTypes.{bearer_word}
 use Rattle.request_params.specs.Scheme.{is_bearer}
-use Rattle.token_endpoint.specs.Answer.{token_entries, tokens_text, raw_in, whole, if_raw, tokens_in, if_claims, tokens_read, HasTokens, is_other_type, token_refusals}
+use Rattle.token_endpoint.specs.Answer.{token_entries, tokens_text, raw_in, whole, tokens_in, tokens_read, HasTokens, is_other_type, token_refusals}
 use Rattle.sso_base.proofs.WordUtf8.{IsUtf8-word_text}
 use Rattle.token_endpoint.proofs.Fitting.{tokens_fit}
 
@@ -39,20 +39,20 @@ tokens_ok t = Ok t
 
 -- ---- the status
 
-claims_judged : (a : Answered) → a.status ≡ 200 → tokens_read a ≡ if_claims (claims_read a.body)
+claims_judged : (a : Answered) → a.status ≡ 200 → tokens_read a ≡ and_then_as Claims (claims_read a.body) tokens_in
 unfolding tokens_read
-claims_judged a h = status_judged (Status a.status) a.status (if_claims (claims_read a.body)) h
+claims_judged a h = status_judged (Status a.status) a.status (and_then_as Claims (claims_read a.body) tokens_in) h
 
 pub other_status : (a : Answered) → a.status ≢ 200 → tokens_read a ≡ Err (Status a.status)
 unfolding tokens_read
-other_status a h = status_refused (Status a.status) a.status (if_claims (claims_read a.body)) h
+other_status a h = status_refused (Status a.status) a.status (and_then_as Claims (claims_read a.body) tokens_in) h
 
-accepted_status : (a : Answered) (t : Tokens) → tokens_read a ≡ Ok t → (a.status ≡ 200) × (if_claims (claims_read a.body) ≡ Ok t)
+accepted_status : (a : Answered) (t : Tokens) → tokens_read a ≡ Ok t → (a.status ≡ 200) × (and_then_as Claims (claims_read a.body) tokens_in ≡ Ok t)
 unfolding tokens_read
-accepted_status a t h = status_accepted (Status a.status) a.status (if_claims (claims_read a.body)) t h
+accepted_status a t h = status_accepted (Status a.status) a.status (and_then_as Claims (claims_read a.body) tokens_in) t h
 
 members_judged : (a : Answered) (ms : Members) → a.status ≡ 200 → Reads a.body ms → tokens_read a ≡ tokens_in ms
-members_judged a ms h r = claims_judged a h ∙ ap if_claims (reads_read a.body ms r)
+members_judged a ms h r = claims_judged a h ∙ ap (λ (r : Result Members ClaimNo). and_then_as Claims r tokens_in) (reads_read a.body ms r)
 
 -- ---- what stands there is read
 
@@ -70,7 +70,7 @@ whole_is t kind b = ap (λ (x : Bool). forbid NotBearer (not x) (tokens_ok t)) (
 
 in_is : (ms : Members) (t : Tokens) (kind : Text) → raw_in ms ≡ Ok (raw_of t.access t.id kind) → str_to_ascii_lowercase kind ≡ codes "bearer" → tokens_in ms ≡ Ok t
 unfolding tokens_in
-in_is ms t kind raw b = ap if_raw raw ∙ whole_is t kind b
+in_is ms t kind raw b = ap (λ (r : Result RawTokens ClaimNo). and_then_as Claims r whole) raw ∙ whole_is t kind b
 
 pub has_read : (a : Answered) (t : Tokens) → HasTokens a t → tokens_read a ≡ Ok t
 has_read a t h =
@@ -123,15 +123,13 @@ whole_stands ms r t stands h =
       bearer = (bytes_eq-Decides (str_to_ascii_lowercase kind.0) (codes "bearer")).0 (not_not (is_bearer kind.0) bearer.0);
     }
 
-raw_at : (ms : Members) (t : Tokens) (r : Result RawTokens ClaimNo) → raw_in ms ≡ r → if_raw r ≡ Ok t → AreIn ms t
-raw_at ms t (Ok r) is h = whole_stands ms r t (raw_stands ms r is) h
-raw_at ms t (Err e) is h = absurd (cc)
-
 in_stands : (ms : Members) (t : Tokens) → tokens_in ms ≡ Ok t → AreIn ms t
 unfolding tokens_in
-in_stands ms t h = raw_at ms t (raw_in ms) refl h
+in_stands ms t h =
+    let raw = and_then_as_ok Claims (raw_in ms) whole t h in
+    whole_stands ms raw.0 t (raw_stands ms raw.0 raw.1) raw.2
 
-claims_at : (a : Answered) (t : Tokens) (r : Result Members ClaimNo) → a.status ≡ 200 → claims_read a.body ≡ r → if_claims r ≡ Ok t → HasTokens a t
+claims_at : (a : Answered) (t : Tokens) (r : Result Members ClaimNo) → a.status ≡ 200 → claims_read a.body ≡ r → and_then_as Claims r tokens_in ≡ Ok t → HasTokens a t
 claims_at a t (Err e) ok is h = absurd (cc)
 claims_at a t (Ok ms) ok is h =
     let stands = in_stands ms t h in
@@ -152,7 +150,7 @@ read_has a t h = let parts = accepted_status a t h in claims_at a t (claims_read
 -- ---- the first reason
 
 pub unread : (a : Answered) (e : ClaimNo) → a.status ≡ 200 → claims_read a.body ≡ Err e → tokens_read a ≡ Err (Claims e)
-unread a e h is = claims_judged a h ∙ ap if_claims is
+unread a e h is = claims_judged a h ∙ ap (λ (r : Result Members ClaimNo). and_then_as Claims r tokens_in) is
 
 type_at : (b : Bool) (t : Tokens) → refused_of (forbid NotBearer b (tokens_ok t)) ≡ first_refusal ((b, NotBearer) ∷ [])
 type_at true t = refl
@@ -172,7 +170,7 @@ after_type ms (Some k) f cs h goes =
 refusals_of : (ms : Members) → refused_of (tokens_in ms) ≡ first_refusal (token_refusals ms)
 unfolding tokens_in raw_in whole
 refusals_of ms =
-    let g : Result RawTokens ClaimNo → Result (Unit {0}) TokensNo = λ r. refused_of (if_raw r) in
+    let g : Result RawTokens ClaimNo → Result (Unit {0}) TokensNo = λ r. refused_of (and_then_as Claims r whole) in
     let left : ℕ → List (Bool × TokensNo) = λ n. drop n (token_refusals ms) in
     let at : Text → Option Data = λ name. get_member name ms in
     after_kind (codes "access_token") as_str (at (codes "access_token")) _ g Claims (left 1) (λ e. refl) (λ access h1.
