@@ -43,9 +43,13 @@ first_repeated pairs = repeated_after [] pairs
 abbrev pub params_in : List Pair → Params
 params_in pairs = params_by (λ name. value_of (name_text name) pairs)
 
+-- what pairs give, unless a name is repeated
+abbrev pub unless_twice : {A E : Type 0} → (Text → E) → Option Text → A → Result A E
+unless_twice twice None given = Ok given
+unless_twice twice (Some name) given = Err (twice name)
+
 abbrev pub unless_repeated : Option Text → Params → Result Params AskNo
-unless_repeated None params = Ok params
-unless_repeated (Some name) params = Err (Twice name)
+unless_repeated repeated params = unless_twice Twice repeated params
 
 abbrev pub pairs_read : List Pair → Result Params AskNo
 pairs_read pairs = unless_repeated (first_repeated pairs) (params_in pairs)
