@@ -1,5 +1,6 @@
 -- What an answer that is no refusal says: no condition holds, and what was looked for was found.
-use Rattle.std.proofs.Common.{◌≡◌, List, [], ◌∷◌, Bool, true, false, Option, Some, None, Result, Ok, Err, refl, subst}
+use Rattle.std.proofs.Common.{◌≡◌, List, [], ◌∷◌, Bool, true, false, Option, Some, None, Result, Ok, Err, refl, sym, ap, ◌∙◌, subst, true≢false}
+use Rattle.std.specs.List.{AllByRecursion}
 use Rattle.sso_base.specs.Refusals.{first_refusal, NoneHolds, and_then, and_then_as, demand, forbid}
 
 pub none_holds : {E : Type 0} (cs : List (Bool × E)) → first_refusal cs ≡ Ok tt → NoneHolds cs
@@ -34,3 +35,12 @@ one_value E a b h = cc
 
 pub holds_as : {A : Type 0} (E : Type 0) (P : A → Type 0) (a b : A) → ok_of E a ≡ ok_of E b → P a → P b
 holds_as E P a b h holds = subst P (one_value E a b h) holds
+
+-- ---- an error that none of the conditions has is not the first
+
+pub none_among : {E : Type 0} (is : E → Bool) (cs : List (Bool × E)) (e : E) → AllByRecursion (λ (c : Bool × E). is c.1 ≡ false) cs → is e ≡ true → first_refusal cs ≡ Err e → ⊥
+none_among is [] e all yes h = cc
+none_among is ((true, n) ∷ cs) e all yes h =
+    let same : n ≡ e = cc in
+    true≢false (sym yes ∙ sym (ap is same) ∙ all.0)
+none_among is ((false, n) ∷ cs) e all yes h = none_among is cs e all.1 yes h
