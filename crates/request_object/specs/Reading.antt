@@ -1,5 +1,6 @@
 -- The parameters in a request object, or why it is rejected (OpenID Connect Core 1.0, 6.1 and 6.3).
 use Rattle.std.specs.Prelude.{ℕ, List, Bool, true, false, not, ◌||◌, Option, Some, None, option_map, is_some, Result, Ok, codes, decimal}
+use Rattle.std.specs.Option.{option_or}
 use Rattle.serde_json.specs.Data.{Data, Members}
 use Rattle.serde_json.specs.Find.{get_member, as_str, as_object}
 use Rattle.sso_base.specs.Refusals.{and_then, and_then_as, forbid}
@@ -28,13 +29,9 @@ digits_in d = option_map decimal (small_number d)
 abbrev pub object_text : Data → Option (List ℕ)
 object_text d = option_map claims_text (as_object d)
 
-abbrev pub either : Option (List ℕ) → Option (List ℕ) → Option (List ℕ)
-either (Some s) o = Some s
-either None o = o
-
 -- a string is its own text; another value may have a text in another form
 abbrev pub text_or : (Data → Option (List ℕ)) → Data → Option (List ℕ)
-text_or other d = either (as_str d) (other d)
+text_or other d = option_or (as_str d) (other d)
 
 -- `max_age`, a string or a number (OpenID Connect Core 1.0, 6.1, has it as a number)
 abbrev pub age_claim : Members → Result (Option (List ℕ)) ClaimNo
