@@ -1,7 +1,7 @@
 -- The document of a printable provider is one of this provider.
 use Rattle.std.proofs.Common.{◌≡◌, Option, Some, None, option_map, Ok, codes, refl}
+use Rattle.std.specs.Option.{option_or}
 use Rattle.serde_json.specs.Data.{Data, string, no_members}
-use Rattle.claim_set.specs.Building.{or_else}
 use Rattle.claim_set.specs.Reading.{Reads, claims_text}
 use Rattle.claim_set.proofs.Building.{get-put_all}
 use Rattle.claim_set.proofs.Written.{claims_read-claims_text}
@@ -20,7 +20,7 @@ use Rattle.discovery_doc.proofs.Documents.{document_read}
 use Rattle.discovery_doc.proofs.Fitting.{ClaimsFit-metadata}
 use Rattle.discovery_doc.proofs.Utf8.{IsUtf8-url}
 
-or_none : (o : Option Data) → or_else o None ≡ o
+or_none : (o : Option Data) → option_or o None ≡ o
 or_none None = refl
 or_none (Some d) = refl
 
