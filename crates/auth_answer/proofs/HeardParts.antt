@@ -3,10 +3,11 @@ use Rattle.std.proofs.Common.{◌≡◌, ◌⊎◌, inl, inr, ⊎_elim, ℕ, Lis
 use Rattle.std.specs.Prelude.{IfSome}
 use Rattle.std.specs.Str.{IsUtf8}
 use Rattle.form_urlencoded.specs.Form.{raw_pairs}
+use Rattle.sso_base.specs.Lists.{Has}
 use Rattle.sso_base.specs.Words.{Text, IsWord, word_of_text}
 use Rattle.sso_base.proofs.WordTexts.{word_of_text-word_text, word_of_text_some}
 use Rattle.request_params.specs.Form.{Pair, form_pairs}
-use Rattle.request_params.specs.Reading.{value_of, first_repeated, Has, StandOnce, RepeatsFirst}
+use Rattle.request_params.specs.Reading.{value_of, first_repeated, StandOnce, RepeatsFirst}
 use Rattle.request_params.proofs.Values.{has_value, value_of_pair}
 use Rattle.request_params.proofs.Repeated.{none_repeated, repeated_none, some_repeated, repeated_first}
 use Rattle.request_params.proofs.Lossy.{pair_read}

@@ -4,6 +4,7 @@ use Rattle.std.specs.List.{AllByRecursion}
 use Rattle.std.specs.Str.{bytes_eq}
 use Rattle.std.proofs.lemmas.List.{take-append-drop}
 use Rattle.std.proofs.Math.Seq.{take-append_seam, drop-append_seam}
+use Rattle.sso_base.specs.Lists.{Has}
 use Rattle.sso_base.specs.Words.{Text}
 use Rattle.sso_base.specs.declared.http.Method.{Method}
 use Rattle.sso_base.specs.declared.http.Method.TheVariants.{Get, Post, Other}
@@ -14,7 +15,7 @@ use Rattle.op_exchange.specs.declared.ask.OpAsk.TheVariants.{NotHere}
 use Rattle.op_request.specs.declared.routes.Endpoint.{Endpoint}
 use Rattle.op_request.specs.Routes.{Route, below, get_routes, post_routes, routes_of, endpoint_of, endpoint_asked}
 use Rattle.op_request.specs.Prepared.{asked_at, prepared}
-use Rattle.op_request.specs.Requests.{IsListed, IsTo}
+use Rattle.op_request.specs.Requests.{IsTo}
 
 -- ---- what follows a prefix
 
@@ -44,12 +45,12 @@ one_endpoint d e h = cc
 same_route : (r : Route) (path : Text) (e : Endpoint) → r.0 ≡ path → r.1 ≡ e → r ≡ (path, e)
 same_route r path e p q = λ i. (p i, q i)
 
-listed_at : (r : Route) (rs : List Route) (path : Text) (e : Endpoint) (b : Bool) → bytes_eq path r.0 ≡ b → (endpoint_of rs path ≡ Some e → IsListed (path, e) rs)
-    → cond b (Some r.1) (endpoint_of rs path) ≡ Some e → IsListed (path, e) (r ∷ rs)
+listed_at : (r : Route) (rs : List Route) (path : Text) (e : Endpoint) (b : Bool) → bytes_eq path r.0 ≡ b → (endpoint_of rs path ≡ Some e → Has rs (path, e))
+    → cond b (Some r.1) (endpoint_of rs path) ≡ Some e → Has (r ∷ rs) (path, e)
 listed_at r rs path e true is later h = inl (same_route r path e (sym (same_text path r.0 is)) (one_endpoint r.1 e h))
 listed_at r rs path e false is later h = inr (later h)
 
-found_listed : (rs : List Route) (path : Text) (e : Endpoint) → endpoint_of rs path ≡ Some e → IsListed (path, e) rs
+found_listed : (rs : List Route) (path : Text) (e : Endpoint) → endpoint_of rs path ≡ Some e → Has rs (path, e)
 found_listed [] path e h = absurd (cc)
 found_listed (r ∷ rs) path e h = listed_at r rs path e (bytes_eq path r.0) refl (found_listed rs path e) h
 
@@ -57,12 +58,12 @@ found_listed (r ∷ rs) path e h = listed_at r rs path e (bytes_eq path r.0) ref
 abbrev AreFirst : List Route → List Route → Type 0
 AreFirst all rs = AllByRecursion (λ (r : Route). endpoint_of all r.0 ≡ Some r.1) rs
 
-listed_found : (all rs : List Route) → AreFirst all rs → (p : Route) → IsListed p rs → endpoint_of all p.0 ≡ Some p.1
+listed_found : (all rs : List Route) → AreFirst all rs → (p : Route) → Has rs p → endpoint_of all p.0 ≡ Some p.1
 listed_found all [] first p h = absurd h
 listed_found all (r ∷ rs) first p (inl is) = subst (λ (q : Route). endpoint_of all q.0 ≡ Some q.1) is first.0
 listed_found all (r ∷ rs) first p (inr later) = listed_found all rs first.1 p later
 
-found : (m : Method) (p : Route) → IsListed p (routes_of m) → endpoint_of (routes_of m) p.0 ≡ Some p.1
+found : (m : Method) (p : Route) → Has (routes_of m) p → endpoint_of (routes_of m) p.0 ≡ Some p.1
 found Get p h = listed_found get_routes get_routes (refl, (refl, (refl, (refl, tt)))) p h
 found Post p h = listed_found post_routes post_routes (refl, (refl, (refl, (refl, (refl, (refl, tt)))))) p h
 found Other p h = absurd h

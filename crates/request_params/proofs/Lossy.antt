@@ -10,12 +10,13 @@ use Rattle.std.proofs.lemmas.Bool.Decides.{nat_tests}
 use Rattle.std.proofs.lemmas.List.{take_all, nil_from_length}
 use Rattle.std.proofs.lemmas.Str.{utf8_valid_len_le, IsUtf8-from_is_utf8, is_utf8-from_IsUtf8, IsUtf8-append, IsUtf8-nil}
 use Rattle.form_urlencoded.specs.Form.{raw_pairs, decode}
+use Rattle.sso_base.specs.Lists.{Has}
 use Rattle.sso_base.specs.Words.{Text}
 use Rattle.request_params.specs.declared.params.Params.{Params}
 use Rattle.request_params.specs.declared.name.ParamName.{ParamName}
 use Rattle.request_params.specs.Names.{name_text, param_of, AreTexts}
 use Rattle.request_params.specs.Form.{Pair, pair_of, form_pairs}
-use Rattle.request_params.specs.Reading.{is_kept, kept_pairs, request_read, Has}
+use Rattle.request_params.specs.Reading.{is_kept, kept_pairs, request_read}
 use Rattle.request_params.proofs.Requests.{read-request}
 
 -- ---- invalid sequences become U+FFFD

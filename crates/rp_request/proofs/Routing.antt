@@ -4,6 +4,7 @@ use Rattle.std.specs.Prelude.{IfSome}
 use Rattle.std.specs.List.{AllByRecursion}
 use Rattle.std.specs.Str.{bytes_eq}
 use Rattle.std.proofs.lemmas.Slice.Eq.{bytes_eq-Decides}
+use Rattle.sso_base.specs.Lists.{Has}
 use Rattle.sso_base.specs.Words.{Text}
 use Rattle.sso_base.specs.declared.http.Method.{Method}
 use Rattle.sso_base.specs.declared.http.Method.TheVariants.{Get, Post, Other}
@@ -24,7 +25,7 @@ use Rattle.rp_request.specs.declared.routes.Endpoint.{Endpoint}
 use Rattle.rp_request.specs.declared.routes.Endpoint.TheVariants as endpoint
 use Rattle.rp_request.specs.Routes.{Route, get_routes, post_routes, routes_of, endpoint_of, endpoint_asked}
 use Rattle.rp_request.specs.Prepared.{callback_asked, wants_page, redirected, asked_at, logout_path, endpoint_at, prepared}
-use Rattle.rp_request.specs.Requests.{IsListed, IsTo, own_endpoint, HasCookies}
+use Rattle.rp_request.specs.Requests.{IsTo, own_endpoint, HasCookies}
 use Rattle.rp_request.proofs.Parties.{HasOtherPath, redirects_elsewhere, IsApart, logs_out_elsewhere}
 use Rattle.request_params.specs.Form.{form_of}
 
@@ -39,12 +40,12 @@ one_endpoint d e h = cc
 same_route : (r : Route) (path : Text) (e : Endpoint) → r.0 ≡ path → r.1 ≡ e → r ≡ (path, e)
 same_route r path e p q = λ i. (p i, q i)
 
-listed_at : (r : Route) (rs : List Route) (path : Text) (e : Endpoint) (b : Bool) → bytes_eq path r.0 ≡ b → (endpoint_of rs path ≡ Some e → IsListed (path, e) rs)
-    → cond b (Some r.1) (endpoint_of rs path) ≡ Some e → IsListed (path, e) (r ∷ rs)
+listed_at : (r : Route) (rs : List Route) (path : Text) (e : Endpoint) (b : Bool) → bytes_eq path r.0 ≡ b → (endpoint_of rs path ≡ Some e → Has rs (path, e))
+    → cond b (Some r.1) (endpoint_of rs path) ≡ Some e → Has (r ∷ rs) (path, e)
 listed_at r rs path e true is later h = inl (same_route r path e (sym ((bytes_eq-Decides path r.0).0 is)) (one_endpoint r.1 e h))
 listed_at r rs path e false is later h = inr (later h)
 
-found_listed : (rs : List Route) (path : Text) (e : Endpoint) → endpoint_of rs path ≡ Some e → IsListed (path, e) rs
+found_listed : (rs : List Route) (path : Text) (e : Endpoint) → endpoint_of rs path ≡ Some e → Has rs (path, e)
 found_listed [] path e h = absurd (cc)
 found_listed (r ∷ rs) path e h = listed_at r rs path e (bytes_eq path r.0) refl (found_listed rs path e) h
 
@@ -58,7 +59,7 @@ first_found : (b : Bool) (d : Endpoint) (o : Option Endpoint) → b ≡ true →
 first_found true d o is = λ h. cc
 first_found false d o is = absurd (cc)
 
-listed_some : (rs : List Route) (p : Route) → IsListed p rs → ¬ (endpoint_of rs p.0 ≡ None)
+listed_some : (rs : List Route) (p : Route) → Has rs p → ¬ (endpoint_of rs p.0 ≡ None)
 listed_some [] p h = absurd h
 listed_some (r ∷ rs) p (inl is) =
     first_found (bytes_eq p.0 r.0) r.1 (endpoint_of rs p.0) (ap (λ (q : Route). bytes_eq p.0 q.0) is ∙ text_same p.0)
@@ -68,7 +69,7 @@ listed_some (r ∷ rs) p (inr later) = cond_found (bytes_eq p.0 r.0) r.1 (endpoi
 abbrev AreFirst : List Route → List Route → Type 0
 AreFirst all rs = AllByRecursion (λ (r : Route). endpoint_of all r.0 ≡ Some r.1) rs
 
-listed_found : (all rs : List Route) → AreFirst all rs → (p : Route) → IsListed p rs → endpoint_of all p.0 ≡ Some p.1
+listed_found : (all rs : List Route) → AreFirst all rs → (p : Route) → Has rs p → endpoint_of all p.0 ≡ Some p.1
 listed_found all [] first p h = absurd h
 listed_found all (r ∷ rs) first p (inl is) = subst (λ (q : Route). endpoint_of all q.0 ≡ Some q.1) is first.0
 listed_found all (r ∷ rs) first p (inr later) = listed_found all rs first.1 p later
@@ -85,7 +86,7 @@ posted_first party None other apart = (rw (text_same party.redirect_url.path) re
 posted_first party (Some path) other apart =
     (rw (text_same party.redirect_url.path) refl, (rw (leave_apart party other) refl, (rw (apart.redirect, apart.leave, text_same path) refl, tt)))
 
-found : (m : Method) (party : Party) (logout : Option Text) → HasOtherPath party → IfSome logout (IsApart party) → (p : Route) → IsListed p (routes_of m party.redirect_url.path logout)
+found : (m : Method) (party : Party) (logout : Option Text) → HasOtherPath party → IfSome logout (IsApart party) → (p : Route) → Has (routes_of m party.redirect_url.path logout) p
     → endpoint_of (routes_of m party.redirect_url.path logout) p.0 ≡ Some p.1
 found Get party logout other apart p h = listed_found (get_routes party.redirect_url.path) (get_routes party.redirect_url.path) (got_first party other) p h
 found Post party logout other apart p h = listed_found (post_routes party.redirect_url.path logout) (post_routes party.redirect_url.path logout) (posted_first party logout other apart) p h

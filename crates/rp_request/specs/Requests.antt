@@ -1,5 +1,6 @@
 -- Requests to a relying party and their values, stated literally.
-use Rattle.std.specs.Prelude.{◌≡◌, ◌⊎◌, ℕ, List, [], ◌∷◌, ◌++◌, IsFalse, Option, Some, None, Result, Ok, Err}
+use Rattle.std.specs.Prelude.{◌≡◌, ℕ, List, ◌∷◌, ◌++◌, IsFalse, Option, Some, None, Result, Ok, Err}
+use Rattle.sso_base.specs.Lists.{Has}
 use Rattle.sso_base.specs.Words.{Text}
 use Rattle.sso_base.specs.declared.http.Ask.{Ask}
 use Rattle.client_registry.specs.declared.records.Party.{Party}
@@ -17,21 +18,17 @@ use Rattle.rp_exchange.specs.declared.ask.RpAsk.{RpAsk}
 use Rattle.rp_exchange.specs.declared.ask.RpAsk.TheVariants as ask
 use Rattle.rp_request.specs.declared.routes.Endpoint.{Endpoint}
 use Rattle.rp_request.specs.declared.routes.Endpoint.TheVariants as endpoint
-use Rattle.rp_request.specs.Routes.{Route, routes_of}
+use Rattle.rp_request.specs.Routes.{routes_of}
 use Rattle.rp_request.specs.Prepared.{logout_path}
 
 -- ---- endpoints
-
-abbrev pub IsListed : Route → List Route → Type 0
-IsListed route [] = ⊥
-IsListed route (first ∷ routes) = (first ≡ route) ⊎ IsListed route routes
 
 -- the request is to this endpoint of the party with this number: its path is listed for its method, or is that of the party's
 -- redirect URI or of its client's logout URI
 pub record IsTo (c : Configuration) (n : ℕ) (request : Ask) (e : Endpoint) : Type 0 where
   pub party : Party
   pub there : party_at c n ≡ Some party
-  pub listed : IsListed (request.path, e) (routes_of request.method party.redirect_url.path (logout_path c party))
+  pub listed : Has (routes_of request.method party.redirect_url.path (logout_path c party)) (request.path, e)
 
 -- the endpoint to which a value belongs
 abbrev pub own_endpoint : RpAsk → Option Endpoint

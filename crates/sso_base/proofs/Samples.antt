@@ -1,5 +1,5 @@
 -- The definitions computed on small cases: what each accepts, and what it refuses.
-use Rattle.std.proofs.Common.{◌≡◌, ◌==◌, nat_lt, Result, ℕ, codes, replicate, ◌++◌, ◌-◌, ◌^◌, ◌<◌, ◌≤◌, true, false, List, [], ◌∷◌, length, take, Option, Some, None, Ok, Err, refl, ap, ◌∙◌, subst, suc, zero, arith, if◌then◌else◌}
+use Rattle.std.proofs.Common.{◌≡◌, ◌==◌, nat_lt, Result, ℕ, codes, replicate, ◌++◌, ◌-◌, ◌^◌, ◌<◌, ◌≤◌, true, false, List, [], ◌∷◌, length, take, Option, Some, None, Ok, Err, refl, inl, inr, ap, ◌∙◌, subst, suc, zero, arith, if◌then◌else◌}
 use Rattle.std.specs.Str.{bytes_eq}
 use Rattle.sso_base.specs.declared.history.Entry.{Entry}
 use Rattle.sso_base.specs.declared.history.Pair.{Pair}
@@ -11,6 +11,7 @@ use Rattle.sso_base.specs.Faults.{Rose, HasCause}
 use Rattle.sso_base.specs.Outside.{Content, Takes, TakesFront, content_of, Fetches}
 use Rattle.sso_base.specs.RequestLine.{method_of, is_question}
 use Rattle.sso_base.specs.declared.http.Method.TheVariants.{Post, Other}
+use Rattle.sso_base.specs.Lists.{Has}
 use Rattle.sso_base.specs.Texts.{is_ascii, has_text, is_given, is_other, is_only}
 use Rattle.sso_base.specs.TextBuffer.{buffer_of, texts_in, IsBuffer}
 use Rattle.sso_base.proofs.Utf8Bytes.{IsUtf8-are_ascii}
@@ -467,6 +468,15 @@ is_question-begins_the_query = refl
 
 is_question-not_another_mark : is_question 38 ≡ false
 is_question-not_another_mark = refl
+
+-- ---- membership in a list
+
+has-the_second : Has (1 ∷ 2 ∷ []) 2
+has-the_second = inr (inl refl)
+
+has-not_another : Has (1 ∷ []) 2 → ⊥
+has-not_another (inl is) = omega (arith, is)
+has-not_another (inr later) = later
 
 -- ---- texts in one buffer
 

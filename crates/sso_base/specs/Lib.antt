@@ -13,3 +13,4 @@ pub mod RequestLine
 pub mod Rows
 pub mod Stands
 pub mod Words
+pub mod Lists

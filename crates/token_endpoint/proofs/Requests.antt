@@ -2,6 +2,7 @@
 use Rattle.std.proofs.Common.{◌≡◌, ℕ, List, [], codes, Option, Some, None, is_none, unwrap_or, Result, Ok, slice_get, refl, sym, ap, ◌∙◌, subst}
 use Rattle.std.specs.Str.{IsUtf8}
 use Rattle.form_urlencoded.specs.Form.{raw_pairs}
+use Rattle.sso_base.specs.Lists.{Has}
 use Rattle.sso_base.specs.Words.{Text}
 use Rattle.sso_base.specs.Refusals.{first_refusal, NoneHolds, and_then}
 use Rattle.sso_base.specs.Texts.{is_other}
@@ -9,7 +10,7 @@ use Rattle.sso_base.proofs.Refusals.{none_holds, and_then_ok, one_value}
 use Rattle.client_registry.specs.declared.records.Client.{Client}
 use Rattle.client_registry.specs.Configuration.{Configuration}
 use Rattle.request_params.specs.Form.{Pair, form_pairs}
-use Rattle.request_params.specs.Reading.{value_of, Has}
+use Rattle.request_params.specs.Reading.{value_of}
 use Rattle.request_params.proofs.Values.{has_value, value_of_pair}
 use Rattle.request_params.proofs.Lossy.{pair_read}
 use Rattle.token_endpoint.specs.declared.granting.Grant.{Grant}
