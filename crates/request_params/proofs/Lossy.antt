@@ -116,13 +116,13 @@ has_cond : (b : Bool) (q p : Pair) (xs : List Pair) → Has (cond b (q ∷ xs) x
 has_cond true q p xs h = h
 has_cond false q p xs h = inr h
 
-pub has_kept : (xs : List Pair) (p : Pair) → Has (filter is_kept xs) p → Has xs p
-has_kept [] p h = absurd h
-has_kept (q ∷ xs) p h = ⊎_elim (λ is. inl is) (λ later. inr (has_kept xs p later)) (has_cond (is_kept q) q p (filter is_kept xs) h)
+pub has_filtered : (test : Pair → Bool) (xs : List Pair) (p : Pair) → Has (filter test xs) p → Has xs p
+has_filtered test [] p h = absurd h
+has_filtered test (q ∷ xs) p h = ⊎_elim (λ is. inl is) (λ later. inr (has_filtered test xs p later)) (has_cond (test q) q p (filter test xs) h)
 
 kept_texts : (form : List ℕ) (p : Pair) → Has (kept_pairs form) p → IsTextPair p
 unfolding form_pairs
-kept_texts form p h = pair_read (raw_pairs form) p (has_kept (form_pairs form) p h)
+kept_texts form p h = pair_read (raw_pairs form) p (has_filtered is_kept (form_pairs form) p h)
 
 text_at : (form : List ℕ) (name : ParamName) (o : Option Text) → ((v : Text) → o ≡ Some v → Has (kept_pairs form) (name_text name, v)) → IfSome o IsUtf8
 text_at form name None stands = tt
