@@ -1,15 +1,16 @@
 -- What is read is what stands in the form, and what is refused repeats a name.
-use Rattle.std.proofs.Common.{◌≡◌, ◌⊎◌, inl, inr, ⊎_elim, ℕ, List, [], ◌∷◌, Bool, true, false, cond, filter, codes, Option, Some, None, option_map, option_and_then, Ok, Err, refl, sym, ◌∙◌, ap, subst}
+use Rattle.std.proofs.Common.{◌≡◌, ℕ, List, [], codes, Option, Some, None, option_map, option_and_then, Ok, Err, refl, sym, ◌∙◌, ap, subst}
 use Rattle.std.specs.Prelude.{IfSome}
 use Rattle.std.specs.Str.{IsUtf8}
 use Rattle.form_urlencoded.specs.Form.{raw_pairs}
+use Rattle.sso_base.specs.Lists.{Has}
 use Rattle.sso_base.specs.Words.{Text, IsWord, word_of_text}
 use Rattle.sso_base.proofs.WordTexts.{word_of_text-word_text, word_of_text_some}
 use Rattle.request_params.specs.Form.{Pair, form_pairs}
-use Rattle.request_params.specs.Reading.{value_of, first_repeated, Has, StandOnce, RepeatsFirst}
+use Rattle.request_params.specs.Reading.{value_of, first_repeated, StandOnce, RepeatsFirst}
 use Rattle.request_params.proofs.Values.{has_value, value_of_pair}
-use Rattle.request_params.proofs.Repeated.{none_repeated, repeated_none, some_repeated, repeated_first}
-use Rattle.request_params.proofs.Lossy.{pair_read}
+use Rattle.request_params.proofs.Repeated.{none_repeated, repeated_none, some_repeated, repeated_first, given_once, given_twice}
+use Rattle.request_params.proofs.Lossy.{pair_read, has_filtered}
 use Rattle.request_params.proofs.Forms.{IsTextPair}
 use Rattle.oidc_words.specs.declared.errors.AuthError.{AuthError}
 use Rattle.auth_answer.specs.declared.heard.Heard.{Heard}
@@ -83,19 +84,11 @@ text_map (Some t) = refl
 
 -- ---- the whole form
 
-read_at : (o : Option Text) (p q : Heard) → unless_repeated o p ≡ Ok q → (o ≡ None) × (q ≡ p)
-read_at None p q h = (refl, cc)
-read_at (Some t) p q h = absurd (cc)
-
-refused_at : (o : Option Text) (p : Heard) (e : AnswerNo) → unless_repeated o p ≡ Err e → (t : Text) × (o ≡ Some t) × (e ≡ no.Twice t)
-refused_at None p e h = absurd (cc)
-refused_at (Some t) p e h = (t, refl, cc)
-
 pub read-answer : (form : List ℕ) (heard : Heard) → answer_read form ≡ Ok heard → HasAnswer form heard
 unfolding answer_read
 read-answer form heard h =
     let pairs = heard_pairs form in
-    let at = read_at (first_repeated pairs) (heard_in pairs) heard h in
+    let at = given_once no.Twice (first_repeated pairs) (heard_in pairs) heard h in
     let once : StandOnce pairs = none_repeated [] pairs tt at.0 in
     record {
       once = once;
@@ -132,7 +125,7 @@ refused-repeats : (form : List ℕ) (e : AnswerNo) → answer_read form ≡ Err 
 unfolding answer_read
 refused-repeats form e h =
     let pairs = heard_pairs form in
-    let at = refused_at (first_repeated pairs) (heard_in pairs) e h in
+    let at = given_twice no.Twice (first_repeated pairs) (heard_in pairs) e h in
     (at.0, at.2, some_repeated [] pairs at.0 tt at.1)
 
 pub repeats-refused : (form : List ℕ) (name : Text) → RepeatsFirst (heard_pairs form) name → answer_read form ≡ Err (no.Twice name)
@@ -149,14 +142,6 @@ refused_answer form (no.Twice name) r = repeats-refused form name r
 refused_answer form no.NoMemory r = absurd r
 
 -- ---- values
-
-has_cond : (b : Bool) (q p : Pair) (xs : List Pair) → Has (cond b (q ∷ xs) xs) p → (q ≡ p) ⊎ Has xs p
-has_cond true q p xs h = h
-has_cond false q p xs h = inr h
-
-has_filtered : (test : Pair → Bool) (xs : List Pair) (p : Pair) → Has (filter test xs) p → Has xs p
-has_filtered test [] p h = absurd h
-has_filtered test (q ∷ xs) p h = ⊎_elim (λ is. inl is) (λ later. inr (has_filtered test xs p later)) (has_cond (test q) q p (filter test xs) h)
 
 heard_texts : (form : List ℕ) (p : Pair) → Has (heard_pairs form) p → IsTextPair p
 unfolding form_pairs

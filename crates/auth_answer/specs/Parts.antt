@@ -1,10 +1,10 @@
 -- The parameters of a response as texts, added from the pairs of a form one after another.
-use Rattle.std.specs.Prelude.{List, [], ◌∷◌, codes, find, Option, Some, None, is_some, option_map, option_and_then, Result, Ok, Err, if◌then◌else◌}
+use Rattle.std.specs.Prelude.{List, [], ◌∷◌, codes, find, Option, None, option_map, option_and_then, Result, if◌then◌else◌}
 use Rattle.std.specs.Str.{bytes_eq}
 use Rattle.sso_base.specs.Words.{Text, word_of_text}
-use Rattle.sso_base.specs.Refusals.{and_then}
 use Rattle.request_params.specs.Form.{Pair}
 use Rattle.request_params.specs.Reading.{value_of}
+use Rattle.request_params.specs.OnePair.{with_first, with_each}
 use Rattle.auth_answer.specs.declared.parts.PartName.{PartName}
 use Rattle.auth_answer.specs.declared.parts.PartName.TheVariants.{State, Error, Code, AccessToken, IdToken}
 use Rattle.auth_answer.specs.declared.parts.Parts.{Parts}
@@ -65,14 +65,8 @@ heard_of_parts parts =
 
 -- ---- one more pair, and several
 
-abbrev pub if_absent : Option PartName → Parts → Pair → Result Parts AnswerNo
-if_absent None parts pair = Ok parts
-if_absent (Some name) parts pair =
-    if is_some (part_of name parts) then Err (Twice pair.0) else Ok (with_part name (Some pair.1) parts)
-
 abbrev pub with_pair : Parts → Pair → Result Parts AnswerNo
-with_pair parts pair = if_absent (part_name_of pair.0) parts pair
+with_pair parts pair = with_first part_of with_part Twice (part_name_of pair.0) parts pair
 
 abbrev pub with_pairs : Parts → List Pair → Result Parts AnswerNo
-with_pairs parts [] = Ok parts
-with_pairs parts (pair ∷ pairs) = and_then (with_pair parts pair) (λ more. with_pairs more pairs)
+with_pairs parts pairs = with_each with_pair parts pairs

@@ -1,13 +1,14 @@
 -- Reading an authorization response: its parts are the pairs of a form (OpenID Connect Core 1.0, 3.1.2.5, 3.1.2.6, 3.2.2.5 and
 -- 3.3.2.5; RFC 6749, 4.1.2, 4.1.2.1, 4.2.2 and 4.2.2.1). Pairs with other names are ignored, and no name may occur twice. A
 -- part with an empty value is present.
-use Rattle.std.specs.Prelude.{◌≡◌, ℕ, Bool, List, codes, filter, Option, Some, None, option_map, option_and_then, Result, Ok, Err, IfSome}
+use Rattle.std.specs.Prelude.{◌≡◌, ℕ, Bool, List, codes, filter, Option, Some, option_map, option_and_then, Result, IfSome}
 use Rattle.std.specs.Str.{IsUtf8}
+use Rattle.sso_base.specs.Lists.{Has}
 use Rattle.sso_base.specs.Words.{Word, Text, IsWord, word_text, word_of_text}
 use Rattle.sso_base.specs.Texts.{has_text}
 use Rattle.configuration_rows.specs.Version1.{answer_names}
 use Rattle.request_params.specs.Form.{Pair, form_pairs}
-use Rattle.request_params.specs.Reading.{value_of, first_repeated, Has, StandOnce, RepeatsFirst}
+use Rattle.request_params.specs.Reading.{value_of, first_repeated, unless_twice, StandOnce, RepeatsFirst}
 use Rattle.auth_answer.specs.declared.heard.Heard.{Heard}
 use Rattle.auth_answer.specs.declared.no.AnswerNo.{AnswerNo}
 use Rattle.auth_answer.specs.declared.no.AnswerNo.TheVariants.{Twice, NoMemory}
@@ -33,8 +34,7 @@ heard_in pairs =
     }
 
 abbrev pub unless_repeated : Option Text → Heard → Result Heard AnswerNo
-unless_repeated None heard = Ok heard
-unless_repeated (Some name) heard = Err (Twice name)
+unless_repeated repeated heard = unless_twice Twice repeated heard
 
 abbrev pub pairs_read : List Pair → Result Heard AnswerNo
 pairs_read pairs = unless_repeated (first_repeated pairs) (heard_in pairs)

@@ -2,11 +2,12 @@
 
 ghost use Rattle.std.specs.Prelude.{◌≡◌, ◌&&◌, Some, option_map, refl};
 ghost use Rattle.std.proofs.lemmas.Bool.{and_parts};
+ghost use Rattle.sso_base.specs.Texts.{is_given};
 ghost use Rattle.sso_base.proofs.RowLaws.{bytes_same};
 ghost use Rattle.held_rows.proofs.FoundBy.{found_by};
 ghost use Rattle.held_rows.specs.Held.{AnyRow, one_of};
 ghost use Rattle.held_rows.specs.declared.row.By.TheVariants.{Group, OtherGroup};
-ghost use Rattle.base_cases.specs.Groups.{is_text, fits_text};
+ghost use Rattle.base_cases.specs.Groups.{fits_text};
 
 use held_rows::{By, Change, Row, Test};
 use sso_base::{Moment, Text, bytes_if};
@@ -71,7 +72,7 @@ impl Change<Member> for Numbered {
 
 // Whether there is a text, and it is this one.
 fn is(held: &Option<Text>, text: &str) -> bool
-    ensures { result ≡ is_text text.now held.now }
+    ensures { result ≡ is_given text.now held.now }
 {
     match held {
         Some(held) => held.equals(text),
@@ -96,7 +97,7 @@ pub struct InGroup<'a> {
 }
 
 impl Test<Member> for InGroup<'_> {
-    ghost passes = { λ t row. is_text t.group.now row.group };
+    ghost passes = { λ t row. is_given t.group.now row.group };
 
     ghost by = { λ t. Group };
 
@@ -114,7 +115,7 @@ impl Test<Member> for InGroup<'_> {
         self.group.as_bytes()
     }
 
-    ghost are_found = { λ t row passes. found_by t.group.now (is_text t.group.now) refl (λ held same. bytes_same held t.group.now same) row.group passes };
+    ghost are_found = { λ t row passes. found_by t.group.now (is_given t.group.now) refl (λ held same. bytes_same held t.group.now same) row.group passes };
 }
 
 /// The members of another group. If a group is given, they must also be in that.
@@ -125,7 +126,7 @@ pub struct InOther<'a> {
 }
 
 impl Test<Member> for InOther<'_> {
-    ghost passes = { λ t row. fits_text (option_map (λ g. g.now) t.group) row.group && is_text t.other.now row.other };
+    ghost passes = { λ t row. fits_text (option_map (λ g. g.now) t.group) row.group && is_given t.other.now row.other };
 
     ghost by = { λ t. OtherGroup };
 
@@ -143,5 +144,5 @@ impl Test<Member> for InOther<'_> {
         self.other.as_bytes()
     }
 
-    ghost are_found = { λ t row passes. found_by t.other.now (is_text t.other.now) refl (λ held same. bytes_same held t.other.now same) row.other (and_parts (fits_text (option_map (λ g. g.now) t.group) row.group) (is_text t.other.now row.other) passes).1 };
+    ghost are_found = { λ t row passes. found_by t.other.now (is_given t.other.now) refl (λ held same. bytes_same held t.other.now same) row.other (and_parts (fits_text (option_map (λ g. g.now) t.group) row.group) (is_given t.other.now row.other) passes).1 };
 }

@@ -5,11 +5,12 @@ use Rattle.std.specs.Cmp.Lexicographic.{slice_cmp}
 use Rattle.std.specs.Str.{bytes_eq}
 use Rattle.std.proofs.lemmas.Map.Text.{is_eq-slice_cmp}
 use Rattle.std.proofs.lemmas.Slice.Eq.{bytes_eq-Decides}
+use Rattle.std.specs.Option.{option_or}
 use Rattle.serde_json.specs.Data.{Data, Members, no_members, member, put}
 use Rattle.serde_json.specs.Find.{get_member}
 use Rattle.serde_json.proofs.Views.{get_member-put, get_member-put_other}
 use Rattle.claim_set.specs.Claims.{without}
-use Rattle.claim_set.specs.Building.{Entry, put_if, put_all, without_all, HasNone, or_else, found, names, is_apart, is_distinct}
+use Rattle.claim_set.specs.Building.{Entry, put_if, put_all, without_all, HasNone, found, names, is_apart, is_distinct}
 
 both_true : (a b : Bool) → (a && b) ≡ true → (a ≡ true) × (b ≡ true)
 both_true true true e = (refl, refl)
@@ -29,7 +30,7 @@ same_either : (t : Bool) (o : Option Data) → o ≡ cond t o o
 same_either true o = refl
 same_either false o = refl
 
-pub get-put_if : (q k : List ℕ) (o : Option Data) (ms : Members) → get_member q (put_if k o ms) ≡ cond (bytes_eq q k) (or_else o (get_member q ms)) (get_member q ms)
+pub get-put_if : (q k : List ℕ) (o : Option Data) (ms : Members) → get_member q (put_if k o ms) ≡ cond (bytes_eq q k) (option_or o (get_member q ms)) (get_member q ms)
 get-put_if q k None ms = same_either (bytes_eq q k) (get_member q ms)
 get-put_if q k (Some d) ms = at_name q k d ms (bytes_eq q k) refl
 

@@ -2,10 +2,11 @@
 use Rattle.std.proofs.Common.{◌≡◌, ◌<◌, ◌^◌, ℕ, List, ◌∷◌, Bool, true, false, nat_lt, cond, Option, Some, None, option_map, option_and_then, is_some, is_none, Result, Ok, Err, IsOk, refl, ap, ◌∙◌, arith}
 use Rattle.std.specs.Prelude.{IfSome}
 use Rattle.std.proofs.lemmas.Grind.{common_steps}
+use Rattle.std.specs.Option.{option_or}
 use Rattle.serde_json.specs.Data.{Data, Members, null, boolean, number, string, array, object, unsigned, negative, float}
 use Rattle.serde_json.specs.Find.{as_str, get_member}
 use Rattle.sso_base.specs.Refusals.{first_refusal, and_then, demand}
-use Rattle.claim_set.specs.Building.{number_value, or_else}
+use Rattle.claim_set.specs.Building.{number_value}
 use Rattle.claim_set.specs.Kinds.{of_kind, kind_found, is_wrong, small_number, if_small, text_claim, number_claim}
 use Rattle.claim_set.specs.declared.no.ClaimNo.{ClaimNo}
 use Rattle.claim_set.specs.declared.no.ClaimNo.TheVariants.{WrongKind}
@@ -147,6 +148,6 @@ there o f a q is h = h ∙ ap (option_map f) is
 pub holds_of : {A : Type 0} (o : Option A) (P : A → Type 0) (a : A) → o ≡ Some a → IfSome o P → P a
 holds_of o P a is h = rw (is) at h
 
-pub or_else_none : (o : Option Data) → or_else o None ≡ o
+pub or_else_none : (o : Option Data) → option_or o None ≡ o
 or_else_none None = refl
 or_else_none (Some d) = refl

@@ -1,5 +1,5 @@
 -- The definitions computed on small cases: what each accepts, and what it refuses.
-use Rattle.std.proofs.Common.{◌≡◌, ℕ, [], ◌∷◌, codes, true, false, negsuc, Some, None, Ordering, Less, Greater, Result, Ok, Err, refl, true≢false, sym, ◌∙◌, arith}
+use Rattle.std.proofs.Common.{◌≡◌, ℕ, [], ◌∷◌, codes, true, false, negsuc, Option, Some, None, Ordering, Less, Greater, Result, Ok, Err, refl, true≢false, sym, ◌∙◌, arith}
 use Rattle.std.specs.Ordering.{nat_cmp}
 use Rattle.std.specs.Str.{is_utf8}
 use Rattle.std.proofs.lemmas.Str.{is_utf8-from_IsUtf8}
@@ -9,7 +9,8 @@ use Rattle.serde_json.specs.Data.{Members, no_members, member, Data, null, numbe
 use Rattle.serde_json.specs.Read.{read}
 use Rattle.sso_base.specs.Values.{AreTexts}
 use Rattle.claim_set.specs.declared.no.ClaimNo.{ClaimNo}
-use Rattle.claim_set.specs.declared.no.ClaimNo.TheVariants.{NotJson, NotObject, WrongKind}
+use Rattle.claim_set.specs.declared.no.ClaimNo.TheVariants.{NoMemory, NotJson, NotObject, WrongKind}
+use Rattle.claim_set.specs.Wrapped.{as_claims}
 use Rattle.claim_set.specs.Claims.{claims_depth, without}
 use Rattle.serde_json.specs.Find.{as_str, get_member}
 use Rattle.claim_set.specs.Kinds.{is_wrong, text_claim, number_claim, flag_claim, texts_claim, member_claim}
@@ -247,3 +248,14 @@ no_text = refl
 
 texts-not_of_other_bytes : AreTexts ((255 ∷ []) ∷ []) → ⊥
 texts-not_of_other_bytes h = true≢false (sym (is_utf8-from_IsUtf8 (255 ∷ []) h.0) ∙ no_text)
+
+-- ---- errors of crates above
+
+abbrev outer : ClaimNo → Option ClaimNo
+outer e = as_claims None Some e
+
+as_claims-out_of_memory : outer NoMemory ≡ None
+as_claims-out_of_memory = refl
+
+as_claims-a_cause : outer NotJson ≡ Some NotJson
+as_claims-a_cause = refl

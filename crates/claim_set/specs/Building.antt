@@ -1,5 +1,6 @@
 -- Claim sets that are built by setting names, and their parts.
-use Rattle.std.specs.Prelude.{◌≡◌, ℕ, List, [], ◌∷◌, Bool, true, not, ◌&&◌, Option, Some, None, if◌then◌else◌}
+use Rattle.std.specs.Prelude.{◌≡◌, ℕ, List, [], ◌∷◌, Bool, true, not, ◌&&◌, Option, Some, None, option_map, if◌then◌else◌}
+use Rattle.std.specs.Option.{option_or}
 use Rattle.std.specs.Str.{bytes_eq}
 use Rattle.serde_json.specs.Data.{Data, string, number, unsigned, array, Members, put}
 use Rattle.serde_json.specs.Find.{get_member}
@@ -19,6 +20,10 @@ audience (a ∷ b ∷ rest) = array (text_items (a ∷ b ∷ rest))
 abbrev pub Entry : Type 0
 Entry = List ℕ × Option Data
 
+-- a name, and a text as its value if there is one
+abbrev pub text_entry : List ℕ → Option (List ℕ) → Entry
+text_entry name o = (name, option_map string o)
+
 abbrev pub put_if : List ℕ → Option Data → Members → Members
 put_if k None ms = ms
 put_if k (Some d) ms = put k d ms
@@ -37,14 +42,10 @@ abbrev pub HasNone : List (List ℕ) → Members → Type 0
 HasNone [] ms = Unit {0}
 HasNone (k ∷ ks) ms = (get_member k ms ≡ None) × HasNone ks ms
 
-abbrev pub or_else : Option Data → Option Data → Option Data
-or_else None o = o
-or_else (Some d) o = Some d
-
 -- the value of a name after the entries, if it was o before
 abbrev pub found : List ℕ → List Entry → Option Data → Option Data
 found q [] o = o
-found q (e ∷ es) o = found q es (if bytes_eq q e.0 then or_else e.1 o else o)
+found q (e ∷ es) o = found q es (if bytes_eq q e.0 then option_or e.1 o else o)
 
 abbrev pub names : List Entry → List (List ℕ)
 names [] = []

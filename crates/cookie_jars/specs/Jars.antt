@@ -1,6 +1,6 @@
 -- The jars of browsers: for each role, the cookies that its replies set for the browser.
-use Rattle.std.specs.Prelude.{ℕ, Bool, true, false, ◌==◌, ◌&&◌, List, [], ◌∷◌, Option, Some, None, if◌then◌else◌}
-use Rattle.sso_base.specs.Words.{Word}
+use Rattle.std.specs.Prelude.{ℕ, Bool, true, false, ◌==◌, ◌&&◌, List, [], ◌∷◌, if◌then◌else◌}
+use Rattle.std.specs.Option.{option_or}
 use Rattle.sso_places.specs.declared.types.To.{To}
 use Rattle.sso_places.specs.declared.types.To.TheVariants as to
 use Rattle.sso_places.specs.declared.types.Jar.{Jar}
@@ -9,14 +9,9 @@ use Rattle.sso_places.specs.Cookies.{no_jar, jar_set}
 use Rattle.cookie_jars.specs.declared.jar_note.JarNote.{JarNote}
 use Rattle.cookie_jars.specs.declared.jar_note.JarNote.TheVariants.{Set, Stolen}
 
--- the new cookie, or else the old one
-abbrev pub set_or : Option Word → Option Word → Option Word
-set_or (Some w) was = Some w
-set_or None was = was
-
 -- the cookies of a jar after others were set
 abbrev pub jar_with : Jar → Jar → Jar
-jar_with set jar = record { first = set_or set.first jar.first; second = set_or set.second jar.second }
+jar_with set jar = record { first = option_or set.first jar.first; second = option_or set.second jar.second }
 
 abbrev pub is_role : To → To → Bool
 is_role to.Provider to.Provider = true

@@ -2,6 +2,7 @@
 
 ghost use Rattle.std.specs.Prelude.{◌≡◌, ℕ, ◌<◌, ◌==◌, true, [], ◌∷◌, ◌++◌, length, Some, None, IfOk, OnOk, OnErr, if◌then◌else◌};
 ghost use Rattle.std.specs.Vec.{vec_capacity};
+ghost use Rattle.std.specs.Option.{option_or};
 ghost use Rattle.cookie_jars.specs.Jars as spec;
 ghost use Rattle.cookie_jars.specs.JarMaps.{jar_in, has_jar, jars_at};
 ghost use Rattle.cookie_jars.specs.JarsFound.{HaveSlots, IsBelow};
@@ -37,7 +38,7 @@ impl Model for Jars {
 
 // The new cookie, or else the old one.
 fn set_or(set: &Option<Word>, was: &Option<Word>) -> Option<Word>
-    ensures { result ≡ spec.set_or set.now was.now }
+    ensures { result ≡ option_or set.now was.now }
 {
     match set {
         Some(word) => Some(*word),

@@ -6,7 +6,7 @@ use Rattle.sso_base.specs.Texts.{has_text}
 use Rattle.serde_json.specs.Data.{Members}
 use Rattle.serde_json.specs.Find.{get_member}
 use Rattle.sso_base.specs.Refusals.{first_refusal, and_then}
-use Rattle.sso_base.proofs.Refusals.{none_holds, and_then_ok}
+use Rattle.sso_base.proofs.Refusals.{none_holds, and_then_ok, one_value}
 use Rattle.claim_set.specs.Reading.{Reads, claims_read}
 use Rattle.claim_set.specs.declared.no.ClaimNo.{ClaimNo}
 use Rattle.claim_set.proofs.Parsing.{read_reads, reads_read}
@@ -75,17 +75,11 @@ stands asked ms a f =
       hs256 = not_not (has_text (codes "HS256") (texts_in (codes "id_token_signing_alg_values_supported") ms)) right.1.0;
     }
 
-abbrev provider_ok : Provider → Result Provider DiscNo
-provider_ok p = Ok p
-
-ok_provider : (p q : Provider) → provider_ok p ≡ provider_ok q → p ≡ q
-ok_provider p q h = cc
-
 pub read_stands : (asked : List ℕ) (ms : Members) (p : Provider) → members_read asked ms ≡ Ok p → IsMetadata asked ms p
 read_stands asked ms p h =
     let there = and_then_ok (first_refusal (absences ms)) (λ _. and_then (first_refusal (faults asked ms)) (λ _. Ok (provider_in ms))) p h in
     let right = and_then_ok (first_refusal (faults asked ms)) (λ _. Ok (provider_in ms)) p there.2 in
-    let this : provider_in ms ≡ p = ok_provider (provider_in ms) p right.2 in
+    let this : provider_in ms ≡ p = one_value DiscNo (provider_in ms) p right.2 in
     subst (IsMetadata asked ms) this (stands asked ms there.1 right.1)
 
 -- ---- the bytes

@@ -1,9 +1,9 @@
 -- The document of a printable provider is one of this provider.
-use Rattle.std.proofs.Common.{◌≡◌, Option, Some, None, option_map, Ok, codes, refl}
-use Rattle.serde_json.specs.Data.{Data, string, no_members}
-use Rattle.claim_set.specs.Building.{or_else}
+use Rattle.std.proofs.Common.{◌≡◌, option_map, Ok, codes, refl}
+use Rattle.serde_json.specs.Data.{string, no_members}
 use Rattle.claim_set.specs.Reading.{Reads, claims_text}
 use Rattle.claim_set.proofs.Building.{get-put_all}
+use Rattle.claim_set.proofs.KindLaws.{or_else_none}
 use Rattle.claim_set.proofs.Written.{claims_read-claims_text}
 use Rattle.claim_set.proofs.Parsing.{read_reads}
 use Rattle.client_registry.specs.declared.records.Provider.{Provider}
@@ -20,10 +20,6 @@ use Rattle.discovery_doc.proofs.Documents.{document_read}
 use Rattle.discovery_doc.proofs.Fitting.{ClaimsFit-metadata}
 use Rattle.discovery_doc.proofs.Utf8.{IsUtf8-url}
 
-or_none : (o : Option Data) → or_else o None ≡ o
-or_none None = refl
-or_none (Some d) = refl
-
 stands : (p : Provider) → IsPrintable p → IsMetadata p.issuer (metadata p) p
 unfolding metadata
 stands p h = record {
@@ -33,7 +29,7 @@ stands p h = record {
   authorize_url = h.authorize;
   token = rw (get-put_all (codes "token_endpoint") (metadata_entries p) no_members) refl;
   token_url = h.token;
-  userinfo = rw (get-put_all (codes "userinfo_endpoint") (metadata_entries p) no_members) (or_none (option_map string p.userinfo));
+  userinfo = rw (get-put_all (codes "userinfo_endpoint") (metadata_entries p) no_members) (or_else_none (option_map string p.userinfo));
   userinfo_url = h.userinfo;
   keys = endpoint p.issuer (codes "/jwks");
   jwks_uri = rw (get-put_all (codes "jwks_uri") (metadata_entries p) no_members) refl;

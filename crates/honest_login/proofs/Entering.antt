@@ -1,6 +1,7 @@
 -- Honest logins succeed.
 use Rattle.std.proofs.Common.{◌≡◌, ◌≤◌, ◌||◌, ℕ, Bool, true, false, cond, List, [], ◌∷◌, ◌++◌, length, Option, Some, None, is_some, ◌⊎◌, refl, sym, ap, ◌∙◌, subst, inl, inr, arith, true≢false, eq-eqb}
 use Rattle.std.specs.List.{AllByRecursion, list_any}
+use Rattle.std.specs.Option.{option_or}
 use Rattle.sso_base.specs.Words.{Word, Text, IsWord, fresh_word, word_text}
 use Rattle.claim_set.specs.Reading.{claims_text}
 use Rattle.client_registry.specs.Configuration.{Configuration, subject_at}
@@ -29,7 +30,7 @@ use Rattle.sso_places.specs.Premises.{HasDistinctWords}
 use Rattle.sso_places.specs.Site.{own_site, setup_at}
 use Rattle.sso_places.specs.World.{Place, Party, World, rp_past, reply_at}
 use Rattle.sso_places.proofs.Objects.{may_ask}
-use Rattle.cookie_jars.specs.Jars.{jar_with, set_or}
+use Rattle.cookie_jars.specs.Jars.{jar_with}
 use Rattle.web_requests.specs.declared.sent.Sent.{Sent}
 use Rattle.web_requests.specs.Handing.{handed_back}
 use Rattle.web_requests.proofs.PostedForms.{login_read, consent_read}
@@ -102,7 +103,7 @@ module _ (c : Configuration) (v : Visitor) (r : IsRegistry c) (m : MayLogIn c v)
           past = omega (arith, last_is);
           jar = jar_with (jar_set (Party n b g.request p)) (jar_shown (Party n b g.request p));
           jar_is = jar_is;
-          first = ap (λ o. set_or o (jar_shown (Party n b g.request p)).first) set;
+          first = ap (λ o. option_or o (jar_shown (Party n b g.request p)).first) set;
         };
         replied = told;
         short = omega arith;

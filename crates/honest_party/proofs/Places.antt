@@ -2,6 +2,7 @@
 use Rattle.std.proofs.Common.{◌≡◌, not, ℕ, Bool, true, false, List, Option, Some, None, option_map, Result, Ok, refl, sym, ap, ◌∙◌, subst, ◌⊎◌, inl, inr}
 use Rattle.std.specs.Str.{bytes_eq}
 use Rattle.sso_base.specs.Words.{Word, Text, is_word, fresh_word, word_text}
+use Rattle.sso_base.specs.Texts.{is_other}
 use Rattle.sso_base.specs.declared.history.Entry.{Entry}
 use Rattle.sso_base.proofs.RowLaws.{bytes_true}
 use Rattle.oidc_words.specs.declared.response_types.Types.{Types}
@@ -26,7 +27,7 @@ use Rattle.rp_answer.specs.Setup.{PartySetup, party_of}
 use Rattle.rp_answer.specs.Asked.{if_wanted, claims_read, sub_in}
 use Rattle.rp_answer.specs.Logins.{live_login}
 use Rattle.rp_answer.specs.Pendings.{pending_started, live_pending}
-use Rattle.rp_answer.specs.Replies.{begin, front_access, front_code, part_missing, exchange, info_endpoint, fetched, entered, fetch_or_enter, exchange_or_enter, is_other}
+use Rattle.rp_answer.specs.Replies.{begin, front_access, front_code, part_missing, exchange, info_endpoint, fetched, entered, fetch_or_enter, exchange_or_enter}
 use Rattle.rp_answer.specs.Answering.{rp_reply, rp_answer}
 use Rattle.honest_party.proofs.OwnParty.{IsOwnParty, HasRoom, InTime}
 use Rattle.honest_party.proofs.Judged.{front_good, back_good}
@@ -62,8 +63,8 @@ whole_of false false false v w t state = refl
 same_text : (t : Text) → not (bytes_eq t t) ≡ false
 same_text t = ap not (bytes_true t t refl)
 
-subject_of_flag : (b : Bool) (x : IdClaims) (t : Text) → x.sub ≡ t → is_other (sub_in (if_wanted b (claims_read (if_wished b (Ok x))))) t ≡ false
-subject_of_flag true x t is = ap (λ u. is_other (Some u) t) is ∙ same_text t
+subject_of_flag : (b : Bool) (x : IdClaims) (t : Text) → x.sub ≡ t → is_other t (sub_in (if_wanted b (claims_read (if_wished b (Ok x))))) ≡ false
+subject_of_flag true x t is = ap (λ u. is_other t (Some u)) is ∙ same_text t
 subject_of_flag false x t is = refl
 
 -- ---- how a login goes on
@@ -164,15 +165,15 @@ module _ (s : PartySetup) (own : IsOwnParty s) (past : RpPast) (e : Entry RpAsk)
           subst (FetchesOrEnters s e w (issued_access wish fresh) sub) (sym told) (fetches s e w (issued_access wish fresh) sub (info_endpoint s) refl)
 
       -- what waits remembers no other subject
-      pub front_subject : (w : Word) → is_other (pending_started (party_of s).types e.at (ask.Callback (Ok heard) id browser) w stage.Tokens login).sub (subject_at c wish.client who.user) ≡ false
+      pub front_subject : (w : Word) → is_other (subject_at c wish.client who.user) (pending_started (party_of s).types e.at (ask.Callback (Ok heard) id browser) w stage.Tokens login).sub ≡ false
       front_subject w =
-          ap (λ (t : Types). is_other (sub_in (if_wanted t.id_token (claims_read id))) (subject_at c wish.client who.user)) (sym partys.types)
+          ap (λ (t : Types). is_other (subject_at c wish.client who.user) (sub_in (if_wanted t.id_token (claims_read id)))) (sym partys.types)
           ∙ subject_of_flag wish.types.id_token claims (subject_at c wish.client who.user) subject_is
 
   -- ---- a token response
 
   pub tokens_enter : (wish : Wish) (who : Authentication) (at : ℕ) (w access : Word) (pending : PendingRow) (came : Tokens) → InTime s wish who at pending.nonce pending.begun e.at
-      → live_pending (party_of s).types past e.at w stage.Tokens ≡ Some pending → pending.word ≡ w → came.access ≡ word_text access → is_other pending.sub (subject_at c wish.client who.user) ≡ false
+      → live_pending (party_of s).types past e.at w stage.Tokens ≡ Some pending → pending.word ≡ w → came.access ≡ word_text access → is_other (subject_at c wish.client who.user) pending.sub ≡ false
       → e.ask ≡ ask.Tokens w (Ok came) (Some (Ok (id_claims c wish who at (Some access) None)))
       → FetchesOrEnters s e w (Some access) (subject_at c wish.client who.user) (rp_answer s past e)
   unfolding id_claims
@@ -188,7 +189,7 @@ module _ (s : PartySetup) (own : IsOwnParty s) (past : RpPast) (e : Entry RpAsk)
 
   -- ---- a UserInfo response
 
-  pub info_enters : (w : Word) (pending : PendingRow) (sub : Text) → live_pending (party_of s).types past e.at w stage.Info ≡ Some pending → is_other pending.sub sub ≡ false
+  pub info_enters : (w : Word) (pending : PendingRow) (sub : Text) → live_pending (party_of s).types past e.at w stage.Info ≡ Some pending → is_other sub pending.sub ≡ false
       → e.ask ≡ ask.Info w (Ok sub) → rp_answer s past e ≡ entered e sub
   info_enters w pending sub live subject asked =
       as_asked (ask.Info w (Ok sub)) asked refl ∙ info_counts e pending sub (live_pending (party_of s).types past e.at w stage.Info) live subject

@@ -1,6 +1,7 @@
 -- What a party replies at the places of a login that goes well.
 use Rattle.std.proofs.Common.{◌≡◌, Bool, true, false, cond, Option, Some, None, Result, Ok, refl, ap, ◌∙◌}
 use Rattle.sso_base.specs.Words.{Word, Text, is_word}
+use Rattle.sso_base.specs.Texts.{is_other}
 use Rattle.sso_base.specs.declared.history.Entry.{Entry}
 use Rattle.id_token.specs.declared.claims.IdClaims.{IdClaims}
 use Rattle.id_token.specs.declared.no.IdNo.{IdNo}
@@ -19,7 +20,7 @@ use Rattle.rp_answer.specs.Past.{RpPast}
 use Rattle.rp_answer.specs.Setup.{PartySetup, party_of}
 use Rattle.rp_answer.specs.Asked.{if_wanted}
 use Rattle.rp_answer.specs.Logins.{live_login}
-use Rattle.rp_answer.specs.Replies.{front_code, front_rules, back_rules, part_missing, info_endpoint, is_other, fetch_or_enter, exchange_or_enter, entered, front_judged, front_read, response_parts, response_error, response_of, response_to, back_judged, back_read, back_accepted, tokens, info}
+use Rattle.rp_answer.specs.Replies.{front_code, front_rules, back_rules, part_missing, info_endpoint, fetch_or_enter, exchange_or_enter, entered, front_judged, front_read, response_parts, response_error, response_of, response_to, back_judged, back_read, back_accepted, tokens, info}
 use Rattle.rp_answer.specs.Room.{table_lacking, unless_lacking}
 use Rattle.rp_answer.specs.Answering.{rp_reply, rp_answer}
 use Rattle.honest_party.proofs.OwnParty.{HasRoom}
@@ -72,7 +73,7 @@ module _ (s : PartySetup) (past : RpPast) (e : Entry RpAsk) (heard : Heard) (id 
 -- ---- a token response
 
 pub tokens_count : (s : PartySetup) (e : Entry RpAsk) (pending : PendingRow) (came : Tokens) (id : Option (Result IdClaims IdNo)) (claims : IdClaims) (found : Option PendingRow)
-    → found ≡ Some pending → id ≡ Some (Ok claims) → id_judged (back_rules s pending came) claims e.at ≡ Ok tt → is_other pending.sub claims.sub ≡ false
+    → found ≡ Some pending → id ≡ Some (Ok claims) → id_judged (back_rules s pending came) claims e.at ≡ Ok tt → is_other claims.sub pending.sub ≡ false
     → tokens s e found (Ok came) id ≡ fetch_or_enter e (info_endpoint s) (Some came.access) pending.word claims.sub
 tokens_count s e pending came id claims found is read judged same =
     ap (λ o. tokens s e o (Ok came) id) is
@@ -82,6 +83,6 @@ tokens_count s e pending came id claims found is read judged same =
 
 -- ---- a UserInfo response
 
-pub info_counts : (e : Entry RpAsk) (pending : PendingRow) (sub : Text) (found : Option PendingRow) → found ≡ Some pending → is_other pending.sub sub ≡ false → info e found (Ok sub) ≡ entered e sub
+pub info_counts : (e : Entry RpAsk) (pending : PendingRow) (sub : Text) (found : Option PendingRow) → found ≡ Some pending → is_other sub pending.sub ≡ false → info e found (Ok sub) ≡ entered e sub
 info_counts e pending sub found is same =
     ap (λ o. info e o (Ok sub)) is ∙ ap (λ b. cond b (Refused no.SubjectDiffers) (entered e sub)) same

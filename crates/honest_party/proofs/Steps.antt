@@ -11,7 +11,7 @@ use Rattle.oidc_words.specs.Prompts.{none_word}
 use Rattle.oidc_words.specs.Lives.{login_life, pending_life}
 use Rattle.oidc_words.specs.declared.scopes.Scopes.{Scopes}
 use Rattle.oidc_words.specs.declared.response_types.Types.{Types}
-use Rattle.sso_base.specs.Texts.{has_text}
+use Rattle.sso_base.specs.Texts.{has_text, is_other}
 use Rattle.claim_set.specs.Reading.{claims_text}
 use Rattle.client_registry.specs.Configuration.{Configuration, subject_at}
 use Rattle.client_registry.specs.Numbers.{party_row, party_client}
@@ -51,7 +51,7 @@ use Rattle.rp_answer.specs.Past.{RpPair, RpPast}
 use Rattle.rp_answer.specs.Setup.{PartySetup, party_of}
 use Rattle.rp_answer.specs.Logins.{logins}
 use Rattle.rp_answer.specs.Pendings.{pending_started, pending_followed, pendings}
-use Rattle.rp_answer.specs.Replies.{login_browser, exchange, fetched, entered, is_other}
+use Rattle.rp_answer.specs.Replies.{login_browser, exchange, fetched, entered}
 use Rattle.rp_answer.specs.Legal.{IsLegalRp}
 use Rattle.sso_places.specs.declared.types.Jar.{Jar}
 use Rattle.sso_places.specs.declared.types.To.TheVariants as to
@@ -88,7 +88,7 @@ pub record PendingStands (types : Types) (past : RpPast) (w : Word) (waits : Sta
   pub nonce : row.nonce ≡ for_nonce
   pub begun : row.begun ≡ from
   pub since : row.since ≡ at
-  pub subject : is_other row.sub sub ≡ false
+  pub subject : is_other sub row.sub ≡ false
 
 -- no table was full
 abbrev pub WasRoom : Place → Type 0

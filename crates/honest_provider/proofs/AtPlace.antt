@@ -2,6 +2,7 @@
 use Rattle.std.proofs.Common.{◌≡◌, ◌≤◌, ◌<◌, ℕ, Bool, true, false, ◌||◌, List, ◌∷◌, length, Option, Some, None, refl, sym, ◌∙◌, ap, subst, arith}
 use Rattle.std.proofs.lemmas.Bool.{ltb-true}
 use Rattle.std.specs.List.{list_any}
+use Rattle.std.specs.Option.{option_or}
 use Rattle.sso_base.specs.Words.{Word, IsWord, fresh_word}
 use Rattle.sso_base.specs.Rows.{row_of}
 use Rattle.sso_base.specs.Values.{latest_moment}
@@ -39,7 +40,7 @@ use Rattle.sso_places.specs.Cookies.{words_in}
 use Rattle.sso_places.specs.Site.{own_site}
 use Rattle.sso_places.specs.World.{Place, Provider, World, op_past, drawn}
 use Rattle.sso_places.proofs.Objects.{drawn_word, may_ask}
-use Rattle.cookie_jars.specs.Jars.{set_or, jar_with}
+use Rattle.cookie_jars.specs.Jars.{jar_with}
 use Rattle.honest_places.specs.Login.{Visitor, wants_none, jar_shown, is_full}
 use Rattle.honest_places.specs.Outcome.{gives_password, is_login_form}
 use Rattle.honest_places.specs.OwnWish.{own_wish}
@@ -196,7 +197,7 @@ module _ {c : Configuration} {v : Visitor} {login : List Place} {world : World} 
   after_jar = jar_with (record { first = browser_given p.reply; second = session_given p.reply }) (jar_shown y)
 
   pub page_first : (b : Word) → browser_given p.reply ≡ Some b → after_jar.first ≡ Some b
-  page_first b is = (let F : Option Word → Option Word = λ o. set_or o request.first in ap F is)
+  page_first b is = (let F : Option Word → Option Word = λ o. option_or o request.first in ap F is)
 
   -- ---- no password was given yet
 

@@ -1,6 +1,7 @@
 -- What an authorization request of a login gets: a login page, a consent page, or an answer at once.
 use Rattle.std.proofs.Common.{◌≡◌, ◌≤◌, ℕ, false, List, ◌∷◌, Option, Some, None, refl, sym, ◌∙◌, ap, subst, ◌⊎◌, inl, inr, arith}
 use Rattle.std.specs.List.{list_any}
+use Rattle.std.specs.Option.{option_or}
 use Rattle.sso_base.specs.Words.{Word, IsWord, fresh_word}
 use Rattle.sso_base.specs.declared.http.Ask.{Ask}
 use Rattle.sso_model.proofs.ListLaws.{has_append_right}
@@ -23,7 +24,6 @@ use Rattle.op_answer.specs.Replies.{consent_page, page_browser}
 use Rattle.op_answer.specs.Answering.{op_answer}
 use Rattle.sso_places.specs.declared.types.Jar.{Jar}
 use Rattle.sso_places.specs.World.{Place, Provider, World, op_past, drawn}
-use Rattle.cookie_jars.specs.Jars.{set_or}
 use Rattle.honest_places.specs.Login.{Visitor}
 use Rattle.honest_places.specs.Outcome.{gives_password}
 use Rattle.honest_places.specs.OwnWish.{own_wish}
@@ -125,7 +125,7 @@ module _ {c : Configuration} {v : Visitor} {login : List Place} {world : World} 
             session = stayed.after;
             stands = stayed.stands;
             own = presented_own q.session pr;
-            second = ap (λ (k : OpReply). set_or (session_given k) request.second) replied ∙ (same_second ∙ pr.is);
+            second = ap (λ (k : OpReply). option_or (session_given k) request.second) replied ∙ (same_second ∙ pr.is);
             signed_in = inr (refl, q.no_login);
             owner = λ given. absurd (never_given here request_ask is refl none given);
           };

@@ -1,6 +1,7 @@
 -- What the forms of a login get: the login form a consent page or an answer, the consent form an answer.
 use Rattle.std.proofs.Common.{◌≡◌, ◌≤◌, ◌-◌, ℕ, Bool, true, false, ◌||◌, List, ◌∷◌, Option, Some, None, option_map, option_and_then, refl, sym, ◌∙◌, ap, subst, ◌⊎◌, inl, inr, arith}
 use Rattle.std.specs.List.{list_any}
+use Rattle.std.specs.Option.{option_or}
 use Rattle.sso_base.specs.Words.{Word, Text, is_word, fresh_word}
 use Rattle.sso_base.specs.declared.http.Ask.{Ask}
 use Rattle.sso_base.proofs.RowLaws.{row_has_name, bytes_true}
@@ -29,7 +30,6 @@ use Rattle.op_answer.specs.Answering.{op_answer}
 use Rattle.op_answer.proofs.Renewals.{left_cases}
 use Rattle.sso_places.specs.declared.types.Jar.{Jar}
 use Rattle.sso_places.specs.World.{Place, Provider, World, op_past, drawn}
-use Rattle.cookie_jars.specs.Jars.{set_or}
 use Rattle.honest_places.specs.Login.{Visitor, jar_after, FitsJar}
 use Rattle.honest_places.specs.InTime.{IsOpInTime, IsConsentInTime}
 use Rattle.honest_places.specs.Outcome.{gives_password, is_login_form}
@@ -146,7 +146,7 @@ module _ {c : Configuration} {v : Visitor} {login : List Place} {world : World} 
               session = z.row;
               stands = z.stands;
               own = left_own;
-              second = ap (λ (k : OpReply). set_or (session_given k) request.second) replied;
+              second = ap (λ (k : OpReply). option_or (session_given k) request.second) replied;
               signed_in = inl (refl, subst B (sym z.now) gone);
               owner = λ given. z.user_is;
             };

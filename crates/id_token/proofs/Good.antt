@@ -1,6 +1,7 @@
 -- The claims that are not refused are exactly those of a good ID Token.
 use Rattle.std.proofs.Common.{◌≡◌, ◌+◌, ℕ, List, true, false, not, Option, Some, None, Result, Ok, Err, IfOk, refl, sym, ap}
 use Rattle.std.specs.Prelude.{IfSome}
+use Rattle.sso_base.specs.Texts.{is_given, is_other}
 use Rattle.sso_base.proofs.Refusals.{none_holds}
 use Rattle.sso_base.proofs.Decided.{not_late, late_false, not_above, above_false, not_not, same, are_same}
 use Rattle.oidc_words.specs.Lives.{leeway, oldest}
@@ -9,7 +10,7 @@ use Rattle.id_token.specs.declared.rules.IdRules.{IdRules}
 use Rattle.id_token.specs.declared.rules.Half.{Half}
 use Rattle.id_token.specs.declared.rules.Half.TheVariants.{Free, IfThere, Must}
 use Rattle.id_token.specs.declared.no.IdNo.{IdNo}
-use Rattle.id_token.specs.Judging.{IsGoodIdToken, Meets, IsInAge, is_given, is_other, breaks, is_late, conditions, id_judged}
+use Rattle.id_token.specs.Judging.{IsGoodIdToken, Meets, IsInAge, breaks, is_late, conditions, id_judged}
 
 -- ---- each condition, and what it says where it does not hold
 

@@ -2,16 +2,17 @@
 use Rattle.std.proofs.Common.{◌≡◌, ℕ, drop, List, ◌∷◌, Bool, true, false, cond, Option, Some, None, option_and_then, is_some, is_none, Result, Ok, Err, IsOk, codes, refl, ◌∙◌}
 use Rattle.serde_json.specs.Data.{Data, Members}
 use Rattle.serde_json.specs.Find.{get_member, as_str}
-use Rattle.sso_base.specs.Refusals.{first_refusal, and_then}
+use Rattle.sso_base.specs.Refusals.{first_refusal, and_then, and_then_as}
 use Rattle.claim_set.specs.Kinds.{of_kind, kind_found, is_wrong, small_number, data_texts}
+use Rattle.claim_set.specs.Building.{without_all}
 use Rattle.claim_set.specs.declared.no.ClaimNo.{ClaimNo}
 use Rattle.claim_set.specs.declared.no.ClaimNo.TheVariants.{WrongKind}
 use Rattle.claim_set.proofs.KindLaws.{is_there, after_kind, after_demand, refused_of, is_refused, is_accepted}
 use Rattle.id_token.specs.declared.claims.RawClaims.{RawClaims}
 use Rattle.id_token.specs.declared.no.IdNo.{IdNo}
 use Rattle.id_token.specs.declared.no.IdNo.TheVariants.{Claims, Missing}
-use Rattle.id_token.specs.Claims.{is_subject}
-use Rattle.id_token.specs.Reading.{if_subject, raw_in, whole, if_raw, id_of}
+use Rattle.id_token.specs.Claims.{is_subject, id_names}
+use Rattle.id_token.specs.Reading.{if_subject, raw_in, whole, id_of}
 use Rattle.id_token.specs.Token.{as_subject, id_refusals}
 
 after_tested : (b : Bool) (s : List ℕ) (f : Option (List ℕ) → Result RawClaims ClaimNo) (g : Result RawClaims ClaimNo → Result (Unit {0}) IdNo) (cs : List (Bool × IdNo))
@@ -36,7 +37,7 @@ after_subject (Some d) f g cs refused goes = after_given (as_str d) f g cs refus
 pub refusals_of : (ms : Members) → refused_of (id_of ms) ≡ first_refusal (id_refusals ms)
 unfolding id_of raw_in whole
 refusals_of ms =
-    let g : Result RawClaims ClaimNo → Result (Unit {0}) IdNo = λ r. refused_of (if_raw ms r) in
+    let g : Result RawClaims ClaimNo → Result (Unit {0}) IdNo = λ r. refused_of (and_then_as Claims r (λ raw. whole raw (without_all id_names ms))) in
     let left : ℕ → List (Bool × IdNo) = λ n. drop n (id_refusals ms) in
     let at : List ℕ → Option Data = λ name. get_member name ms in
     after_kind (codes "at_hash") as_str (at (codes "at_hash")) _ g Claims (left 1) (λ e. refl) (λ at_hash h1.

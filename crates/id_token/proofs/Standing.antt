@@ -1,9 +1,9 @@
 -- What is read is exactly what stands in the claim set.
-use Rattle.std.proofs.Common.{◌≡◌, ◌<◌, ◌^◌, ℕ, List, Bool, true, false, cond, Option, Some, None, option_map, Result, Ok, Err, codes, refl, ap, ◌∙◌}
+use Rattle.std.proofs.Common.{◌≡◌, ◌<◌, ◌^◌, ℕ, List, Bool, true, false, cond, Option, Some, None, option_map, Ok, Err, codes, refl, ap, ◌∙◌}
 use Rattle.std.specs.Prelude.{IfSome, IsTrue}
 use Rattle.serde_json.specs.Data.{Members, string}
 use Rattle.serde_json.specs.Find.{get_member}
-use Rattle.sso_base.proofs.Refusals.{and_then_ok, demand_ok}
+use Rattle.sso_base.proofs.Refusals.{and_then_ok, and_then_as_ok, demand_ok, holds_as}
 use Rattle.claim_set.specs.Kinds.{data_texts, text_claim, number_claim, texts_claim}
 use Rattle.claim_set.specs.Building.{number_value, without_all}
 use Rattle.claim_set.specs.declared.no.ClaimNo.{ClaimNo}
@@ -12,9 +12,9 @@ use Rattle.claim_set.proofs.KindLaws.{text_read, number_read, text_there, number
 use Rattle.id_token.specs.declared.claims.IdClaims.{IdClaims}
 use Rattle.id_token.specs.declared.claims.RawClaims.{RawClaims}
 use Rattle.id_token.specs.declared.no.IdNo.{IdNo}
-use Rattle.id_token.specs.declared.no.IdNo.TheVariants.{Missing}
+use Rattle.id_token.specs.declared.no.IdNo.TheVariants.{Claims, Missing}
 use Rattle.id_token.specs.Claims.{is_subject, id_names}
-use Rattle.id_token.specs.Reading.{if_subject, raw_in, whole, if_raw, id_of}
+use Rattle.id_token.specs.Reading.{if_subject, raw_in, whole, id_of}
 use Rattle.id_token.specs.Token.{HasClaims}
 
 -- ---- what stands there is read
@@ -77,15 +77,6 @@ record HasRaw (ms : Members) (r : RawClaims) : Type 0 where
   c_hash : get_member (codes "c_hash") ms ≡ option_map string r.c_hash
   is_subject : IfSome r.sub (λ s. IsTrue (is_subject s))
 
-abbrev raw_ok : RawClaims → Result RawClaims ClaimNo
-raw_ok r = Ok r
-
-ok_raw : (a b : RawClaims) → raw_ok a ≡ raw_ok b → a ≡ b
-ok_raw a b h = cc
-
-same_raw : (ms : Members) (a b : RawClaims) → a ≡ b → HasRaw ms a → HasRaw ms b
-same_raw ms a b h has = rw (h) at has
-
 raw_stands : (ms : Members) (r : RawClaims) → raw_in ms ≡ Ok r → HasRaw ms r
 unfolding raw_in
 raw_stands ms r h =
@@ -101,9 +92,8 @@ raw_stands ms r h =
     let sid = and_then_ok (text_claim (codes "sid") ms) _ r nonce.2 in
     let given = and_then_ok (text_claim (codes "sub") ms) _ r sid.2 in
     let sub = and_then_ok (if_subject given.0) _ r given.2 in
-    let fields = ok_raw _ r sub.2 in
     let subject = subject_ok given.0 sub.0 sub.1 in
-    same_raw ms _ r fields (record {
+    holds_as ClaimNo (HasRaw ms) _ r sub.2 (record {
       iss = text_there ms (codes "iss") iss.0 iss.1;
       sub = text_there ms (codes "sub") given.0 given.1 ∙ ap (option_map string) subject.0;
       aud = aud.1;
@@ -118,15 +108,6 @@ raw_stands ms r h =
       is_subject = subject.1;
     })
 
-same_claims : (ms : Members) (a b : IdClaims) → a ≡ b → HasClaims ms a → HasClaims ms b
-same_claims ms a b h has = rw (h) at has
-
-abbrev id_ok : IdClaims → Result IdClaims IdNo
-id_ok y = Ok y
-
-ok_id : (a b : IdClaims) → id_ok a ≡ id_ok b → a ≡ b
-ok_id a b h = cc
-
 whole_stands : (ms more : Members) (r : RawClaims) (x : IdClaims) → HasRaw ms r → more ≡ without_all id_names ms → whole r more ≡ Ok x → HasClaims ms x
 unfolding whole
 whole_stands ms more r x raw others h =
@@ -135,7 +116,7 @@ whole_stands ms more r x raw others h =
     let aud = demand_ok (Missing (codes "aud")) r.aud _ x sub.2 in
     let exp = demand_ok (Missing (codes "exp")) r.exp _ x aud.2 in
     let iat = demand_ok (Missing (codes "iat")) r.iat _ x exp.2 in
-    same_claims ms _ x (ok_id _ x iat.2) (record {
+    holds_as IdNo (HasClaims ms) _ x iat.2 (record {
       iss = there r.iss string iss.0 _ iss.1 raw.iss;
       sub = there r.sub string sub.0 _ sub.1 raw.sub;
       aud = stands_of_kind (codes "aud") data_texts (get_member (codes "aud") ms) aud.0 (raw.aud ∙ ap Ok aud.1);
@@ -154,10 +135,8 @@ whole_stands ms more r x raw others h =
       auth_time_fits = raw.auth_time.1;
     })
 
-id_stands : (ms : Members) (x : IdClaims) (r : Result RawClaims ClaimNo) → raw_in ms ≡ r → if_raw ms r ≡ Ok x → HasClaims ms x
-id_stands ms x (Ok r) is h = whole_stands ms (without_all id_names ms) r x (raw_stands ms r is) refl h
-id_stands ms x (Err e) is h = absurd (cc)
-
 pub has-id_of : (ms : Members) (x : IdClaims) → id_of ms ≡ Ok x → HasClaims ms x
 unfolding id_of
-has-id_of ms x h = id_stands ms x (raw_in ms) refl h
+has-id_of ms x h =
+    let raw = and_then_as_ok Claims (raw_in ms) _ x h in
+    whole_stands ms (without_all id_names ms) raw.0 x (raw_stands ms raw.0 raw.1) refl raw.2

@@ -1,22 +1,22 @@
 -- A text is refused as unsealed exactly where it is not sealed under the key; so one that is read is sealed.
-use Rattle.std.proofs.Common.{◌≡◌, ◌↔◌, ℕ, List, [], ◌∷◌, Bool, true, false, Result, Ok, Err, refl, sym, ap, ◌∙◌, true≢false}
-use Rattle.std.specs.List.{AllByRecursion}
+use Rattle.std.proofs.Common.{◌≡◌, ◌↔◌, ℕ, List, Bool, true, false, Result, Ok, Err, refl, sym, ap, ◌∙◌}
 use Rattle.serde_json.specs.Data.{Members}
-use Rattle.sso_base.specs.Refusals.{first_refusal}
+use Rattle.sso_base.specs.Refusals.{and_then_as}
+use Rattle.sso_base.proofs.Refusals.{none_among}
 use Rattle.claim_set.specs.declared.no.ClaimNo.{ClaimNo}
 use Rattle.claim_set.specs.Reading.{claims_read}
 use Rattle.claim_set.proofs.KindLaws.{refused_of}
 use Rattle.jws_compact.specs.declared.no.JwsNo.{JwsNo}
 use Rattle.jws_compact.specs.declared.unsealing.Unsealed.{Unsealed}
 use Rattle.jws_compact.specs.Jws.{Opens, opened, verdict}
-use Rattle.jws_compact.proofs.Opening.{sealed_verdict, verdict_sealed}
+use Rattle.jws_compact.proofs.Readers.{reader_reason, reader_refuses}
 use Rattle.id_token.specs.declared.claims.IdClaims.{IdClaims}
 use Rattle.id_token.specs.declared.no.IdNo.{IdNo}
-use Rattle.id_token.specs.declared.no.IdNo.TheVariants.{Jws}
-use Rattle.id_token.specs.Reading.{if_claims, if_opened, id_read}
+use Rattle.id_token.specs.declared.no.IdNo.TheVariants.{Jws, Claims}
+use Rattle.id_token.specs.Reading.{id_of, id_read}
 use Rattle.id_token.specs.Token.{id_refusals}
 use Rattle.id_token.proofs.Refused.{refusals_of}
-use Rattle.id_token.proofs.Tokens.{id_read-token, unopened}
+use Rattle.id_token.proofs.Tokens.{id_read-token}
 
 -- ---- a refusal of claims is none of a sealed text
 
@@ -24,49 +24,30 @@ abbrev is_unsealed : IdNo → Bool
 is_unsealed (Jws e) = true
 is_unsealed e = false
 
-not_among : (cs : List (Bool × IdNo)) (e : JwsNo) → AllByRecursion (λ (c : Bool × IdNo). is_unsealed c.1 ≡ false) cs → first_refusal cs ≡ Err (Jws e) → ⊥
-not_among [] e all h = cc
-not_among ((true, n) ∷ cs) e all h =
-    let same : n ≡ Jws e = cc in
-    true≢false (sym (ap is_unsealed same) ∙ all.0)
-not_among ((false, n) ∷ cs) e all h = not_among cs e all.1 h
-
-not_of_claims : (r : Result Members ClaimNo) (e : JwsNo) → if_claims r ≡ Err (Jws e) → ⊥
+not_of_claims : (r : Result Members ClaimNo) (e : JwsNo) → and_then_as Claims r id_of ≡ Err (Jws e) → ⊥
 not_of_claims (Err n) e h = cc
 not_of_claims (Ok ms) e h =
-    not_among (id_refusals ms) e (refl, (refl, (refl, (refl, (refl, (refl, (refl, (refl, (refl, (refl, (refl, (refl, (refl, (refl, (refl, (refl, tt))))))))))))))))
+    none_among is_unsealed (id_refusals ms) (Jws e) (refl, (refl, (refl, (refl, (refl, (refl, (refl, (refl, (refl, (refl, (refl, (refl, (refl, (refl, (refl, (refl, tt)))))))))))))))) refl
     (sym (refusals_of ms) ∙ ap refused_of h)
 
--- ---- the reason is that of the sealed text
+-- ---- the reason is that of the sealed text; what is refused so is not sealed, and what is not sealed is refused so
 
-by_verdict : (r : Result Unsealed JwsNo) (e : JwsNo) → if_opened r ≡ Err (Jws e) → r ≡ Err e
-by_verdict (Ok u) e h = absurd (not_of_claims (claims_read u.payload) e h)
-by_verdict (Err f) e h =
-    let same : f ≡ e = cc in
-    let E : JwsNo → Result Unsealed JwsNo = λ x. Err x in
-    ap E same
+abbrev inside : Unsealed → Result IdClaims IdNo
+inside u = and_then_as Claims (claims_read u.payload) id_of
 
-unsealed_by : (k t : List ℕ) (e : JwsNo) → id_read k t ≡ Err (Jws e) → verdict k t ≡ Err e
-unfolding id_read
-unsealed_by k t e h = by_verdict (verdict k t) e h
+one_reason : (d e : JwsNo) → Jws d ≡ Jws e → d ≡ e
+one_reason d e h = cc
+
+apart : (u : Unsealed) (e : JwsNo) → inside u ≡ Err (Jws e) → ⊥
+apart u e h = not_of_claims (claims_read u.payload) e h
 
 pub unsealed_reason : (k t : List ℕ) (e : JwsNo) → (id_read k t ≡ Err (Jws e)) ↔ (verdict k t ≡ Err e)
-unsealed_reason k t e = (unsealed_by k t e, unopened k t e)
-
--- ---- what is refused so is not sealed, and what is not sealed is refused so
-
-not_sealed : (k t : List ℕ) → ((e : JwsNo) × (id_read k t ≡ Err (Jws e))) → (u : Unsealed) → ¬ Opens k t u
-not_sealed k t why u opens =
-    let reads : verdict k t ≡ Ok (opened opens.0 u.payload) = sealed_verdict k opens.0 u.payload t opens.1 in
-    let refuses : verdict k t ≡ Err why.0 = unsealed_by k t why.0 why.1 in
-    cc
-
-refused_at : (k t : List ℕ) (r : Result Unsealed JwsNo) → verdict k t ≡ r → ((u : Unsealed) → ¬ Opens k t u) → (e : JwsNo) × (id_read k t ≡ Err (Jws e))
-refused_at k t (Ok u) is none = absurd (none u (verdict_sealed k t u is))
-refused_at k t (Err e) is none = (e, unopened k t e is)
+unfolding id_read
+unsealed_reason k t e = reader_reason Jws inside one_reason apart k t e
 
 pub unsealed_refused : (k t : List ℕ) → ((e : JwsNo) × (id_read k t ≡ Err (Jws e))) ↔ ((u : Unsealed) → ¬ Opens k t u)
-unsealed_refused k t = (not_sealed k t, refused_at k t (verdict k t) refl)
+unfolding id_read
+unsealed_refused k t = reader_refuses Jws inside one_reason apart k t
 
 -- ---- what is read is sealed
 

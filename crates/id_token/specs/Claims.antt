@@ -1,12 +1,9 @@
 -- The claims of an ID Token as a claim set (OpenID Connect Core 1.0, 2).
-use Rattle.std.specs.Prelude.{ℕ, List, [], ◌∷◌, Bool, ◌&&◌, nat_le, length, Option, Some, option_map, codes}
+use Rattle.std.specs.Prelude.{ℕ, List, [], ◌∷◌, Bool, ◌&&◌, nat_le, length, Some, option_map, codes}
 use Rattle.serde_json.specs.Data.{string, Members}
 use Rattle.sso_base.specs.Texts.{is_ascii}
-use Rattle.claim_set.specs.Building.{Entry, put_all, audience, number_value}
+use Rattle.claim_set.specs.Building.{Entry, text_entry, put_all, audience, number_value}
 use Rattle.id_token.specs.declared.claims.IdClaims.{IdClaims}
-
-abbrev pub text_entry : List ℕ → Option (List ℕ) → Entry
-text_entry name o = (name, option_map string o)
 
 -- the claims of an ID Token that are fields, by name, in the order of their names
 abbrev pub id_entries : IdClaims → List Entry

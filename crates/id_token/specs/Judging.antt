@@ -1,7 +1,7 @@
 -- Verification of an ID Token (OpenID Connect Core 1.0, 3.1.3.7, 3.2.2.9, 3.3.2.10). Sums have no bound.
 use Rattle.std.specs.Prelude.{◌≡◌, ◌<◌, ◌≤◌, ℕ, ◌+◌, List, [], ◌∷◌, Bool, true, false, not, nat_lt, nat_le, Option, Some, None, Result, IfSome, IsTrue, ⊤}
 use Rattle.std.specs.Str.{bytes_eq}
-use Rattle.sso_base.specs.Texts.{is_only}
+use Rattle.sso_base.specs.Texts.{is_only, is_given, is_other}
 use Rattle.sso_base.specs.Refusals.{first_refusal}
 use Rattle.oidc_words.specs.Lives.{leeway, oldest}
 use Rattle.id_token.specs.declared.claims.IdClaims.{IdClaims}
@@ -39,16 +39,6 @@ pub record IsGoodIdToken (rules : IdRules) (x : IdClaims) (at : ℕ) : Type 0 wh
   pub code : Meets rules.code x.c_hash
 
 -- ---- the errors, in order
-
--- the claim is present, and equal to the text
-abbrev pub is_given : List ℕ → Option (List ℕ) → Bool
-is_given t None = false
-is_given t (Some s) = bytes_eq s t
-
--- the claim is present, and differs from the text
-abbrev pub is_other : List ℕ → Option (List ℕ) → Bool
-is_other t None = false
-is_other t (Some s) = not (bytes_eq s t)
 
 -- the requirement on a half digest is violated
 abbrev pub breaks : Half → Option (List ℕ) → Bool

@@ -1,13 +1,12 @@
 -- The ID Token in a sealed text, or why the text is rejected (OpenID Connect Core 1.0, 2; RFC 7519, 7.2).
 use Rattle.std.specs.Prelude.{ℕ, Bool, true, false, List, Option, Some, None, Result, Ok, Err, codes, if◌then◌else◌}
 use Rattle.serde_json.specs.Data.{Members}
-use Rattle.sso_base.specs.Refusals.{and_then, demand}
+use Rattle.sso_base.specs.Refusals.{and_then, and_then_as, demand}
 use Rattle.claim_set.specs.Kinds.{text_claim, texts_claim, number_claim}
 use Rattle.claim_set.specs.Reading.{claims_read}
 use Rattle.claim_set.specs.Building.{without_all}
 use Rattle.claim_set.specs.declared.no.ClaimNo.{ClaimNo}
 use Rattle.claim_set.specs.declared.no.ClaimNo.TheVariants.{WrongKind}
-use Rattle.jws_compact.specs.declared.no.JwsNo.{JwsNo}
 use Rattle.jws_compact.specs.declared.no.JwsNo.TheVariants as jws
 use Rattle.claim_set.specs.declared.no.ClaimNo.TheVariants as claims
 use Rattle.jws_compact.specs.declared.unsealing.Unsealed.{Unsealed}
@@ -15,7 +14,7 @@ use Rattle.jws_compact.specs.Jws.{verdict}
 use Rattle.id_token.specs.declared.claims.IdClaims.{IdClaims}
 use Rattle.id_token.specs.declared.claims.RawClaims.{RawClaims}
 use Rattle.id_token.specs.declared.no.IdNo.{IdNo}
-use Rattle.id_token.specs.declared.no.IdNo.TheVariants.{NoMemory, Jws, Claims, Missing}
+use Rattle.id_token.specs.declared.no.IdNo.TheVariants.{Jws, Claims, Missing}
 use Rattle.id_token.specs.Claims.{is_subject, id_names}
 
 abbrev pub if_subject : Option (List ℕ) → Result (Option (List ℕ)) ClaimNo
@@ -49,37 +48,16 @@ whole r more =
     demand (Missing (codes "iat")) r.iat (λ iat.
     Ok (record { iss = iss; sub = sub; aud = aud; azp = r.azp; exp = exp; iat = iat; auth_time = r.auth_time; nonce = r.nonce; sid = r.sid; at_hash = r.at_hash; c_hash = r.c_hash; more = more }))))))
 
-abbrev pub if_raw : Members → Result RawClaims ClaimNo → Result IdClaims IdNo
-if_raw ms (Ok r) = whole r (without_all id_names ms)
-if_raw ms (Err e) = Err (Claims e)
-
 -- the ID Token in a claim set
 unfoldable pub id_of : Members → Result IdClaims IdNo
-id_of ms = if_raw ms (raw_in ms)
-
-abbrev pub if_claims : Result Members ClaimNo → Result IdClaims IdNo
-if_claims (Ok ms) = id_of ms
-if_claims (Err e) = Err (Claims e)
-
-abbrev pub if_opened : Result Unsealed JwsNo → Result IdClaims IdNo
-if_opened (Ok o) = if_claims (claims_read o.payload)
-if_opened (Err e) = Err (Jws e)
+id_of ms = and_then_as Claims (raw_in ms) (λ raw. whole raw (without_all id_names ms))
 
 -- the ID Token in a sealed text, or the first error that applies
 unfoldable pub id_read : List ℕ → List ℕ → Result IdClaims IdNo
-id_read k t = if_opened (verdict k t)
+id_read k t = and_then_as Jws (verdict k t) (λ (o : Unsealed). and_then_as Claims (claims_read o.payload) id_of)
 
 -- `NoMemory` is wrapped in another error
 abbrev pub hides_memory : IdNo → Bool
 hides_memory (Jws jws.NoMemory) = true
 hides_memory (Claims claims.NoMemory) = true
 hides_memory e = false
-
--- an error of a sealed text or of claims, as an error of the token; `NoMemory` stays `NoMemory`
-abbrev pub as_jws : JwsNo → IdNo
-as_jws jws.NoMemory = NoMemory
-as_jws e = Jws e
-
-abbrev pub as_claims : ClaimNo → IdNo
-as_claims claims.NoMemory = NoMemory
-as_claims e = Claims e

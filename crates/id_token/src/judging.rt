@@ -1,8 +1,9 @@
 // Verification of an ID Token's claims by the rules of a relying party (OpenID Connect Core 1.0, 3.1.3.7).
 
 ghost use Rattle.std.specs.Prelude.{◌≡◌, IfOk, IfErr, IsFalse, Ok};
+ghost use Rattle.sso_base.specs.Texts.{is_given, is_other};
 ghost use Rattle.id_token.specs.Reading.{hides_memory};
-ghost use Rattle.id_token.specs.Judging.{IsGoodIdToken, id_judged, is_given, is_other, breaks, is_late};
+ghost use Rattle.id_token.specs.Judging.{IsGoodIdToken, id_judged, breaks, is_late};
 
 use crate::claims::IdClaims;
 use crate::no::IdNo;

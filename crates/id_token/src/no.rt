@@ -52,9 +52,11 @@ impl From<NoMemory> for IdNo {
 
 impl From<JwsNo> for IdNo {
     ghost use Rattle.std.specs.Prelude.{◌≡◌, IsFalse};
-    ghost use Rattle.id_token.specs.Reading.{as_jws, hides_memory};
+    ghost use Rattle.jws_compact.specs.Wrapped.{as_jws};
+    ghost use Rattle.id_token.specs.declared.no.IdNo.TheVariants as no;
+    ghost use Rattle.id_token.specs.Reading.{hides_memory};
 
-    ghost from_gives = { λ given e. (e ≡ as_jws given) × IsFalse (hides_memory e) };
+    ghost from_gives = { λ given e. (e ≡ as_jws no.NoMemory no.Jws given) × IsFalse (hides_memory e) };
 
     // An error of a sealed text, as an error of the token.
     fn from(error: JwsNo) -> IdNo {
@@ -67,9 +69,11 @@ impl From<JwsNo> for IdNo {
 
 impl From<ClaimNo> for IdNo {
     ghost use Rattle.std.specs.Prelude.{◌≡◌, IsFalse};
-    ghost use Rattle.id_token.specs.Reading.{as_claims, hides_memory};
+    ghost use Rattle.claim_set.specs.Wrapped.{as_claims};
+    ghost use Rattle.id_token.specs.declared.no.IdNo.TheVariants as no;
+    ghost use Rattle.id_token.specs.Reading.{hides_memory};
 
-    ghost from_gives = { λ given e. (e ≡ as_claims given) × IsFalse (hides_memory e) };
+    ghost from_gives = { λ given e. (e ≡ as_claims no.NoMemory no.Claims given) × IsFalse (hides_memory e) };
 
     // An error of claims, as an error of the token.
     fn from(error: ClaimNo) -> IdNo {

@@ -5,7 +5,8 @@ use Rattle.sso_base.specs.Base64Url.{b64u}
 use Rattle.jws_compact.specs.declared.sealing.Typ.TheVariants.{Jwt, LogoutJwt}
 use Rattle.jws_compact.specs.declared.unsealing.Unsealed.{Unsealed}
 use Rattle.jws_compact.specs.declared.no.JwsNo.{JwsNo}
-use Rattle.jws_compact.specs.declared.no.JwsNo.TheVariants.{TooLong, NotThreeParts, HeaderSpelling, PayloadSpelling, MacSpelling, HeaderNotObject, AlgNotHs256, Crit, BadMac}
+use Rattle.jws_compact.specs.declared.no.JwsNo.TheVariants.{NoMemory, TooLong, NotThreeParts, HeaderSpelling, PayloadSpelling, MacSpelling, HeaderNotObject, AlgNotHs256, Crit, BadMac}
+use Rattle.jws_compact.specs.Wrapped.{as_jws}
 use Rattle.jws_compact.specs.Jws.{dots, three_parts, typ_of, header_bytes, Sealed, seal_text, compact_form, opened, Opens, verdict}
 use Rattle.jws_compact.proofs.OnLiterals.{jws_on_literals}
 use Rattle.jws_compact.proofs.Opening.{verdict_sealed, sealed_verdict}
@@ -143,3 +144,14 @@ verdict-header_without_alg_and_with_crit = refl
 verdict-mac_of_zeros : verdict key (codes "eyJhbGciOiJIUzI1NiIsInR5cCI6IkpXVCJ9.e30.AAAAAAAAAAAAAAAAAAAAAAAAAAAAAAAAAAAAAAAAAAA") ≡ refused BadMac
 unfolding jws_on_literals
 verdict-mac_of_zeros = refl
+
+-- ---- errors of crates above
+
+abbrev outer : JwsNo → Option JwsNo
+outer e = as_jws None Some e
+
+as_jws-out_of_memory : outer NoMemory ≡ None
+as_jws-out_of_memory = refl
+
+as_jws-a_cause : outer BadMac ≡ Some BadMac
+as_jws-a_cause = refl

@@ -1,3 +1,4 @@
 pub mod Header
 pub mod Jws
 pub mod Names
+pub mod Wrapped

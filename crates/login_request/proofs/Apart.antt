@@ -1,7 +1,8 @@
 -- Two words of a request are told apart by its location.
-use Rattle.std.proofs.Common.{◌≡◌, ◌++◌, ℕ, Bool, true, false, Some, Result, Ok, refl, sym, ap, ◌∙◌}
+use Rattle.std.proofs.Common.{◌≡◌, ◌++◌, ℕ, Bool, true, false, Some, refl, sym, ap, ◌∙◌}
 use Rattle.std.proofs.lemmas.List.{append_cancel_left}
 use Rattle.sso_base.specs.Words.{Text, Word, word_text}
+use Rattle.sso_base.proofs.Refusals.{one_value}
 use Rattle.sso_base.proofs.Spelling.{b64u_inj}
 use Rattle.client_registry.specs.declared.records.Provider.{Provider}
 use Rattle.client_registry.specs.Configuration.{Configuration}
@@ -17,18 +18,6 @@ use Rattle.request_object.specs.Reading as object
 use Rattle.login_request.specs.Parties.{MayAsk}
 use Rattle.login_request.specs.Request.{login_params, sent_params, login_location}
 use Rattle.login_request.proofs.Asked.{located, plain_read, beside_read, object_read}
-
-abbrev form_ok : Params → Result Params AskNo
-form_ok p = Ok p
-
-form_inj : (p q : Params) → form_ok p ≡ form_ok q → p ≡ q
-form_inj p q h = cc
-
-abbrev object_ok : Params → Result Params ObjNo
-object_ok p = Ok p
-
-object_inj : (p q : Params) → object_ok p ≡ object_ok q → p ≡ q
-object_inj p q h = cc
 
 some_inj : (t u : Text) → Some t ≡ Some u → t ≡ u
 some_inj t u h = cc
@@ -54,12 +43,12 @@ module _ (c : Configuration) (n : ℕ) (provider : Provider) (state nonce other_
 
   same_objects : request_text (party_client c n) provider.issuer this ≡ request_text (party_client c n) provider.issuer other → this ≡ other
   same_objects h =
-      object_inj this other (sym (object_read c n provider state nonce m) ∙ (ap (object.request_read (party_client c n) provider.issuer) h ∙ object_read c n provider other_state other_nonce o))
+      one_value ObjNo this other (sym (object_read c n provider state nonce m) ∙ (ap (object.request_read (party_client c n) provider.issuer) h ∙ object_read c n provider other_state other_nonce o))
 
   same_params : (b : Bool) → (party_row c n).signed ≡ b → request_form sent ≡ request_form other_sent → this ≡ other
-  same_params false is h = form_inj this other (sym (plain_read c n provider state nonce m is) ∙ (ap form.request_read h ∙ plain_read c n provider other_state other_nonce o is))
+  same_params false is h = one_value AskNo this other (sym (plain_read c n provider state nonce m is) ∙ (ap form.request_read h ∙ plain_read c n provider other_state other_nonce o is))
   same_params true is h =
-      let beside = form_inj _ _ (sym (beside_read c n provider state nonce m is) ∙ (ap form.request_read h ∙ beside_read c n provider other_state other_nonce o is)) in
+      let beside = one_value {A = Params} AskNo _ _ (sym (beside_read c n provider state nonce m is) ∙ (ap form.request_read h ∙ beside_read c n provider other_state other_nonce o is)) in
       same_objects (some_inj _ _ (ap (λ (p : Params). p.request) beside))
 
   pub words_apart : login_location (party_client c n) (party_row c n) provider state nonce ≡ login_location (party_client c n) (party_row c n) provider other_state other_nonce → (state ≡ other_state) × (nonce ≡ other_nonce)

@@ -2,7 +2,7 @@
 use Rattle.std.proofs.Common.{◌≡◌, ℕ, drop, List, ◌∷◌, Bool, true, false, not, ◌&&◌, Option, is_some, is_none, Result, Ok, Err, IsOk, codes, refl, ◌∙◌}
 use Rattle.serde_json.specs.Data.{Data, Members}
 use Rattle.serde_json.specs.Find.{get_member, as_str}
-use Rattle.sso_base.specs.Refusals.{first_refusal, forbid}
+use Rattle.sso_base.specs.Refusals.{first_refusal, and_then_as, forbid}
 use Rattle.claim_set.specs.Kinds.{small_number, data_texts}
 use Rattle.claim_set.specs.declared.no.ClaimNo.{ClaimNo}
 use Rattle.claim_set.proofs.KindLaws.{is_there, after_kind, after_demand, refused_of, is_refused, is_accepted}
@@ -10,7 +10,7 @@ use Rattle.logout_token.specs.declared.claims.LogoutClaims.{LogoutClaims}
 use Rattle.logout_token.specs.declared.claims.RawLogout.{RawLogout}
 use Rattle.logout_token.specs.declared.no.LogoutNo.{LogoutNo}
 use Rattle.logout_token.specs.declared.no.LogoutNo.TheVariants.{Claims, WrongTyp, Missing, NoEvent, HasNonce, NamesNobody}
-use Rattle.logout_token.specs.LogoutToken.{raw_in, typ_fits, has_event, whole, if_raw, logout_of}
+use Rattle.logout_token.specs.LogoutToken.{raw_in, typ_fits, has_event, whole, logout_of}
 use Rattle.logout_token.specs.Token.{logout_refusals}
 
 after_test : (e : LogoutNo) (b c : Bool) (r : Result LogoutClaims LogoutNo) (cs : List (Bool × LogoutNo))
@@ -26,7 +26,7 @@ nobody a b o q h g = rw (h, g) refl
 pub refusals_of : (typ : Option (List ℕ)) (ms : Members) → refused_of (logout_of typ ms) ≡ first_refusal (logout_refusals typ ms)
 unfolding logout_of raw_in whole
 refusals_of typ ms =
-    let g : Result RawLogout ClaimNo → Result (Unit {0}) LogoutNo = λ r. refused_of (if_raw typ ms r) in
+    let g : Result RawLogout ClaimNo → Result (Unit {0}) LogoutNo = λ r. refused_of (and_then_as Claims r (λ raw. forbid WrongTyp (not (typ_fits typ)) (whole raw ms))) in
     let left : ℕ → List (Bool × LogoutNo) = λ n. drop n (logout_refusals typ ms) in
     let at : List ℕ → Option Data = λ name. get_member name ms in
     after_kind (codes "aud") data_texts (at (codes "aud")) _ g Claims (left 1) (λ e. refl) (λ aud h1.

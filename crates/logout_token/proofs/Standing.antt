@@ -1,11 +1,11 @@
 -- What is read is exactly what stands in the claim set.
-use Rattle.std.proofs.Common.{◌≡◌, ◌<◌, ◌^◌, ℕ, List, Bool, true, false, not, ◌&&◌, ◌||◌, Option, Some, None, option_map, option_and_then, is_some, Result, Ok, Err, codes, refl, sym, ap, ◌∙◌, true≢false, inl, inr}
+use Rattle.std.proofs.Common.{◌≡◌, ◌<◌, ◌^◌, ℕ, List, Bool, true, false, not, ◌&&◌, ◌||◌, Option, Some, None, option_map, option_and_then, is_some, Ok, codes, refl, sym, ap, ◌∙◌, true≢false, inl, inr}
 use Rattle.std.specs.Prelude.{IfSome, ◌⊎◌}
 use Rattle.std.specs.Str.{bytes_eq, str_to_ascii_lowercase}
 use Rattle.std.proofs.lemmas.Slice.Eq.{bytes_eq-Decides}
 use Rattle.serde_json.specs.Data.{Data, null, boolean, number, string, array, object, Members}
 use Rattle.serde_json.specs.Find.{get_member, as_object}
-use Rattle.sso_base.proofs.Refusals.{and_then_ok, demand_ok, forbid_ok}
+use Rattle.sso_base.proofs.Refusals.{and_then_ok, and_then_as_ok, demand_ok, forbid_ok, holds_as}
 use Rattle.sso_base.proofs.Decided.{not_not}
 use Rattle.claim_set.specs.Kinds.{data_texts, text_claim, number_claim, texts_claim}
 use Rattle.claim_set.specs.Building.{number_value}
@@ -14,8 +14,8 @@ use Rattle.claim_set.proofs.KindLaws.{text_read, number_read, text_there, number
 use Rattle.logout_token.specs.declared.claims.LogoutClaims.{LogoutClaims}
 use Rattle.logout_token.specs.declared.claims.RawLogout.{RawLogout}
 use Rattle.logout_token.specs.declared.no.LogoutNo.{LogoutNo}
-use Rattle.logout_token.specs.declared.no.LogoutNo.TheVariants.{Missing}
-use Rattle.logout_token.specs.LogoutToken.{event_name, raw_in, typ_fits, has_event, whole, if_raw, logout_of}
+use Rattle.logout_token.specs.declared.no.LogoutNo.TheVariants.{Claims, Missing}
+use Rattle.logout_token.specs.LogoutToken.{event_name, raw_in, typ_fits, has_event, whole, logout_of}
 use Rattle.logout_token.specs.Token.{HasEvent, HasLogoutClaims, IsLogoutTyp}
 
 -- ---- the kind of token, and the logout event
@@ -120,15 +120,6 @@ record HasRaw (ms : Members) (r : RawLogout) : Type 0 where
   sub : get_member (codes "sub") ms ≡ option_map string r.sub
   sid : get_member (codes "sid") ms ≡ option_map string r.sid
 
-abbrev raw_ok : RawLogout → Result RawLogout ClaimNo
-raw_ok r = Ok r
-
-ok_raw : (a b : RawLogout) → raw_ok a ≡ raw_ok b → a ≡ b
-ok_raw a b h = cc
-
-same_raw : (ms : Members) (a b : RawLogout) → a ≡ b → HasRaw ms a → HasRaw ms b
-same_raw ms a b h has = rw (h) at has
-
 raw_stands : (ms : Members) (r : RawLogout) → raw_in ms ≡ Ok r → HasRaw ms r
 unfolding raw_in
 raw_stands ms r h =
@@ -139,7 +130,7 @@ raw_stands ms r h =
     let jti = and_then_ok (text_claim (codes "jti") ms) _ r iss.2 in
     let sid = and_then_ok (text_claim (codes "sid") ms) _ r jti.2 in
     let sub = and_then_ok (text_claim (codes "sub") ms) _ r sid.2 in
-    same_raw ms _ r (ok_raw _ r sub.2) (record {
+    holds_as ClaimNo (HasRaw ms) _ r sub.2 (record {
       iss = text_there ms (codes "iss") iss.0 iss.1;
       aud = aud.1;
       iat = number_there ms (codes "iat") iat.0 iat.1;
@@ -148,15 +139,6 @@ raw_stands ms r h =
       sub = text_there ms (codes "sub") sub.0 sub.1;
       sid = text_there ms (codes "sid") sid.0 sid.1;
     })
-
-same_claims : (ms : Members) (a b : LogoutClaims) → a ≡ b → HasLogoutClaims ms a → HasLogoutClaims ms b
-same_claims ms a b h has = rw (h) at has
-
-abbrev logout_ok : LogoutClaims → Result LogoutClaims LogoutNo
-logout_ok y = Ok y
-
-ok_logout : (a b : LogoutClaims) → logout_ok a ≡ logout_ok b → a ≡ b
-ok_logout a b h = cc
 
 whole_stands : (ms : Members) (r : RawLogout) (x : LogoutClaims) → HasRaw ms r → whole r ms ≡ Ok x → HasLogoutClaims ms x
 unfolding whole
@@ -169,7 +151,7 @@ whole_stands ms r x raw h =
     let event = forbid_ok _ _ _ x jti.2 in
     let nonce = forbid_ok _ _ _ x event.1 in
     let names = forbid_ok _ _ _ x nonce.1 in
-    same_claims ms _ x (ok_logout _ x names.1) (record {
+    holds_as LogoutNo (HasLogoutClaims ms) _ x names.1 (record {
       iss = there r.iss string iss.0 _ iss.1 raw.iss;
       aud = stands_of_kind (codes "aud") data_texts (get_member (codes "aud") ms) aud.0 (raw.aud ∙ ap Ok aud.1);
       iat = there r.iat number_value iat.0 _ iat.1 raw.iat.0;
@@ -184,12 +166,9 @@ whole_stands ms r x raw h =
       exp_fits = holds_of r.exp (λ n. n < 2 ^ 40) exp.0 exp.1 raw.exp.1;
     })
 
-logout_stands : (typ : Option (List ℕ)) (ms : Members) (x : LogoutClaims) (r : Result RawLogout ClaimNo) → raw_in ms ≡ r → if_raw typ ms r ≡ Ok x → IsLogoutTyp typ × HasLogoutClaims ms x
-logout_stands typ ms x (Ok r) is h =
-    let kind = forbid_ok _ (not (typ_fits typ)) (whole r ms) x h in
-    (IsLogoutTyp-fits typ (not_not (typ_fits typ) kind.0), whole_stands ms r x (raw_stands ms r is) kind.1)
-logout_stands typ ms x (Err e) is h = absurd (cc)
-
 pub has-logout_of : (typ : Option (List ℕ)) (ms : Members) (x : LogoutClaims) → logout_of typ ms ≡ Ok x → IsLogoutTyp typ × HasLogoutClaims ms x
 unfolding logout_of
-has-logout_of typ ms x h = logout_stands typ ms x (raw_in ms) refl h
+has-logout_of typ ms x h =
+    let raw = and_then_as_ok Claims (raw_in ms) _ x h in
+    let kind = forbid_ok _ (not (typ_fits typ)) (whole raw.0 ms) x raw.2 in
+    (IsLogoutTyp-fits typ (not_not (typ_fits typ) kind.0), whole_stands ms raw.0 x (raw_stands ms raw.0 raw.1) kind.1)

@@ -1,14 +1,13 @@
 -- Logout tokens as claim sets and sealed texts (OpenID Connect Back-Channel Logout 1.0, 2.4 and 2.6).
-use Rattle.std.specs.Prelude.{ℕ, List, [], ◌∷◌, Bool, true, false, not, ◌&&◌, ◌||◌, Option, Some, None, option_map, option_and_then, is_some, Result, Ok, Err, codes}
+use Rattle.std.specs.Prelude.{ℕ, List, [], ◌∷◌, Bool, true, false, not, ◌&&◌, ◌||◌, Option, Some, None, option_map, option_and_then, is_some, Result, Ok, codes}
 use Rattle.std.specs.Str.{bytes_eq, str_to_ascii_lowercase}
 use Rattle.serde_json.specs.Data.{Data, string, object, Members, no_members, member}
 use Rattle.serde_json.specs.Find.{get_member, as_object}
-use Rattle.sso_base.specs.Refusals.{and_then, demand, forbid}
+use Rattle.sso_base.specs.Refusals.{and_then, and_then_as, demand, forbid}
 use Rattle.claim_set.specs.Kinds.{text_claim, texts_claim, number_claim}
 use Rattle.claim_set.specs.Reading.{claims_read, claims_text}
 use Rattle.claim_set.specs.Building.{Entry, put_all, audience, number_value}
 use Rattle.claim_set.specs.declared.no.ClaimNo.{ClaimNo}
-use Rattle.jws_compact.specs.declared.no.JwsNo.{JwsNo}
 use Rattle.jws_compact.specs.declared.sealing.Typ.TheVariants.{LogoutJwt}
 use Rattle.jws_compact.specs.declared.unsealing.Unsealed.{Unsealed}
 use Rattle.jws_compact.specs.Jws.{verdict, seal_text}
@@ -17,7 +16,7 @@ use Rattle.claim_set.specs.declared.no.ClaimNo.TheVariants as claims
 use Rattle.logout_token.specs.declared.claims.LogoutClaims.{LogoutClaims}
 use Rattle.logout_token.specs.declared.claims.RawLogout.{RawLogout}
 use Rattle.logout_token.specs.declared.no.LogoutNo.{LogoutNo}
-use Rattle.logout_token.specs.declared.no.LogoutNo.TheVariants.{NoMemory, Jws, Claims, WrongTyp, Missing, NoEvent, HasNonce, NamesNobody}
+use Rattle.logout_token.specs.declared.no.LogoutNo.TheVariants.{Jws, Claims, WrongTyp, Missing, NoEvent, HasNonce, NamesNobody}
 
 -- ---- writing
 
@@ -85,37 +84,16 @@ whole r ms =
     (forbid NamesNobody (not (is_some r.sub) && not (is_some r.sid))
     (Ok (record { iss = iss; aud = aud; iat = iat; exp = exp; jti = jti; sub = r.sub; sid = r.sid })))))))))
 
-abbrev pub if_raw : Option (List ℕ) → Members → Result RawLogout ClaimNo → Result LogoutClaims LogoutNo
-if_raw typ ms (Ok r) = forbid WrongTyp (not (typ_fits typ)) (whole r ms)
-if_raw typ ms (Err e) = Err (Claims e)
-
 -- the logout token in a claim set, with the header's `typ`
 unfoldable pub logout_of : Option (List ℕ) → Members → Result LogoutClaims LogoutNo
-logout_of typ ms = if_raw typ ms (raw_in ms)
-
-abbrev pub if_claims : Option (List ℕ) → Result Members ClaimNo → Result LogoutClaims LogoutNo
-if_claims typ (Ok ms) = logout_of typ ms
-if_claims typ (Err e) = Err (Claims e)
-
-abbrev pub if_opened : Result Unsealed JwsNo → Result LogoutClaims LogoutNo
-if_opened (Ok u) = if_claims u.typ (claims_read u.payload)
-if_opened (Err e) = Err (Jws e)
+logout_of typ ms = and_then_as Claims (raw_in ms) (λ raw. forbid WrongTyp (not (typ_fits typ)) (whole raw ms))
 
 -- the logout token that a text is under a key, or why it is none
 unfoldable pub logout_read : List ℕ → List ℕ → Result LogoutClaims LogoutNo
-logout_read k t = if_opened (verdict k t)
+logout_read k t = and_then_as Jws (verdict k t) (λ (u : Unsealed). and_then_as Claims (claims_read u.payload) (logout_of u.typ))
 
 -- `NoMemory` is wrapped in another error
 abbrev pub hides_memory : LogoutNo → Bool
 hides_memory (Jws jws.NoMemory) = true
 hides_memory (Claims claims.NoMemory) = true
 hides_memory e = false
-
--- an error of a sealed text or of claims, as an error of the token; `NoMemory` stays `NoMemory`
-abbrev pub as_jws : JwsNo → LogoutNo
-as_jws jws.NoMemory = NoMemory
-as_jws e = Jws e
-
-abbrev pub as_claims : ClaimNo → LogoutNo
-as_claims claims.NoMemory = NoMemory
-as_claims e = Claims e

@@ -51,9 +51,11 @@ impl From<NoMemory> for LogoutNo {
 
 impl From<JwsNo> for LogoutNo {
     ghost use Rattle.std.specs.Prelude.{◌≡◌, IsFalse};
-    ghost use Rattle.logout_token.specs.LogoutToken.{as_jws, hides_memory};
+    ghost use Rattle.jws_compact.specs.Wrapped.{as_jws};
+    ghost use Rattle.logout_token.specs.declared.no.LogoutNo.TheVariants as no;
+    ghost use Rattle.logout_token.specs.LogoutToken.{hides_memory};
 
-    ghost from_gives = { λ given e. (e ≡ as_jws given) × IsFalse (hides_memory e) };
+    ghost from_gives = { λ given e. (e ≡ as_jws no.NoMemory no.Jws given) × IsFalse (hides_memory e) };
 
     // An error of a sealed text, as an error of the token.
     fn from(error: JwsNo) -> LogoutNo {
@@ -66,9 +68,11 @@ impl From<JwsNo> for LogoutNo {
 
 impl From<ClaimNo> for LogoutNo {
     ghost use Rattle.std.specs.Prelude.{◌≡◌, IsFalse};
-    ghost use Rattle.logout_token.specs.LogoutToken.{as_claims, hides_memory};
+    ghost use Rattle.claim_set.specs.Wrapped.{as_claims};
+    ghost use Rattle.logout_token.specs.declared.no.LogoutNo.TheVariants as no;
+    ghost use Rattle.logout_token.specs.LogoutToken.{hides_memory};
 
-    ghost from_gives = { λ given e. (e ≡ as_claims given) × IsFalse (hides_memory e) };
+    ghost from_gives = { λ given e. (e ≡ as_claims no.NoMemory no.Claims given) × IsFalse (hides_memory e) };
 
     // An error of claims, as an error of the token.
     fn from(error: ClaimNo) -> LogoutNo {

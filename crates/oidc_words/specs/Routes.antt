@@ -1,5 +1,5 @@
 -- Routes: the endpoint of each path, among endpoints of any kind.
-use Rattle.std.specs.Prelude.{◌≡◌, ◌⊎◌, List, [], ◌∷◌, Option, Some, None, if◌then◌else◌}
+use Rattle.std.specs.Prelude.{List, [], ◌∷◌, Option, Some, None, if◌then◌else◌}
 use Rattle.std.specs.Str.{bytes_eq}
 use Rattle.sso_base.specs.Words.{Text}
 
@@ -11,8 +11,3 @@ Route E = Text × E
 abbrev pub endpoint_of : {E : Type 0} → List (Route E) → Text → Option E
 endpoint_of [] path = None
 endpoint_of (route ∷ routes) path = if bytes_eq path route.0 then Some route.1 else endpoint_of routes path
-
--- the route is one of the routes
-abbrev pub IsListed : {E : Type 0} → Route E → List (Route E) → Type 0
-IsListed route [] = ⊥
-IsListed route (first ∷ routes) = (first ≡ route) ⊎ IsListed route routes

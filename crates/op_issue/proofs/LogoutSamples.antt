@@ -1,5 +1,6 @@
 -- Sign-outs of one user of a small registry, by computation. Sealing stays closed.
 use Rattle.std.proofs.Common.{◌≡◌, ◌≤◌, ◌<◌, ℕ, true, false, List, [], ◌∷◌, codes, Some, None, Ok, refl, arith, inl}
+use Rattle.sso_base.specs.Lists.{Has}
 use Rattle.sso_base.specs.Words.{Text, IsWord, word_text}
 use Rattle.sso_base.specs.declared.message.Message.{Message}
 use Rattle.sso_base.proofs.Spelling.{IsBytes-from_all_bytes}
@@ -14,7 +15,7 @@ use Rattle.op_issue.specs.declared.sign_out.SignOut.{SignOut}
 use Rattle.op_issue.specs.LogoutTokens.{logout_id, wants_sid, logout_claims, issued_logout}
 use Rattle.op_issue.specs.LogoutMessages.{logout_message, message_if, messages_from, logout_messages}
 use Rattle.op_issue.specs.Ending.{MayEnd}
-use Rattle.op_issue.specs.Told.{TellsAt, Tells, IsAmong}
+use Rattle.op_issue.specs.Told.{TellsAt, Tells}
 use Rattle.op_issue.proofs.LogoutSealable.{is_read_back}
 use Rattle.op_issue.proofs.GoodLogouts.{is_good, ends}
 use Rattle.op_issue.proofs.Identifiers.{ids_tell}
@@ -135,13 +136,13 @@ shop_is_told = (0, told_first)
 not_as_a_second_client : TellsAt small out (with_client 0 no_clients) 1 to_shop → ⊥
 not_as_a_second_client t = let none : None ≡ Some t.client = t.client_is in cc
 
-shop_is_among : IsAmong to_shop (to_shop ∷ [])
+shop_is_among : Has (to_shop ∷ []) to_shop
 shop_is_among = inl refl
 
-nobody_is_among : IsAmong to_shop [] → ⊥
+nobody_is_among : Has {A = Message} [] to_shop → ⊥
 nobody_is_among h = h
 
-there_is_none : (l : List Message) → l ≡ [] → IsAmong to_shop l → ⊥
+there_is_none : (l : List Message) → l ≡ [] → Has l to_shop → ⊥
 there_is_none [] is h = h
 there_is_none (m ∷ l) is h = cc
 

@@ -1,5 +1,6 @@
 -- The messages of a sign-out, one client after another; which they are, and in which order.
 use Rattle.std.proofs.Common.{◌≡◌, ◌+◌, ◌<◌, ℕ, zero, suc, Bool, true, false, List, [], ◌∷◌, ◌++◌, drop, slice_get, Option, Some, None, ◌⊎◌, inl, inr, refl, sym, ap, ◌∙◌, subst, arith, append_assoc}
+use Rattle.sso_base.specs.Lists.{Has}
 use Rattle.sso_base.specs.Words.{Text}
 use Rattle.sso_base.specs.declared.message.Message.{Message}
 use Rattle.sso_base.proofs.ListSteps.{drop_at}
@@ -8,7 +9,7 @@ use Rattle.client_registry.specs.Configuration.{Configuration}
 use Rattle.client_registry.specs.ClientSets.{has_client}
 use Rattle.op_issue.specs.declared.sign_out.SignOut.{SignOut}
 use Rattle.op_issue.specs.LogoutMessages.{logout_message, message_if, messages_from, logout_messages}
-use Rattle.op_issue.specs.Told.{TellsAt, Tells, IsAmong}
+use Rattle.op_issue.specs.Told.{TellsAt, Tells}
 
 module _ (c : Configuration) (out : SignOut) (answered : List Bool) where
   -- ---- the loop
@@ -58,13 +59,13 @@ module _ (c : Configuration) (out : SignOut) (answered : List Bool) where
       record { client = t.client; client_is = t.client_is; answers = subst H (one_on n place) t.answers; uri = t.uri; uri_is = t.uri_is; message_is = subst M (one_on n place) t.message_is }
 
   first_or_later : (n : ℕ) (client : Client) (clients : List Client) (rest : List Message) (message : Message) (has : Bool) (logout : Option Text) → has_client n answered ≡ has → client.logout ≡ logout
-      → IsAmong message (message_if c out n has logout ++ rest) → TellsFrom n (client ∷ clients) 0 message ⊎ IsAmong message rest
+      → Has (message_if c out n has logout ++ rest) message → TellsFrom n (client ∷ clients) 0 message ⊎ Has rest message
   first_or_later n client clients rest message true (Some uri) has logout (inl is) = inl (tells_first n client clients message uri has logout is)
   first_or_later n client clients rest message true (Some uri) has logout (inr later) = inr later
   first_or_later n client clients rest message true None has logout among = inr among
   first_or_later n client clients rest message false uri has logout among = inr among
 
-  told_from : (n : ℕ) (clients : List Client) (message : Message) → IsAmong message (from n clients) → (place : ℕ) × TellsFrom n clients place message
+  told_from : (n : ℕ) (clients : List Client) (message : Message) → Has (from n clients) message → (place : ℕ) × TellsFrom n clients place message
   told_from n [] message among = absurd among
   told_from n (client ∷ clients) message among =
       elim (first_or_later n client clients (from (n + 1) clients) message (has_client n answered) client.logout refl refl among) [
@@ -72,12 +73,12 @@ module _ (c : Configuration) (out : SignOut) (answered : List Bool) where
         | inr later ↦ let t = told_from (n + 1) clients message later in (suc t.0, tells_later n client clients t.0 message t.1)
       ]
 
-  after_others : (message : Message) (front rest : List Message) → IsAmong message rest → IsAmong message (front ++ rest)
+  after_others : (message : Message) (front rest : List Message) → Has rest message → Has (front ++ rest) message
   after_others message [] rest among = among
   after_others message (first ∷ front) rest among = inr (after_others message front rest among)
 
   among_from : (n : ℕ) (clients : List Client) (message : Message) (place : ℕ) (client : Client) → slice_get clients place ≡ Some client → has_client (n + place) answered ≡ true → (uri : Text)
-      → client.logout ≡ Some uri → logout_message c out (n + place) uri ≡ message → IsAmong message (from n clients)
+      → client.logout ≡ Some uri → logout_message c out (n + place) uri ≡ message → Has (from n clients) message
   among_from n [] message place client there answers uri uri_is message_is = cc
   among_from n (k ∷ clients) message zero client there answers uri uri_is message_is =
       let same : k ≡ client = cc in
@@ -85,8 +86,8 @@ module _ (c : Configuration) (out : SignOut) (answered : List Bool) where
       let M : ℕ → Type 0 = λ i. logout_message c out i uri ≡ message in
       let has : has_client n answered ≡ true = subst H (sym (at_first n)) answers in
       let logout : k.logout ≡ Some uri = ap (λ (x : Client). x.logout) same ∙ uri_is in
-      let O : Option Text → Type 0 = λ o. IsAmong message (message_if c out n true o ++ from (n + 1) clients) in
-      let B : Bool → Type 0 = λ b. IsAmong message (message_if c out n b k.logout ++ from (n + 1) clients) in
+      let O : Option Text → Type 0 = λ o. Has (message_if c out n true o ++ from (n + 1) clients) message in
+      let B : Bool → Type 0 = λ b. Has (message_if c out n b k.logout ++ from (n + 1) clients) message in
       let first : O (Some uri) = inl (subst M (sym (at_first n)) message_is) in
       subst B (sym has) (subst O (sym logout) first)
   among_from n (k ∷ clients) message (suc place) client there answers uri uri_is message_is =
@@ -104,11 +105,11 @@ module _ (c : Configuration) (out : SignOut) (answered : List Bool) where
       let M : ℕ → Type 0 = λ i. logout_message c out i t.uri ≡ message in
       record { client = t.client; client_is = t.client_is; answers = subst H (from_none number) t.answers; uri = t.uri; uri_is = t.uri_is; message_is = subst M (from_none number) t.message_is }
 
-  pub among_tells : (message : Message) → IsAmong message (logout_messages c out answered) → Tells c out answered message
+  pub among_tells : (message : Message) → Has (logout_messages c out answered) message → Tells c out answered message
   unfolding logout_messages
   among_tells message among = let t = told_from 0 c.clients message among in (t.0, at_number t.0 message t.1)
 
-  pub tells_among : (message : Message) → Tells c out answered message → IsAmong message (logout_messages c out answered)
+  pub tells_among : (message : Message) → Tells c out answered message → Has (logout_messages c out answered) message
   unfolding logout_messages
   tells_among message told =
       let number = told.0 in
@@ -142,7 +143,7 @@ module _ (c : Configuration) (out : SignOut) (answered : List Bool) where
         second = tells_later n client clients b.late k b.second;
       }
 
-  first_and_later : (n : ℕ) (client : Client) (clients : List Client) (m k : Message) → TellsFrom n (client ∷ clients) 0 m → IsAmong k (from (n + 1) clients) → BothFrom n (client ∷ clients) m k
+  first_and_later : (n : ℕ) (client : Client) (clients : List Client) (m k : Message) → TellsFrom n (client ∷ clients) 0 m → Has (from (n + 1) clients) k → BothFrom n (client ∷ clients) m k
   first_and_later n client clients m k first later =
       let t = told_from (n + 1) clients k later in
       record { early = 0; late = suc t.0; order = above_none t.0; first = first; second = tells_later n client clients t.0 k t.1 }
@@ -154,7 +155,7 @@ module _ (c : Configuration) (out : SignOut) (answered : List Bool) where
   both_or_later n client clients [] between after m k true (Some uri) has logout is =
       let first : logout_message c out n uri ≡ m = cc in
       let rest : from (n + 1) clients ≡ between ++ k ∷ after = cc in
-      let later : IsAmong k (from (n + 1) clients) = subst (IsAmong k) (sym rest) (after_others k between (k ∷ after) (inl refl)) in
+      let later : Has (from (n + 1) clients) k = subst (λ (ms : List Message). Has ms k) (sym rest) (after_others k between (k ∷ after) (inl refl)) in
       inl (first_and_later n client clients m k (tells_first n client clients m uri has logout first) later)
   both_or_later n client clients (b ∷ before) between after m k true (Some uri) has logout is =
       let rest : from (n + 1) clients ≡ before ++ m ∷ (between ++ k ∷ after) = cc in

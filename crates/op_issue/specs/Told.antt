@@ -1,6 +1,6 @@
 -- The literal meaning of a message of a sign-out: some client of the registry has a logout URI, the session has logged in to
 -- it, and the message is the one to this client.
-use Rattle.std.specs.Prelude.{◌≡◌, ℕ, Bool, true, List, [], ◌∷◌, Some, ◌⊎◌}
+use Rattle.std.specs.Prelude.{◌≡◌, ℕ, Bool, true, List, Some}
 use Rattle.sso_base.specs.Words.{Text}
 use Rattle.sso_base.specs.declared.message.Message.{Message}
 use Rattle.client_registry.specs.declared.records.Client.{Client}
@@ -22,8 +22,3 @@ pub record TellsAt (c : Configuration) (out : SignOut) (answered : List Bool) (n
 -- the message is the one to some client
 abbrev pub Tells : Configuration → SignOut → List Bool → Message → Type 0
 Tells c out answered message = (number : ℕ) × TellsAt c out answered number message
-
--- the message is one of these
-abbrev pub IsAmong : Message → List Message → Type 0
-IsAmong message [] = ⊥
-IsAmong message (first ∷ messages) = (first ≡ message) ⊎ IsAmong message messages

@@ -1,6 +1,7 @@
 // Laws about logout tokens and the messages of a sign-out, for the crates above.
 
 ghost use Rattle.std.specs.Prelude.{◌≡◌, ◌≤◌, ◌<◌, ◌+◌, ◌^◌, ◌↔◌, ℕ, Bool, List, ◌∷◌, ◌++◌, Ok};
+ghost use Rattle.sso_base.specs.Lists.{Has};
 ghost use Rattle.sso_base.specs.Words.{Word, Text, IsWord};
 ghost use Rattle.sso_base.specs.declared.message.Message.{Message};
 ghost use Rattle.client_registry.specs.Configuration.{Configuration};
@@ -13,7 +14,7 @@ ghost use Rattle.op_issue.specs.declared.sign_out.SignOut.{SignOut};
 ghost use Rattle.op_issue.specs.LogoutTokens.{logout_id, logout_claims, issued_logout};
 ghost use Rattle.op_issue.specs.LogoutMessages.{logout_pairs, logout_messages};
 ghost use Rattle.op_issue.specs.Ending.{MayEnd};
-ghost use Rattle.op_issue.specs.Told.{TellsAt, Tells, IsAmong};
+ghost use Rattle.op_issue.specs.Told.{TellsAt, Tells};
 
 /// Reading an issued logout token under the client's secret returns the sealed claims. The claims are always short enough, and
 /// values of their types. Reading the form of a logout request returns its token.
@@ -42,6 +43,6 @@ pub fn logout_tokens_have_own_identifiers()
 /// A message is sent if and only if it is to a client that the session has logged in to and that has a logout URI. The messages
 /// are in the order of the registry: of any two, the first is to a client with a lower number.
 pub fn messages_tell_answered_clients()
-    ensures told { (c : Configuration) (out : SignOut) (answered : List Bool) (message : Message) → IsAmong message (logout_messages c out answered) ↔ Tells c out answered message }
+    ensures told { (c : Configuration) (out : SignOut) (answered : List Bool) (message : Message) → Has (logout_messages c out answered) message ↔ Tells c out answered message }
     ensures in_order { (c : Configuration) (out : SignOut) (answered : List Bool) (before between after : List Message) (m k : Message) → logout_messages c out answered ≡ before ++ m ∷ (between ++ k ∷ after) → (i : ℕ) × (j : ℕ) × (i < j) × TellsAt c out answered i m × TellsAt c out answered j k }
 {}

@@ -3,11 +3,12 @@ use Rattle.std.proofs.Common.{◌≡◌, inl, inr, ◌≤◌, ◌<◌, ℕ, suc,
 use Rattle.std.proofs.lemmas.Grind.{common_steps}
 use Rattle.std.specs.List.{list_any}
 use Rattle.std.specs.Str.{bytes_eq}
+use Rattle.sso_base.specs.Lists.{Has}
 use Rattle.sso_base.specs.Words.{Text}
 use Rattle.sso_base.proofs.Decided.{above_false}
 use Rattle.sso_base.specs.Texts.{has_text}
 use Rattle.request_params.specs.Form.{Pair}
-use Rattle.request_params.specs.Reading.{value_of, Has, StandsTwice}
+use Rattle.request_params.specs.Reading.{value_of, StandsTwice}
 use Rattle.request_params.proofs.NameLaws.{same_text, text_same}
 use Rattle.request_params.proofs.Values.{has_value, has_its_name, value_there}
 use Rattle.token_endpoint.specs.Granted.{HasNo}

@@ -1,6 +1,7 @@
 -- A login is signed as a user exactly where its form shows that user's password, and a consent is agreed to exactly by `yes`.
 use Rattle.std.proofs.Common.{◌≡◌, inl, inr, ◌↔◌, ℕ, List, [], ◌∷◌, map, Bool, true, false, cond, codes, Option, Some, None, option_and_then, slice_get, refl, sym, ◌∙◌, ap, subst, arith}
 use Rattle.std.specs.Str.{bytes_eq}
+use Rattle.sso_base.specs.Lists.{Has}
 use Rattle.sso_base.specs.Words.{Word, Text, word_text, word_of_text}
 use Rattle.sso_base.specs.declared.http.Ask.{Ask}
 use Rattle.sso_base.proofs.WordTexts.{word_of_text-word_text, word_of_text_some, other_length}
@@ -10,7 +11,6 @@ use Rattle.client_registry.specs.Rules.{user_place}
 use Rattle.client_registry.specs.Configuration.{Configuration}
 use Rattle.client_registry.specs.Registered.{AreApart}
 use Rattle.request_params.specs.Form.{Pair}
-use Rattle.request_params.specs.Reading.{Has}
 use Rattle.request_params.proofs.NameLaws.{same_text, text_same}
 use Rattle.op_exchange.specs.declared.ask.OpAsk.TheVariants.{Login, Consent, Twice}
 use Rattle.op_exchange.specs.Fields.{turn_field, user_field, password_field, agree_field, agree_value}

@@ -3,11 +3,12 @@ use Rattle.std.proofs.Common.{◌≡◌, ◌++◌, length, take, drop, Bool, tru
 use Rattle.std.specs.Str.{bytes_eq}
 use Rattle.std.proofs.lemmas.List.{take-append-drop}
 use Rattle.std.proofs.Math.Seq.{take-append_seam, drop-append_seam}
+use Rattle.sso_base.specs.Lists.{Has}
 use Rattle.sso_base.specs.Words.{Text}
 use Rattle.sso_base.specs.declared.http.Method.{Method}
 use Rattle.sso_base.specs.declared.http.Method.TheVariants.{Get, Post, Other}
 use Rattle.sso_base.specs.declared.http.Ask.{Ask}
-use Rattle.oidc_words.specs.Routes.{Route, endpoint_of, IsListed}
+use Rattle.oidc_words.specs.Routes.{Route, endpoint_of}
 use Rattle.oidc_words.proofs.Routing.{found_listed, listed_found}
 use Rattle.client_registry.specs.Configuration.{Configuration}
 use Rattle.request_params.proofs.NameLaws.{same_text, text_same}
@@ -39,7 +40,7 @@ below_front prefix rest =
 
 -- ---- the listed paths
 
-found : (m : Method) (p : Route Endpoint) → IsListed p (routes_of m) → endpoint_of (routes_of m) p.0 ≡ Some p.1
+found : (m : Method) (p : Route Endpoint) → Has (routes_of m) p → endpoint_of (routes_of m) p.0 ≡ Some p.1
 found Get p h = listed_found get_routes get_routes (refl, (refl, (refl, (refl, tt)))) p h
 found Post p h = listed_found post_routes post_routes (refl, (refl, (refl, (refl, (refl, (refl, tt)))))) p h
 found Other p h = absurd h

@@ -1,8 +1,8 @@
 -- Requests to the provider and their values, stated literally.
 use Rattle.std.specs.Prelude.{◌≡◌, ◌⊎◌, ℕ, false, true, List, [], ◌++◌, Option, Some, None}
+use Rattle.sso_base.specs.Lists.{Has}
 use Rattle.sso_base.specs.Words.{Word, Text, IsWord, word_text}
 use Rattle.sso_base.specs.declared.http.Ask.{Ask}
-use Rattle.oidc_words.specs.Routes.{IsListed}
 use Rattle.hmac256.specs.Hmac.{proof_of}
 use Rattle.sso_base.specs.Texts.{has_text}
 use Rattle.client_registry.specs.declared.records.User.{User}
@@ -11,7 +11,7 @@ use Rattle.client_registry.specs.Configuration.{Configuration}
 use Rattle.client_registry.specs.Numbers.{user_at, client_at}
 use Rattle.request_params.specs.declared.params.Params.{Params}
 use Rattle.request_params.specs.Form.{Pair, form_of}
-use Rattle.request_params.specs.Reading.{kept_pairs, Has, HasRequest, RepeatsFirst, StandsTwice}
+use Rattle.request_params.specs.Reading.{kept_pairs, HasRequest, RepeatsFirst, StandsTwice}
 use Rattle.request_params.specs.Merging.{IsMerged}
 use Rattle.auth_request.specs.declared.wish.Wish.{Wish}
 use Rattle.auth_request.specs.declared.wish.Verdict.TheVariants.{Grant}
@@ -32,7 +32,7 @@ use Rattle.op_request.specs.PostedForms.{login_names, consent_names, fields_of}
 pub record IsTo (c : Configuration) (request : Ask) (e : Endpoint) : Type 0 where
   pub rest : Text
   pub path : request.path ≡ c.prefix ++ rest
-  pub listed : IsListed (rest, e) (routes_of request.method)
+  pub listed : Has (routes_of request.method) (rest, e)
 
 -- the endpoint to which a value belongs, except `Twice`
 abbrev pub own_endpoint : OpAsk → Option Endpoint

@@ -1,6 +1,7 @@
 // Laws about the values that requests produce.
 
 ghost use Rattle.std.specs.Prelude.{◌≡◌, ◌↔◌, ℕ, Bool, true, false, Option, Some};
+ghost use Rattle.sso_base.specs.Lists.{Has};
 ghost use Rattle.sso_base.specs.Words.{Word, Text, word_of_text};
 ghost use Rattle.sso_base.specs.declared.http.Ask.{Ask};
 ghost use Rattle.client_registry.specs.declared.records.Client.{Client};
@@ -8,7 +9,7 @@ ghost use Rattle.client_registry.specs.Configuration.{Configuration};
 ghost use Rattle.client_registry.specs.Numbers.{client_at};
 ghost use Rattle.client_registry.specs.Registered.{IsRegistry};
 ghost use Rattle.request_params.specs.declared.params.Params.{Params};
-ghost use Rattle.request_params.specs.Reading.{Has, HasRequest};
+ghost use Rattle.request_params.specs.Reading.{HasRequest};
 ghost use Rattle.request_params.specs.Merging.{IsMerged};
 ghost use Rattle.request_params.specs.Form.{form_of};
 ghost use Rattle.auth_request.specs.declared.wish.Wish.{Wish};

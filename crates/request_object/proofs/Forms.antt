@@ -1,15 +1,16 @@
 -- A claim that is a string, or has its text in another form.
 use Rattle.std.proofs.Common.{◌≡◌, inl, inr, ℕ, List, Option, Some, None, option_map, option_and_then, Ok, Err, refl, sym, ap, ◌∙◌}
+use Rattle.std.specs.Option.{option_or}
 use Rattle.serde_json.specs.Data.{Data, null, boolean, number, string, array, object}
 use Rattle.serde_json.specs.Find.{as_str}
 use Rattle.claim_set.specs.Kinds.{of_kind, kind_found}
 use Rattle.claim_set.specs.declared.no.ClaimNo.{ClaimNo}
-use Rattle.request_object.specs.Reading.{digits_in, object_text, either, text_or}
+use Rattle.request_object.specs.Reading.{digits_in, object_text, text_or}
 use Rattle.request_object.specs.Object.{StandsAs}
 
 -- ---- what is found where it is no string
 
-found_text : (name : List ℕ) (q r v : Option (List ℕ)) → kind_found name q ≡ Ok v → kind_found name (either q r) ≡ Ok v
+found_text : (name : List ℕ) (q r v : Option (List ℕ)) → kind_found name q ≡ Ok v → kind_found name (option_or q r) ≡ Ok v
 found_text name None r v h = absurd (cc)
 found_text name (Some s) r v h = h
 
@@ -17,7 +18,7 @@ pub a_string : (other : Data → Option (List ℕ)) (name : List ℕ) (o : Optio
 a_string other name None v h = h
 a_string other name (Some d) v h = found_text name (as_str d) (other d) v h
 
-found_other : (name s : List ℕ) (q r : Option (List ℕ)) (e : ClaimNo) → kind_found name q ≡ Err e → r ≡ Some s → kind_found name (either q r) ≡ Ok (Some s)
+found_other : (name s : List ℕ) (q r : Option (List ℕ)) (e : ClaimNo) → kind_found name q ≡ Err e → r ≡ Some s → kind_found name (option_or q r) ≡ Ok (Some s)
 found_other name s None r e h is = rw (is) refl
 found_other name s (Some t) r e h is = absurd (cc)
 
@@ -25,7 +26,7 @@ pub another_form : (other : Data → Option (List ℕ)) (name s : List ℕ) (o :
 another_form other name s None e h is = absurd (cc)
 another_form other name s (Some d) e h is = found_other name s (as_str d) (other d) e h is
 
-found_none : (name : List ℕ) (q r : Option (List ℕ)) (e : ClaimNo) → kind_found name q ≡ Err e → r ≡ None → kind_found name (either q r) ≡ Err e
+found_none : (name : List ℕ) (q r : Option (List ℕ)) (e : ClaimNo) → kind_found name q ≡ Err e → r ≡ None → kind_found name (option_or q r) ≡ Err e
 found_none name None r e h is = rw (is) h
 found_none name (Some t) r e h is = absurd (cc)
 

@@ -1,40 +1,35 @@
 -- A text is read exactly where it is a request object, and one that is none is refused for the first reason.
-use Rattle.std.proofs.Common.{◌≡◌, ℕ, List, Result, Ok, Err, IsOk, IfOk, IfErr, ◌⊎◌, inl, inr, refl, ◌∙◌}
+use Rattle.std.proofs.Common.{◌≡◌, ℕ, List, Result, Ok, Err, IsOk, IfOk, IfErr, ◌⊎◌, ◌∙◌}
 use Rattle.serde_json.specs.Data.{Members}
-use Rattle.sso_base.specs.Refusals.{first_refusal}
+use Rattle.sso_base.specs.Refusals.{first_refusal, and_then_as}
+use Rattle.sso_base.proofs.Refusals.{and_then_as_ok}
+use Rattle.sso_base.proofs.Answering.{if_answered, only_memory}
 use Rattle.claim_set.specs.Reading.{Reads, claims_read}
 use Rattle.claim_set.specs.declared.no.ClaimNo.{ClaimNo}
 use Rattle.claim_set.proofs.Parsing.{read_reads, reads_read}
 use Rattle.jws_compact.specs.declared.no.JwsNo.{JwsNo}
-use Rattle.jws_compact.specs.declared.unsealing.Unsealed.{Unsealed}
 use Rattle.jws_compact.specs.Jws.{Sealed, verdict}
 use Rattle.jws_compact.proofs.Opening.{verdict_sealed, sealed_verdict}
 use Rattle.client_registry.specs.declared.records.Client.{Client}
 use Rattle.request_params.specs.declared.params.Params.{Params}
 use Rattle.request_object.specs.declared.no.ObjNo.{ObjNo}
 use Rattle.request_object.specs.declared.no.ObjNo.TheVariants.{NoMemory, Jws, Claims}
-use Rattle.request_object.specs.Reading.{request_of, request_read, if_claims, if_opened}
+use Rattle.request_object.specs.Reading.{request_of, request_read}
 use Rattle.request_object.specs.Object.{IsRequestObject, request_refusals}
 use Rattle.request_object.proofs.Standing.{request_of-has, has-request_of}
 use Rattle.request_object.proofs.Refused.{request_of-refused, request_of-accepted}
 
 module _ (client : Client) (issuer : List ℕ) where
-  opened_claims : (t : List ℕ) (p : Params) (u : Unsealed) → verdict client.secret t ≡ Ok u → (r : Result Members ClaimNo) → claims_read u.payload ≡ r → if_claims client issuer r ≡ Ok p → IsRequestObject client issuer t p
-  opened_claims t p u is (Err e) reads h = absurd (cc)
-  opened_claims t p u is (Ok ms) reads h =
-      let opens = verdict_sealed client.secret t u is in
-      record { header = opens.0; payload = u.payload; claims = ms; sealed = opens.1; reads = read_reads u.payload ms reads; has = has-request_of client issuer ms p h }
-
-  read_at : (t : List ℕ) (p : Params) (r : Result Unsealed JwsNo) → verdict client.secret t ≡ r → if_opened client issuer r ≡ Ok p → IsRequestObject client issuer t p
-  read_at t p (Ok u) is h = opened_claims t p u is (claims_read u.payload) refl h
-  read_at t p (Err e) is h = absurd (cc)
-
   pub request_read-object : (t : List ℕ) (p : Params) → request_read client issuer t ≡ Ok p → IsRequestObject client issuer t p
   unfolding request_read
-  request_read-object t p h = read_at t p (verdict client.secret t) refl h
+  request_read-object t p h =
+      let u = and_then_as_ok Jws (verdict client.secret t) _ p h in
+      let ms = and_then_as_ok Claims (claims_read u.0.payload) (request_of client issuer) p u.2 in
+      let opens = verdict_sealed client.secret t u.0 u.1 in
+      record { header = opens.0; payload = u.0.payload; claims = ms.0; sealed = opens.1; reads = read_reads u.0.payload ms.0 ms.1; has = has-request_of client issuer ms.0 p ms.2 }
 
   -- what is read of a sealed text, and of the claims in it
-  sealed_read : (h p t : List ℕ) → Sealed client.secret h p t → request_read client issuer t ≡ if_claims client issuer (claims_read p)
+  sealed_read : (h p t : List ℕ) → Sealed client.secret h p t → request_read client issuer t ≡ and_then_as Claims (claims_read p) (request_of client issuer)
   unfolding request_read
   sealed_read h p t s = rw (sealed_verdict client.secret h p t s)
 
@@ -60,13 +55,7 @@ module _ (client : Client) (issuer : List ℕ) where
   -- ---- what the call answers
 
   pub answered_object : (t : List ℕ) (r : Result Params ObjNo) → IfOk r (λ p. request_read client issuer t ≡ Ok p) → IfOk r (λ p. IsRequestObject client issuer t p)
-  answered_object t (Ok p) h = request_read-object t p h
-  answered_object t (Err e) h = tt
-
-  no_refusal : (e : ObjNo) (r : Result Params ObjNo) (p : Params) → r ≡ Ok p → (e ≡ NoMemory) ⊎ (r ≡ Err e) → e ≡ NoMemory
-  no_refusal e r p is (inl h) = h
-  no_refusal e r p is (inr h) = absurd (cc)
+  answered_object t r h = if_answered (request_read client issuer t) (IsRequestObject client issuer t) (request_read-object t) r h
 
   pub accepts_object : (t : List ℕ) (r : Result Params ObjNo) → IfErr r (λ e. (e ≡ NoMemory) ⊎ (request_read client issuer t ≡ Err e)) → (p : Params) → IsRequestObject client issuer t p → IfErr r (λ e. e ≡ NoMemory)
-  accepts_object t (Ok q) h p object = tt
-  accepts_object t (Err e) h p object = no_refusal e (request_read client issuer t) p (object-request_read t p object) h
+  accepts_object t r h p object = only_memory NoMemory (request_read client issuer t) p (object-request_read t p object) r h

@@ -2,7 +2,8 @@
 use Rattle.std.proofs.Common.{◌≡◌, ℕ, drop, List, ◌∷◌, Bool, true, false, ◌||◌, Option, Some, None, option_and_then, is_some, Result, Ok, Err, IsOk, codes, refl, ap, ◌∙◌}
 use Rattle.serde_json.specs.Data.{Data, Members}
 use Rattle.serde_json.specs.Find.{get_member, as_str}
-use Rattle.sso_base.specs.Refusals.{first_refusal, and_then, forbid}
+use Rattle.sso_base.specs.Refusals.{first_refusal, and_then, and_then_as, forbid}
+use Rattle.sso_base.specs.Texts.{is_other}
 use Rattle.claim_set.specs.Kinds.{of_kind, kind_found, data_texts}
 use Rattle.claim_set.specs.declared.no.ClaimNo.{ClaimNo}
 use Rattle.claim_set.proofs.KindLaws.{is_there, after_kind, refused_of, is_refused, is_accepted}
@@ -10,9 +11,10 @@ use Rattle.client_registry.specs.declared.records.Client.{Client}
 use Rattle.request_params.specs.declared.params.Params.{Params}
 use Rattle.request_object.specs.declared.raw.FirstClaims.{FirstClaims}
 use Rattle.request_object.specs.declared.raw.LastClaims.{LastClaims}
+use Rattle.request_object.specs.declared.raw.RawRequest.{RawRequest}
 use Rattle.request_object.specs.declared.no.ObjNo.{ObjNo}
 use Rattle.request_object.specs.declared.no.ObjNo.TheVariants.{Claims, Issuer, Audience, Nested}
-use Rattle.request_object.specs.Reading.{digits_in, object_text, text_or, first_in, last_in, is_other, lacks, judged, if_raw, request_of}
+use Rattle.request_object.specs.Reading.{digits_in, object_text, text_or, first_in, last_in, lacks, judged, request_of}
 use Rattle.request_object.specs.Object.{request_refusals}
 
 after_test : (e : ObjNo) (b c : Bool) (r : Result Params ObjNo) (cs : List (Bool × ObjNo)) → b ≡ c → refused_of r ≡ first_refusal cs → refused_of (forbid e b r) ≡ first_refusal ((c, e) ∷ cs)
@@ -33,13 +35,16 @@ is_of_kind name kind (Some d) v h = found_as name (kind d) v h
 either_there : {A B : Type 0} (a b : Option A) (o q : Option B) → is_some a ≡ is_some o → is_some b ≡ is_some q → (is_some a || is_some b) ≡ (is_some o || is_some q)
 either_there a b o q h g = rw (h, g) refl
 
+abbrev judged_if_read : Client → List ℕ → Result RawRequest ClaimNo → Result Params ObjNo
+judged_if_read client issuer r = and_then_as Claims r (judged client issuer)
+
 refusals_of : (client : Client) (issuer : List ℕ) (ms : Members) → refused_of (request_of client issuer ms) ≡ first_refusal (request_refusals client issuer ms)
 unfolding request_of first_in last_in judged
 refusals_of client issuer ms =
     let left : ℕ → List (Bool × ObjNo) = λ n. drop n (request_refusals client issuer ms) in
     let at : List ℕ → Option Data = λ name. get_member name ms in
-    let g : Result FirstClaims ClaimNo → Result (Unit {0}) ObjNo = λ r. refused_of (if_raw client issuer (and_then r (λ first. and_then (last_in ms) (λ last. Ok (record { first = first; last = last }))))) in
-    let k : FirstClaims → Result LastClaims ClaimNo → Result (Unit {0}) ObjNo = λ first r. refused_of (if_raw client issuer (and_then r (λ last. Ok (record { first = first; last = last })))) in
+    let g : Result FirstClaims ClaimNo → Result (Unit {0}) ObjNo = λ r. refused_of (judged_if_read client issuer (and_then r (λ first. and_then (last_in ms) (λ last. Ok (record { first = first; last = last }))))) in
+    let k : FirstClaims → Result LastClaims ClaimNo → Result (Unit {0}) ObjNo = λ first r. refused_of (judged_if_read client issuer (and_then r (λ last. Ok (record { first = first; last = last })))) in
     after_kind (codes "aud") data_texts (at (codes "aud")) _ g Claims (left 1) (λ e. refl) (λ aud h1.
     after_kind (codes "claims") (text_or object_text) (at (codes "claims")) _ g Claims (left 2) (λ e. refl) (λ claims h2.
     after_kind (codes "client_id") as_str (at (codes "client_id")) _ g Claims (left 3) (λ e. refl) (λ client_id h3.

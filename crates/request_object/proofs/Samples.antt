@@ -23,7 +23,7 @@ use Rattle.request_object.specs.declared.no.ObjNo.{ObjNo}
 use Rattle.request_object.specs.declared.no.ObjNo.TheVariants.{Jws, Claims, Issuer, Audience, Nested}
 use Rattle.request_object.specs.Request.{request_members, request_text}
 use Rattle.request_object.specs.Sealing.{IsSealable, HasTexts}
-use Rattle.request_object.specs.Reading.{digits_in, object_text, text_or, is_other, lacks, first_in, last_in, judged, request_of, request_read, hides_memory}
+use Rattle.request_object.specs.Reading.{digits_in, object_text, text_or, lacks, first_in, last_in, judged, request_of, request_read, hides_memory}
 use Rattle.request_object.specs.Object.{IsFor, StandsAs, HasRequest, IsRequestObject, request_refusals}
 use Rattle.request_object.proofs.Standing.{has-request_of}
 use Rattle.request_object.proofs.Objects.{request_read-object, object-request_read, unread, refused as refused_first}
@@ -99,13 +99,7 @@ a_number_stands_as_its_digits = inr refl
 a_number_is_not_absent : StandsAs digits_in (Some (number (unsigned 10))) None → ⊥
 a_number_is_not_absent h = h
 
--- ---- the issuer and the audience
-
-another_issuer : is_other (codes "c") (Some (codes "i")) ≡ true
-another_issuer = refl
-
-no_issuer : is_other (codes "c") None ≡ false
-no_issuer = refl
+-- ---- the audience
 
 in_the_audience : lacks (codes "i") (Some (codes "x" ∷ codes "i" ∷ [])) ≡ false
 in_the_audience = refl

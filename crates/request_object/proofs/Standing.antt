@@ -1,10 +1,10 @@
 -- What is read is exactly what stands in the claim set.
-use Rattle.std.proofs.Common.{◌≡◌, ℕ, List, false, ◌||◌, Option, Some, None, option_map, option_and_then, is_some, Result, Ok, Err, codes, refl, ap, ◌∙◌}
+use Rattle.std.proofs.Common.{◌≡◌, ℕ, List, false, ◌||◌, Option, Some, None, option_map, option_and_then, is_some, Ok, codes, refl, ap, ◌∙◌}
 use Rattle.std.specs.Prelude.{IfSome}
 use Rattle.serde_json.specs.Data.{Data, Members, string}
 use Rattle.serde_json.specs.Find.{get_member, as_str}
-use Rattle.sso_base.proofs.Refusals.{and_then_ok, forbid_ok}
-use Rattle.sso_base.specs.Texts.{has_text}
+use Rattle.sso_base.proofs.Refusals.{and_then_ok, and_then_as_ok, forbid_ok, holds_as}
+use Rattle.sso_base.specs.Texts.{has_text, is_other}
 use Rattle.sso_base.proofs.Decided.{not_not, same, are_same}
 use Rattle.claim_set.specs.Kinds.{of_kind, kind_found, data_texts, text_claim, texts_claim}
 use Rattle.claim_set.specs.declared.no.ClaimNo.{ClaimNo}
@@ -15,7 +15,8 @@ use Rattle.request_object.specs.declared.raw.FirstClaims.{FirstClaims}
 use Rattle.request_object.specs.declared.raw.LastClaims.{LastClaims}
 use Rattle.request_object.specs.declared.raw.RawRequest.{RawRequest}
 use Rattle.request_object.specs.declared.no.ObjNo.{ObjNo}
-use Rattle.request_object.specs.Reading.{digits_in, object_text, age_claim, claims_claim, first_in, last_in, raw_in, is_other, lacks, judged, if_raw, request_of}
+use Rattle.request_object.specs.declared.no.ObjNo.TheVariants.{Claims}
+use Rattle.request_object.specs.Reading.{digits_in, object_text, age_claim, claims_claim, first_in, last_in, raw_in, lacks, judged, request_of}
 use Rattle.request_object.specs.Object.{IsFor, HasRequest}
 use Rattle.request_object.proofs.Forms.{no_digits, no_object, read_form, stands_form}
 
@@ -150,15 +151,6 @@ record HasLast (ms : Members) (r : LastClaims) : Type 0 where
   scope : get_member (codes "scope") ms ≡ option_map string r.scope
   state : get_member (codes "state") ms ≡ option_map string r.state
 
-abbrev first_ok : FirstClaims → Result FirstClaims ClaimNo
-first_ok r = Ok r
-
-ok_first : (a b : FirstClaims) → first_ok a ≡ first_ok b → a ≡ b
-ok_first a b h = cc
-
-same_first : (ms : Members) (a b : FirstClaims) → a ≡ b → HasFirst ms a → HasFirst ms b
-same_first ms a b h has = rw (h) at has
-
 first_stands : (ms : Members) (r : FirstClaims) → first_in ms ≡ Ok r → HasFirst ms r
 unfolding first_in
 first_stands ms r h =
@@ -169,7 +161,7 @@ first_stands ms r h =
     let max_age = and_then_ok (age_claim ms) _ r iss.2 in
     let nonce = and_then_ok (text_claim (codes "nonce") ms) _ r max_age.2 in
     let prompt = and_then_ok (text_claim (codes "prompt") ms) _ r nonce.2 in
-    same_first ms _ r (ok_first _ r prompt.2) (record {
+    holds_as ClaimNo (HasFirst ms) _ r prompt.2 (record {
       aud = aud.1;
       claims = claims.1;
       client_id = text_there ms (codes "client_id") client_id.0 client_id.1;
@@ -178,15 +170,6 @@ first_stands ms r h =
       nonce = text_there ms (codes "nonce") nonce.0 nonce.1;
       prompt = text_there ms (codes "prompt") prompt.0 prompt.1;
     })
-
-abbrev last_ok : LastClaims → Result LastClaims ClaimNo
-last_ok r = Ok r
-
-ok_last : (a b : LastClaims) → last_ok a ≡ last_ok b → a ≡ b
-ok_last a b h = cc
-
-same_last : (ms : Members) (a b : LastClaims) → a ≡ b → HasLast ms a → HasLast ms b
-same_last ms a b h has = rw (h) at has
 
 last_stands : (ms : Members) (r : LastClaims) → last_in ms ≡ Ok r → HasLast ms r
 unfolding last_in
@@ -199,7 +182,7 @@ last_stands ms r h =
     let response_type = and_then_ok (text_claim (codes "response_type") ms) _ r response_mode.2 in
     let scope = and_then_ok (text_claim (codes "scope") ms) _ r response_type.2 in
     let state = and_then_ok (text_claim (codes "state") ms) _ r scope.2 in
-    same_last ms _ r (ok_last _ r state.2) (record {
+    holds_as ClaimNo (HasLast ms) _ r state.2 (record {
       redirect_uri = text_there ms (codes "redirect_uri") redirect_uri.0 redirect_uri.1;
       registration = text_there ms (codes "registration") registration.0 registration.1;
       request = text_there ms (codes "request") request.0 request.1;
@@ -210,38 +193,24 @@ last_stands ms r h =
       state = text_there ms (codes "state") state.0 state.1;
     })
 
-abbrev raw_ok : RawRequest → Result RawRequest ClaimNo
-raw_ok r = Ok r
+-- both halves of the claims
+abbrev HasRaw : Members → RawRequest → Type 0
+HasRaw ms r = HasFirst ms r.first × HasLast ms r.last
 
-ok_raw : (a b : RawRequest) → raw_ok a ≡ raw_ok b → a ≡ b
-ok_raw a b h = cc
-
-same_raw : (ms : Members) (a b : RawRequest) → a ≡ b → HasFirst ms a.first × HasLast ms a.last → HasFirst ms b.first × HasLast ms b.last
-same_raw ms a b h has = rw (h) at has
-
-raw_stands : (ms : Members) (r : RawRequest) → raw_in ms ≡ Ok r → HasFirst ms r.first × HasLast ms r.last
+raw_stands : (ms : Members) (r : RawRequest) → raw_in ms ≡ Ok r → HasRaw ms r
 raw_stands ms r h =
     let first = and_then_ok (first_in ms) _ r h in
     let last = and_then_ok (last_in ms) _ r first.2 in
-    same_raw ms _ r (ok_raw _ r last.2) (first_stands ms first.0 first.1, last_stands ms last.0 last.1)
+    holds_as ClaimNo (HasRaw ms) _ r last.2 (first_stands ms first.0 first.1, last_stands ms last.0 last.1)
 
-abbrev params_ok : Params → Result Params ObjNo
-params_ok p = Ok p
-
-ok_params : (a b : Params) → params_ok a ≡ params_ok b → a ≡ b
-ok_params a b h = cc
-
-same_params : (client : Client) (issuer : List ℕ) (ms : Members) (a b : Params) → a ≡ b → HasRequest client issuer ms a → HasRequest client issuer ms b
-same_params client issuer ms a b h has = rw (h) at has
-
-judged_stands : (client : Client) (issuer : List ℕ) (ms : Members) (r : RawRequest) (p : Params) → HasFirst ms r.first × HasLast ms r.last → judged client issuer r ≡ Ok p → HasRequest client issuer ms p
+judged_stands : (client : Client) (issuer : List ℕ) (ms : Members) (r : RawRequest) (p : Params) → HasRaw ms r → judged client issuer r ≡ Ok p → HasRequest client issuer ms p
 unfolding judged
 judged_stands client issuer ms r p raw h =
     let iss = forbid_ok _ (is_other client.id r.first.iss) _ p h in
     let aud = forbid_ok _ (lacks issuer r.first.aud) _ p iss.1 in
     let nested = forbid_ok _ (is_some r.last.request || is_some r.last.request_uri) _ p aud.1 in
     let none = neither r.last.request r.last.request_uri nested.0 in
-    same_params client issuer ms _ p (ok_params _ p nested.1) (record {
+    holds_as ObjNo (HasRequest client issuer ms) _ p nested.1 (record {
       from_client = iss_stands client.id r.first.iss (get_member (codes "iss") ms) raw.0.iss iss.0;
       for_issuer = aud_stands (codes "aud") issuer (get_member (codes "aud") ms) r.first.aud raw.0.aud aud.0;
       response_type = raw.1.response_type;
@@ -261,10 +230,8 @@ judged_stands client issuer ms r p raw h =
       request_uri = none.1;
     })
 
-request_stands : (client : Client) (issuer : List ℕ) (ms : Members) (p : Params) (r : Result RawRequest ClaimNo) → raw_in ms ≡ r → if_raw client issuer r ≡ Ok p → HasRequest client issuer ms p
-request_stands client issuer ms p (Ok r) is h = judged_stands client issuer ms r p (raw_stands ms r is) h
-request_stands client issuer ms p (Err e) is h = absurd (cc)
-
 pub has-request_of : (client : Client) (issuer : List ℕ) (ms : Members) (p : Params) → request_of client issuer ms ≡ Ok p → HasRequest client issuer ms p
 unfolding request_of
-has-request_of client issuer ms p h = request_stands client issuer ms p (raw_in ms) refl h
+has-request_of client issuer ms p h =
+    let raw = and_then_as_ok Claims (raw_in ms) (judged client issuer) p h in
+    judged_stands client issuer ms raw.0 p (raw_stands ms raw.0 raw.1) raw.2

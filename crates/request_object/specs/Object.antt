@@ -1,7 +1,7 @@
 -- What a request object is, in the standard's words: a sealed claim set that contains the parameters of an authorization
 -- request (OpenID Connect Core 1.0, 6.1). Then the errors for other texts, in order.
 use Rattle.std.specs.Prelude.{◌≡◌, ◌⊎◌, ℕ, List, [], ◌∷◌, Bool, ◌||◌, Option, Some, None, option_map, option_and_then, is_some, codes, IsTrue, IfSome}
-use Rattle.sso_base.specs.Texts.{has_text}
+use Rattle.sso_base.specs.Texts.{has_text, is_other}
 use Rattle.serde_json.specs.Data.{Data, string, Members}
 use Rattle.serde_json.specs.Find.{get_member, as_str}
 use Rattle.claim_set.specs.Kinds.{data_texts, another_kind}
@@ -11,7 +11,7 @@ use Rattle.client_registry.specs.declared.records.Client.{Client}
 use Rattle.request_params.specs.declared.params.Params.{Params}
 use Rattle.request_object.specs.declared.no.ObjNo.{ObjNo}
 use Rattle.request_object.specs.declared.no.ObjNo.TheVariants.{Claims, Issuer, Audience, Nested}
-use Rattle.request_object.specs.Reading.{digits_in, object_text, text_or, is_other, lacks}
+use Rattle.request_object.specs.Reading.{digits_in, object_text, text_or, lacks}
 
 -- the value is this string, or an array of strings that contains it (RFC 7519, 4.1.3)
 abbrev pub IsFor : List ℕ → Data → Type 0

@@ -1,15 +1,14 @@
 -- The parameters in a request object, or why it is rejected (OpenID Connect Core 1.0, 6.1 and 6.3).
-use Rattle.std.specs.Prelude.{ℕ, List, Bool, true, false, not, ◌||◌, Option, Some, None, option_map, is_some, Result, Ok, Err, codes, decimal}
-use Rattle.std.specs.Str.{bytes_eq}
+use Rattle.std.specs.Prelude.{ℕ, List, Bool, true, false, not, ◌||◌, Option, Some, None, option_map, is_some, Result, Ok, codes, decimal}
+use Rattle.std.specs.Option.{option_or}
 use Rattle.serde_json.specs.Data.{Data, Members}
 use Rattle.serde_json.specs.Find.{get_member, as_str, as_object}
-use Rattle.sso_base.specs.Refusals.{and_then, forbid}
-use Rattle.sso_base.specs.Texts.{has_text}
+use Rattle.sso_base.specs.Refusals.{and_then, and_then_as, forbid}
+use Rattle.sso_base.specs.Texts.{has_text, is_other}
 use Rattle.claim_set.specs.Kinds.{of_kind, small_number, text_claim, texts_claim}
 use Rattle.claim_set.specs.Reading.{claims_read, claims_text}
 use Rattle.claim_set.specs.declared.no.ClaimNo.{ClaimNo}
 use Rattle.claim_set.specs.declared.no.ClaimNo.TheVariants as claims
-use Rattle.jws_compact.specs.declared.no.JwsNo.{JwsNo}
 use Rattle.jws_compact.specs.declared.no.JwsNo.TheVariants as jws
 use Rattle.jws_compact.specs.declared.unsealing.Unsealed.{Unsealed}
 use Rattle.jws_compact.specs.Jws.{verdict}
@@ -19,7 +18,7 @@ use Rattle.request_object.specs.declared.raw.FirstClaims.{FirstClaims}
 use Rattle.request_object.specs.declared.raw.LastClaims.{LastClaims}
 use Rattle.request_object.specs.declared.raw.RawRequest.{RawRequest}
 use Rattle.request_object.specs.declared.no.ObjNo.{ObjNo}
-use Rattle.request_object.specs.declared.no.ObjNo.TheVariants.{NoMemory, Jws, Claims, Issuer, Audience, Nested}
+use Rattle.request_object.specs.declared.no.ObjNo.TheVariants.{Jws, Claims, Issuer, Audience, Nested}
 
 -- ---- the claims, each of its kind
 
@@ -30,13 +29,9 @@ digits_in d = option_map decimal (small_number d)
 abbrev pub object_text : Data → Option (List ℕ)
 object_text d = option_map claims_text (as_object d)
 
-abbrev pub either : Option (List ℕ) → Option (List ℕ) → Option (List ℕ)
-either (Some s) o = Some s
-either None o = o
-
 -- a string is its own text; another value may have a text in another form
 abbrev pub text_or : (Data → Option (List ℕ)) → Data → Option (List ℕ)
-text_or other d = either (as_str d) (other d)
+text_or other d = option_or (as_str d) (other d)
 
 -- `max_age`, a string or a number (OpenID Connect Core 1.0, 6.1, has it as a number)
 abbrev pub age_claim : Members → Result (Option (List ℕ)) ClaimNo
@@ -75,11 +70,6 @@ raw_in ms = and_then (first_in ms) (λ first. and_then (last_in ms) (λ last. Ok
 
 -- ---- the errors, in order
 
--- the text is present, and differs from this one
-abbrev pub is_other : List ℕ → Option (List ℕ) → Bool
-is_other t None = false
-is_other t (Some s) = not (bytes_eq s t)
-
 -- the texts are present, and the text is not among them
 abbrev pub lacks : List ℕ → Option (List (List ℕ)) → Bool
 lacks t None = false
@@ -107,37 +97,17 @@ judged client issuer r =
       registration = r.last.registration;
     }))))
 
-abbrev pub if_raw : Client → List ℕ → Result RawRequest ClaimNo → Result Params ObjNo
-if_raw client issuer (Ok r) = judged client issuer r
-if_raw client issuer (Err e) = Err (Claims e)
-
 -- the parameters in a claim set
 unfoldable pub request_of : Client → List ℕ → Members → Result Params ObjNo
-request_of client issuer ms = if_raw client issuer (raw_in ms)
-
-abbrev pub if_claims : Client → List ℕ → Result Members ClaimNo → Result Params ObjNo
-if_claims client issuer (Ok ms) = request_of client issuer ms
-if_claims client issuer (Err e) = Err (Claims e)
-
-abbrev pub if_opened : Client → List ℕ → Result Unsealed JwsNo → Result Params ObjNo
-if_opened client issuer (Ok o) = if_claims client issuer (claims_read o.payload)
-if_opened client issuer (Err e) = Err (Jws e)
+request_of client issuer ms = and_then_as Claims (raw_in ms) (judged client issuer)
 
 -- the parameters in a text as a request object of the client for the issuer, or the first error that applies
 unfoldable pub request_read : Client → List ℕ → List ℕ → Result Params ObjNo
-request_read client issuer t = if_opened client issuer (verdict client.secret t)
+request_read client issuer t =
+    and_then_as Jws (verdict client.secret t) (λ (o : Unsealed). and_then_as Claims (claims_read o.payload) (request_of client issuer))
 
 -- `NoMemory` is wrapped in another error
 abbrev pub hides_memory : ObjNo → Bool
 hides_memory (Jws jws.NoMemory) = true
 hides_memory (Claims claims.NoMemory) = true
 hides_memory e = false
-
--- an error of a sealed text or of claims, as an error of the request object; `NoMemory` stays `NoMemory`
-abbrev pub as_jws : JwsNo → ObjNo
-as_jws jws.NoMemory = NoMemory
-as_jws e = Jws e
-
-abbrev pub as_claims : ClaimNo → ObjNo
-as_claims claims.NoMemory = NoMemory
-as_claims e = Claims e

@@ -1,16 +1,13 @@
 -- Writing a request object: the parameters of an authorization request as claims, issued by the client for the provider (OpenID
 -- Connect Core 1.0, 6.1). It has no `request`, no `request_uri` and no `registration`.
-use Rattle.std.specs.Prelude.{ℕ, List, [], ◌∷◌, ◌++◌, Option, Some, option_map, codes}
+use Rattle.std.specs.Prelude.{ℕ, List, [], ◌∷◌, ◌++◌, Some, codes}
 use Rattle.serde_json.specs.Data.{string, Members, no_members}
-use Rattle.claim_set.specs.Building.{Entry, put_all}
+use Rattle.claim_set.specs.Building.{Entry, text_entry, put_all}
 use Rattle.claim_set.specs.Reading.{claims_text}
 use Rattle.jws_compact.specs.declared.sealing.Typ.TheVariants.{Jwt}
 use Rattle.jws_compact.specs.Jws.{seal_text}
 use Rattle.client_registry.specs.declared.records.Client.{Client}
 use Rattle.request_params.specs.declared.params.Params.{Params}
-
-abbrev pub text_entry : List ℕ → Option (List ℕ) → Entry
-text_entry name o = (name, option_map string o)
 
 -- the claims, by name, in the order of their names
 abbrev pub first_entries : Client → List ℕ → Params → List Entry

@@ -37,9 +37,11 @@ impl From<NoMemory> for ObjNo {
 
 impl From<JwsNo> for ObjNo {
     ghost use Rattle.std.specs.Prelude.{◌≡◌, IsFalse};
-    ghost use Rattle.request_object.specs.Reading.{as_jws, hides_memory};
+    ghost use Rattle.jws_compact.specs.Wrapped.{as_jws};
+    ghost use Rattle.request_object.specs.declared.no.ObjNo.TheVariants as no;
+    ghost use Rattle.request_object.specs.Reading.{hides_memory};
 
-    ghost from_gives = { λ given e. (e ≡ as_jws given) × IsFalse (hides_memory e) };
+    ghost from_gives = { λ given e. (e ≡ as_jws no.NoMemory no.Jws given) × IsFalse (hides_memory e) };
 
     // An error of a sealed text, as an error of the request object.
     fn from(error: JwsNo) -> ObjNo {
@@ -52,9 +54,11 @@ impl From<JwsNo> for ObjNo {
 
 impl From<ClaimNo> for ObjNo {
     ghost use Rattle.std.specs.Prelude.{◌≡◌, IsFalse};
-    ghost use Rattle.request_object.specs.Reading.{as_claims, hides_memory};
+    ghost use Rattle.claim_set.specs.Wrapped.{as_claims};
+    ghost use Rattle.request_object.specs.declared.no.ObjNo.TheVariants as no;
+    ghost use Rattle.request_object.specs.Reading.{hides_memory};
 
-    ghost from_gives = { λ given e. (e ≡ as_claims given) × IsFalse (hides_memory e) };
+    ghost from_gives = { λ given e. (e ≡ as_claims no.NoMemory no.Claims given) × IsFalse (hides_memory e) };
 
     // An error of claims, as an error of the request object.
     fn from(error: ClaimNo) -> ObjNo {

@@ -1,9 +1,10 @@
 // Reading a request object, or rejecting a text for the first reason that applies.
 
 ghost use Rattle.std.specs.Prelude.{◌≡◌, ◌⊎◌, Ok, Err, IfOk, IfErr, IsFalse};
+ghost use Rattle.sso_base.specs.Texts.{is_other as is_other_text};
 ghost use Rattle.request_params.specs.declared.params.Params.{Params};
 ghost use Rattle.request_object.specs.Object.{IsRequestObject};
-ghost use Rattle.request_object.specs.Reading.{is_other as is_other_text, lacks as lacks_text, judged, request_of, request_read, hides_memory};
+ghost use Rattle.request_object.specs.Reading.{lacks as lacks_text, judged, request_of, request_read, hides_memory};
 
 use crate::no::ObjNo;
 use crate::raw::{RawRequest, raw_claims};

@@ -10,12 +10,13 @@ use Rattle.std.proofs.lemmas.Bool.Decides.{nat_tests}
 use Rattle.std.proofs.lemmas.List.{take_all, nil_from_length}
 use Rattle.std.proofs.lemmas.Str.{utf8_valid_len_le, IsUtf8-from_is_utf8, is_utf8-from_IsUtf8, IsUtf8-append, IsUtf8-nil}
 use Rattle.form_urlencoded.specs.Form.{raw_pairs, decode}
+use Rattle.sso_base.specs.Lists.{Has}
 use Rattle.sso_base.specs.Words.{Text}
 use Rattle.request_params.specs.declared.params.Params.{Params}
 use Rattle.request_params.specs.declared.name.ParamName.{ParamName}
 use Rattle.request_params.specs.Names.{name_text, param_of, AreTexts}
 use Rattle.request_params.specs.Form.{Pair, pair_of, form_pairs}
-use Rattle.request_params.specs.Reading.{is_kept, kept_pairs, request_read, Has}
+use Rattle.request_params.specs.Reading.{is_kept, kept_pairs, request_read}
 use Rattle.request_params.proofs.Requests.{read-request}
 
 -- ---- invalid sequences become U+FFFD
@@ -115,13 +116,13 @@ has_cond : (b : Bool) (q p : Pair) (xs : List Pair) → Has (cond b (q ∷ xs) x
 has_cond true q p xs h = h
 has_cond false q p xs h = inr h
 
-pub has_kept : (xs : List Pair) (p : Pair) → Has (filter is_kept xs) p → Has xs p
-has_kept [] p h = absurd h
-has_kept (q ∷ xs) p h = ⊎_elim (λ is. inl is) (λ later. inr (has_kept xs p later)) (has_cond (is_kept q) q p (filter is_kept xs) h)
+pub has_filtered : (test : Pair → Bool) (xs : List Pair) (p : Pair) → Has (filter test xs) p → Has xs p
+has_filtered test [] p h = absurd h
+has_filtered test (q ∷ xs) p h = ⊎_elim (λ is. inl is) (λ later. inr (has_filtered test xs p later)) (has_cond (test q) q p (filter test xs) h)
 
 kept_texts : (form : List ℕ) (p : Pair) → Has (kept_pairs form) p → IsTextPair p
 unfolding form_pairs
-kept_texts form p h = pair_read (raw_pairs form) p (has_kept (form_pairs form) p h)
+kept_texts form p h = pair_read (raw_pairs form) p (has_filtered is_kept (form_pairs form) p h)
 
 text_at : (form : List ℕ) (name : ParamName) (o : Option Text) → ((v : Text) → o ≡ Some v → Has (kept_pairs form) (name_text name, v)) → IfSome o IsUtf8
 text_at form name None stands = tt

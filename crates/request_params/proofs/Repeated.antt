@@ -1,8 +1,8 @@
 -- The first name that stands again is found exactly where there is one.
-use Rattle.std.proofs.Common.{◌≡◌, ◌⊎◌, inl, inr, ⊎_elim, List, [], ◌∷◌, ◌++◌, Bool, true, false, cond, Option, Some, None, refl, sym, ◌∙◌, ap, subst, append_assoc, append-nil}
+use Rattle.std.proofs.Common.{◌≡◌, ◌⊎◌, inl, inr, ⊎_elim, List, [], ◌∷◌, ◌++◌, Bool, true, false, cond, Option, Some, None, Ok, Err, refl, sym, ◌∙◌, ap, subst, append_assoc, append-nil}
 use Rattle.sso_base.specs.Words.{Text}
 use Rattle.request_params.specs.Form.{Pair}
-use Rattle.request_params.specs.Reading.{has_name, repeated_after, first_repeated, StandOnce, RepeatsFirst}
+use Rattle.request_params.specs.Reading.{has_name, repeated_after, first_repeated, unless_twice, StandOnce, RepeatsFirst}
 use Rattle.request_params.proofs.Values.{once-push, once_before}
 
 -- one step on
@@ -60,3 +60,13 @@ repeated_first pairs t r =
     ap first_repeated r.cut
     ∙ passed [] r.before ((t, r.value) ∷ r.after) r.once
     ∙ ap (λ b. cond b (Some t) (repeated_after (r.before ++ ((t, r.value) ∷ [])) r.after)) r.stood
+
+-- ---- what is given, unless a name is repeated
+
+pub given_once : {A E : Type 0} (twice : Text → E) (o : Option Text) (a b : A) → unless_twice twice o a ≡ Ok b → (o ≡ None) × (b ≡ a)
+given_once twice None a b h = (refl, cc)
+given_once twice (Some t) a b h = absurd (cc)
+
+pub given_twice : {A E : Type 0} (twice : Text → E) (o : Option Text) (a : A) (e : E) → unless_twice twice o a ≡ Err e → (t : Text) × (o ≡ Some t) × (e ≡ twice t)
+given_twice twice None a e h = absurd (cc)
+given_twice twice (Some t) a e h = (t, refl, cc)

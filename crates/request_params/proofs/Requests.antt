@@ -10,15 +10,7 @@ use Rattle.request_params.specs.Form.{Pair}
 use Rattle.request_params.specs.Reading.{kept_pairs, value_of, first_repeated, params_in, unless_repeated, request_read, StandOnce, RepeatsFirst, HasRequest, RefusesForm}
 use Rattle.request_params.proofs.NameLaws.{param_of-params_by, same_params}
 use Rattle.request_params.proofs.Values.{has_value, value_of_pair}
-use Rattle.request_params.proofs.Repeated.{none_repeated, repeated_none, some_repeated, repeated_first}
-
-read_at : (o : Option Text) (p q : Params) → unless_repeated o p ≡ Ok q → (o ≡ None) × (p ≡ q)
-read_at None p q h = (refl, cc)
-read_at (Some t) p q h = absurd (cc)
-
-refused_at : (o : Option Text) (p : Params) (e : AskNo) → unless_repeated o p ≡ Err e → (t : Text) × (o ≡ Some t) × (e ≡ no.Twice t)
-refused_at None p e h = absurd (cc)
-refused_at (Some t) p e h = (t, refl, cc)
+use Rattle.request_params.proofs.Repeated.{none_repeated, repeated_none, some_repeated, repeated_first, given_once, given_twice}
 
 param_in : (pairs : List Pair) (params : Params) → params_in pairs ≡ params → (name : ParamName) → value_of (name_text name) pairs ≡ param_of name params
 param_in pairs params is name = sym (param_of-params_by (λ n. value_of (name_text n) pairs) name) ∙ ap (param_of name) is
@@ -27,9 +19,9 @@ pub read-request : (form : List ℕ) (params : Params) → request_read form ≡
 unfolding request_read
 read-request form params h =
     let pairs = kept_pairs form in
-    let at = read_at (first_repeated pairs) (params_in pairs) params h in
+    let at = given_once no.Twice (first_repeated pairs) (params_in pairs) params h in
     let once : StandOnce pairs = none_repeated [] pairs tt at.0 in
-    let value = param_in pairs params at.1 in
+    let value = param_in pairs params (sym at.1) in
     record {
       once = once;
       stands = λ name v is. has_value pairs (name_text name) v (value name ∙ is);
@@ -57,7 +49,7 @@ pub refused-repeats : (form : List ℕ) (e : AskNo) → request_read form ≡ Er
 unfolding request_read
 refused-repeats form e h =
     let pairs = kept_pairs form in
-    let at = refused_at (first_repeated pairs) (params_in pairs) e h in
+    let at = given_twice no.Twice (first_repeated pairs) (params_in pairs) e h in
     (at.0, at.2, some_repeated [] pairs at.0 tt at.1)
 
 pub repeats-refused : (form : List ℕ) (name : Text) → RepeatsFirst (kept_pairs form) name → request_read form ≡ Err (no.Twice name)

@@ -2,9 +2,10 @@
 use Rattle.std.proofs.Common.{◌≡◌, ◌⊎◌, inl, inr, ⊎_elim, List, [], ◌∷◌, ◌++◌, Bool, true, false, ◌||◌, cond, Option, Some, None, is_some, refl, sym, ◌∙◌, ap}
 use Rattle.std.specs.Option.{option_or}
 use Rattle.std.specs.Str.{bytes_eq}
+use Rattle.sso_base.specs.Lists.{Has}
 use Rattle.sso_base.specs.Words.{Text}
 use Rattle.request_params.specs.Form.{Pair}
-use Rattle.request_params.specs.Reading.{has_name, value_of, Has, StandOnce}
+use Rattle.request_params.specs.Reading.{has_name, value_of, StandOnce}
 use Rattle.request_params.proofs.NameLaws.{same_text, text_same, other_text}
 
 abbrev only : Bool → Text → Option Text

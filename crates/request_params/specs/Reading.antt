@@ -1,9 +1,10 @@
 -- Reading an authorization request: its parameters are the pairs of a form (OpenID Connect Core 1.0, 3.1.2.1; RFC 6749, 3.1).
 -- Pairs with other names or with empty values are ignored, and no name may occur twice.
-use Rattle.std.specs.Prelude.{◌≡◌, ◌⊎◌, ℕ, Bool, ◌&&◌, List, [], ◌∷◌, ◌++◌, length, filter, nat_lt, Option, Some, None, is_some, Result, Ok, Err, IsTrue, IsFalse, ⊤, if◌then◌else◌}
+use Rattle.std.specs.Prelude.{◌≡◌, ℕ, Bool, ◌&&◌, List, [], ◌∷◌, ◌++◌, length, filter, nat_lt, Option, Some, None, is_some, Result, Ok, Err, IsTrue, IsFalse, ⊤, if◌then◌else◌}
 use Rattle.std.specs.List.{list_any}
 use Rattle.std.specs.Str.{bytes_eq}
 use Rattle.sso_base.specs.Words.{Text}
+use Rattle.sso_base.specs.Lists.{Has}
 use Rattle.request_params.specs.declared.params.Params.{Params}
 use Rattle.request_params.specs.declared.name.ParamName.{ParamName}
 use Rattle.request_params.specs.declared.no.AskNo.{AskNo}
@@ -43,9 +44,13 @@ first_repeated pairs = repeated_after [] pairs
 abbrev pub params_in : List Pair → Params
 params_in pairs = params_by (λ name. value_of (name_text name) pairs)
 
+-- what pairs give, unless a name is repeated
+abbrev pub unless_twice : {A E : Type 0} → (Text → E) → Option Text → A → Result A E
+unless_twice twice None given = Ok given
+unless_twice twice (Some name) given = Err (twice name)
+
 abbrev pub unless_repeated : Option Text → Params → Result Params AskNo
-unless_repeated None params = Ok params
-unless_repeated (Some name) params = Err (Twice name)
+unless_repeated repeated params = unless_twice Twice repeated params
 
 abbrev pub pairs_read : List Pair → Result Params AskNo
 pairs_read pairs = unless_repeated (first_repeated pairs) (params_in pairs)
@@ -55,11 +60,6 @@ unfoldable pub request_read : List ℕ → Result Params AskNo
 request_read form = pairs_read (kept_pairs form)
 
 -- ---- the same, stated literally
-
--- the pair is one of the pairs
-abbrev pub Has : List Pair → Pair → Type 0
-Has [] pair = ⊥
-Has (first ∷ pairs) pair = (first ≡ pair) ⊎ Has pairs pair
 
 -- two pairs have the name
 pub record StandsTwice (name : Text) (pairs : List Pair) : Type 0 where

@@ -2,6 +2,7 @@
 
 ghost use Rattle.std.specs.Prelude.{◌≡◌, IfOk};
 ghost use Rattle.std.specs.Option.{option_copied};
+ghost use Rattle.sso_base.specs.Texts.{is_other as is_other_text};
 ghost use Rattle.rp_answer.specs.Replies as spec;
 
 use crate::responding::text_if;
@@ -14,7 +15,7 @@ use userinfo::print_info;
 
 // Whether there is an earlier subject that differs.
 pub(crate) fn is_other(before: &Option<Text>, sub: &Text) -> bool
-    ensures { result ≡ spec.is_other before.now sub.now }
+    ensures { result ≡ is_other_text sub.now before.now }
 {
     match before {
         Some(before) => before.as_str() != sub.as_str(),

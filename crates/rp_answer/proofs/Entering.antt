@@ -2,6 +2,7 @@
 use Rattle.std.proofs.Common.{◌≡◌, ℕ, Bool, true, false, not, ◌∷◌, ◌++◌, Option, Some, Result, Ok, option_map, option_and_then, refl, sym, ◌∙◌, ap, subst, inl, inr}
 use Rattle.std.specs.Str.{bytes_eq}
 use Rattle.sso_base.specs.Words.{Word, Text}
+use Rattle.sso_base.specs.Texts.{is_other}
 use Rattle.sso_base.specs.declared.history.Entry.{Entry}
 use Rattle.sso_base.proofs.Histories.{earlier_is_legal, legal_reply}
 use Rattle.sso_base.proofs.RowLaws.{bytes_same}
@@ -22,7 +23,6 @@ use Rattle.rp_answer.specs.Past.{RpPair, RpPast}
 use Rattle.rp_answer.specs.Setup.{PartySetup, party_of}
 use Rattle.rp_answer.specs.Pendings.{pending_of}
 use Rattle.rp_answer.specs.Visits.{nonce_by, visit_of, visit_after, visit_by}
-use Rattle.rp_answer.specs.Replies.{is_other}
 use Rattle.rp_answer.specs.Answering.{rp_answer}
 use Rattle.rp_answer.specs.Causes.{EnteredCause}
 use Rattle.rp_answer.specs.Legal.{IsLegalRp, JudgedFor, LoginEntered, login_entered_by, place_of_login, place_of_pending}
@@ -62,9 +62,9 @@ not_false true h = refl
 not_false false h = cc
 
 -- UserInfo speaks of the subject before
-same_sub : (before : Option Text) (sub came : Text) → before ≡ Some sub → is_other before came ≡ false → sub ≡ came
+same_sub : (before : Option Text) (sub came : Text) → before ≡ Some sub → is_other came before ≡ false → sub ≡ came
 same_sub before sub came is same =
-    let O : Option Text → Bool = λ o. is_other o came in
+    let O : Option Text → Bool = λ o. is_other came o in
     bytes_same sub came (not_false (bytes_eq sub came) (sym (ap O is) ∙ same))
 
 -- ---- who enters

@@ -1,6 +1,7 @@
 -- What each cause leads to: the reply that there is, were there always room.
 use Rattle.std.proofs.Common.{◌≡◌, ℕ, Bool, true, false, cond, Option, Some, None, Result, Ok, Err, refl, sym, ◌∙◌, ap, inl, inr}
 use Rattle.sso_base.specs.Words.{Word, Text, fresh_word}
+use Rattle.sso_base.specs.Texts.{is_other}
 use Rattle.sso_base.specs.declared.history.Entry.{Entry}
 use Rattle.sso_base.specs.declared.message.Message.{Message}
 use Rattle.id_token.specs.declared.claims.IdClaims.{IdClaims}
@@ -30,7 +31,7 @@ use Rattle.rp_answer.specs.Setup.{PartySetup, party_of}
 use Rattle.rp_answer.specs.Asked.{if_wanted}
 use Rattle.rp_answer.specs.Logins.{live_login}
 use Rattle.rp_answer.specs.Pendings.{live_pending}
-use Rattle.rp_answer.specs.Replies.{front_access, front_code, front_rules, back_rules, part_missing, info_endpoint, is_other, exchange, entered, fetch_or_enter, exchange_or_enter, front_judged, front_read, response_parts, response_error, response_of, response_to, back_accepted, back_judged, back_read, tokens, info, visited, logout_new, logout_good, logout}
+use Rattle.rp_answer.specs.Replies.{front_access, front_code, front_rules, back_rules, part_missing, info_endpoint, exchange, entered, fetch_or_enter, exchange_or_enter, front_judged, front_read, response_parts, response_error, response_of, response_to, back_accepted, back_judged, back_read, tokens, info, visited, logout_new, logout_good, logout}
 use Rattle.rp_answer.specs.Answering.{rp_reply}
 use Rattle.rp_answer.specs.Causes.{is_own, OwnLogin, WholeResponse, GoodClaims, IdRefused, IfGood, NotFetched, AskCause, FragmentCause, ExchangeCause, FetchCause, EnteredCause, UserCause, NobodyCause, LeftCause, EndedCause, ResponseRefused, TokensRefused, InfoRefused, LogoutRefused, RefusedCause}
 
@@ -135,7 +136,7 @@ module _ (s : PartySetup) (past : RpPast) (e : Entry RpAsk) where
     back_answered pending live = let L : Option PendingRow → RpReply = λ o. tokens s e o (Ok came) id in ap L live
 
     back_good : (pending : PendingRow) (claims : IdClaims) (other : Bool) → live_pending (party_of s).types past e.at w stage.Tokens ≡ Some pending → GoodClaims (back_rules s pending came) e.at id claims
-        → is_other pending.sub claims.sub ≡ other → tokens_to ≡ cond other (Refused no.SubjectDiffers) (back_accepted s e pending came claims)
+        → is_other claims.sub pending.sub ≡ other → tokens_to ≡ cond other (Refused no.SubjectDiffers) (back_accepted s e pending came claims)
     back_good pending claims other live good is =
         let R : Option (Result IdClaims IdNo) → RpReply = λ o. back_read s e pending came o in
         let J : Result (Unit {0}) IdNo → RpReply = λ j. back_judged s e pending came claims j in
@@ -161,7 +162,7 @@ module _ (s : PartySetup) (past : RpPast) (e : Entry RpAsk) where
 
   -- ---- UserInfo responses
 
-  info_answered : (w : Word) (sub : Text) (pending : PendingRow) (other : Bool) → live_pending (party_of s).types past e.at w stage.Info ≡ Some pending → is_other pending.sub sub ≡ other
+  info_answered : (w : Word) (sub : Text) (pending : PendingRow) (other : Bool) → live_pending (party_of s).types past e.at w stage.Info ≡ Some pending → is_other sub pending.sub ≡ other
       → info e (live_pending (party_of s).types past e.at w stage.Info) (Ok sub) ≡ cond other (Refused no.SubjectDiffers) (entered e sub)
   info_answered w sub pending other live is =
       let L : Option PendingRow → RpReply = λ o. info e o (Ok sub) in

@@ -13,7 +13,7 @@ use Rattle.rp_exchange.specs.declared.no.RpNo.TheVariants as no
 use Rattle.rp_exchange.specs.declared.reply.RpReply.TheVariants.{Fragment, Entered, User, Nobody, Refused, NotHere}
 use Rattle.rp_answer.specs.Setup.{party_of, client_of}
 use Rattle.client_registry.specs.Numbers.{no_party}
-use Rattle.rp_answer.specs.Replies.{login_browser, must_hash, may_hash, front_access, front_code, front_rules, back_rules, part_missing, exchange_or_enter, is_other, visited}
+use Rattle.rp_answer.specs.Replies.{login_browser, must_hash, may_hash, front_access, front_code, front_rules, back_rules, part_missing, exchange_or_enter, visited}
 use Rattle.held_rows.specs.Held.{most_rows, is_full}
 use Rattle.rp_answer.specs.Room.{if_full, table_lacking, unless_lacking, unless_full}
 use Rattle.rp_answer.specs.Answering.{rp_reply}
@@ -116,15 +116,6 @@ neither_is_refused : exchange_or_enter news_setup (callback_entry 1000 (word 1))
 neither_is_refused = refl
 
 -- ---- subjects
-
-same_is_not_other : is_other (Some (codes "alice")) (codes "alice") ≡ false
-same_is_not_other = refl
-
-bob_is_other : is_other (Some (codes "alice")) (codes "bob") ≡ true
-bob_is_other = refl
-
-first_is_not_other : is_other None (codes "bob") ≡ false
-first_is_not_other = refl
 
 visit_is_user : visited (Some visit) ≡ User (codes "alice")
 visit_is_user = refl

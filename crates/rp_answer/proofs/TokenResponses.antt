@@ -1,6 +1,7 @@
 -- What the replies to token responses say: each test of the response is seen here once.
 use Rattle.std.proofs.Common.{◌≡◌, Bool, true, false, cond, Option, Some, None, Result, Ok, Err, refl}
 use Rattle.sso_base.specs.Words.{Word, Text}
+use Rattle.sso_base.specs.Texts.{is_other}
 use Rattle.sso_base.specs.declared.history.Entry.{Entry}
 use Rattle.id_token.specs.declared.claims.IdClaims.{IdClaims}
 use Rattle.id_token.specs.declared.no.IdNo.{IdNo}
@@ -17,7 +18,7 @@ use Rattle.rp_exchange.specs.Asks.{is_prepared}
 use Rattle.rp_answer.specs.Past.{RpPast}
 use Rattle.rp_answer.specs.Setup.{PartySetup, party_of}
 use Rattle.rp_answer.specs.Pendings.{live_pending}
-use Rattle.rp_answer.specs.Replies.{back_rules, info_endpoint, fetch_or_enter, is_other, back_accepted, back_judged, back_read, tokens}
+use Rattle.rp_answer.specs.Replies.{back_rules, info_endpoint, fetch_or_enter, back_accepted, back_judged, back_read, tokens}
 use Rattle.rp_answer.specs.Causes.{GoodClaims}
 use Rattle.rp_answer.proofs.Caused.{Caused}
 
@@ -26,7 +27,7 @@ module _ (s : PartySetup) (past : RpPast) (e : Entry RpAsk) (w : Word) where
   Live pending = live_pending (party_of s).types past e.at w stage.Tokens ≡ Some pending
 
   -- the claims count: UserInfo is asked for, else they let in
-  accepted_by : (pending : PendingRow) → Live pending → (came : Tokens) (claims : IdClaims) → GoodClaims (back_rules s pending came) e.at (Some (Ok claims)) claims → is_other pending.sub claims.sub ≡ false
+  accepted_by : (pending : PendingRow) → Live pending → (came : Tokens) (claims : IdClaims) → GoodClaims (back_rules s pending came) e.at (Some (Ok claims)) claims → is_other claims.sub pending.sub ≡ false
       → (endpoint : Option Text) → info_endpoint s ≡ endpoint
       → Caused s past e (ask.Tokens w (Ok came) (Some (Ok claims))) (fetch_or_enter e endpoint (Some came.access) pending.word claims.sub)
   accepted_by pending live came claims good same None no_endpoint =
@@ -45,7 +46,7 @@ module _ (s : PartySetup) (past : RpPast) (e : Entry RpAsk) (w : Word) where
       }
 
   subject_by : (pending : PendingRow) → Live pending → (came : Tokens) (claims : IdClaims) → GoodClaims (back_rules s pending came) e.at (Some (Ok claims)) claims
-      → (other : Bool) → is_other pending.sub claims.sub ≡ other
+      → (other : Bool) → is_other claims.sub pending.sub ≡ other
       → Caused s past e (ask.Tokens w (Ok came) (Some (Ok claims))) (cond other (Refused no.SubjectDiffers) (back_accepted s e pending came claims))
   subject_by pending live came claims good false same = accepted_by pending live came claims good same (info_endpoint s) refl
   subject_by pending live came claims good true other = record { exchange = pending; live = live; claims = claims; accepted = good; other = other }
@@ -54,7 +55,7 @@ module _ (s : PartySetup) (past : RpPast) (e : Entry RpAsk) (w : Word) where
       → id_judged (back_rules s pending came) claims e.at ≡ judged → Caused s past e (ask.Tokens w (Ok came) (Some (Ok claims))) (back_judged s e pending came claims judged)
   judged_by pending live came claims (Err why) judged = record { exchange = pending; live = live; refused = record { judged = judged } }
   judged_by pending live came claims (Ok good) judged =
-      subject_by pending live came claims (record { read = refl; good = good; judged = judged }) (is_other pending.sub claims.sub) refl
+      subject_by pending live came claims (record { read = refl; good = good; judged = judged }) (is_other claims.sub pending.sub) refl
 
   -- something was read of the ID Token, which every token response has
   read_by : (pending : PendingRow) → Live pending → (came : Tokens) (id : Option (Result IdClaims IdNo)) → is_prepared (ask.Tokens w (Ok came) id) ≡ true

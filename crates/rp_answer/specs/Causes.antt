@@ -1,6 +1,7 @@
 -- What a reply of a relying party says of the past and of the ask that led to it.
 use Rattle.std.specs.Prelude.{◌≡◌, ℕ, Bool, true, false, Option, Some, None, is_some, Result, Ok, Err, ◌⊎◌}
 use Rattle.sso_base.specs.Words.{Word, Text, is_word, fresh_word}
+use Rattle.sso_base.specs.Texts.{is_other}
 use Rattle.sso_base.specs.declared.history.Entry.{Entry}
 use Rattle.id_token.specs.declared.claims.IdClaims.{IdClaims}
 use Rattle.id_token.specs.declared.no.IdNo.{IdNo}
@@ -41,7 +42,7 @@ use Rattle.rp_answer.specs.Logins.{live_login}
 use Rattle.rp_answer.specs.Pendings.{live_pending}
 use Rattle.rp_answer.specs.Visits.{live_visits, live_visit}
 use Rattle.rp_answer.specs.Seens.{live_seen}
-use Rattle.rp_answer.specs.Replies.{login_browser, front_access, front_code, front_rules, back_rules, part_missing, info_endpoint, is_other, meant_count}
+use Rattle.rp_answer.specs.Replies.{login_browser, front_access, front_code, front_rules, back_rules, part_missing, info_endpoint, meant_count}
 use Rattle.rp_answer.specs.Room.{table_lacking}
 use Rattle.rp_answer.specs.Answering.{rp_reply}
 use Rattle.rp_answer.specs.FullTables.{LacksPlace, FullCause}
@@ -151,7 +152,7 @@ pub record FetchedAfterExchange (s : PartySetup) (past : RpPast) (e : Entry RpAs
   pub live : live_pending (party_of s).types past e.at pending stage.Tokens ≡ Some exchange
   pub claims : IdClaims
   pub accepted : GoodClaims (back_rules s exchange came) e.at id claims
-  pub same_subject : is_other exchange.sub claims.sub ≡ false
+  pub same_subject : is_other claims.sub exchange.sub ≡ false
   pub endpoint : Text
   pub endpoint_is : info_endpoint s ≡ Some endpoint
   pub word_kept : exchange.word ≡ w
@@ -183,7 +184,7 @@ pub record EnteredAfterExchange (s : PartySetup) (past : RpPast) (e : Entry RpAs
   pub live : live_pending (party_of s).types past e.at pending stage.Tokens ≡ Some exchange
   pub claims : IdClaims
   pub accepted : GoodClaims (back_rules s exchange came) e.at id claims
-  pub same_subject : is_other exchange.sub claims.sub ≡ false
+  pub same_subject : is_other claims.sub exchange.sub ≡ false
   pub not_fetched : info_endpoint s ≡ None
   pub drawn : fresh_word e.fresh 1 ≡ w
   pub sub_is : claims.sub ≡ sub
@@ -191,7 +192,7 @@ pub record EnteredAfterExchange (s : PartySetup) (past : RpPast) (e : Entry RpAs
 pub record EnteredAfterInfo (s : PartySetup) (past : RpPast) (e : Entry RpAsk) (pending : Word) (came : Text) (w : Word) (sub : Text) : Type 0 where
   pub exchange : PendingRow
   pub live : live_pending (party_of s).types past e.at pending stage.Info ≡ Some exchange
-  pub same_subject : is_other exchange.sub came ≡ false
+  pub same_subject : is_other came exchange.sub ≡ false
   pub drawn : fresh_word e.fresh 1 ≡ w
   pub sub_is : came ≡ sub
 
@@ -298,7 +299,7 @@ pub record AnotherSubject (s : PartySetup) (past : RpPast) (e : Entry RpAsk) (pe
   pub live : live_pending (party_of s).types past e.at pending stage.Tokens ≡ Some exchange
   pub claims : IdClaims
   pub accepted : GoodClaims (back_rules s exchange came) e.at id claims
-  pub other : is_other exchange.sub claims.sub ≡ true
+  pub other : is_other claims.sub exchange.sub ≡ true
 
 abbrev pub TokensRefused : PartySetup → RpPast → Entry RpAsk → Word → Result Tokens TokensNo → Option (Result IdClaims IdNo) → RpNo → Type 0
 TokensRefused s past e pending came id no.StalePending = live_pending (party_of s).types past e.at pending stage.Tokens ≡ None
@@ -318,7 +319,7 @@ pub record InfoFailed (s : PartySetup) (past : RpPast) (e : Entry RpAsk) (pendin
 pub record InfoOfAnother (s : PartySetup) (past : RpPast) (e : Entry RpAsk) (pending : Word) (came : Text) : Type 0 where
   pub exchange : PendingRow
   pub live : live_pending (party_of s).types past e.at pending stage.Info ≡ Some exchange
-  pub other : is_other exchange.sub came ≡ true
+  pub other : is_other came exchange.sub ≡ true
 
 abbrev pub InfoRefused : PartySetup → RpPast → Entry RpAsk → Word → Result Text InfoNo → RpNo → Type 0
 InfoRefused s past e pending came no.StalePending = live_pending (party_of s).types past e.at pending stage.Info ≡ None

@@ -1,7 +1,7 @@
 -- A relying party's replies, if none of its tables were full.
-use Rattle.std.specs.Prelude.{ℕ, Bool, false, not, ◌&&◌, List, length, filter, Option, Some, None, is_some, is_none, Result, Ok, Err, if◌then◌else◌}
-use Rattle.std.specs.Str.{bytes_eq}
+use Rattle.std.specs.Prelude.{ℕ, ◌&&◌, List, length, filter, Option, Some, None, is_some, is_none, Result, Ok, Err, if◌then◌else◌}
 use Rattle.sso_base.specs.Words.{Word, Text, is_word, fresh_word, word_text}
+use Rattle.sso_base.specs.Texts.{is_other}
 use Rattle.sso_base.specs.declared.history.Entry.{Entry}
 use Rattle.oidc_words.specs.declared.response_types.Types.{Types}
 use Rattle.id_token.specs.declared.claims.IdClaims.{IdClaims}
@@ -165,11 +165,6 @@ callback s past e (Ok heard) id browser = response_to s past e heard id browser 
 
 -- ---- a token response (Core 3.1.3.5, 3.1.3.7, 3.3.3.6 and 3.3.3.7)
 
--- there is an earlier subject that differs
-abbrev pub is_other : Option Text → Text → Bool
-is_other None sub = false
-is_other (Some before) sub = not (bytes_eq before sub)
-
 -- a UserInfo request that follows keeps the word of the exchange
 abbrev pub back_accepted : PartySetup → Entry RpAsk → PendingRow → Tokens → IdClaims → RpReply
 back_accepted s e pending came claims = fetch_or_enter e (info_endpoint s) (Some came.access) pending.word claims.sub
@@ -177,7 +172,7 @@ back_accepted s e pending came claims = fetch_or_enter e (info_endpoint s) (Some
 abbrev pub back_judged : PartySetup → Entry RpAsk → PendingRow → Tokens → IdClaims → Result (Unit {0}) IdNo → RpReply
 back_judged s e pending came claims (Err why) = Refused (no.Id why)
 back_judged s e pending came claims (Ok good) =
-    if is_other pending.sub claims.sub then Refused no.SubjectDiffers else back_accepted s e pending came claims
+    if is_other claims.sub pending.sub then Refused no.SubjectDiffers else back_accepted s e pending came claims
 
 abbrev pub back_read : PartySetup → Entry RpAsk → PendingRow → Tokens → Option (Result IdClaims IdNo) → RpReply
 back_read s e pending came None = Refused (no.Missing part.Id)
@@ -193,7 +188,7 @@ tokens s e (Some pending) (Ok came) id = back_read s e pending came id
 -- ---- a UserInfo response (Core 5.3.2 and 5.3.4)
 
 abbrev pub info_came : Entry RpAsk → PendingRow → Text → RpReply
-info_came e pending sub = if is_other pending.sub sub then Refused no.SubjectDiffers else entered e sub
+info_came e pending sub = if is_other sub pending.sub then Refused no.SubjectDiffers else entered e sub
 
 -- The errors in order: no live exchange, a bad response, another subject.
 abbrev pub info : Entry RpAsk → Option PendingRow → Result Text InfoNo → RpReply

@@ -1,16 +1,16 @@
 -- No definition of reading refuses for want of memory.
-use Rattle.std.proofs.Common.{◌≡◌, ◌≢◌, ◌==◌, ℕ, List, [], ◌∷◌, ◌++◌, length, Bool, true, false, not, nat_lt, Option, Some, None, Result, Ok, Err, IsOk, codes, refl, sym, ap, ◌∙◌, subst, true≢false, arith}
+use Rattle.std.proofs.Common.{◌≡◌, ◌≢◌, ◌==◌, ℕ, List, [], ◌∷◌, ◌++◌, length, Bool, true, false, not, nat_lt, Option, Some, None, Result, Ok, Err, IsOk, codes, refl, sym, ap, ◌∙◌, subst, true≢false}
 use Rattle.std.specs.Prelude.{IfErr}
 use Rattle.std.specs.List.{AllByRecursion}
 use Rattle.std.specs.Str.{bytes_eq}
-use Rattle.std.proofs.lemmas.Bool.Decides.{nat_tests}
 use Rattle.serde_json.specs.Data.{Data, Members}
 use Rattle.serde_json.specs.Find.{get_member, as_object, as_str}
 use Rattle.claim_set.specs.Kinds.{of_kind, kind_found}
 use Rattle.hmac256.specs.Hmac.{hmac_of}
 use Rattle.sso_base.specs.Base64Url.{unb64u, unb64u_32}
-use Rattle.sso_base.specs.Refusals.{first_refusal, demand, forbid}
+use Rattle.sso_base.specs.Refusals.{first_refusal, and_then_as, demand, forbid}
 use Rattle.sso_base.specs.declared.message.Answered.{Answered}
+use Rattle.sso_base.proofs.Statuses.{is_200}
 use Rattle.claim_set.specs.declared.no.ClaimNo.{ClaimNo}
 use Rattle.claim_set.specs.declared.no.ClaimNo.TheVariants as claim_no
 use Rattle.claim_set.specs.Reading.{first_float, if_whole, if_members, if_read, json_in, Reads, claims_read}
@@ -129,11 +129,11 @@ id_of_refused ms =
     id_of_at ms (first_refusal (id_refusals ms)) refl
     (first_keeps IsIdRefusal (id_refusals ms) (refl, (refl, (refl, (refl, (refl, (refl, (refl, (refl, (refl, (refl, (refl, (refl, (refl, (refl, (refl, (refl, tt)))))))))))))))))
 
-read_refused : (r : Result Members ClaimNo) → IfErr r InId → IfErr (id_token.if_claims r) IsIdRefusal
+read_refused : (r : Result Members ClaimNo) → IfErr r InId → IfErr (and_then_as id_no.Claims r id_token.id_of) IsIdRefusal
 read_refused (Ok ms) h = id_of_refused ms
 read_refused (Err e) h = h
 
-opened_refused : (r : Result Unsealed JwsNo) → IfErr r IsJwsRefusal → IfErr (id_token.if_opened r) IsIdRefusal
+opened_refused : (r : Result Unsealed JwsNo) → IfErr r IsJwsRefusal → IfErr (and_then_as id_no.Jws r (λ (u : Unsealed). and_then_as id_no.Claims (claims_read u.payload) id_token.id_of)) IsIdRefusal
 opened_refused (Ok u) h = read_refused (claims_read u.payload) (claims_refused InId refl refl (λ n. refl) u.payload)
 opened_refused (Err e) h = h
 
@@ -155,9 +155,6 @@ IsTokensRefusal e = is_tokens_refusal e ≡ true
 
 abbrev InTokens : ClaimNo → Type 0
 InTokens e = is_tokens_refusal (tokens_no.Claims e) ≡ true
-
-is_200 : (n : ℕ) → (n == 200) ≡ true → n ≡ 200
-is_200 n h = grind (arith, nat_tests)
 
 not_200 : (n : ℕ) → (n == 200) ≡ false → n ≢ 200
 not_200 n h = λ e. true≢false (sym (ap (λ m. m == 200) e) ∙ h)
@@ -200,11 +197,11 @@ sub_refused : (o : Option Data) → IfErr (info.if_there (of_kind (codes "sub") 
 sub_refused None = refl
 sub_refused (Some d) = kind_refused (codes "sub") (as_str d)
 
-told_refused : (r : Result Members ClaimNo) → IfErr r InInfo → IfErr (info.if_claims r) IsInfoRefusal
+told_refused : (r : Result Members ClaimNo) → IfErr r InInfo → IfErr (and_then_as info_no.Claims r info.sub_in) IsInfoRefusal
 told_refused (Ok ms) h = sub_refused (get_member (codes "sub") ms)
 told_refused (Err e) h = h
 
-info_at : (a : Answered) (b : Bool) → IfErr (forbid (info_no.Status a.status) b (info.if_claims (claims_read a.body))) IsInfoRefusal
+info_at : (a : Answered) (b : Bool) → IfErr (forbid (info_no.Status a.status) b (and_then_as info_no.Claims (claims_read a.body) info.sub_in)) IsInfoRefusal
 info_at a true = refl
 info_at a false = told_refused (claims_read a.body) (claims_refused InInfo refl refl (λ n. refl) a.body)
 
@@ -241,11 +238,11 @@ logout_of_refused typ ms =
     logout_of_at typ ms (first_refusal (logout_refusals typ ms)) refl
     (first_keeps IsLogoutRefusal (logout_refusals typ ms) (refl, (refl, (refl, (refl, (refl, (refl, (refl, (refl, (refl, (refl, (refl, (refl, (refl, (refl, (refl, (refl, tt)))))))))))))))))
 
-logout_read_refused : (typ : Option (List ℕ)) (r : Result Members ClaimNo) → IfErr r InLogout → IfErr (logout_token.if_claims typ r) IsLogoutRefusal
+logout_read_refused : (typ : Option (List ℕ)) (r : Result Members ClaimNo) → IfErr r InLogout → IfErr (and_then_as logout_no.Claims r (logout_token.logout_of typ)) IsLogoutRefusal
 logout_read_refused typ (Ok ms) h = logout_of_refused typ ms
 logout_read_refused typ (Err e) h = h
 
-logout_opened_refused : (r : Result Unsealed JwsNo) → IfErr r IsJwsRefusal → IfErr (logout_token.if_opened r) IsLogoutRefusal
+logout_opened_refused : (r : Result Unsealed JwsNo) → IfErr r IsJwsRefusal → IfErr (and_then_as logout_no.Jws r (λ (u : Unsealed). and_then_as logout_no.Claims (claims_read u.payload) (logout_token.logout_of u.typ))) IsLogoutRefusal
 logout_opened_refused (Ok u) h = logout_read_refused u.typ (claims_read u.payload) (claims_refused InLogout refl refl (λ n. refl) u.payload)
 logout_opened_refused (Err e) h = sym (jws_alike e) ∙ h
 

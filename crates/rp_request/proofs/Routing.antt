@@ -3,6 +3,7 @@ use Rattle.std.proofs.Common.{◌≡◌, inl, inr, ℕ, List, [], ◌∷◌, Boo
 use Rattle.std.specs.Prelude.{IfSome}
 use Rattle.std.specs.Str.{bytes_eq}
 use Rattle.std.proofs.lemmas.Slice.Eq.{bytes_eq-Decides}
+use Rattle.sso_base.specs.Lists.{Has}
 use Rattle.sso_base.specs.Words.{Text}
 use Rattle.sso_base.specs.declared.http.Method.{Method}
 use Rattle.sso_base.specs.declared.http.Method.TheVariants.{Get, Post, Other}
@@ -16,7 +17,7 @@ use Rattle.auth_answer.specs.declared.no.AnswerNo.{AnswerNo}
 use Rattle.auth_answer.specs.Reading.{answer_read}
 use Rattle.oidc_words.specs.declared.response_types.Types.{Types}
 use Rattle.oidc_words.specs.Paths.{leave_path}
-use Rattle.oidc_words.specs.Routes.{Route, endpoint_of, IsListed}
+use Rattle.oidc_words.specs.Routes.{Route, endpoint_of}
 use Rattle.oidc_words.proofs.Routing.{found_listed, AreFirst, listed_found}
 use Rattle.sso_base.proofs.RowLaws.{bytes_turn}
 use Rattle.rp_exchange.specs.declared.ask.RpAsk.{RpAsk}
@@ -44,7 +45,7 @@ first_found : (b : Bool) (d : Endpoint) (o : Option Endpoint) → b ≡ true →
 first_found true d o is = λ h. cc
 first_found false d o is = absurd (cc)
 
-listed_some : (rs : List (Route Endpoint)) (p : Route Endpoint) → IsListed p rs → ¬ (endpoint_of rs p.0 ≡ None)
+listed_some : (rs : List (Route Endpoint)) (p : Route Endpoint) → Has rs p → ¬ (endpoint_of rs p.0 ≡ None)
 listed_some [] p h = absurd h
 listed_some (r ∷ rs) p (inl is) =
     first_found (bytes_eq p.0 r.0) r.1 (endpoint_of rs p.0) (ap (λ (q : Route Endpoint). bytes_eq p.0 q.0) is ∙ text_same p.0)
@@ -62,7 +63,7 @@ posted_first party None other apart = (rw (text_same party.redirect_url.path) re
 posted_first party (Some path) other apart =
     (rw (text_same party.redirect_url.path) refl, (rw (leave_apart party other) refl, (rw (apart.redirect, apart.leave, text_same path) refl, tt)))
 
-found : (m : Method) (party : Party) (logout : Option Text) → HasOtherPath party → IfSome logout (IsApart party) → (p : Route Endpoint) → IsListed p (routes_of m party.redirect_url.path logout)
+found : (m : Method) (party : Party) (logout : Option Text) → HasOtherPath party → IfSome logout (IsApart party) → (p : Route Endpoint) → Has (routes_of m party.redirect_url.path logout) p
     → endpoint_of (routes_of m party.redirect_url.path logout) p.0 ≡ Some p.1
 found Get party logout other apart p h = listed_found (get_routes party.redirect_url.path) (get_routes party.redirect_url.path) (got_first party other) p h
 found Post party logout other apart p h = listed_found (post_routes party.redirect_url.path logout) (post_routes party.redirect_url.path logout) (posted_first party logout other apart) p h

@@ -1,8 +1,8 @@
 -- Requests to a relying party and their values, stated literally.
 use Rattle.std.specs.Prelude.{◌≡◌, ℕ, List, ◌∷◌, ◌++◌, IsFalse, Option, Some, None, Result, Ok, Err}
+use Rattle.sso_base.specs.Lists.{Has}
 use Rattle.sso_base.specs.Words.{Text}
 use Rattle.sso_base.specs.declared.http.Ask.{Ask}
-use Rattle.oidc_words.specs.Routes.{IsListed}
 use Rattle.client_registry.specs.declared.records.Party.{Party}
 use Rattle.client_registry.specs.Configuration.{Configuration}
 use Rattle.client_registry.specs.Numbers.{party_at}
@@ -28,7 +28,7 @@ use Rattle.rp_request.specs.Prepared.{logout_path}
 pub record IsTo (c : Configuration) (n : ℕ) (request : Ask) (e : Endpoint) : Type 0 where
   pub party : Party
   pub there : party_at c n ≡ Some party
-  pub listed : IsListed (request.path, e) (routes_of request.method party.redirect_url.path (logout_path c party))
+  pub listed : Has (routes_of request.method party.redirect_url.path (logout_path c party)) (request.path, e)
 
 -- the endpoint to which a value belongs
 abbrev pub own_endpoint : RpAsk → Option Endpoint

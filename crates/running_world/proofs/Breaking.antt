@@ -1,5 +1,6 @@
 -- The first premise that fails, after one more place.
 use Rattle.std.proofs.Common.{◌≡◌, suc, List, ◌∷◌, length, Option, Some, None, inl, inr, refl, sym, ap, ◌∙◌}
+use Rattle.std.specs.Option.{option_or}
 use Rattle.sso_base.specs.Words.{Text}
 use Rattle.sso_base.proofs.RowLaws.{option_cases}
 use Rattle.client_registry.specs.Configuration.{Configuration}
@@ -10,7 +11,7 @@ use Rattle.sso_places.specs.declared.types.WorldAsk.{WorldAsk}
 use Rattle.sso_places.specs.declared.types.WorldAsk.TheVariants.{Http, Tokens, Info}
 use Rattle.sso_places.specs.declared.types.WorldReply.{WorldReply}
 use Rattle.sso_places.specs.declared.types.WorldReply.TheVariants as reply
-use Rattle.sso_places.specs.FirstBroken.{or_else, first_clash, clash_at, broken_at, first_broken}
+use Rattle.sso_places.specs.FirstBroken.{first_clash, clash_at, broken_at, first_broken}
 use Rattle.sso_places.specs.Premises.{issued_at, HasDistinctHashes}
 use Rattle.sso_places.specs.Site.{Site, own_site}
 use Rattle.sso_places.specs.World.{Place, Nothing, World}
@@ -29,7 +30,7 @@ use Rattle.running_world.proofs.HalfDigests.{clash_is_found}
 use Rattle.running_world.proofs.KeptPlaces.{place_issues}
 use Rattle.op_exchange.specs.Replied.{code_in, access_in}
 
-or_else_none : (o : Option Broken) → or_else o None ≡ o
+or_else_none : (o : Option Broken) → option_or o None ≡ o
 or_else_none None = refl
 or_else_none (Some b) = refl
 
@@ -41,14 +42,14 @@ nothing_breaks c world =
 
 pub broken_nothing : (c : Configuration) (world : World) → first_broken (own_site c) (Nothing ∷ world) ≡ first_broken (own_site c) world
 broken_nothing c world =
-    ap (λ o. or_else (first_broken (own_site c) world) o) (nothing_breaks c world) ∙ or_else_none (first_broken (own_site c) world)
+    ap (λ o. option_or (first_broken (own_site c) world) o) (nothing_breaks c world) ∙ or_else_none (first_broken (own_site c) world)
 
 -- ---- a place with a request
 
 module _ (c : Configuration) (world : World) (a : Asked) where
   abbrev Breaks : To → WorldAsk → Place → Type 0
   Breaks role ask x =
-      or_else (judged_asked c world a.from role ask) (clash_at (suc (length world)) (first_clash x (x ∷ world))) ≡ broken_at (own_site c) world x
+      option_or (judged_asked c world a.from role ask) (clash_at (suc (length world)) (first_clash x (x ∷ world))) ≡ broken_at (own_site c) world x
 
   breaks : (role : To) (ask : WorldAsk) (answer : WorldReply) → Answers role ask answer → Breaks role ask (place_asked c a role ask answer)
   breaks to.Provider (Http request) (reply.Provider answer) is = refl
@@ -68,16 +69,16 @@ clash_is_told halves world x reply.Nothing distinct is issues = clash_is_found h
 
 -- the first failure is an earlier one, or that of the request, or that of the reply
 pub broken_more : (c : Configuration) (world : World) (a : Asked) (answer : WorldReply) (halves : List (Text × Issued)) → Answers a.to a.ask answer → ((half : Text) → issued_of halves half ≡ first_issued half world)
-    → or_else (first_broken (own_site c) world) (or_else (judged_asked c world a.from a.to a.ask) (clash_told halves (suc (length world)) answer))
+    → option_or (first_broken (own_site c) world) (option_or (judged_asked c world a.from a.to a.ask) (clash_told halves (suc (length world)) answer))
     ≡ first_broken (own_site c) (kept_place c (record { asked = Some a; reply = answer }) ∷ world)
 broken_more c world a answer halves whole is =
     let k : Kept = record { asked = Some a; reply = answer } in
     let x : Place = kept_place c k in
     let s : Site = own_site c in
     let told : Option Broken = clash_told halves (suc (length world)) answer in
-    let J : Option Broken → Option Broken = λ o. or_else (judged_asked c world a.from a.to a.ask) o in
-    let F : Option Broken → Option Broken = λ o. or_else o (J told) in
-    let G : Option Broken → Option Broken = λ o. or_else o (broken_at s world x) in
+    let J : Option Broken → Option Broken = λ o. option_or (judged_asked c world a.from a.to a.ask) o in
+    let F : Option Broken → Option Broken = λ o. option_or o (J told) in
+    let G : Option Broken → Option Broken = λ o. option_or o (broken_at s world x) in
     elim (option_cases (first_broken s world)) [
       | inl none ↦
           (let distinct : HasDistinctHashes world = (none_broken s world none).hashes in

@@ -4,16 +4,17 @@ use Rattle.std.specs.List.{list_any}
 use Rattle.std.specs.Str.{bytes_eq}
 use Rattle.std.proofs.lemmas.Bool.{ltb-true}
 use Rattle.std.proofs.lemmas.Option.{same_Some}
+use Rattle.std.specs.Option.{option_or}
 use Rattle.sso_base.specs.Words.{Word, Text}
 use Rattle.sso_base.proofs.RowLaws.{bool_cases, option_cases, bytes_same, bytes_true, bytes_turn}
 use Rattle.sso_model.specs.Lists.{Has}
 use Rattle.sso_model.proofs.ListLaws.{has_append_left, has_append_right}
 use Rattle.sso_places.specs.declared.types.Broken.{Broken}
 use Rattle.sso_places.specs.Cookies.{words_in}
-use Rattle.sso_places.specs.FirstBroken.{do_clash, clashes, or_else, first_clash, clash_at}
+use Rattle.sso_places.specs.FirstBroken.{do_clash, clashes, first_clash, clash_at}
 use Rattle.sso_places.specs.Premises.{issued_at, issued, half_digest, HasDistinctHashes}
 use Rattle.sso_places.specs.World.{Place, World}
-use Rattle.world_index.specs.Issuing.{issued_of, first_of, other_place}
+use Rattle.world_index.specs.Issuing.{issued_of, other_place}
 use Rattle.world_index.specs.declared.halves.Issued.{Issued}
 use Rattle.running_world.specs.Clashing.{earlier_of, clash_of, both_clash, clash_by, clash_found}
 use Rattle.running_world.specs.Indexed.{first_issued}
@@ -74,7 +75,7 @@ module _ (half : Text) (n : ℕ) where
   here_has : (ws : List Word) (i : Issued) → issued_here half n ws ≡ Some i → Has ws i.word × (half_digest i.word ≡ half)
   here_has [] i found = absurd (cc)
   here_has (w ∷ ws) i found =
-      let F : Bool → Option Issued = λ b. first_of (issue w b) (issued_here half n ws) in
+      let F : Bool → Option Issued = λ b. option_or (issue w b) (issued_here half n ws) in
       elim (bool_cases (bytes_eq (half_digest w) half)) [
         | inl e ↦
             (let same : record { word = w; place = n } ≡ i = same_Some (record { word = w; place = n }) i (sym (ap F e) ∙ found) in
@@ -86,7 +87,7 @@ module _ (half : Text) (n : ℕ) where
 first_has : (half : Text) (world : World) (i : Issued) → first_issued half world ≡ Some i → Has (issued world) i.word × (half_digest i.word ≡ half)
 first_has half [] i found = absurd (cc)
 first_has half (y ∷ world) i found =
-    let F : Option Issued → Option Issued = λ o. first_of o (issued_here half (suc (length world)) (issued_at y)) in
+    let F : Option Issued → Option Issued = λ o. option_or o (issued_here half (suc (length world)) (issued_at y)) in
     elim (option_cases (first_issued half world)) [
       | inl none ↦
           (let here = here_has half (suc (length world)) (issued_at y) i (sym (ap F none) ∙ found) in
@@ -105,7 +106,7 @@ found_if n b = cond b (Some n) None
 -- the earliest place of a world that issues a word with which this one clashes
 abbrev first_other : Word → World → Option ℕ
 first_other v [] = None
-first_other v (y ∷ world) = or_else (first_other v world) (found_if (suc (length world)) (list_any (do_clash v) (issued_at y)))
+first_other v (y ∷ world) = option_or (first_other v world) (found_if (suc (length world)) (list_any (do_clash v) (issued_at y)))
 
 abbrev place_if_other : Word → Issued → Bool → Option ℕ
 place_if_other v i b = cond b None (Some i.place)
@@ -116,7 +117,7 @@ other_here v n [] one = refl
 other_here v n (w ∷ ws) one =
     let i : Issued = record { word = w; place = n } in
     let rest : List Word → Bool = λ us. list_any (do_clash v) us in
-    let F : Bool → Option ℕ = λ b. other_place v (first_of (issue (half_digest v) n w b) (issued_here (half_digest v) n ws)) in
+    let F : Bool → Option ℕ = λ b. other_place v (option_or (issue (half_digest v) n w b) (issued_here (half_digest v) n ws)) in
     let A : Bool → Option ℕ = λ b. found_if n (b || rest ws) in
     elim (bool_cases (bytes_eq (half_digest w) (half_digest v))) [
       | inl e ↦
@@ -145,8 +146,8 @@ first_other_is v (y ∷ world) distinct =
     let before : HasDistinctHashes world =
     λ a b has_a has_b. distinct a b (has_append_right ws (issued world) a has_a) (has_append_right ws (issued world) b has_b) in
     let rest : first_other v world ≡ other_place v (first_issued half world) = first_other_is v world before in
-    let O : Option ℕ → Option ℕ = λ o. or_else o (found_if n (list_any (do_clash v) ws)) in
-    let F : Option Issued → Option ℕ = λ o. other_place v (first_of o (issued_here half n ws)) in
+    let O : Option ℕ → Option ℕ = λ o. option_or o (found_if n (list_any (do_clash v) ws)) in
+    let F : Option Issued → Option ℕ = λ o. other_place v (option_or o (issued_here half n ws)) in
     let P : Option Issued → Option ℕ = λ o. other_place v o in
     elim (option_cases (first_issued half world)) [
       | inl none ↦
@@ -175,17 +176,17 @@ any_clash vs y = list_any (λ v. list_any (do_clash v) (issued_at y)) vs
 -- the earliest place that issues a word with which one of these clashes
 abbrev first_at : List Word → World → Option ℕ
 first_at vs [] = None
-first_at vs (y ∷ world) = or_else (first_at vs world) (found_if (suc (length world)) (any_clash vs y))
+first_at vs (y ∷ world) = option_or (first_at vs world) (found_if (suc (length world)) (any_clash vs y))
 
 first_clash_at : (x : Place) (world : World) → first_clash x world ≡ first_at (issued_at x) world
 first_clash_at x [] = refl
 first_clash_at x (y ∷ world) =
-    ap (λ o. or_else o (found_if (suc (length world)) (clashes x y))) (first_clash_at x world)
+    ap (λ o. option_or o (found_if (suc (length world)) (clashes x y))) (first_clash_at x world)
 
 abbrev IsUpTo : ℕ → Option ℕ → Type 0
 IsUpTo n o = IfSome o (λ k. k ≤ n)
 
-up_to_more : (n : ℕ) (o : Option ℕ) (b : Bool) → IsUpTo n o → IsUpTo (suc n) (or_else o (found_if (suc n) b))
+up_to_more : (n : ℕ) (o : Option ℕ) (b : Bool) → IsUpTo n o → IsUpTo (suc n) (option_or o (found_if (suc n) b))
 up_to_more n None true low = omega arith
 up_to_more n None false low = tt
 up_to_more n (Some k) b low = omega arith
@@ -226,7 +227,7 @@ now_both n true false = refl
 now_both n false true = refl
 now_both n false false = refl
 
-earlier_more : (n : ℕ) (a b : Option ℕ) (p q : Bool) → IsUpTo n a → IsUpTo n b → or_else (earlier_of a b) (found_if (suc n) (p || q)) ≡ earlier_of (or_else a (found_if (suc n) p)) (or_else b (found_if (suc n) q))
+earlier_more : (n : ℕ) (a b : Option ℕ) (p q : Bool) → IsUpTo n a → IsUpTo n b → option_or (earlier_of a b) (found_if (suc n) (p || q)) ≡ earlier_of (option_or a (found_if (suc n) p)) (option_or b (found_if (suc n) q))
 earlier_more n None None p q low_a low_b = now_both n p q
 earlier_more n None (Some j) p q low_a low_b = sym (later_second n j p low_b)
 earlier_more n (Some i) None p q low_a low_b = sym (later_first n i q low_a)
@@ -238,12 +239,12 @@ first_at_word v vs (y ∷ world) =
     let n : ℕ = length world in
     let p : Bool = list_any (do_clash v) (issued_at y) in
     let q : Bool = any_clash vs y in
-    ap (λ o. or_else o (found_if (suc n) (p || q))) (first_at_word v vs world)
+    ap (λ o. option_or o (found_if (suc n) (p || q))) (first_at_word v vs world)
     ∙ earlier_more n (first_other v world) (first_at vs world) p q (other_low v world) (at_low vs world)
 
 first_at_none : (world : World) → first_at [] world ≡ None
 first_at_none [] = refl
-first_at_none (y ∷ world) = ap (λ o. or_else o None) (first_at_none world)
+first_at_none (y ∷ world) = ap (λ o. option_or o None) (first_at_none world)
 
 earlier_none : (o : Option ℕ) → earlier_of o None ≡ o
 earlier_none None = refl
@@ -281,7 +282,7 @@ module _ (halves : List (Text × Issued)) (world : World) (distinct : HasDistinc
       ∙ ap (λ o. earlier_of o (first_at (words_in access) world)) (other_found v)
       ∙ ap (λ o. earlier_of (clash_of halves (Some v)) o) (one_found access)
 
-  clash_by_is : (n : ℕ) (before : Option ℕ) (b : Bool) → clash_at n (or_else before (found_if n b)) ≡ clash_by n before b
+  clash_by_is : (n : ℕ) (before : Option ℕ) (b : Bool) → clash_at n (option_or before (found_if n b)) ≡ clash_by n before b
   clash_by_is n None true = refl
   clash_by_is n None false = refl
   clash_by_is n (Some k) b = refl
@@ -289,7 +290,7 @@ module _ (halves : List (Text × Issued)) (world : World) (distinct : HasDistinc
   pub clash_is_found : (x : Place) (code access : Option Word) → issued_at x ≡ words_in code ++ words_in access → clash_at (suc (length world)) (first_clash x (x ∷ world)) ≡ clash_found halves (suc (length world)) code access
   clash_is_found x code access issues =
       let n : ℕ = suc (length world) in
-      let C : Option ℕ → Bool → Option Broken = λ o b. clash_at n (or_else o (found_if n b)) in
+      let C : Option ℕ → Bool → Option Broken = λ o b. clash_at n (option_or o (found_if n b)) in
       let T : List Word → Bool = λ ws. list_any (λ v. list_any (do_clash v) ws) ws in
       let before : first_clash x world ≡ earlier_of (clash_of halves code) (clash_of halves access) =
       first_clash_at x world ∙ ap (λ ws. first_at ws world) issues ∙ both_found code access in

@@ -2,6 +2,7 @@
 use Rattle.std.proofs.Common.{◌≡◌, ℕ, suc, Bool, true, false, ◌&&◌, ◌||◌, not, ◌==◌, List, ◌∷◌, length, Option, Some, None, refl, sym, ap, ◌∙◌}
 use Rattle.std.specs.List.{list_any}
 use Rattle.std.proofs.lemmas.List.Folds.{list_any-append}
+use Rattle.std.specs.Option.{option_or}
 use Rattle.sso_base.specs.Words.{Word, Text}
 use Rattle.client_registry.specs.Configuration.{Configuration}
 use Rattle.sso_places.specs.Premises.{issued_at, sets_elsewhere, set_elsewhere}
@@ -11,7 +12,7 @@ use Rattle.sso_places.specs.World.{Place, Nothing, World}
 use Rattle.sso_places.specs.Written.{written_at, written}
 use Rattle.world_index.specs.Setting.{set_for_other}
 use Rattle.world_index.specs.Writing.{is_written_for}
-use Rattle.world_index.specs.Issuing.{issued_of, first_of}
+use Rattle.world_index.specs.Issuing.{issued_of}
 use Rattle.world_index.specs.declared.halves.Issued.{Issued}
 use Rattle.running_world.specs.declared.foreknown.Foreknown.{Foreknown}
 use Rattle.running_world.specs.declared.kept.Kept.{Kept}
@@ -23,7 +24,7 @@ use Rattle.running_world.specs.Running.{kept_place}
 use Rattle.running_world.specs.Whole.{IsWhole}
 use Rattle.running_world.proofs.KeptPlaces.{place_sets, place_writes, place_issues}
 
-pub first_none : (o : Option Issued) → first_of o None ≡ o
+pub first_none : (o : Option Issued) → option_or o None ≡ o
 first_none None = refl
 first_none (Some issued) = refl
 
@@ -42,7 +43,7 @@ index_more c index fore x world is =
           ap (λ b. list_any (is_token (client, t)) here || b) (is.wrote t client)
           ∙ sym (list_any-append (is_token (client, t)) here (written (own_site c) world)));
       issued = λ half.
-          ap (λ (o : Option Issued). first_of o (issued_here half (suc (length world)) (issued_at x)))
+          ap (λ (o : Option Issued). option_or o (issued_here half (suc (length world)) (issued_at x)))
           (sym (first_none (issued_of index.halves half)) ∙ is.issued half);
     }
 
@@ -66,7 +67,7 @@ module _ (c : Configuration) (before after : Index) (k : Kept) (world : World) (
   found index t client texts = list_any (is_token (client, t)) texts || is_written_for index.written t client
 
   abbrev first : Index → Text → List Word → Option Issued
-  first index half words = first_of (issued_of index.halves half) (issued_here half place words)
+  first index half words = option_or (issued_of index.halves half) (issued_here half place words)
 
   pub index_noted : IsNoted c before after k place fore → IsIndexed c after None (kept_place c k ∷ world)
   index_noted noted =

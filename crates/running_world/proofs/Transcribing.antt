@@ -2,13 +2,14 @@
 use Rattle.std.proofs.Common.{◌≡◌, ◌≢◌, ℕ, zero, suc, ◌-◌, ◌<◌, Bool, true, false, List, [], ◌∷◌, ◌++◌, length, reverse, Option, Some, None, IfSome, slice_get, refl, sym, ap, ◌∙◌, subst, arith}
 use Rattle.std.specs.List.{list_any}
 use Rattle.std.proofs.lemmas.List.{length-map, reverse-append, reverse-reverse}
+use Rattle.std.specs.Option.{option_or}
 use Rattle.sso_base.specs.Words.{Word, Text}
 use Rattle.client_registry.specs.Configuration.{Configuration}
 use Rattle.client_registry.specs.Registered.{IsRegistry}
 use Rattle.sso_places.specs.declared.types.Broken.{Broken}
 use Rattle.sso_places.specs.declared.types.WorldReply.{WorldReply}
 use Rattle.sso_places.specs.declared.types.WorldReply.TheVariants as reply
-use Rattle.sso_places.specs.FirstBroken.{or_else, first_broken, verdict}
+use Rattle.sso_places.specs.FirstBroken.{first_broken, verdict}
 use Rattle.sso_places.specs.Site.{own_site}
 use Rattle.sso_places.specs.Tokens.{TokenText as TokenPair}
 use Rattle.sso_places.specs.World.{World}
@@ -111,11 +112,11 @@ module _ (c : Configuration) (kept : List Kept) (capacity : ℕ) (jars : Jarred)
 
     -- a place is put
     pub put : (a : Asked) (answer : WorldReply) (tested : Option Broken) (fore : Foreknown) (room : ℕ) (later : Jarred) → later.parties ≡ jars.parties → IsRole c a.to → Answers a.to a.ask answer → tested ≡ judged_asked c (places_of c kept) a.from a.to a.ask → IsKnown c fore → IsForeknownAt c (places_of c kept) a.at a.to a.ask fore
-        → IsTranscript c (record { asked = Some a; reply = answer } ∷ kept) room later index (Some fore) (or_else broken (or_else tested (clash_told index.halves (suc (length kept)) answer))) false
+        → IsTranscript c (record { asked = Some a; reply = answer } ∷ kept) room later index (Some fore) (option_or broken (option_or tested (clash_told index.halves (suc (length kept)) answer))) false
     put a answer tested fore room later parties role answers tested_is known foreknown =
         let world : World = places_of c kept in
         let k : Kept = record { asked = Some a; reply = answer } in
-        let B : Option Broken → Option Broken → ℕ → Option Broken = λ b j n. or_else b (or_else j (clash_told index.halves n answer)) in
+        let B : Option Broken → Option Broken → ℕ → Option Broken = λ b j n. option_or b (option_or j (clash_told index.halves n answer)) in
         record {
           registry = is.registry;
           whole = (answers, is.whole);

@@ -2,6 +2,7 @@
 use Rattle.std.specs.Prelude.{◌≡◌, ℕ, Bool, false, ◌==◌, ◌&&◌, ◌||◌, not, List, [], ◌∷◌, ◌++◌, map, Option, Some, None}
 use Rattle.std.specs.List.{list_any}
 use Rattle.std.specs.Str.{bytes_eq}
+use Rattle.std.specs.Option.{option_or}
 use Rattle.sso_base.specs.Words.{Word, Text}
 use Rattle.client_registry.specs.Configuration.{Configuration}
 use Rattle.client_registry.specs.declared.records.Client.{Client}
@@ -26,7 +27,7 @@ use Rattle.sso_places.specs.Tokens.{TokenText, token_if, is_token}
 use Rattle.sso_places.specs.Written.{client_of_uri, logouts_written, rp_written}
 use Rattle.world_index.specs.Setting.{set_for_other}
 use Rattle.world_index.specs.Writing.{is_written_for}
-use Rattle.world_index.specs.Issuing.{issued_of, first_of, issued_as}
+use Rattle.world_index.specs.Issuing.{issued_of, issued_as}
 use Rattle.world_index.specs.declared.halves.Issued.{Issued}
 use Rattle.running_world.specs.declared.foreknown.Foreknown.{Foreknown}
 use Rattle.running_world.specs.declared.kept.Asked.{Asked}
@@ -93,7 +94,7 @@ issued_if half place (Some w) = issued_as half w place
 -- the first of these words with this half hash
 abbrev pub issued_here : Text → ℕ → List Word → Option Issued
 issued_here half place [] = None
-issued_here half place (w ∷ words) = first_of (issued_as half w place) (issued_here half place words)
+issued_here half place (w ∷ words) = option_or (issued_as half w place) (issued_here half place words)
 
 -- ---- the contents of a place
 
@@ -119,10 +120,10 @@ issued_by answer = []
 pub record IsNoted (c : Configuration) (before after : Index) (k : Kept) (place : ℕ) (fore : Foreknown) : Type 0 where
   pub set : (w : Word) (from : ℕ) → set_for_other after.setters w from ≡ (sets_for (from_if k.asked) from w (set_by k.reply) || set_for_other before.setters w from)
   pub wrote : AreNoted before.written after.written (kept_writes c fore k)
-  pub issued : (half : Text) → issued_of after.halves half ≡ first_of (issued_of before.halves half) (issued_here half place (issued_by k.reply))
+  pub issued : (half : Text) → issued_of after.halves half ≡ option_or (issued_of before.halves half) (issued_here half place (issued_by k.reply))
 
 -- parts of the place may be indexed, and nothing else is
 pub record IsPartlyNoted (c : Configuration) (before after : Index) (k : Kept) (place : ℕ) (fore : Foreknown) : Type 0 where
   pub set : (w : Word) (from : ℕ) → (sets_for (from_if k.asked) from w (set_by k.reply) || set_for_other after.setters w from) ≡ (sets_for (from_if k.asked) from w (set_by k.reply) || set_for_other before.setters w from)
   pub wrote : ArePartlyNoted before.written after.written (kept_writes c fore k)
-  pub issued : (half : Text) → first_of (issued_of after.halves half) (issued_here half place (issued_by k.reply)) ≡ first_of (issued_of before.halves half) (issued_here half place (issued_by k.reply))
+  pub issued : (half : Text) → option_or (issued_of after.halves half) (issued_here half place (issued_by k.reply)) ≡ option_or (issued_of before.halves half) (issued_here half place (issued_by k.reply))

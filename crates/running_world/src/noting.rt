@@ -2,10 +2,11 @@
 
 ghost use Rattle.std.specs.Prelude.{◌≡◌, ℕ, ◌||◌, false, length, reverse, Some, None, IfSome, IfOk, OnOk, OnErr};
 ghost use Rattle.std.specs.List.{AllByRecursion};
+ghost use Rattle.std.specs.Option.{option_or};
 ghost use Rattle.sso_base.specs.Words.{Word as WordOf, Text as TextOf};
 ghost use Rattle.world_index.specs.Setting.{set_for_other};
 ghost use Rattle.world_index.specs.Writing.{is_written_for};
-ghost use Rattle.world_index.specs.Issuing.{issued_of, first_of};
+ghost use Rattle.world_index.specs.Issuing.{issued_of};
 ghost use Rattle.running_world.specs.Foreknowing.{IsKnown};
 ghost use Rattle.running_world.specs.Indexed.{IsIndexed, IsBehind};
 ghost use Rattle.running_world.specs.Noting as spec;
@@ -69,7 +70,7 @@ fn note_set(setters: &mut Setters, set: &Jar, from: u32) -> Result<(), NoMemory>
 
 // Notes that the word, if there is one, is issued at a place.
 fn note_half(halves: &mut Halves, word: &Option<Word>, place: u64) -> Result<(), NoMemory>
-    ensures ok { OnOk result ((half : TextOf) → issued_of halves.new half ≡ first_of (issued_of halves.old half) (spec.issued_if half place word.now)) }
+    ensures ok { OnOk result ((half : TextOf) → issued_of halves.new half ≡ option_or (issued_of halves.old half) (spec.issued_if half place word.now)) }
     ensures err { OnErr result (halves.new ≡ halves.old) }
 {
     match word {
@@ -80,8 +81,8 @@ fn note_half(halves: &mut Halves, word: &Option<Word>, place: u64) -> Result<(),
 
 // Notes the code and the access token that a reply issues at a place.
 fn note_issued(halves: &mut Halves, reply: &WorldReply, place: u64) -> Result<(), NoMemory>
-    ensures ok { OnOk result ((half : TextOf) → issued_of halves.new half ≡ first_of (issued_of halves.old half) (spec.issued_here half place (spec.issued_by reply.now))) }
-    ensures either { (half : TextOf) → first_of (issued_of halves.new half) (spec.issued_here half place (spec.issued_by reply.now)) ≡ first_of (issued_of halves.old half) (spec.issued_here half place (spec.issued_by reply.now)) }
+    ensures ok { OnOk result ((half : TextOf) → issued_of halves.new half ≡ option_or (issued_of halves.old half) (spec.issued_here half place (spec.issued_by reply.now))) }
+    ensures either { (half : TextOf) → option_or (issued_of halves.new half) (spec.issued_here half place (spec.issued_by reply.now)) ≡ option_or (issued_of halves.old half) (spec.issued_here half place (spec.issued_by reply.now)) }
 {
     let WorldReply::Provider(reply) = reply else {
         return Ok(());

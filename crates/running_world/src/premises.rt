@@ -2,9 +2,10 @@
 
 ghost use Rattle.std.specs.Prelude.{◌≡◌, ◌<◌, length, IfSome, IfOk};
 ghost use Rattle.std.specs.List.{list_any};
+ghost use Rattle.std.specs.Option.{option_or};
 ghost use Rattle.sso_base.specs.Words.{Word as WordOf};
 ghost use Rattle.sso_places.specs.Cookies.{http_words, party_words};
-ghost use Rattle.sso_places.specs.FirstBroken.{or_else, verdict as verdict_of};
+ghost use Rattle.sso_places.specs.FirstBroken.{verdict as verdict_of};
 ghost use Rattle.world_index.specs.Setting.{set_for_other};
 ghost use Rattle.running_world.specs.declared.judging.TokenText.{TokenText as TokenOf};
 ghost use Rattle.running_world.specs.Forging as spec;
@@ -93,7 +94,7 @@ pub(crate) fn verdict(number: u64, forged: bool, leaked: bool) -> Option<Broken>
 
 /// The first failure.
 pub(crate) fn first_of(before: Option<Broken>, later: Option<Broken>) -> Option<Broken>
-    ensures { result ≡ or_else before later }
+    ensures { result ≡ option_or before later }
 {
     match before {
         Some(broken) => Some(broken),

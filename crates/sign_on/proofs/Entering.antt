@@ -5,6 +5,7 @@ use Rattle.std.proofs.lemmas.List.{append_assoc}
 use Rattle.std.specs.List.{AllByRecursion}
 use Rattle.std.specs.Str.{bytes_eq}
 use Rattle.sso_base.specs.Words.{Word, Text, IsWord, is_word, fresh_word, word_text}
+use Rattle.sso_base.specs.Texts.{is_other}
 use Rattle.sso_base.specs.Rows.{row_of, lives}
 use Rattle.sso_base.specs.Legal.{last_moment}
 use Rattle.sso_base.proofs.RowLaws.{bool_cases, option_cases, bytes_same, bytes_true, row_has_name}
@@ -45,7 +46,7 @@ use Rattle.rp_answer.specs.Asked.{if_wanted, claims_read, claims_judged}
 use Rattle.rp_answer.specs.Logins.{login_of, live_login}
 use Rattle.rp_answer.specs.Pendings.{pendings, pending_of}
 use Rattle.rp_answer.specs.Visits.{visits, visit_by, visit_of, visit_of_pending, visit_after, nonce_by, live_visits}
-use Rattle.rp_answer.specs.Replies.{front_rules, back_rules, is_other}
+use Rattle.rp_answer.specs.Replies.{front_rules, back_rules}
 use Rattle.rp_answer.specs.Causes.{OwnLogin, EnteredCause, EnteredAtOnce, EnteredAfterExchange, EnteredAfterInfo}
 use Rattle.rp_answer.specs.Legal.{BegunBy, EnteredBy, ExchangedBy, FetchedBy, login_entered, place_of_login, place_of_pending}
 use Rattle.rp_answer.proofs.Drawn.{logins_are_drawn}
@@ -205,7 +206,7 @@ wanted_read true id claims h = ap claims_read h
 wanted_read false id claims h = absurd (cc)
 
 -- a subject that is no other is this one
-not_other : (before sub : Text) → is_other (Some before) sub ≡ false → before ≡ sub
+not_other : (before sub : Text) → is_other sub (Some before) ≡ false → before ≡ sub
 not_other before sub h =
     elim (bool_cases (bytes_eq before sub)) [
       | inl same ↦ bytes_same before sub same
@@ -456,7 +457,7 @@ module _ (s : Site) (n from at : ℕ) (request : WorldAsk) (fresh : List Word) (
       let answer : IsInfo c n request pending = as_info c n request pending (Ok came) legal.asked.0.1 in
       let J : WorldAsk → Type 0 = λ r. IsJoinedAt world from r in
       let held : (y : Place) → holder pending world ≡ Some y → from_of y ≡ from = subst J answer.came_is here_joined in
-      let O : Option Text → Type 0 = λ o. is_other o came ≡ false in
+      let O : Option Text → Type 0 = λ o. is_other came o ≡ false in
       let same : by.claims.sub ≡ came = not_other by.claims.sub came (subst O by.sub_is cause.same_subject) in
       let P : Option PendingRow → Option SessionRow = λ o. option_and_then (visit_after at w) o in
       let S : Option Text → Option SessionRow = λ o. option_map (visit_of_pending at w row) o in

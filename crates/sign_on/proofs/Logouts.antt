@@ -5,6 +5,7 @@ use Rattle.std.proofs.lemmas.Bool.{eqb-true, and_parts}
 use Rattle.std.specs.List.{AllByRecursion}
 use Rattle.std.specs.Str.{bytes_eq}
 use Rattle.sso_base.specs.Words.{Word, Text, fresh_word}
+use Rattle.sso_base.specs.Texts.{is_given}
 use Rattle.sso_base.proofs.Histories.{earlier_is_legal}
 use Rattle.sso_base.proofs.RowLaws.{bool_cases, bytes_same, bytes_true, bytes_turn}
 use Rattle.sso_model.specs.Lists.{Has, Lacks}
@@ -63,7 +64,6 @@ use Rattle.sign_on.proofs.AskKinds.{IsRequest, as_request}
 use Rattle.sign_on.proofs.LiveRows.{settled, sessions_settled}
 use Rattle.sign_on.proofs.RpPlaces.{Does, fewer_done}
 use Rattle.request_params.specs.Form.{posted}
-use Rattle.id_token.specs.Judging.{is_given}
 
 -- ---- which message a `jti` names
 

@@ -21,7 +21,7 @@ pub if_answered : {A E : Type 0} (should : Result A E) (P : A → Type 0) → ((
 if_answered should P f (Ok a) h = f a h
 if_answered should P f (Err e) h = tt
 
-only_at : {A E : Type 0} (memory : E) (should : Result A E) (a : A) → should ≡ Ok a → (e : E) → (e ≡ memory) ⊎ (should ≡ Err e) → e ≡ memory
+pub only_at : {A E : Type 0} (memory : E) (should : Result A E) (a : A) → should ≡ Ok a → (e : E) → (e ≡ memory) ⊎ (should ≡ Err e) → e ≡ memory
 only_at memory should a is e (inl h) = h
 only_at memory should a is e (inr h) = not_both should a e is h
 

@@ -7,6 +7,7 @@ pub mod OnLiterals
 pub mod Refusals
 pub mod Spelling
 pub mod Decided
+pub mod Statuses
 pub mod ListSteps
 pub mod WordTexts
 pub mod WordUtf8

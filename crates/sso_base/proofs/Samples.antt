@@ -1,5 +1,5 @@
 -- The definitions computed on small cases: what each accepts, and what it refuses.
-use Rattle.std.proofs.Common.{◌≡◌, ◌==◌, nat_lt, Result, ℕ, codes, replicate, ◌++◌, ◌-◌, ◌^◌, ◌<◌, ◌≤◌, true, false, List, [], ◌∷◌, length, take, Option, Some, None, Ok, Err, refl, ap, ◌∙◌, subst, suc, zero, arith, if◌then◌else◌}
+use Rattle.std.proofs.Common.{◌≡◌, ◌==◌, nat_lt, Result, ℕ, codes, replicate, ◌++◌, ◌-◌, ◌^◌, ◌<◌, ◌≤◌, true, false, List, [], ◌∷◌, length, take, Option, Some, None, Ok, Err, refl, inl, inr, ap, ◌∙◌, subst, suc, zero, arith, if◌then◌else◌}
 use Rattle.std.specs.Str.{bytes_eq}
 use Rattle.sso_base.specs.declared.history.Entry.{Entry}
 use Rattle.sso_base.specs.declared.history.Pair.{Pair}
@@ -9,13 +9,16 @@ use Rattle.sso_base.proofs.OnLiterals.{base64url_on_literals}
 use Rattle.sso_base.proofs.Spelling.{IsBytes-from_all_bytes}
 use Rattle.sso_base.specs.Faults.{Rose, HasCause}
 use Rattle.sso_base.specs.Outside.{Content, Takes, TakesFront, content_of, Fetches}
-use Rattle.sso_base.specs.Texts.{is_ascii, has_text, is_only}
+use Rattle.sso_base.specs.RequestLine.{method_of, is_question}
+use Rattle.sso_base.specs.declared.http.Method.TheVariants.{Post, Other}
+use Rattle.sso_base.specs.Lists.{Has}
+use Rattle.sso_base.specs.Texts.{is_ascii, has_text, is_given, is_other, is_only}
 use Rattle.sso_base.specs.TextBuffer.{buffer_of, texts_in, IsBuffer}
 use Rattle.sso_base.proofs.Utf8Bytes.{IsUtf8-are_ascii}
 use Rattle.sso_base.specs.Values.{AreWords}
 use Rattle.sso_base.specs.Weights.{told_weight, texts_bytes}
 use Rattle.sso_base.specs.Journal.{IsLegalHistoryBy, entry_moment, extended, history_weight}
-use Rattle.sso_base.specs.Refusals.{first_refusal, and_then, demand, forbid}
+use Rattle.sso_base.specs.Refusals.{first_refusal, and_then, and_then_as, demand, forbid}
 use Rattle.sso_base.specs.Rows.{without, put, row_of, rows_by, lives, if_lives, live_rows}
 use Rattle.sso_base.specs.Stands.{is_named, carried, NoneMakes, Stands, KeepsNames, IsDistinct}
 use Rattle.sso_base.specs.Legal.{last_moment, IsEntry, IsLegalBy}
@@ -434,6 +437,47 @@ has_text-the_second = refl
 has_text-not_a_part : has_text (codes "a") (codes "ab" ∷ []) ≡ false
 has_text-not_a_part = refl
 
+is_given-the_same : is_given (codes "c") (Some (codes "c")) ≡ true
+is_given-the_same = refl
+
+is_given-not_another_text : is_given (codes "c") (Some (codes "i")) ≡ false
+is_given-not_another_text = refl
+
+is_given-not_without_a_text : is_given (codes "c") None ≡ false
+is_given-not_without_a_text = refl
+
+is_other-another_text : is_other (codes "c") (Some (codes "i")) ≡ true
+is_other-another_text = refl
+
+is_other-not_the_same : is_other (codes "c") (Some (codes "c")) ≡ false
+is_other-not_the_same = refl
+
+is_other-not_without_a_text : is_other (codes "c") None ≡ false
+is_other-not_without_a_text = refl
+
+-- ---- the method and the target of a request
+
+method_of-post : method_of (codes "POST") ≡ Post
+method_of-post = refl
+
+method_of-not_in_lower_case : method_of (codes "post") ≡ Other
+method_of-not_in_lower_case = refl
+
+is_question-begins_the_query : is_question 63 ≡ true
+is_question-begins_the_query = refl
+
+is_question-not_another_mark : is_question 38 ≡ false
+is_question-not_another_mark = refl
+
+-- ---- membership in a list
+
+has-the_second : Has (1 ∷ 2 ∷ []) 2
+has-the_second = inr (inl refl)
+
+has-not_another : Has (1 ∷ []) 2 → ⊥
+has-not_another (inl is) = omega (arith, is)
+has-not_another (inr later) = later
+
 -- ---- texts in one buffer
 
 buffer-of_two : buffer_of (codes "ab" ∷ [] ∷ []) ≡ 97 ∷ 98 ∷ 255 ∷ 255 ∷ []
@@ -467,6 +511,15 @@ what_is_found-is_handed_on = refl
 
 a_refusal-stays : and_then (tested 10) (λ _. tested 9) ≡ Err (codes "many")
 a_refusal-stays = refl
+
+abbrev wrapped : ℕ → Result (Unit {0}) (Option (List ℕ))
+wrapped n = and_then_as Some (tested n) (λ _. Err None)
+
+what_is_found-is_passed_on : wrapped 9 ≡ Err None
+what_is_found-is_passed_on = refl
+
+a_refusal-is_wrapped : wrapped 10 ≡ Err (Some (codes "many"))
+a_refusal-is_wrapped = refl
 
 only-the_client : is_only (codes "c") (codes "c" ∷ codes "c" ∷ []) ≡ true
 only-the_client = refl

@@ -40,22 +40,24 @@ all_bytes-from_IsBytes (x ∷ xs) h = rw (is_below x (h 0), all_bytes-from_IsByt
 
 -- ---- what is spelled
 
-spelled_by : (s b : List ℕ) (t u : Bool) (c : List ℕ) → bytes_eq (b64u b) s ≡ t → all_bytes b ≡ u → cond (t && u) (Some b) None ≡ Some c → (s ≡ b64u c) × IsBytes c
-spelled_by s b true true c e f g =
-    let same : b ≡ c = cc in
-    let spelled : b64u b ≡ s = (bytes_eq-Decides (b64u b) s).0 e in
-    (sym spelled ∙ ap b64u same, IsBytes-from_all_bytes c (rw same at f))
-spelled_by s b true false c e f g = absurd (cc)
-spelled_by s b false u c e f g = absurd (cc)
+-- in any encoding
+module _ (encoded : List ℕ → List ℕ) where
+  spelled_by : (s b : List ℕ) (t u : Bool) (c : List ℕ) → bytes_eq (encoded b) s ≡ t → all_bytes b ≡ u → cond (t && u) (Some b) None ≡ Some c → (s ≡ encoded c) × IsBytes c
+  spelled_by s b true true c e f g =
+      let same : b ≡ c = cc in
+      let spelled : encoded b ≡ s = (bytes_eq-Decides (encoded b) s).0 e in
+      (sym spelled ∙ ap encoded same, IsBytes-from_all_bytes c (rw same at f))
+  spelled_by s b true false c e f g = absurd (cc)
+  spelled_by s b false u c e f g = absurd (cc)
 
-if_spelled_some : (s c : List ℕ) (o : Option (List ℕ)) → option_and_then (if_spelled s) o ≡ Some c → (s ≡ b64u c) × IsBytes c
-if_spelled_some s c None e = absurd (cc)
-if_spelled_some s c (Some b) e = spelled_by s b (bytes_eq (b64u b) s) (all_bytes b) c refl refl e
+  pub if_spelled_some : (s c : List ℕ) (o : Option (List ℕ)) → option_and_then (if_spelled encoded s) o ≡ Some c → (s ≡ encoded c) × IsBytes c
+  if_spelled_some s c None e = absurd (cc)
+  if_spelled_some s c (Some b) e = spelled_by s b (bytes_eq (encoded b) s) (all_bytes b) c refl refl e
 
 -- a text that spells bytes is their text
 pub unb64u_some : (s b : List ℕ) → unb64u s ≡ Some b → (s ≡ b64u b) × IsBytes b
 unfolding unb64u
-unb64u_some s b e = if_spelled_some s b (decoded_of url_safe_no_pad s) e
+unb64u_some s b e = if_spelled_some b64u s b (decoded_of url_safe_no_pad s) e
 
 decoded : (s b : List ℕ) → decode_of url_safe_no_pad s ≡ Ok b → s ≡ b64u b → IsBytes b → unb64u s ≡ Some b
 unfolding unb64u decoded_of

@@ -14,12 +14,13 @@ b64u b = encode_of url_safe_no_pad b
 abbrev pub all_bytes : List ℕ → Bool
 all_bytes b = list_all (λ x. nat_lt x 256) b
 
-abbrev pub if_spelled : List ℕ → List ℕ → Option (List ℕ)
-if_spelled t b = if bytes_eq (b64u b) t && all_bytes b then Some b else None
+-- the bytes, if the text is their text in this encoding
+abbrev pub if_spelled : (List ℕ → List ℕ) → List ℕ → List ℕ → Option (List ℕ)
+if_spelled encoded t b = if bytes_eq (encoded b) t && all_bytes b then Some b else None
 
 -- the bytes that a text encodes
 unfoldable pub unb64u : List ℕ → Option (List ℕ)
-unb64u t = option_and_then (if_spelled t) (decoded_of url_safe_no_pad t)
+unb64u t = option_and_then (if_spelled b64u t) (decoded_of url_safe_no_pad t)
 
 abbrev pub if_32 : List ℕ → Option (List ℕ)
 if_32 b = if length b == 32 then Some b else None

@@ -9,6 +9,8 @@ pub mod Values
 pub mod Weights
 pub mod Outside
 pub mod Refusals
+pub mod RequestLine
 pub mod Rows
 pub mod Stands
 pub mod Words
+pub mod Lists

@@ -15,6 +15,11 @@ abbrev pub and_then : {A B E : Type 0} → Result A E → (A → Result B E) →
 and_then (Ok a) f = f a
 and_then (Err e) f = Err e
 
+-- the same, where the function's errors are of another type, and the error is wrapped in one of them
+abbrev pub and_then_as : {A B E F : Type 0} → (E → F) → Result A E → (A → Result B F) → Result B F
+and_then_as wrap (Ok a) f = f a
+and_then_as wrap (Err e) f = Err (wrap e)
+
 -- the value, or this error if there is none
 abbrev pub demand : {A B E : Type 0} → E → Option A → (A → Result B E) → Result B E
 demand e None f = Err e

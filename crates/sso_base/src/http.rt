@@ -1,5 +1,9 @@
 // Requests to a server and its replies, as far as HTTP carries them (RFC 9110).
 
+ghost use Rattle.std.specs.Prelude.{◌≡◌};
+ghost use Rattle.std.specs.List.{before_first, after_first};
+ghost use Rattle.sso_base.specs.RequestLine.{method_of, is_question};
+
 use crate::text::{Blob, Text};
 use crate::texts::Texts;
 use crate::word::Word;
@@ -11,6 +15,33 @@ pub enum Method {
     Post,
     /// Any other method.
     Other,
+}
+
+impl Method {
+    /// The method of this name, which is in upper case (RFC 9110, 9.1).
+    pub fn of_name(name: &[u8]) -> Method
+        ensures { result ≡ method_of name.now }
+    {
+        if name == b"GET".as_slice() {
+            Method::Get
+        } else if name == b"POST".as_slice() {
+            Method::Post
+        } else {
+            Method::Other
+        }
+    }
+}
+
+/// The path and the query of a target: the text before and after its first `?`. Without one, all of it is the path, and the query
+/// is empty (RFC 9112, 3.2.1).
+pub fn split_target(target: &str) -> (&str, &str)
+    ensures path { result.0.now ≡ before_first is_question target.now }
+    ensures query { result.1.now ≡ after_first is_question target.now }
+{
+    match target.split_once('?') {
+        Some((path, query)) => (path, query),
+        None => (target, ""),
+    }
 }
 
 /// One request to a server.

@@ -8,7 +8,7 @@
 //! | `word` | `Word`, 32 random bytes, and its text |
 //! | `moment` | `Moment`, a number of seconds |
 //! | `message`, `messages` | `Message`, `Messages` and `Answered`: what servers send each other |
-//! | `http` | `Ask` and `HttpReply`: requests and replies, as far as HTTP carries them |
+//! | `http` | `Ask` and `HttpReply`: requests and replies, as far as HTTP carries them; methods by name, the parts of a target |
 //! | `history` | `Entry` and `Pair`: a request to a core, and its reply |
 //! | `journal` | `Journal`: the stored history of a core, with a limit on its weight |
 //! | `step` | `Core`: a state machine that answers requests one after another and stores its history |
@@ -40,7 +40,7 @@ mod weights;
 mod word;
 
 pub use history::{Entry, Pair};
-pub use http::{Ask, HttpReply, Kind, Method};
+pub use http::{Ask, HttpReply, Kind, Method, split_target};
 pub use journal::{Journal, Weighed};
 pub use law::words_have_one_text;
 pub use memory::NoMemory;

@@ -2,12 +2,13 @@
 use Rattle.std.proofs.Common.{◌≡◌, ℕ, ◌≤◌, not, Bool, true, false, List, [], ◌∷◌, ◌++◌, length, Option, None, Result, Ok, refl, arith}
 use Rattle.httparse.specs.Grammar.{RequestHead}
 use Rattle.sso_base.specs.Refusals.{and_then, forbid}
+use Rattle.sso_base.specs.RequestLine.{method_of}
 use Rattle.sso_base.specs.Words.{Word, word_of_text}
 use Rattle.sso_base.specs.declared.http.Ask.{Ask}
 use Rattle.sso_http.specs.Bodies.{has_transfer, body_length}
 use Rattle.sso_http.specs.Causes.{fields_of, MeetsNoCause, Names}
 use Rattle.sso_http.specs.Cookies.{cookies_of, word_of}
-use Rattle.sso_http.specs.Judging.{method_of, begins_with_slash, asked, judgement_of, judgement, IsHeadOf}
+use Rattle.sso_http.specs.Judging.{begins_with_slash, asked, judgement_of, judgement, IsHeadOf}
 use Rattle.sso_http.specs.Requests.{IsShortHead, with_body, Answers}
 use Rattle.sso_http.specs.declared.judge.Judged.{Judged}
 use Rattle.sso_http.specs.declared.no.HttpNo.{HttpNo}

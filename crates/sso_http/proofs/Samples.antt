@@ -7,7 +7,7 @@ use Rattle.httparse.specs.Grammar.{is_token_byte, is_uri_byte, crlf, IsField, Re
 use Rattle.httparse.proofs.OnLiterals.{httparse_on_literals}
 use Rattle.sso_base.specs.Words.{word_text}
 use Rattle.sso_base.specs.declared.http.Kind.TheVariants.{Json}
-use Rattle.sso_base.specs.declared.http.Method.TheVariants.{Get, Post, Other}
+use Rattle.sso_base.specs.declared.http.Method.TheVariants.{Get, Post}
 use Rattle.http_reply.specs.Replies.{plain}
 use Rattle.sso_http.specs.Ascii.{credentials}
 use Rattle.sso_http.specs.Blanks.{trimmed}
@@ -15,7 +15,7 @@ use Rattle.sso_http.specs.Bodies.{has_transfer, length_of, body_length, is_form_
 use Rattle.sso_http.specs.Cookies.{pair_of, cookies_of, word_of}
 use Rattle.sso_http.specs.Decimals.{decimal_of, short_decimal}
 use Rattle.sso_http.specs.Fields.{values_of, first_of, only_of}
-use Rattle.sso_http.specs.Judging.{method_of, begins_with_slash, judgement_of, IsHeadOf}
+use Rattle.sso_http.specs.Judging.{begins_with_slash, judgement_of, IsHeadOf}
 use Rattle.sso_http.specs.Lines.{IsHead, HasNoHead}
 use Rattle.sso_http.specs.Messages.{place_of, request_line}
 use Rattle.sso_http.specs.Peers.{cut_body, peer_body}
@@ -147,12 +147,6 @@ cookie_twice : word_of (codes "1" ∷ codes "2" ∷ []) ≡ Err CookieTwice
 cookie_twice = refl
 
 -- ---- judging
-
-a_method : method_of (codes "POST") ≡ Post
-a_method = refl
-
-another_method : method_of (codes "post") ≡ Other
-another_method = refl
 
 no_path : begins_with_slash (codes "*") ≡ false
 no_path = refl

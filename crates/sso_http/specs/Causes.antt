@@ -3,11 +3,12 @@ use Rattle.std.specs.Prelude.{◌≡◌, ℕ, ◌≤◌, true, false, List, leng
 use Rattle.std.specs.List.{before_first, after_first}
 use Rattle.httparse.specs.Grammar.{RequestHead}
 use Rattle.httparse.specs.Spans.{name_and_value}
+use Rattle.sso_base.specs.RequestLine.{method_of, is_question}
 use Rattle.sso_base.specs.declared.http.Ask.{Ask}
 use Rattle.sso_http.specs.Bodies.{has_transfer, body_length}
 use Rattle.sso_http.specs.Cookies.{cookies_of}
 use Rattle.sso_http.specs.Fields.{Fields}
-use Rattle.sso_http.specs.Judging.{method_of, is_question, begins_with_slash}
+use Rattle.sso_http.specs.Judging.{begins_with_slash}
 
 abbrev pub fields_of : RequestHead → Fields
 fields_of h = map name_and_value h.fields

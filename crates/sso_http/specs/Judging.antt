@@ -1,12 +1,11 @@
 -- The request that a head makes, or why it is refused (RFC 9112, 3 and 6).
-use Rattle.std.specs.Prelude.{◌≡◌, ◌≤◌, ℕ, ◌==◌, not, Bool, false, List, [], ◌∷◌, length, map, codes, Option, None, Result, Ok, Err, if◌then◌else◌}
+use Rattle.std.specs.Prelude.{◌≡◌, ◌≤◌, ℕ, ◌==◌, not, Bool, false, List, [], ◌∷◌, length, map, Option, None, Result, Ok, Err}
 use Rattle.std.specs.List.{before_first, after_first}
-use Rattle.std.specs.Str.{bytes_eq}
 use Rattle.httparse.specs.Grammar.{RequestHead, ReadsRequest}
 use Rattle.httparse.specs.Spans.{name_and_value}
 use Rattle.sso_base.specs.Refusals.{and_then, forbid}
+use Rattle.sso_base.specs.RequestLine.{method_of, is_question}
 use Rattle.sso_base.specs.declared.http.Method.{Method}
-use Rattle.sso_base.specs.declared.http.Method.TheVariants.{Get, Post, Other}
 use Rattle.sso_http.specs.Ascii.{credentials}
 use Rattle.sso_http.specs.Bodies.{has_transfer, body_length, has_form}
 use Rattle.sso_http.specs.Cookies.{cookies_of, word_of}
@@ -14,13 +13,6 @@ use Rattle.sso_http.specs.Fields.{Fields}
 use Rattle.sso_http.specs.declared.judge.Judged.{Judged}
 use Rattle.sso_http.specs.declared.no.HttpNo.{HttpNo}
 use Rattle.sso_http.specs.declared.no.HttpNo.TheVariants.{NoMemory, ReadFault, EndedEarly, HeadTooLong, BadHead, Transfer, BadTarget}
-
--- the method, whose name is in upper case (RFC 9110, 9.1)
-abbrev pub method_of : List ℕ → Method
-method_of name = if bytes_eq name (codes "GET") then Get else if bytes_eq name (codes "POST") then Post else Other
-
-abbrev pub is_question : ℕ → Bool
-is_question b = b == 63
 
 abbrev pub begins_with_slash : List ℕ → Bool
 begins_with_slash [] = false

@@ -1,7 +1,6 @@
 // Parses and checks the head of a request.
 
 ghost use Rattle.std.specs.Prelude.{◌≡◌, ◌≤◌, length, take, map, All, Ok, IfOk, IfErr, IfSome, IfNone};
-ghost use Rattle.std.specs.List.{before_first, after_first};
 ghost use Rattle.httparse.specs.Grammar.{RequestHead};
 ghost use Rattle.httparse.specs.Spans.{IsHeaderWithin, header_bytes};
 ghost use Rattle.sso_http.specs.Ascii.{credentials as credentials_of};
@@ -15,7 +14,7 @@ use crate::fields::values;
 use crate::no::HttpNo;
 use httparse::Status;
 use httparse::spans::{EMPTY_HEADER_SPAN, HeaderSpan, parse_request};
-use sso_base::{Ask, Blob, Method, NoMemory, Text};
+use sso_base::{Ask, Blob, Method, NoMemory, Text, split_target};
 use std::alloc::Global;
 
 /// The request that a head makes.
@@ -29,19 +28,6 @@ pub(crate) struct Judged {
     pub(crate) form: bool,
 }
 
-// The method with this name (RFC 9110, 9.1).
-fn method_of(name: &[u8]) -> Method
-    ensures { result ≡ spec.method_of name.now }
-{
-    if name == b"GET".as_slice() {
-        Method::Get
-    } else if name == b"POST".as_slice() {
-        Method::Post
-    } else {
-        Method::Other
-    }
-}
-
 // The credentials.
 fn auth(alloc: Global, bytes: &[u8], spans: &[HeaderSpan]) -> Result<Option<Text>, NoMemory>
     requires { All (IsHeaderWithin (length bytes.now)) spans.now }
@@ -49,17 +35,6 @@ fn auth(alloc: Global, bytes: &[u8], spans: &[HeaderSpan]) -> Result<Option<Text
 {
     let found = values(alloc, bytes, spans, b"authorization")?;
     credentials(alloc, &found)
-}
-
-// The path and the query: the text before and after the first `?` (RFC 9112, 3.2.1).
-fn split_target(target: &str) -> (&str, &str)
-    ensures path { result.0.now ≡ before_first spec.is_question target.now }
-    ensures query { result.1.now ≡ after_first spec.is_question target.now }
-{
-    match target.split_once('?') {
-        Some((path, query)) => (path, query),
-        None => (target, ""),
-    }
 }
 
 // Whether the target begins with a slash.
@@ -124,7 +99,7 @@ fn parts<'b>(bytes: &'b [u8], spans: &mut [HeaderSpan; 64]) -> Option<(Method, &
     let Ok(target) = std::str::from_utf8(head.path.of(bytes)) else {
         return None;
     };
-    Some((method_of(head.method.of(bytes)), target, head.headers))
+    Some((Method::of_name(head.method.of(bytes)), target, head.headers))
 }
 
 /// Parses and checks the bytes of a head. `first` and `second` name the server's two cookies.

@@ -4,13 +4,14 @@ use Rattle.std.proofs.lemmas.Bool.{and_parts, cases_lt}
 use Rattle.std.proofs.lemmas.Option.{same_Some}
 use Rattle.std.specs.List.{list_any}
 use Rattle.std.specs.Str.{bytes_eq}
+use Rattle.std.specs.Option.{option_or}
 use Rattle.sso_base.specs.Words.{Word}
 use Rattle.sso_base.proofs.RowLaws.{bool_cases, option_cases, bytes_same, bytes_true}
 use Rattle.sso_model.specs.Lists.{Has}
 use Rattle.sso_model.proofs.ListLaws.{has_append_left, has_append_right}
 use Rattle.sso_places.specs.World.{Place, World, place_at}
 use Rattle.sso_places.specs.Premises.{issued_at, issued, half_digest, HasDistinctHashes}
-use Rattle.sso_places.specs.FirstBroken.{do_clash, clashes, or_else, first_clash}
+use Rattle.sso_places.specs.FirstBroken.{do_clash, clashes, first_clash}
 use Rattle.sso_places.proofs.Lists.{any_none, any_has, has_append}
 use Rattle.sso_places.proofs.Numbers.{place_at_last, place_at_before, place_at_low, place_at_has}
 
@@ -68,7 +69,7 @@ pub record IsFirstOf (x : Place) (world : World) (number : ℕ) : Type 0 where
   pub least : (k : ℕ) (y : Place) → k < number → place_at world k ≡ Some y → clashes x y ≡ false
 
 abbrev or_here : Option ℕ → ℕ → Bool → Option ℕ
-or_here o n b = or_else o (cond b (Some n) None)
+or_here o n b = option_or o (cond b (Some n) None)
 
 -- if none is found, none clashes
 pub none_clashes : (x : Place) (world : World) (y : Place) → first_clash x world ≡ None → Has world y → clashes x y ≡ false

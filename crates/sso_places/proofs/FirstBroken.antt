@@ -1,19 +1,20 @@
 -- The first premise that fails, exactly.
 use Rattle.std.proofs.Common.{◌≡◌, ℕ, suc, Bool, true, false, [], ◌∷◌, ◌++◌, length, Option, Some, None, ◌⊎◌, inl, inr, refl, sym, ap, ◌∙◌, subst}
 use Rattle.std.proofs.lemmas.Option.{same_Some}
+use Rattle.std.specs.Option.{option_or}
 use Rattle.sso_base.proofs.RowLaws.{bool_cases, option_cases}
 use Rattle.sso_places.specs.declared.types.Broken.{Broken}
 use Rattle.sso_places.specs.declared.types.Broken.TheVariants.{Forged, Leaked, HashClash}
 use Rattle.sso_places.specs.Site.{Site}
 use Rattle.sso_places.specs.World.{Place, World}
 use Rattle.sso_places.specs.Premises.{forges, leaks}
-use Rattle.sso_places.specs.FirstBroken.{or_else, first_clash, clash_at, verdict, broken_at, first_broken, IsUnbroken, IsFirst, IsFirstForged, IsFirstLeaked, IsFirstClash}
+use Rattle.sso_places.specs.FirstBroken.{first_clash, clash_at, verdict, broken_at, first_broken, IsUnbroken, IsFirst, IsFirstForged, IsFirstLeaked, IsFirstClash}
 use Rattle.sso_places.proofs.Clashes.{IsFirstOf, found_first, first_found, hashes_before, hashes_after}
 
 -- ---- one place
 
 abbrev told : ℕ → Bool → Bool → Option ℕ → Option Broken
-told n forged leaked other = or_else (verdict n forged leaked) (clash_at n other)
+told n forged leaked other = option_or (verdict n forged leaked) (clash_at n other)
 
 place_forged : (s : Site) (world : World) (x : Place) → forges s world x ≡ true → broken_at s world x ≡ Some (Forged (suc (length world)))
 place_forged s world x forged =
@@ -36,7 +37,7 @@ place_clashes s world x o clean tight clash =
 -- ---- a world
 
 abbrev or_at : Site → World → Place → Option Broken → Option Broken
-or_at s world x o = or_else o (broken_at s world x)
+or_at s world x o = option_or o (broken_at s world x)
 
 -- what the first premise is that fails
 abbrev Outcome : Site → World → Type 0

@@ -3,6 +3,7 @@
 use Rattle.std.specs.Prelude.{◌≡◌, ◌<◌, ℕ, suc, Bool, true, false, ◌&&◌, not, [], ◌∷◌, ◌++◌, length, Option, Some, None, if◌then◌else◌}
 use Rattle.std.specs.List.{list_any}
 use Rattle.std.specs.Str.{bytes_eq}
+use Rattle.std.specs.Option.{option_or}
 use Rattle.sso_base.specs.Words.{Word}
 use Rattle.sso_places.specs.declared.types.Broken.{Broken}
 use Rattle.sso_places.specs.declared.types.Broken.TheVariants.{Forged, Leaked, HashClash}
@@ -20,14 +21,10 @@ do_clash v w = not (bytes_eq v w) && bytes_eq (half_digest v) (half_digest w)
 abbrev pub clashes : Place → Place → Bool
 clashes x y = list_any (λ v. list_any (do_clash v) (issued_at y)) (issued_at x)
 
-abbrev pub or_else : {A : Type 0} → Option A → Option A → Option A
-or_else (Some a) other = Some a
-or_else None other = other
-
 -- the earliest place of a world that clashes with a place
 abbrev pub first_clash : Place → World → Option ℕ
 first_clash x [] = None
-first_clash x (y ∷ world) = or_else (first_clash x world) (if clashes x y then Some (suc (length world)) else None)
+first_clash x (y ∷ world) = option_or (first_clash x world) (if clashes x y then Some (suc (length world)) else None)
 
 -- ---- the first failure
 
@@ -41,11 +38,11 @@ verdict number forged leaked = if forged then Some (Forged number) else if leake
 
 abbrev pub broken_at : Site → World → Place → Option Broken
 broken_at s world x =
-    or_else (verdict (suc (length world)) (forges s world x) (leaks world x)) (clash_at (suc (length world)) (first_clash x (x ∷ world)))
+    option_or (verdict (suc (length world)) (forges s world x) (leaks world x)) (clash_at (suc (length world)) (first_clash x (x ∷ world)))
 
 abbrev pub first_broken : Site → World → Option Broken
 first_broken s [] = None
-first_broken s (x ∷ world) = or_else (first_broken s world) (broken_at s world x)
+first_broken s (x ∷ world) = option_or (first_broken s world) (broken_at s world x)
 
 -- ---- its meaning
 

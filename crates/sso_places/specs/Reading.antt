@@ -3,6 +3,7 @@ use Rattle.std.specs.Prelude.{ℕ, suc, ◌+◌, ◌==◌, ◌&&◌, nat_le, Boo
 use Rattle.std.specs.List.{position_from}
 use Rattle.std.specs.Str.{bytes_eq}
 use Rattle.sso_base.specs.Words.{Word, Text, fresh_word, word_text}
+use Rattle.sso_base.specs.Texts.{is_given}
 use Rattle.sso_model.specs.Rows.{Sent, Live, Machine, Step, begin, sign, answer, redeem, out, close, enter, see, drop, end, lapse, unnamed}
 use Rattle.sso_model.specs.Machine.{start, after_all}
 use Rattle.oidc_words.specs.Lives.{visit_life}
@@ -29,7 +30,6 @@ use Rattle.rp_answer.specs.Visits.{visit_by}
 use Rattle.sso_places.specs.Site.{Site, client_of_party, types_at}
 use Rattle.sso_places.specs.World.{Place, Provider, Party, Nothing, World, place_at, op_past, rp_past, fresh_of, moment_of, op_place, entered_as}
 use Rattle.sso_places.specs.Told.{told_clients, session_ended}
-use Rattle.id_token.specs.Judging.{is_given}
 
 -- ---- the provider: a correct password
 

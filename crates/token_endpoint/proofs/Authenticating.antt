@@ -4,6 +4,7 @@ use Rattle.std.specs.Str.{bytes_eq}
 use Rattle.std.proofs.lemmas.Slice.Eq.{bytes_eq-Decides}
 use Rattle.sso_base.specs.Words.{Text}
 use Rattle.sso_base.specs.Refusals.{first_refusal, NoneHolds, and_then}
+use Rattle.sso_base.specs.Texts.{is_other}
 use Rattle.sso_base.proofs.Refusals.{none_holds, and_then_ok}
 use Rattle.sso_base.proofs.Decided.{same, are_same}
 use Rattle.client_registry.specs.declared.records.Client.{Client}
@@ -18,7 +19,7 @@ use Rattle.token_endpoint.specs.declared.basic.Credentials.{Credentials}
 use Rattle.token_endpoint.specs.declared.no.GrantNo.{GrantNo}
 use Rattle.token_endpoint.specs.declared.no.GrantNo.TheVariants.{Twice, TwoAuths, NoAuth, WrongClient}
 use Rattle.token_endpoint.specs.Basic.{basic_header, basic_read, IsBasic}
-use Rattle.token_endpoint.specs.Authentication.{is_there, is_other, has_secret, if_secret, client_with, unless_other, credentials, posted, client_shown, client_refusals, client_read}
+use Rattle.token_endpoint.specs.Authentication.{is_there, has_secret, if_secret, client_with, unless_other, credentials, posted, client_shown, client_refusals, client_read}
 use Rattle.token_endpoint.specs.Granted.{HasNo, ShowsByBasic, ShowsByParameters, Shows, credentials_of, Authenticates}
 use Rattle.token_endpoint.proofs.Lookups.{and_found, map_found, none_of, there_of}
 use Rattle.token_endpoint.proofs.Clients.{place_found, place_of_client}

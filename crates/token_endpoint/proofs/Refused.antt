@@ -2,6 +2,7 @@
 use Rattle.std.proofs.Common.{◌≡◌, ◌⊎◌, inl, inr, ⊎_elim, ℕ, List, [], ◌∷◌, ◌++◌, drop, Bool, true, false, not, ◌&&◌, codes, Option, Some, None, is_some, is_none, unwrap_or, Result, Ok, Err, IsOk, refl, sym, ap, ◌∙◌, subst}
 use Rattle.sso_base.specs.Words.{Text}
 use Rattle.sso_base.specs.Refusals.{first_refusal, and_then}
+use Rattle.sso_base.specs.Texts.{is_other}
 use Rattle.sso_base.proofs.Decided.{same}
 use Rattle.client_registry.specs.Configuration.{Configuration}
 use Rattle.request_params.specs.Form.{Pair, form_pairs}
@@ -12,7 +13,7 @@ use Rattle.token_endpoint.specs.declared.granting.Grant.{Grant}
 use Rattle.token_endpoint.specs.declared.no.GrantNo.{GrantNo}
 use Rattle.token_endpoint.specs.declared.no.GrantNo.TheVariants.{BadForm, Twice, TwoAuths, NoAuth, WrongClient, OtherGrant, Missing}
 use Rattle.token_endpoint.specs.Basic.{basic_header}
-use Rattle.token_endpoint.specs.Authentication.{is_there, is_other, client_shown, client_refusals, client_read}
+use Rattle.token_endpoint.specs.Authentication.{is_there, client_shown, client_refusals, client_read}
 use Rattle.token_endpoint.specs.Request.{code_refusals, grant_in, code_read, grant_refusals, grant_read}
 use Rattle.token_endpoint.specs.Granted.{HasNo, CauseIn, Cause}
 use Rattle.token_endpoint.proofs.Lookups.{none_of, some_of, nowhere_of}

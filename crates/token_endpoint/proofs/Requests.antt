@@ -2,19 +2,21 @@
 use Rattle.std.proofs.Common.{◌≡◌, ℕ, List, [], codes, Option, Some, None, is_none, unwrap_or, Result, Ok, slice_get, refl, sym, ap, ◌∙◌, subst}
 use Rattle.std.specs.Str.{IsUtf8}
 use Rattle.form_urlencoded.specs.Form.{raw_pairs}
+use Rattle.sso_base.specs.Lists.{Has}
 use Rattle.sso_base.specs.Words.{Text}
 use Rattle.sso_base.specs.Refusals.{first_refusal, NoneHolds, and_then}
-use Rattle.sso_base.proofs.Refusals.{none_holds, and_then_ok}
+use Rattle.sso_base.specs.Texts.{is_other}
+use Rattle.sso_base.proofs.Refusals.{none_holds, and_then_ok, one_value}
 use Rattle.client_registry.specs.declared.records.Client.{Client}
 use Rattle.client_registry.specs.Configuration.{Configuration}
 use Rattle.request_params.specs.Form.{Pair, form_pairs}
-use Rattle.request_params.specs.Reading.{value_of, Has}
+use Rattle.request_params.specs.Reading.{value_of}
 use Rattle.request_params.proofs.Values.{has_value, value_of_pair}
 use Rattle.request_params.proofs.Lossy.{pair_read}
 use Rattle.token_endpoint.specs.declared.granting.Grant.{Grant}
 use Rattle.token_endpoint.specs.declared.no.GrantNo.{GrantNo}
 use Rattle.token_endpoint.specs.declared.no.GrantNo.TheVariants.{OtherGrant, Missing}
-use Rattle.token_endpoint.specs.Authentication.{is_other, client_read}
+use Rattle.token_endpoint.specs.Authentication.{client_read}
 use Rattle.token_endpoint.specs.Request.{code_refusals, grant_in, code_read, grant_read}
 use Rattle.token_endpoint.specs.Granted.{Shows, credentials_of, Authenticates, IsGrant}
 use Rattle.token_endpoint.proofs.Lookups.{there_of}
@@ -22,9 +24,6 @@ use Rattle.token_endpoint.proofs.Authenticating.{IdsDiffer, not_other, is_same, 
 
 abbrev grant_ok : Grant → Result Grant GrantNo
 grant_ok g = Ok g
-
-same_grant : (a b : Grant) → grant_ok a ≡ grant_ok b → a ≡ b
-same_grant a b h = cc
 
 -- ---- the parameters
 
@@ -42,7 +41,7 @@ unfolding code_read
 code_is ps n g h =
     let passed = and_then_ok (first_refusal (code_refusals ps)) (λ _. grant_ok (grant_in ps n)) g h in
     let tests : NoneHolds (code_refusals ps) = none_holds (code_refusals ps) passed.1 in
-    let this : grant_in ps n ≡ g = same_grant (grant_in ps n) g passed.2 in
+    let this : grant_in ps n ≡ g = one_value GrantNo (grant_in ps n) g passed.2 in
     let kind = there_of (value_of (codes "grant_type") ps) tests.1.0 in
     let code = there_of (value_of (codes "code") ps) tests.1.1.0 in
     let redirect = there_of (value_of (codes "redirect_uri") ps) tests.1.1.1.0 in

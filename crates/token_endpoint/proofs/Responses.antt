@@ -1,16 +1,16 @@
 -- A token response is read exactly where it has tokens, and others are refused for the first reason.
-use Rattle.std.proofs.Common.{◌≡◌, ◌≢◌, ◌==◌, ℕ, drop, List, [], ◌∷◌, ◌++◌, Bool, true, false, not, codes, Option, Some, None, option_map, option_and_then, is_none, Result, Ok, Err, IsOk, refl, sym, ap, ◌∙◌, arith}
+use Rattle.std.proofs.Common.{◌≡◌, ◌≢◌, ℕ, drop, List, [], ◌∷◌, ◌++◌, Bool, true, false, not, codes, Option, Some, None, option_map, option_and_then, is_none, Result, Ok, Err, IsOk, refl, sym, ap, ◌∙◌}
 use Rattle.std.specs.Str.{IsUtf8, str_to_ascii_lowercase}
-use Rattle.std.proofs.lemmas.Bool.Decides.{nat_tests}
 use Rattle.std.proofs.lemmas.Slice.Eq.{bytes_eq-Decides}
 use Rattle.json.specs.Print.{quoted}
 use Rattle.serde_json.specs.Data.{Data, string, Members, no_members}
 use Rattle.serde_json.specs.Find.{get_member, as_str}
 use Rattle.sso_base.specs.Words.{Text, Word, word_text}
-use Rattle.sso_base.specs.Refusals.{first_refusal, demand, forbid}
+use Rattle.sso_base.specs.Refusals.{first_refusal, and_then_as, demand, forbid}
 use Rattle.sso_base.specs.declared.message.Answered.{Answered}
-use Rattle.sso_base.proofs.Refusals.{and_then_ok, demand_ok, forbid_ok}
+use Rattle.sso_base.proofs.Refusals.{and_then_ok, and_then_as_ok, demand_ok, forbid_ok, one_value, holds_as}
 use Rattle.sso_base.proofs.Decided.{not_not}
+use Rattle.sso_base.proofs.Statuses.{status_judged, status_refused, status_accepted}
 use Rattle.claim_set.specs.Building.{put_all}
 use Rattle.claim_set.specs.Kinds.{text_claim}
 use Rattle.claim_set.specs.Reading.{Reads, claims_read, claims_text}
@@ -30,43 +30,29 @@ use Rattle.token_endpoint.specs.Errors.{error_code, error_text}
 use Rattle.oidc_words.specs.Errors as oidc
 use Rattle.oidc_words.specs.TokenTypes.{bearer_word}
 use Rattle.request_params.specs.Scheme.{is_bearer}
-use Rattle.token_endpoint.specs.Answer.{token_entries, tokens_text, raw_in, whole, if_raw, tokens_in, if_claims, tokens_read, HasTokens, is_other_type, token_refusals}
+use Rattle.token_endpoint.specs.Answer.{token_entries, tokens_text, raw_in, whole, tokens_in, tokens_read, HasTokens, is_other_type, token_refusals}
 use Rattle.sso_base.proofs.WordUtf8.{IsUtf8-word_text}
 use Rattle.token_endpoint.proofs.Fitting.{tokens_fit}
 
 abbrev tokens_ok : Tokens → Result Tokens TokensNo
 tokens_ok t = Ok t
 
-one_answer : (s t : Tokens) → tokens_ok s ≡ tokens_ok t → s ≡ t
-one_answer s t h = cc
-
 -- ---- the status
 
-is_200 : (n : ℕ) → (n == 200) ≡ true → n ≡ 200
-is_200 n h = grind (arith, nat_tests)
-
-are_200 : (n : ℕ) → n ≡ 200 → not (n == 200) ≡ false
-are_200 n h = grind (arith, nat_tests)
-
-not_200 : (n : ℕ) → n ≢ 200 → not (n == 200) ≡ true
-not_200 n h = grind (arith, nat_tests)
-
-claims_judged : (a : Answered) → a.status ≡ 200 → tokens_read a ≡ if_claims (claims_read a.body)
+claims_judged : (a : Answered) → a.status ≡ 200 → tokens_read a ≡ and_then_as Claims (claims_read a.body) tokens_in
 unfolding tokens_read
-claims_judged a h = ap (λ b. forbid (Status a.status) b (if_claims (claims_read a.body))) (are_200 a.status h)
+claims_judged a h = status_judged (Status a.status) a.status (and_then_as Claims (claims_read a.body) tokens_in) h
 
 pub other_status : (a : Answered) → a.status ≢ 200 → tokens_read a ≡ Err (Status a.status)
 unfolding tokens_read
-other_status a h = ap (λ b. forbid (Status a.status) b (if_claims (claims_read a.body))) (not_200 a.status h)
+other_status a h = status_refused (Status a.status) a.status (and_then_as Claims (claims_read a.body) tokens_in) h
 
-accepted_status : (a : Answered) (t : Tokens) → tokens_read a ≡ Ok t → (a.status ≡ 200) × (if_claims (claims_read a.body) ≡ Ok t)
+accepted_status : (a : Answered) (t : Tokens) → tokens_read a ≡ Ok t → (a.status ≡ 200) × (and_then_as Claims (claims_read a.body) tokens_in ≡ Ok t)
 unfolding tokens_read
-accepted_status a t h =
-    let parts = forbid_ok (Status a.status) (not (a.status == 200)) (if_claims (claims_read a.body)) t h in
-    (is_200 a.status (not_not (a.status == 200) parts.0), parts.1)
+accepted_status a t h = status_accepted (Status a.status) a.status (and_then_as Claims (claims_read a.body) tokens_in) t h
 
 members_judged : (a : Answered) (ms : Members) → a.status ≡ 200 → Reads a.body ms → tokens_read a ≡ tokens_in ms
-members_judged a ms h r = claims_judged a h ∙ ap if_claims (reads_read a.body ms r)
+members_judged a ms h r = claims_judged a h ∙ ap (λ (r : Result Members ClaimNo). and_then_as Claims r tokens_in) (reads_read a.body ms r)
 
 -- ---- what stands there is read
 
@@ -84,7 +70,7 @@ whole_is t kind b = ap (λ (x : Bool). forbid NotBearer (not x) (tokens_ok t)) (
 
 in_is : (ms : Members) (t : Tokens) (kind : Text) → raw_in ms ≡ Ok (raw_of t.access t.id kind) → str_to_ascii_lowercase kind ≡ codes "bearer" → tokens_in ms ≡ Ok t
 unfolding tokens_in
-in_is ms t kind raw b = ap if_raw raw ∙ whole_is t kind b
+in_is ms t kind raw b = ap (λ (r : Result RawTokens ClaimNo). and_then_as Claims r whole) raw ∙ whole_is t kind b
 
 pub has_read : (a : Answered) (t : Tokens) → HasTokens a t → tokens_read a ≡ Ok t
 has_read a t h =
@@ -106,22 +92,13 @@ record RawStands (ms : Members) (r : RawTokens) : Type 0 where
   id : get_member (codes "id_token") ms ≡ option_map string r.id
   kind : get_member (codes "token_type") ms ≡ option_map string r.kind
 
-abbrev raw_ok : RawTokens → Result RawTokens ClaimNo
-raw_ok r = Ok r
-
-one_raw : (q r : RawTokens) → raw_ok q ≡ raw_ok r → q ≡ r
-one_raw q r h = cc
-
-same_raw : (ms : Members) (q r : RawTokens) → q ≡ r → RawStands ms q → RawStands ms r
-same_raw ms q r h stands = rw (h) at stands
-
 raw_stands : (ms : Members) (r : RawTokens) → raw_in ms ≡ Ok r → RawStands ms r
 unfolding raw_in
 raw_stands ms r h =
     let access = and_then_ok (text_claim (codes "access_token") ms) _ r h in
     let id = and_then_ok (text_claim (codes "id_token") ms) _ r access.2 in
     let kind = and_then_ok (text_claim (codes "token_type") ms) _ r id.2 in
-    same_raw ms _ r (one_raw _ r kind.2) (record {
+    holds_as ClaimNo (RawStands ms) _ r kind.2 (record {
       access = text_there ms (codes "access_token") access.0 access.1;
       id = text_there ms (codes "id_token") id.0 id.1;
       kind = text_there ms (codes "token_type") kind.0 kind.1;
@@ -137,7 +114,7 @@ whole_stands ms r t stands h =
     let kind = demand_ok (Missing (codes "token_type")) r.kind _ t access.2 in
     let id = demand_ok (Missing (codes "id_token")) r.id _ t kind.2 in
     let bearer = forbid_ok NotBearer (not (is_bearer kind.0)) _ t id.2 in
-    let this = one_answer _ t bearer.1 in
+    let this = one_value TokensNo _ t bearer.1 in
     record {
       access = text_in _ r.access t.access stands.access (access.1 ∙ ap (λ (x : Tokens). Some x.access) this);
       id = text_in _ r.id t.id stands.id (id.1 ∙ ap (λ (x : Tokens). Some x.id) this);
@@ -146,15 +123,13 @@ whole_stands ms r t stands h =
       bearer = (bytes_eq-Decides (str_to_ascii_lowercase kind.0) (codes "bearer")).0 (not_not (is_bearer kind.0) bearer.0);
     }
 
-raw_at : (ms : Members) (t : Tokens) (r : Result RawTokens ClaimNo) → raw_in ms ≡ r → if_raw r ≡ Ok t → AreIn ms t
-raw_at ms t (Ok r) is h = whole_stands ms r t (raw_stands ms r is) h
-raw_at ms t (Err e) is h = absurd (cc)
-
 in_stands : (ms : Members) (t : Tokens) → tokens_in ms ≡ Ok t → AreIn ms t
 unfolding tokens_in
-in_stands ms t h = raw_at ms t (raw_in ms) refl h
+in_stands ms t h =
+    let raw = and_then_as_ok Claims (raw_in ms) whole t h in
+    whole_stands ms raw.0 t (raw_stands ms raw.0 raw.1) raw.2
 
-claims_at : (a : Answered) (t : Tokens) (r : Result Members ClaimNo) → a.status ≡ 200 → claims_read a.body ≡ r → if_claims r ≡ Ok t → HasTokens a t
+claims_at : (a : Answered) (t : Tokens) (r : Result Members ClaimNo) → a.status ≡ 200 → claims_read a.body ≡ r → and_then_as Claims r tokens_in ≡ Ok t → HasTokens a t
 claims_at a t (Err e) ok is h = absurd (cc)
 claims_at a t (Ok ms) ok is h =
     let stands = in_stands ms t h in
@@ -175,7 +150,7 @@ read_has a t h = let parts = accepted_status a t h in claims_at a t (claims_read
 -- ---- the first reason
 
 pub unread : (a : Answered) (e : ClaimNo) → a.status ≡ 200 → claims_read a.body ≡ Err e → tokens_read a ≡ Err (Claims e)
-unread a e h is = claims_judged a h ∙ ap if_claims is
+unread a e h is = claims_judged a h ∙ ap (λ (r : Result Members ClaimNo). and_then_as Claims r tokens_in) is
 
 type_at : (b : Bool) (t : Tokens) → refused_of (forbid NotBearer b (tokens_ok t)) ≡ first_refusal ((b, NotBearer) ∷ [])
 type_at true t = refl
@@ -195,7 +170,7 @@ after_type ms (Some k) f cs h goes =
 refusals_of : (ms : Members) → refused_of (tokens_in ms) ≡ first_refusal (token_refusals ms)
 unfolding tokens_in raw_in whole
 refusals_of ms =
-    let g : Result RawTokens ClaimNo → Result (Unit {0}) TokensNo = λ r. refused_of (if_raw r) in
+    let g : Result RawTokens ClaimNo → Result (Unit {0}) TokensNo = λ r. refused_of (and_then_as Claims r whole) in
     let left : ℕ → List (Bool × TokensNo) = λ n. drop n (token_refusals ms) in
     let at : Text → Option Data = λ name. get_member name ms in
     after_kind (codes "access_token") as_str (at (codes "access_token")) _ g Claims (left 1) (λ e. refl) (λ access h1.

@@ -9,6 +9,7 @@ use Rattle.std.proofs.lemmas.Str.{utf8_lossy-IsUtf8, IsAscii-append}
 use Rattle.base64.specs.GeneralPurpose.{IsBytes}
 use Rattle.form_urlencoded.specs.Form.{byte_serialize, IsUnchanged, serialize_pair, append_pair}
 use Rattle.form_urlencoded.proofs.FormLemmas.{IsSerializedByte, All-byte_serialize, IsAscii-byte_serialize, decode-byte_serialize}
+use Rattle.sso_base.specs.Lists.{Has}
 use Rattle.sso_base.specs.Words.{Text}
 use Rattle.sso_base.specs.Texts.{is_ascii}
 use Rattle.configuration_rows.specs.declared.kind.Alphabet.{Alphabet}
@@ -18,7 +19,7 @@ use Rattle.client_registry.specs.declared.records.Client.{Client}
 use Rattle.client_registry.specs.Configuration.{Configuration}
 use Rattle.client_registry.specs.Registered.{IsClient, IsRegistry}
 use Rattle.request_params.specs.Form.{text_of, form_pairs, form_text}
-use Rattle.request_params.specs.Reading.{Has, StandOnce}
+use Rattle.request_params.specs.Reading.{StandOnce}
 use Rattle.request_params.proofs.Values.{has_its_name}
 use Rattle.request_params.proofs.Forms.{AreTextPairs, form_pairs-form_text}
 use Rattle.request_params.proofs.OnLiterals.{request_params_on_literals}

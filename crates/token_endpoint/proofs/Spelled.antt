@@ -1,31 +1,18 @@
 -- The laws of base64 with padding: a text spells bytes exactly where it is their text.
-use Rattle.std.proofs.Common.{◌≡◌, ℕ, List, Option, Some, None, option_and_then, Ok, Err, Bool, true, false, ◌&&◌, cond, refl, sym, ap, ◌∙◌}
+use Rattle.std.proofs.Common.{◌≡◌, ℕ, List, Some, None, Ok, Err, true, refl, sym}
 use Rattle.std.specs.Str.{bytes_eq}
 use Rattle.std.proofs.lemmas.Slice.Eq.{bytes_eq-Decides}
 use Rattle.base64.specs.Engines.{standard}
 use Rattle.base64.specs.GeneralPurpose.{encode_of, decode_of, decoded_of, IsBytes}
 use Rattle.base64.specs.declared.decode.DecodeError.{DecodeError}
 use Rattle.base64.proofs.EngineFacts.{decode_of-encode_of}
-use Rattle.sso_base.specs.Base64Url.{all_bytes}
-use Rattle.sso_base.proofs.Spelling.{IsBytes-from_all_bytes, all_bytes-from_IsBytes}
-use Rattle.token_endpoint.specs.Base64.{b64, unb64, if_spelled}
-
-spelled_by : (s b : List ℕ) (t u : Bool) (c : List ℕ) → bytes_eq (b64 b) s ≡ t → all_bytes b ≡ u → cond (t && u) (Some b) None ≡ Some c → (s ≡ b64 c) × IsBytes c
-spelled_by s b true true c e f g =
-    let same : b ≡ c = cc in
-    let spelled : b64 b ≡ s = (bytes_eq-Decides (b64 b) s).0 e in
-    (sym spelled ∙ ap b64 same, IsBytes-from_all_bytes c (rw same at f))
-spelled_by s b true false c e f g = absurd (cc)
-spelled_by s b false u c e f g = absurd (cc)
-
-if_spelled_some : (s c : List ℕ) (o : Option (List ℕ)) → option_and_then (if_spelled s) o ≡ Some c → (s ≡ b64 c) × IsBytes c
-if_spelled_some s c None e = absurd (cc)
-if_spelled_some s c (Some b) e = spelled_by s b (bytes_eq (b64 b) s) (all_bytes b) c refl refl e
+use Rattle.sso_base.proofs.Spelling.{if_spelled_some, all_bytes-from_IsBytes}
+use Rattle.token_endpoint.specs.Base64.{b64, unb64}
 
 -- a text that spells bytes is their text
 pub unb64_some : (s b : List ℕ) → unb64 s ≡ Some b → (s ≡ b64 b) × IsBytes b
 unfolding unb64
-unb64_some s b e = if_spelled_some s b (decoded_of standard s) e
+unb64_some s b e = if_spelled_some b64 s b (decoded_of standard s) e
 
 decoded : (s b : List ℕ) → decode_of standard s ≡ Ok b → s ≡ b64 b → IsBytes b → unb64 s ≡ Some b
 unfolding unb64 decoded_of

@@ -1,10 +1,10 @@
 -- Successful token responses (RFC 6749, 5.1; OpenID Connect Core 1.0, 3.1.3.3), written and read.
-use Rattle.std.specs.Prelude.{◌≡◌, ◌==◌, Bool, true, false, not, List, [], ◌∷◌, codes, Option, Some, None, option_and_then, Result, Ok, Err}
+use Rattle.std.specs.Prelude.{◌≡◌, ◌==◌, Bool, true, false, not, List, [], ◌∷◌, codes, Option, Some, None, option_and_then, Result, Ok}
 use Rattle.std.specs.Str.{str_to_ascii_lowercase}
 use Rattle.serde_json.specs.Data.{string, Members, no_members}
 use Rattle.serde_json.specs.Find.{get_member, as_str}
 use Rattle.sso_base.specs.Words.{Text}
-use Rattle.sso_base.specs.Refusals.{and_then, demand, forbid}
+use Rattle.sso_base.specs.Refusals.{and_then, and_then_as, demand, forbid}
 use Rattle.sso_base.specs.declared.message.Answered.{Answered}
 use Rattle.oidc_words.specs.Lives.{access_life}
 use Rattle.oidc_words.specs.TokenTypes.{bearer_word}
@@ -17,7 +17,7 @@ use Rattle.claim_set.specs.declared.no.ClaimNo.TheVariants as claims
 use Rattle.token_endpoint.specs.declared.reading.Tokens.{Tokens}
 use Rattle.token_endpoint.specs.declared.reading.RawTokens.{RawTokens}
 use Rattle.token_endpoint.specs.declared.no.TokensNo.{TokensNo}
-use Rattle.token_endpoint.specs.declared.no.TokensNo.TheVariants.{Status, Claims, Missing, NotBearer, NoMemory}
+use Rattle.token_endpoint.specs.declared.no.TokensNo.TheVariants.{Status, Claims, Missing, NotBearer}
 
 -- ---- writing
 
@@ -51,21 +51,13 @@ whole raw =
     demand (Missing (codes "id_token")) raw.id (λ id.
     forbid NotBearer (not (is_bearer kind)) (Ok (record { access = access; id = id })))))
 
-abbrev pub if_raw : Result RawTokens ClaimNo → Result Tokens TokensNo
-if_raw (Ok raw) = whole raw
-if_raw (Err e) = Err (Claims e)
-
 -- the tokens in a claim set
 unfoldable pub tokens_in : Members → Result Tokens TokensNo
-tokens_in ms = if_raw (raw_in ms)
-
-abbrev pub if_claims : Result Members ClaimNo → Result Tokens TokensNo
-if_claims (Ok ms) = tokens_in ms
-if_claims (Err e) = Err (Claims e)
+tokens_in ms = and_then_as Claims (raw_in ms) whole
 
 -- the tokens in a response, or the first error that applies
 unfoldable pub tokens_read : Answered → Result Tokens TokensNo
-tokens_read answer = forbid (Status answer.status) (not (answer.status == 200)) (if_claims (claims_read answer.body))
+tokens_read answer = forbid (Status answer.status) (not (answer.status == 200)) (and_then_as Claims (claims_read answer.body) tokens_in)
 
 -- ---- the same, stated literally
 
@@ -102,8 +94,3 @@ token_refusals ms =
 abbrev pub hides_memory : TokensNo → Bool
 hides_memory (Claims claims.NoMemory) = true
 hides_memory e = false
-
--- an error of claims, as an error of the response; `NoMemory` stays `NoMemory`
-abbrev pub as_claims : ClaimNo → TokensNo
-as_claims claims.NoMemory = NoMemory
-as_claims e = Claims e

@@ -4,6 +4,7 @@ use Rattle.std.specs.Prelude.{ℕ, Bool, false, not, ◌&&◌, List, [], ◌∷�
 use Rattle.std.specs.Str.{bytes_eq}
 use Rattle.sso_base.specs.Words.{Text}
 use Rattle.sso_base.specs.Refusals.{first_refusal, and_then}
+use Rattle.sso_base.specs.Texts.{is_other}
 use Rattle.client_registry.specs.declared.records.Client.{Client}
 use Rattle.client_registry.specs.Configuration.{Configuration}
 use Rattle.client_registry.specs.Numbers.{client_at}
@@ -20,11 +21,6 @@ use Rattle.token_endpoint.specs.Basic.{basic_header, basic_read}
 -- a parameter of the name is there, whatever its value
 abbrev pub is_there : Text → List Pair → Bool
 is_there name ps = is_some (value_of name ps)
-
--- it is there, and is another text
-abbrev pub is_other : Text → Option Text → Bool
-is_other text None = false
-is_other text (Some other) = not (bytes_eq other text)
 
 -- ---- the client
 

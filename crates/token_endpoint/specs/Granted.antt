@@ -1,12 +1,13 @@
 -- What a token request is, in the standard's words, and why a request is rejected (RFC 6749, 2.3.1, 4.1.3 and 5.2; OpenID
 -- Connect Core 1.0, 3.1.3.1 and 9).
 use Rattle.std.specs.Prelude.{◌≡◌, ◌≢◌, ◌⊎◌, ℕ, List, codes, Option, Some, None}
+use Rattle.sso_base.specs.Lists.{Has}
 use Rattle.sso_base.specs.Words.{Text}
 use Rattle.client_registry.specs.declared.records.Client.{Client}
 use Rattle.client_registry.specs.Configuration.{Configuration}
 use Rattle.client_registry.specs.Numbers.{client_at}
 use Rattle.request_params.specs.Form.{Pair, form_pairs}
-use Rattle.request_params.specs.Reading.{Has, StandOnce, RepeatsFirst}
+use Rattle.request_params.specs.Reading.{StandOnce, RepeatsFirst}
 use Rattle.token_endpoint.specs.declared.basic.Credentials.{Credentials}
 use Rattle.token_endpoint.specs.declared.granting.Grant.{Grant}
 use Rattle.token_endpoint.specs.declared.no.GrantNo.{GrantNo}

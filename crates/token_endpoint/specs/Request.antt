@@ -3,6 +3,7 @@
 use Rattle.std.specs.Prelude.{ℕ, Bool, List, [], ◌∷◌, ◌++◌, codes, Option, Some, None, is_none, unwrap_or, Result, Ok, Err}
 use Rattle.sso_base.specs.Words.{Text}
 use Rattle.sso_base.specs.Refusals.{first_refusal, and_then}
+use Rattle.sso_base.specs.Texts.{is_other}
 use Rattle.sso_base.specs.declared.message.Message.{Message}
 use Rattle.client_registry.specs.declared.records.Client.{Client}
 use Rattle.client_registry.specs.Configuration.{Configuration}
@@ -12,7 +13,7 @@ use Rattle.token_endpoint.specs.declared.granting.Grant.{Grant}
 use Rattle.token_endpoint.specs.declared.no.GrantNo.{GrantNo}
 use Rattle.token_endpoint.specs.declared.no.GrantNo.TheVariants.{BadForm, OtherGrant, Missing}
 use Rattle.token_endpoint.specs.Basic.{basic_header, basic_auth}
-use Rattle.token_endpoint.specs.Authentication.{is_other, client_refusals, client_read}
+use Rattle.token_endpoint.specs.Authentication.{client_refusals, client_read}
 
 -- ---- reading
 

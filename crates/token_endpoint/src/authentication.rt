@@ -1,6 +1,7 @@
 // Which client a token request authenticates (RFC 6749, 2.3.1; OpenID Connect Core 1.0, 9).
 
 ghost use Rattle.std.specs.Prelude.{◌≡◌, ◌⊎◌, Ok, Err, IfOk, IfErr, option_map};
+ghost use Rattle.sso_base.specs.Texts as texts;
 ghost use Rattle.token_endpoint.specs.Authentication as spec;
 
 use crate::basic::{Credentials, basic_header, read_basic};
@@ -21,7 +22,7 @@ fn is_there(parameters: &[Pair], name: &str) -> bool
 
 /// Whether a parameter is there, and is another text.
 pub(crate) fn is_other(text: &str, given: Option<&Text>) -> bool
-    ensures { result ≡ spec.is_other text.now (option_map (λ t. t.now) given.entry) }
+    ensures { result ≡ texts.is_other text.now (option_map (λ t. t.now) given.entry) }
 {
     match given {
         Some(given) => !given.equals(text),

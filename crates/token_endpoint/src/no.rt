@@ -65,9 +65,11 @@ impl From<NoMemory> for TokensNo {
 
 impl From<ClaimNo> for TokensNo {
     ghost use Rattle.std.specs.Prelude.{◌≡◌, IsFalse};
-    ghost use Rattle.token_endpoint.specs.Answer.{as_claims, hides_memory};
+    ghost use Rattle.claim_set.specs.Wrapped.{as_claims};
+    ghost use Rattle.token_endpoint.specs.declared.no.TokensNo.TheVariants as no;
+    ghost use Rattle.token_endpoint.specs.Answer.{hides_memory};
 
-    ghost from_gives = { λ error e. (e ≡ as_claims error) × IsFalse (hides_memory e) };
+    ghost from_gives = { λ error e. (e ≡ as_claims no.NoMemory no.Claims error) × IsFalse (hides_memory e) };
 
     fn from(error: ClaimNo) -> TokensNo {
         match error {

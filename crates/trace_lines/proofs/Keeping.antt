@@ -7,6 +7,7 @@ use Rattle.std.proofs.lemmas.List.Splits.{length-slice_split}
 use Rattle.std.proofs.lemmas.List.Sums.{count_by-le-length}
 use Rattle.std.specs.Str.{bytes_eq}
 use Rattle.sso_base.specs.Words.{Text}
+use Rattle.sso_base.specs.RequestLine.{method_of}
 use Rattle.sso_base.specs.Values.{IsWide, latest_moment}
 use Rattle.client_registry.specs.Configuration.{Configuration}
 use Rattle.client_registry.specs.declared.records.Party.{Party}
@@ -22,7 +23,7 @@ use Rattle.trace_lines.specs.Number.{number_of, within}
 use Rattle.trace_lines.specs.Faults.{onto, fault_if}
 use Rattle.trace_lines.specs.Lines.{moment_after, places_after}
 use Rattle.trace_lines.specs.LineWords.{words_in, IsVisibleWord}
-use Rattle.trace_lines.specs.Values.{moment_of, browser_of, sender_of, place_of, message_of, party_of, role_of, choice_of, method_of, part_of, cookie_of}
+use Rattle.trace_lines.specs.Values.{moment_of, browser_of, sender_of, place_of, message_of, party_of, role_of, choice_of, part_of, cookie_of}
 use Rattle.trace_lines.specs.Verbs.{verb_of, fields_of}
 use Rattle.trace_lines.specs.Guilt.{moment_fault, place_fault, field_fault, fields_faults, verb_faults, words_faults, is_skipped, line_faults}
 use Rattle.trace_lines.specs.Said.{of_two, of_three, verb_said, by_verb, words_said, line_said}

@@ -3,6 +3,7 @@ use Rattle.std.proofs.Common.{◌≡◌, ◌==◌, ℕ, List, [], ◌∷◌, len
 use Rattle.std.specs.Prelude.{is_some, option_map}
 use Rattle.std.proofs.lemmas.Bool.{eqb-true}
 use Rattle.sso_base.specs.Words.{Text}
+use Rattle.sso_base.specs.RequestLine.{method_of}
 use Rattle.client_registry.specs.Configuration.{Configuration}
 use Rattle.trace_lines.specs.declared.no.Fault.{Fault}
 use Rattle.trace_lines.specs.declared.no.Fault.TheVariants as fault
@@ -12,7 +13,7 @@ use Rattle.trace_lines.specs.declared.verb.Verb.{Verb}
 use Rattle.trace_lines.specs.declared.verb.Verb.TheVariants.{At, Steal, Show, Begin, Follow, Mix, Forge, Login, Consent, Visit, Leave, SignOut, Carry, Back, Raw}
 use Rattle.trace_lines.specs.Faults.{fault_if, fault_at_none}
 use Rattle.trace_lines.specs.LineWords.{words_in}
-use Rattle.trace_lines.specs.Values.{moment_of, browser_of, sender_of, place_of, message_of, party_of, role_of, choice_of, method_of, part_of, cookie_of}
+use Rattle.trace_lines.specs.Values.{moment_of, browser_of, sender_of, place_of, message_of, party_of, role_of, choice_of, part_of, cookie_of}
 use Rattle.trace_lines.specs.Verbs.{verb_of, fields_of}
 use Rattle.trace_lines.specs.Guilt.{moment_fault, place_fault, fields_faults, verb_faults, words_faults, is_skipped, line_faults}
 use Rattle.trace_lines.specs.Said.{of_two, of_three, verb_said, by_verb, words_said, line_said}

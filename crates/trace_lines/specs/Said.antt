@@ -1,13 +1,14 @@
 -- Parsing a line.
 use Rattle.std.specs.Prelude.{ℕ, List, [], ◌∷◌, Option, Some, None, option_map, if◌then◌else◌}
 use Rattle.sso_base.specs.Words.{Text}
+use Rattle.sso_base.specs.RequestLine.{method_of}
 use Rattle.client_registry.specs.Configuration.{Configuration}
 use Rattle.trace_lines.specs.declared.line.Line.{Line}
 use Rattle.trace_lines.specs.declared.line.Line.TheVariants as line
 use Rattle.trace_lines.specs.declared.verb.Verb.{Verb}
 use Rattle.trace_lines.specs.declared.verb.Verb.TheVariants.{At, Steal, Show, Begin, Follow, Mix, Forge, Login, Consent, Visit, Leave, SignOut, Carry, Back, Raw}
 use Rattle.trace_lines.specs.LineWords.{words_in}
-use Rattle.trace_lines.specs.Values.{moment_of, browser_of, sender_of, place_of, message_of, party_of, role_of, choice_of, method_of, part_of, cookie_of}
+use Rattle.trace_lines.specs.Values.{moment_of, browser_of, sender_of, place_of, message_of, party_of, role_of, choice_of, part_of, cookie_of}
 use Rattle.trace_lines.specs.Verbs.{verb_of}
 use Rattle.trace_lines.specs.Guilt.{is_skipped}
 

@@ -3,8 +3,6 @@ use Rattle.std.specs.Prelude.{ℕ, ◌-◌, ◌^◌, Bool, true, false, codes, O
 use Rattle.std.specs.Str.{bytes_eq}
 use Rattle.sso_base.specs.Words.{Text, Word, word_of_text}
 use Rattle.sso_base.specs.Values.{latest_moment}
-use Rattle.sso_base.specs.declared.http.Method.{Method}
-use Rattle.sso_base.specs.declared.http.Method.TheVariants.{Get, Post, Other}
 use Rattle.client_registry.specs.Configuration.{Configuration}
 use Rattle.client_registry.specs.Rules.{party_place}
 use Rattle.trace_lines.specs.declared.line.Shown.{Shown}
@@ -50,10 +48,6 @@ role_of c word = if bytes_eq word (codes "op") then Some to.Provider else option
 -- `yes` or `no`
 abbrev pub choice_of : Text → Option Bool
 choice_of word = if bytes_eq word (codes "yes") then Some true else if bytes_eq word (codes "no") then Some false else None
-
--- a method: `GET`, `POST`, or another one
-abbrev pub method_of : Text → Method
-method_of word = if bytes_eq word (codes "GET") then Get else if bytes_eq word (codes "POST") then Post else Other
 
 -- `-` is an absent part
 abbrev pub part_of : Text → Option Text

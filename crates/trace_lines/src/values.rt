@@ -1,6 +1,7 @@
 // The values of single words of a line.
 
 ghost use Rattle.std.specs.Prelude.{◌≡◌, IfOk};
+ghost use Rattle.sso_base.specs.RequestLine.{method_of as method_named};
 ghost use Rattle.trace_lines.specs.Values as spec;
 
 use crate::line::Shown;
@@ -77,16 +78,9 @@ pub(crate) fn read_choice(word: &str) -> Option<bool>
 
 // A method.
 pub(crate) fn method_of(word: &str) -> Method
-    ensures { result ≡ spec.method_of word.now }
+    ensures { result ≡ method_named word.now }
 {
-    if word == "GET" {
-        return Method::Get;
-    }
-    if word == "POST" {
-        Method::Post
-    } else {
-        Method::Other
-    }
+    Method::of_name(word.as_bytes())
 }
 
 // A part, absent if it is `-`.

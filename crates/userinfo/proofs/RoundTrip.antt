@@ -1,8 +1,9 @@
 -- What is refused, and that what is written is read.
-use Rattle.std.proofs.Common.{◌≡◌, ℕ, List, codes, Some, None, Ok, Err, refl, ap, ◌∙◌}
+use Rattle.std.proofs.Common.{◌≡◌, ℕ, List, codes, Some, None, Result, Ok, Err, refl, ap, ◌∙◌}
 use Rattle.serde_json.specs.Data.{Data, Members}
 use Rattle.serde_json.specs.Find.{get_member, as_str}
 use Rattle.sso_base.specs.declared.message.Answered.{Answered}
+use Rattle.sso_base.specs.Refusals.{and_then_as}
 use Rattle.claim_set.specs.declared.no.ClaimNo.{ClaimNo}
 use Rattle.claim_set.specs.declared.no.ClaimNo.TheVariants.{WrongKind}
 use Rattle.claim_set.specs.Reading.{claims_read, claims_text, Reads}
@@ -13,12 +14,12 @@ use Rattle.client_registry.specs.Registered.{IsRegistry}
 use Rattle.oidc_words.specs.declared.scopes.Scopes.{Scopes}
 use Rattle.userinfo.specs.declared.no.InfoNo.TheVariants as no
 use Rattle.userinfo.specs.Held.{info_members}
-use Rattle.userinfo.specs.Answer.{sub_in, if_claims, info_read}
+use Rattle.userinfo.specs.Answer.{sub_in, info_read}
 use Rattle.userinfo.proofs.Answering.{claims_judged, members_judged, info_is_read}
 use Rattle.userinfo.proofs.Told.{subject_is_told, info_fit}
 
 pub unread_refused : (a : Answered) (e : ClaimNo) → a.status ≡ 200 → claims_read a.body ≡ Err e → info_read a ≡ Err (no.Claims e)
-unread_refused a e h is = claims_judged a h ∙ ap if_claims is
+unread_refused a e h is = claims_judged a h ∙ ap (λ (r : Result Members ClaimNo). and_then_as no.Claims r sub_in) is
 
 no_sub_in : (ms : Members) → get_member (codes "sub") ms ≡ None → sub_in ms ≡ Err no.NoSub
 no_sub_in ms h = rw h refl

@@ -19,7 +19,7 @@ use Rattle.userinfo.specs.declared.no.InfoNo.TheVariants as no
 use Rattle.userinfo.specs.Held.{is_wanted, members_with, text_claims, user_claims, held_members, info_members}
 use Rattle.userinfo.specs.Header.{bearer_read, IsBearer}
 use Rattle.userinfo.specs.Request.{info_message}
-use Rattle.userinfo.specs.Answer.{info_read, IsUserInfo, hides_memory, as_claims}
+use Rattle.userinfo.specs.Answer.{info_read, IsUserInfo, hides_memory}
 use Rattle.userinfo.proofs.BearerHeaders.{bearer_is_read}
 use Rattle.userinfo.proofs.Answering.{read_is_info}
 
@@ -195,9 +195,3 @@ hides-where_memory_ran_out_inside = refl
 
 hides-not_in_a_cause : hides_memory (no.Claims NotJson) ≡ false
 hides-not_in_a_cause = refl
-
-as_claims-want_of_memory : as_claims claims.NoMemory ≡ no.NoMemory
-as_claims-want_of_memory = refl
-
-as_claims-a_cause : as_claims NotJson ≡ no.Claims NotJson
-as_claims-a_cause = refl

@@ -2,6 +2,7 @@
 use Rattle.std.proofs.Common.{◌≡◌, ◌⊎◌, inl, inr, ℕ, zero, suc, List, [], ◌∷◌, Some, Result, Ok, Err, slice_get, sym, ap, ◌∙◌, subst}
 use Rattle.std.specs.List.{AllByRecursion}
 use Rattle.serde_json.specs.Data.{Members}
+use Rattle.sso_base.proofs.Refusals.{one_value}
 use Rattle.claim_set.specs.declared.no.ClaimNo.{ClaimNo}
 use Rattle.claim_set.specs.declared.no.ClaimNo.TheVariants.{NoMemory}
 use Rattle.claim_set.specs.Fitting.{InOrder, ClaimsFit}
@@ -29,14 +30,11 @@ text_is b h = ap members_or_none (held_read b h)
 pub text_read : (b : List ℕ) → HoldsClaims b → claims_read b ≡ claims_ok (text_claims b)
 text_read b h = held_read b h ∙ ap claims_ok (sym (text_is b h))
 
-one_set : (ms ns : Members) → claims_ok ms ≡ claims_ok ns → ms ≡ ns
-one_set ms ns h = cc
-
 no_set : {Z : Type 0} (ms : Members) (e : ClaimNo) → claims_ok ms ≡ Err e → Z
 no_set ms e h = absurd (cc)
 
 pub same_claims : (b : List ℕ) (ms : Members) → HoldsClaims b → claims_read b ≡ Ok ms → ms ≡ text_claims b
-same_claims b ms h is = one_set ms (text_claims b) (sym is ∙ text_read b h)
+same_claims b ms h is = one_value ClaimNo ms (text_claims b) (sym is ∙ text_read b h)
 
 pub refused_for_memory : (b : List ℕ) (e : ClaimNo) → HoldsClaims b → (e ≡ NoMemory) ⊎ (claims_read b ≡ Err e) → e ≡ NoMemory
 refused_for_memory b e h (inl is) = is

@@ -3,13 +3,13 @@ use Rattle.std.specs.Prelude.{◌≡◌, ℕ, ◌==◌, Bool, true, false, not, 
 use Rattle.serde_json.specs.Data.{string, Members}
 use Rattle.serde_json.specs.Find.{get_member}
 use Rattle.sso_base.specs.declared.message.Answered.{Answered}
-use Rattle.sso_base.specs.Refusals.{forbid}
+use Rattle.sso_base.specs.Refusals.{and_then_as, forbid}
 use Rattle.claim_set.specs.declared.no.ClaimNo.{ClaimNo}
 use Rattle.claim_set.specs.declared.no.ClaimNo.TheVariants as claims
 use Rattle.claim_set.specs.Kinds.{text_claim}
 use Rattle.claim_set.specs.Reading.{Reads, claims_read}
 use Rattle.userinfo.specs.declared.no.InfoNo.{InfoNo}
-use Rattle.userinfo.specs.declared.no.InfoNo.TheVariants.{NoMemory, Status, Claims, NoSub}
+use Rattle.userinfo.specs.declared.no.InfoNo.TheVariants.{Status, Claims, NoSub}
 
 abbrev pub if_there : Result (Option (List ℕ)) ClaimNo → Result (List ℕ) InfoNo
 if_there (Ok None) = Err NoSub
@@ -20,13 +20,9 @@ if_there (Err e) = Err (Claims e)
 abbrev pub sub_in : Members → Result (List ℕ) InfoNo
 sub_in ms = if_there (text_claim (codes "sub") ms)
 
-abbrev pub if_claims : Result Members ClaimNo → Result (List ℕ) InfoNo
-if_claims (Ok ms) = sub_in ms
-if_claims (Err e) = Err (Claims e)
-
 -- the subject in a response, or the first error that applies
 unfoldable pub info_read : Answered → Result (List ℕ) InfoNo
-info_read a = forbid (Status a.status) (not (a.status == 200)) (if_claims (claims_read a.body))
+info_read a = forbid (Status a.status) (not (a.status == 200)) (and_then_as Claims (claims_read a.body) sub_in)
 
 -- the response is a UserInfo response about this subject: status 200, and claims with this `sub`
 pub record IsUserInfo (a : Answered) (sub : List ℕ) : Type 0 where
@@ -39,8 +35,3 @@ pub record IsUserInfo (a : Answered) (sub : List ℕ) : Type 0 where
 abbrev pub hides_memory : InfoNo → Bool
 hides_memory (Claims claims.NoMemory) = true
 hides_memory e = false
-
--- an error of claims, as an error of the response; `NoMemory` stays `NoMemory`
-abbrev pub as_claims : ClaimNo → InfoNo
-as_claims claims.NoMemory = NoMemory
-as_claims e = Claims e

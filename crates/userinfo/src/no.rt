@@ -29,9 +29,11 @@ impl From<NoMemory> for InfoNo {
 
 impl From<ClaimNo> for InfoNo {
     ghost use Rattle.std.specs.Prelude.{◌≡◌, IsFalse};
-    ghost use Rattle.userinfo.specs.Answer.{as_claims, hides_memory};
+    ghost use Rattle.claim_set.specs.Wrapped.{as_claims};
+    ghost use Rattle.userinfo.specs.declared.no.InfoNo.TheVariants as no;
+    ghost use Rattle.userinfo.specs.Answer.{hides_memory};
 
-    ghost from_gives = { λ error e. (e ≡ as_claims error) × IsFalse (hides_memory e) };
+    ghost from_gives = { λ error e. (e ≡ as_claims no.NoMemory no.Claims error) × IsFalse (hides_memory e) };
 
     fn from(error: ClaimNo) -> InfoNo {
         match error {

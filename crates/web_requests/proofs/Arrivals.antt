@@ -2,6 +2,7 @@
 use Rattle.std.proofs.Common.{◌≡◌, ◌++◌, ℕ, List, [], Bool, true, false, cond, Option, Some, None, is_some, option_map, option_and_then, unwrap_or, slice_get, refl, ap, subst}
 use Rattle.std.specs.Str.{bytes_eq}
 use Rattle.sso_base.specs.Words.{Text}
+use Rattle.sso_base.specs.Texts.{is_given}
 use Rattle.sso_base.specs.declared.http.HttpReply.{HttpReply}
 use Rattle.sso_base.specs.declared.message.Message.{Message}
 use Rattle.sso_base.specs.declared.message.Answered.{Answered}
@@ -22,7 +23,7 @@ use Rattle.web_requests.specs.declared.location.Location.{Location}
 use Rattle.web_requests.specs.declared.location.Location.TheVariants as location
 use Rattle.web_requests.specs.Sending.{got}
 use Rattle.web_requests.specs.Following.{party_of_uri, receiver, response_ask, response_sent, request_sent, followed}
-use Rattle.web_requests.specs.Carrying.{is_text, logs_out_at, party_of_logout, message_ask, logout_ask, at_provider, at_party, delivered, messages_of, carried}
+use Rattle.web_requests.specs.Carrying.{logs_out_at, party_of_logout, message_ask, logout_ask, at_provider, at_party, delivered, messages_of, carried}
 use Rattle.web_requests.specs.Handing.{answer_in, printed, handed, handed_back}
 use Rattle.web_requests.specs.Arriving.{Arrives, GoesBack}
 use Rattle.web_requests.proofs.FoundPlaces.{found_below}
@@ -89,9 +90,9 @@ module _ (c : Configuration) where
   delivered_arrives : (message : Message) (s : Sent) → delivered c message ≡ Some s → Arrives c 0 s
   delivered_arrives message s h =
       let last : Option Sent = option_map (at_party c message) (party_of_logout c message.to) in
-      either_at (bytes_eq c.provider.token message.to) (at_provider c token_path message) (cond (is_text c.provider.userinfo message.to) (Some (at_provider c userinfo_path message)) last) s
+      either_at (bytes_eq c.provider.token message.to) (at_provider c token_path message) (cond (is_given message.to c.provider.userinfo) (Some (at_provider c userinfo_path message)) last) s
       (provider_arrives token_path message)
-      (either_at (is_text c.provider.userinfo message.to) (at_provider c userinfo_path message) last s (provider_arrives userinfo_path message) (party_at message (party_of_logout c message.to) s refl))
+      (either_at (is_given message.to c.provider.userinfo) (at_provider c userinfo_path message) last s (provider_arrives userinfo_path message) (party_at message (party_of_logout c message.to) s refl))
       h
 
   message_at : (o : Option Message) (s : Sent) → option_and_then (delivered c) o ≡ Some s → Arrives c 0 s

@@ -2,6 +2,7 @@
 use Rattle.std.proofs.Common.{◌≡◌, ◌<◌, ℕ, List, [], length, Bool, true, false, cond, codes, Option, Some, None, is_some, option_map, option_and_then, unwrap_or, slice_get, refl, sym, ap, ◌∙◌, subst, arith}
 use Rattle.std.specs.Str.{IsUtf8, bytes_eq}
 use Rattle.sso_base.specs.Words.{Text}
+use Rattle.sso_base.specs.Texts.{is_given}
 use Rattle.sso_base.specs.declared.http.Ask.{Ask}
 use Rattle.sso_base.specs.declared.message.Message.{Message}
 use Rattle.sso_base.proofs.RowLaws.{bytes_same}
@@ -26,7 +27,7 @@ use Rattle.rp_exchange.specs.declared.ask.RpAsk.TheVariants as rp_ask
 use Rattle.rp_request.specs.Prepared.{only_value, logout_token_in, logout_path_of, logout_path, asked_at as rp_asked_at}
 use Rattle.sso_places.specs.declared.types.WorldReply.TheVariants.{Provider as ProviderReply}
 use Rattle.web_requests.specs.declared.sent.Sent.{Sent}
-use Rattle.web_requests.specs.Carrying.{is_text, logs_out_at, party_of_logout, logout_ask, at_provider, at_party, delivered, carried}
+use Rattle.web_requests.specs.Carrying.{logs_out_at, party_of_logout, logout_ask, at_provider, at_party, delivered, carried}
 use Rattle.web_requests.specs.Asked.{AsksParty}
 use Rattle.web_requests.proofs.FoundPlaces.{found}
 use Rattle.web_requests.proofs.RegistryRows.{some_row}
@@ -49,7 +50,7 @@ logs_out c uri n h =
 
 -- ---- its client
 
-text_is : (o : Option Text) (uri : Text) → is_text o uri ≡ true → o ≡ Some uri
+text_is : (o : Option Text) (uri : Text) → is_given uri o ≡ true → o ≡ Some uri
 text_is None uri h = absurd (cc)
 text_is (Some t) uri h = ap Some (bytes_same t uri h)
 
@@ -98,15 +99,15 @@ module _ (c : Configuration) (n : ℕ) (r : IsRegistry c) (uri : Text) (out : Lo
         ∙ ap (λ t. rp_ask.Logout (logout_read (party_secret c n) t)) (token_there token u) ∙ sym is;
   }
 
-  delivered_there : (token : Text) → party_of_logout c uri ≡ Some n → bytes_eq c.provider.token uri ≡ false → is_text c.provider.userinfo uri ≡ false → delivered c (message token) ≡ Some (at_party c (message token) n)
+  delivered_there : (token : Text) → party_of_logout c uri ≡ Some n → bytes_eq c.provider.token uri ≡ false → is_given uri c.provider.userinfo ≡ false → delivered c (message token) ≡ Some (at_party c (message token) n)
   delivered_there token found_it not_token not_info =
       let last : Option Sent = option_map (at_party c (message token)) (party_of_logout c uri) in
       let rest : Bool → Option Sent = λ b. cond b (Some (at_provider c userinfo_path (message token))) last in
-      let D : Bool → Option Sent = λ b. cond b (Some (at_provider c token_path (message token))) (rest (is_text c.provider.userinfo uri)) in
+      let D : Bool → Option Sent = λ b. cond b (Some (at_provider c token_path (message token))) (rest (is_given uri c.provider.userinfo)) in
       ap D not_token ∙ ap rest not_info ∙ ap (option_map (at_party c (message token))) found_it
 
 pub logout_carried : (c : Configuration) (n : ℕ) (uri token : Text) (messages : List Message) (number : ℕ) → IsRegistry c → party_of_logout c uri ≡ Some n → bytes_eq c.provider.token uri ≡ false
-    → is_text c.provider.userinfo uri ≡ false → IsUtf8 token → slice_get messages number ≡ Some (record { to = uri; auth = None; body = Some (form_text (logout_pairs token)) })
+    → is_given uri c.provider.userinfo ≡ false → IsUtf8 token → slice_get messages number ≡ Some (record { to = uri; auth = None; body = Some (form_text (logout_pairs token)) })
     → AsksParty c 0 n (carried c (ProviderReply (op.SignedOut messages)) number) (rp_ask.Logout (logout_read (party_secret c n) token))
 unfolding carried
 logout_carried c n uri token messages number r found_it not_token not_info u there =

@@ -2,6 +2,7 @@
 use Rattle.std.proofs.Common.{◌≡◌, ◌+◌, ◌++◌, ℕ, List, [], length, Bool, true, false, cond, Option, Some, option_map, slice_get, Ok, refl, sym, ap, ◌∙◌, inl, inr, arith, length-append}
 use Rattle.std.specs.Str.{IsUtf8, bytes_eq}
 use Rattle.sso_base.specs.Words.{Word, Text, IsWord, word_text}
+use Rattle.sso_base.specs.Texts.{is_given}
 use Rattle.sso_base.specs.declared.http.Ask.{Ask}
 use Rattle.sso_base.specs.declared.message.Message.{Message}
 use Rattle.sso_base.proofs.RowLaws.{bool_cases, bytes_same, bytes_true}
@@ -32,7 +33,7 @@ use Rattle.rp_request.specs.Prepared.{tokens_asked, tokens_prepared, info_prepar
 use Rattle.sso_places.specs.declared.types.To.TheVariants as to
 use Rattle.sso_places.specs.declared.types.WorldReply.TheVariants.{Provider as ProviderReply, Party as PartyReply}
 use Rattle.web_requests.specs.declared.sent.Sent.{Sent}
-use Rattle.web_requests.specs.Carrying.{is_text, message_ask, at_provider, carried, party_of_logout, at_party}
+use Rattle.web_requests.specs.Carrying.{message_ask, at_provider, carried, party_of_logout, at_party}
 use Rattle.web_requests.specs.Handing.{answer_in, printed, handed_back}
 use Rattle.web_requests.specs.Asked.{AsksProvider, AnswersTokens, AnswersInfo}
 use Rattle.web_requests.proofs.Served.{provider_reads}
@@ -46,7 +47,7 @@ module _ (c : Configuration) (r : IsRegistry c) where
   token_request_read n client w code redirect there u v =
       let message : Message = token_message client c.provider.token code redirect in
       let request : Ask = message_ask (c.prefix ++ token_path) [] message in
-      let D : Bool → Option Sent = λ b. cond b (Some (at_provider c token_path message)) (cond (is_text c.provider.userinfo message.to) (Some (at_provider c userinfo_path message)) (option_map (at_party c message) (party_of_logout c message.to))) in
+      let D : Bool → Option Sent = λ b. cond b (Some (at_provider c token_path message)) (cond (is_given message.to c.provider.userinfo) (Some (at_provider c userinfo_path message)) (option_map (at_party c message) (party_of_logout c message.to))) in
       record {
         request = request;
         is = ap D (bytes_true c.provider.token c.provider.token refl);
@@ -82,8 +83,8 @@ module _ (c : Configuration) (r : IsRegistry c) where
       let message : Message = info_message endpoint (word_text access) in
       let request : Ask = message_ask (c.prefix ++ userinfo_path) [] message in
       let rest : Bool → Option Sent = λ b. cond b (Some (at_provider c userinfo_path message)) (option_map (at_party c message) (party_of_logout c message.to)) in
-      let D : Bool → Option Sent = λ b. cond b (Some (at_provider c token_path message)) (rest (is_text c.provider.userinfo endpoint)) in
-      let found : is_text c.provider.userinfo endpoint ≡ true = ap (λ o. is_text o endpoint) is ∙ bytes_true endpoint endpoint refl in
+      let D : Bool → Option Sent = λ b. cond b (Some (at_provider c token_path message)) (rest (is_given endpoint c.provider.userinfo)) in
+      let found : is_given endpoint c.provider.userinfo ≡ true = ap (is_given endpoint) is ∙ bytes_true endpoint endpoint refl in
       record {
         request = request;
         is = ap D (endpoint_apart endpoint is) ∙ ap rest found;

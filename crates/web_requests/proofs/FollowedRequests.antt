@@ -2,6 +2,7 @@
 use Rattle.std.proofs.Common.{◌≡◌, ◌++◌, ℕ, List, Bool, true, false, cond, codes, Some, option_and_then, refl, ap, ◌∙◌, inl, inr}
 use Rattle.std.specs.List.{after_first}
 use Rattle.sso_base.specs.Words.{Word}
+use Rattle.sso_base.specs.RequestLine.{is_question}
 use Rattle.sso_base.specs.declared.http.Ask.{Ask}
 use Rattle.oidc_words.specs.Paths.{authorize_path}
 use Rattle.client_registry.specs.declared.records.Client.{Client}
@@ -27,7 +28,7 @@ use Rattle.sso_places.specs.declared.types.WorldReply.TheVariants.{Party as Part
 use Rattle.web_requests.specs.declared.location.Location.{Location}
 use Rattle.web_requests.specs.declared.location.Location.TheVariants as location
 use Rattle.web_requests.specs.Sending.{got}
-use Rattle.web_requests.specs.Locations.{is_question, location_of}
+use Rattle.web_requests.specs.Locations.{location_of}
 use Rattle.web_requests.specs.Following.{followed, reply_followed}
 use Rattle.web_requests.specs.Asked.{AsksProvider, whole_params}
 use Rattle.web_requests.proofs.Unmarked.{query_behind, no_query_there}

@@ -3,6 +3,7 @@ use Rattle.std.proofs.Common.{◌≡◌, ◌<◌, ◌+◌, ℕ, List, drop, leng
 use Rattle.std.specs.Borrow.{Bor}
 use Rattle.std.specs.List.{position_from}
 use Rattle.sso_base.specs.Words.{Text}
+use Rattle.sso_base.specs.Texts.{is_given}
 use Rattle.sso_base.proofs.ListSteps.{drop_at}
 use Rattle.client_registry.specs.declared.records.Client.{Client}
 use Rattle.client_registry.specs.Configuration.{Configuration}
@@ -12,7 +13,7 @@ use Rattle.request_params.specs.Form.{Pair}
 use Rattle.request_params.specs.Reading.{has_name, value_of}
 use Rattle.request_params.proofs.Values.{value_there}
 use Rattle.login_request.proofs.PartyRows.{client_is_known}
-use Rattle.web_requests.specs.Carrying.{is_text, logs_out_at}
+use Rattle.web_requests.specs.Carrying.{logs_out_at}
 use Rattle.web_requests.proofs.MixedForms.{mapped_some}
 use Rattle.web_requests.proofs.RegistryRows.{some_row}
 
@@ -33,11 +34,11 @@ module _ {X : Type 0} (test : X → Bool) (xs : List X) (k : ℕ) (x : X) (o : O
       sym (step ∙ ap G is) ∙ before
 
 -- what is told of the client's row
-pub logout_told : (c : Configuration) (n : ℕ) (uri : Text) (client : Client) (told t : Bool) → IsRegistry c → n < length c.parties → client ≡ party_client c n → told ≡ is_text client.logout uri → told ≡ t
+pub logout_told : (c : Configuration) (n : ℕ) (uri : Text) (client : Client) (told t : Bool) → IsRegistry c → n < length c.parties → client ≡ party_client c n → told ≡ is_given uri client.logout → told ≡ t
     → logs_out_at uri (client_of c (party_row c n)) ≡ t
 logout_told c n uri client told t r low row is so =
     ap (logs_out_at uri) (some_row c.clients (party_row c n).client no_client (client_is_known c n r low))
-    ∙ ap (λ (k : Client). is_text k.logout uri) (sym row)
+    ∙ ap (λ (k : Client). is_given uri k.logout) (sym row)
     ∙ sym is
     ∙ so
 

@@ -2,6 +2,7 @@
 use Rattle.std.proofs.Common.{◌≡◌, ◌+◌, ◌==◌, ◌&&◌, not, ℕ, suc, Bool, true, false, cond, List, [], ◌∷◌, ◌++◌, drop, codes, Option, Some, None, refl, sym, ap, ◌∙◌, arith, true≢false, append_assoc}
 use Rattle.std.specs.Prelude.{is_some, IfSome}
 use Rattle.std.specs.List.{after_first, position_or_len}
+use Rattle.sso_base.specs.RequestLine.{is_question}
 use Rattle.registered_url.specs.declared.web_url.WebUrl.{WebUrl}
 use Rattle.registered_url.specs.Rule.{url_of}
 use Rattle.registered_url.proofs.Below.{lacks, unmarked_url, front_all, both_all}
@@ -12,7 +13,6 @@ use Rattle.client_registry.specs.Configuration.{Configuration}
 use Rattle.client_registry.specs.Registered.{IsIssuerUrl, IsRegistry}
 use Rattle.client_registry.proofs.Slashes.{Cut, cut_of}
 use Rattle.request_params.specs.Location.{has_query}
-use Rattle.web_requests.specs.Locations.{is_question}
 
 -- ---- the authorization endpoint
 

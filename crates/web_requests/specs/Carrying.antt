@@ -3,6 +3,7 @@ use Rattle.std.specs.Prelude.{ℕ, Bool, false, List, [], ◌∷◌, ◌++◌, O
 use Rattle.std.specs.List.{position_from}
 use Rattle.std.specs.Str.{bytes_eq}
 use Rattle.sso_base.specs.Words.{Text}
+use Rattle.sso_base.specs.Texts.{is_given}
 use Rattle.sso_base.specs.declared.http.Method.{Method}
 use Rattle.sso_base.specs.declared.http.Method.TheVariants.{Get, Post}
 use Rattle.sso_base.specs.declared.http.Ask.{Ask}
@@ -32,15 +33,10 @@ messages_of reply = []
 
 -- ---- the role that a URL names
 
--- there is a text, and it is this one
-abbrev pub is_text : Option Text → Text → Bool
-is_text None t = false
-is_text (Some s) t = bytes_eq s t
-
 -- the client of the party has this logout URI
 abbrev pub logs_out_at : Text → Option Client → Bool
 logs_out_at uri None = false
-logs_out_at uri (Some client) = is_text client.logout uri
+logs_out_at uri (Some client) = is_given uri client.logout
 
 -- the first party whose client has this logout URI; several clients may have the same one
 abbrev pub party_of_logout : Configuration → Text → Option ℕ
@@ -73,7 +69,7 @@ at_party c message n = sent 0 (to.Party n) (logout_ask (unwrap_or (party_client 
 abbrev pub delivered : Configuration → Message → Option Sent
 delivered c message =
     if bytes_eq c.provider.token message.to then Some (at_provider c token_path message)
-    else if is_text c.provider.userinfo message.to then Some (at_provider c userinfo_path message)
+    else if is_given message.to c.provider.userinfo then Some (at_provider c userinfo_path message)
     else option_map (at_party c message) (party_of_logout c message.to)
 
 -- the message with this number, from 0, of a reply

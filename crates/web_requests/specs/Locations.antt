@@ -1,10 +1,11 @@
 -- The location to which a reply redirects a browser (RFC 9110, 10.2.2): from a party to the provider, with an authorization
 -- request; from the provider to a redirect URI, with an authorization response. An accepted login leads to the party's own home
 -- page, which is a separate visit and not a location here.
-use Rattle.std.specs.Prelude.{ℕ, ◌==◌, Bool, true, false, List, ◌++◌, codes, Option, Some, None, option_and_then, slice_get}
+use Rattle.std.specs.Prelude.{ℕ, Bool, true, false, List, ◌++◌, codes, Option, Some, None, option_and_then, slice_get}
 use Rattle.std.specs.List.{after_first, position_from}
 use Rattle.std.specs.Str.{bytes_eq}
 use Rattle.sso_base.specs.Words.{Text}
+use Rattle.sso_base.specs.RequestLine.{is_question}
 use Rattle.registered_url.specs.declared.web_url.WebUrl.{WebUrl}
 use Rattle.client_registry.specs.declared.records.Client.{Client}
 use Rattle.client_registry.specs.Configuration.{Configuration}
@@ -52,10 +53,6 @@ answer_at c answer = location_at c answer.redirect answer.fragment (answer_form 
 
 abbrev pub refusal_at : Configuration → Refusal → Location
 refusal_at c refusal = location_at c refusal.redirect refusal.fragment (refusal_form refusal)
-
--- the mark before a query (RFC 3986, 3.4)
-abbrev pub is_question : ℕ → Bool
-is_question b = b == 63
 
 -- the location to which a reply redirects a browser
 unfoldable pub location_of : Configuration → WorldReply → Option Location

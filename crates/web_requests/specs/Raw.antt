@@ -2,12 +2,12 @@
 use Rattle.std.specs.Prelude.{ℕ, ◌==◌, [], ◌∷◌, Option, option_map, unwrap_or, if◌then◌else◌}
 use Rattle.std.specs.List.{before_first, after_first}
 use Rattle.sso_base.specs.Words.{Word, Text}
+use Rattle.sso_base.specs.RequestLine.{is_question}
 use Rattle.sso_base.specs.declared.http.Method.{Method}
 use Rattle.sso_base.specs.declared.http.Ask.{Ask}
 use Rattle.sso_places.specs.declared.types.To.{To}
 use Rattle.web_requests.specs.declared.sent.Sent.{Sent}
 use Rattle.web_requests.specs.Sending.{asking, sent}
-use Rattle.web_requests.specs.Locations.{is_question}
 
 -- ---- a header
 

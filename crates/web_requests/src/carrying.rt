@@ -3,6 +3,7 @@
 ghost use Rattle.std.specs.Prelude.{◌≡◌, ◌<◌, [], length, option_map, slice_get, unwrap_or, IfOk, IfSome};
 ghost use Rattle.client_registry.specs.Numbers.{party_client};
 ghost use Rattle.client_registry.specs.Records.{no_url};
+ghost use Rattle.sso_base.specs.Texts.{is_given};
 ghost use Rattle.web_requests.specs.Carrying as spec;
 
 use crate::following::provider_path;
@@ -40,7 +41,7 @@ fn message_of(reply: &WorldReply, number: u64) -> Option<&Message>
 
 // Whether there is a text, and it is this one.
 fn is_text(text: &Option<Text>, other: &str) -> bool
-    ensures { result ≡ spec.is_text text.now other.now }
+    ensures { result ≡ is_given other.now text.now }
 {
     match text {
         Some(text) => text.equals(other),

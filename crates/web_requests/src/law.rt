@@ -3,6 +3,7 @@
 ghost use Rattle.std.specs.Prelude.{◌≡◌, ◌<◌, ◌&&◌, ℕ, List, Bool, true, false, length, Option, Some, None, is_some, option_map, option_and_then, slice_get, IfSome, Ok};
 ghost use Rattle.std.specs.Str.{IsUtf8, bytes_eq};
 ghost use Rattle.sso_base.specs.Words.{Word, Text, IsWord, word_text, word_of_text};
+ghost use Rattle.sso_base.specs.Texts.{is_given};
 ghost use Rattle.sso_base.specs.declared.message.Message.{Message};
 ghost use Rattle.oidc_words.specs.declared.errors.Refusal.{Refusal};
 ghost use Rattle.oidc_words.specs.declared.scopes.Scopes.{Scopes};
@@ -43,7 +44,7 @@ ghost use Rattle.web_requests.specs.Mixing.{form_of, mixed};
 ghost use Rattle.web_requests.specs.Forging.{forged_id, with_id, forged};
 ghost use Rattle.web_requests.specs.Posting.{login_posted, consent_posted};
 ghost use Rattle.web_requests.specs.Visiting.{login_begun, party_visited, party_left, signed_out};
-ghost use Rattle.web_requests.specs.Carrying.{is_text, party_of_logout, carried};
+ghost use Rattle.web_requests.specs.Carrying.{party_of_logout, carried};
 ghost use Rattle.web_requests.specs.Handing.{handed_back};
 ghost use Rattle.web_requests.specs.declared.sent.Sent.{Sent};
 ghost use Rattle.web_requests.specs.Arriving.{Arrives, GoesBack};
@@ -102,7 +103,7 @@ pub fn own_requests_are_read()
 pub fn carried_messages_are_read()
     ensures token { (c : Configuration) (n : ℕ) (client : Client) (pending : Word) (code redirect : Text) → IsRegistry c → client_at c n ≡ Some client → IsUtf8 code → IsUtf8 redirect → AsksProvider c 0 (carried c (reply.Party (rp.Exchange pending (token_message client c.provider.token code redirect))) 0) (op_ask.Token (Ok (record { client = n; code = code; redirect = redirect }))) }
     ensures info { (c : Configuration) (endpoint : Text) (pending access : Word) → IsRegistry c → c.provider.userinfo ≡ Some endpoint → IsWord access → AsksProvider c 0 (carried c (reply.Party (rp.Fetch pending (info_message endpoint (word_text access)))) 0) (op_ask.Info (bearer.Given access)) }
-    ensures logout { (c : Configuration) (n : ℕ) (uri token : Text) (messages : List Message) (number : ℕ) → IsRegistry c → party_of_logout c uri ≡ Some n → bytes_eq c.provider.token uri ≡ false → is_text c.provider.userinfo uri ≡ false → IsUtf8 token → slice_get messages number ≡ Some (record { to = uri; auth = None; body = Some (form_text (logout_pairs token)) }) → AsksParty c 0 n (carried c (reply.Provider (op.SignedOut messages)) number) (rp_ask.Logout (logout_read (party_secret c n) token)) }
+    ensures logout { (c : Configuration) (n : ℕ) (uri token : Text) (messages : List Message) (number : ℕ) → IsRegistry c → party_of_logout c uri ≡ Some n → bytes_eq c.provider.token uri ≡ false → is_given uri c.provider.userinfo ≡ false → IsUtf8 token → slice_get messages number ≡ Some (record { to = uri; auth = None; body = Some (form_text (logout_pairs token)) }) → AsksParty c 0 n (carried c (reply.Provider (op.SignedOut messages)) number) (rp_ask.Logout (logout_read (party_secret c n) token)) }
 {}
 
 /// A party reads a response that is passed back, in the exchange that requested it, as what the provider returned: the tokens,

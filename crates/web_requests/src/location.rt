@@ -4,6 +4,7 @@ ghost use Rattle.std.specs.Prelude.{◌≡◌, drop, option_map, IfOk};
 ghost use Rattle.std.specs.Option.{option_copied};
 ghost use Rattle.std.specs.List.{after_first, position_from};
 ghost use Rattle.std.specs.Str.{bytes_eq};
+ghost use Rattle.sso_base.specs.RequestLine.{is_question};
 ghost use Rattle.auth_answer.specs.Printing.{answer_form, refusal_form};
 ghost use Rattle.web_requests.specs.Locations as spec;
 
@@ -167,7 +168,7 @@ fn refusal_location(
 
 // What follows the first `?`.
 fn query_in(location: &Text) -> &str
-    ensures { result.now ≡ after_first spec.is_question location.now }
+    ensures { result.now ≡ after_first is_question location.now }
 {
     match location.as_str().split_once('?') {
         Some((_, query)) => query,

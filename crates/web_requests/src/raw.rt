@@ -1,25 +1,12 @@
 // A request that is given part by part.
 
 ghost use Rattle.std.specs.Prelude.{◌≡◌, ◌++◌, [], option_map, unwrap_or, IfOk};
-ghost use Rattle.std.specs.List.{before_first, after_first};
-ghost use Rattle.web_requests.specs.Locations.{is_question};
 ghost use Rattle.web_requests.specs.Raw as spec;
 
 use crate::sent::{Sent, under_number};
-use sso_base::{Ask, Blob, Method, NoMemory, Text, Word};
+use sso_base::{Ask, Blob, Method, NoMemory, Text, Word, split_target};
 use sso_places::To;
 use std::alloc::Global;
-
-// The path and the query: the text before and after the first `?` (RFC 9112, 3.2.1).
-fn split_target(target: &str) -> (&str, &str)
-    ensures path { result.0.now ≡ before_first is_question target.now }
-    ensures query { result.1.now ≡ after_first is_question target.now }
-{
-    match target.split_once('?') {
-        Some((path, query)) => (path, query),
-        None => (target, ""),
-    }
-}
 
 // Joins three texts.
 fn joined(alloc: Global, front: &str, mark: &str, back: &str) -> Result<Text, NoMemory>

@@ -10,11 +10,6 @@ use Rattle.world_index.specs.declared.halves.Issued.{Issued}
 abbrev pub issued_of : List (Text × Issued) → Text → Option Issued
 issued_of halves half = lookup (λ h. bytes_eq half h) halves
 
--- the first, or else the later one
-abbrev pub first_of : Option Issued → Option Issued → Option Issued
-first_of None later = later
-first_of (Some issued) later = Some issued
-
 -- a word that is issued at a place, if this is its half hash
 abbrev pub issued_as : Text → Word → ℕ → Option Issued
 issued_as half w place = if bytes_eq (half_digest w) half then Some (record { word = w; place = place }) else None

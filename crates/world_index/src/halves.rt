@@ -1,9 +1,10 @@
 // For each half hash, the first word that was issued with it, and its place.
 
 ghost use Rattle.std.specs.Prelude.{◌≡◌, None, OnOk, OnErr};
+ghost use Rattle.std.specs.Option.{option_or};
 ghost use Rattle.sso_base.specs.Words.{Text as TextOf};
 ghost use Rattle.sso_places.specs.Premises.{half_digest};
-ghost use Rattle.world_index.specs.Issuing.{issued_of, first_of, issued_as, other_place};
+ghost use Rattle.world_index.specs.Issuing.{issued_of, issued_as, other_place};
 
 use id_token::half_hash;
 use sso_base::{NoMemory, Word};
@@ -62,7 +63,7 @@ impl Halves {
 
     /// Notes that a place issued the word. On an error nothing changes.
     pub fn note(&mut self, word: &Word, place: u64) -> Result<(), NoMemory>
-        ensures ok { OnOk result ((half : TextOf) → issued_of self.new half ≡ first_of (issued_of self.old half) (issued_as half word.now place)) }
+        ensures ok { OnOk result ((half : TextOf) → issued_of self.new half ≡ option_or (issued_of self.old half) (issued_as half word.now place)) }
         ensures err { OnErr result (self.new ≡ self.old) }
     {
         let half = half_hash(&word.text());

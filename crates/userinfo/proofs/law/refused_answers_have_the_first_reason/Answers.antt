@@ -1,9 +1,9 @@
-use Rattle.userinfo.proofs.Answering.{status_refused}
+use Rattle.userinfo.proofs.Answering.{other_status}
 use Rattle.userinfo.proofs.RoundTrip.{unread_refused, wrong_kind_refused, no_sub_refused}
 use Rattle.userinfo.proofs.law.refused_answers_have_the_first_reason.Goals as goal
 
 pub returns-clause-status : goal.returns-clause-status
-returns-clause-status c = status_refused
+returns-clause-status c = other_status
 
 pub returns-clause-unread : goal.returns-clause-unread
 returns-clause-unread c = unread_refused

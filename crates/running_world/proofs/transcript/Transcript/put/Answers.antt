@@ -1,9 +1,9 @@
 use Rattle.std.proofs.Common.{◌≡◌, suc, ◌+◌, List, ◌∷◌, length, reverse, false, Option, Some, None, sym, ap, ◌∙◌, subst, arith}
 use Rattle.std.specs.Vec.{vec_capacity}
 use Rattle.std.proofs.lemmas.List.{length-reverse}
+use Rattle.std.specs.Option.{option_or}
 use Rattle.client_registry.specs.Configuration.{Configuration}
 use Rattle.sso_places.specs.declared.types.Broken.{Broken}
-use Rattle.sso_places.specs.FirstBroken.{or_else}
 use Rattle.running_world.specs.declared.kept.Kept.{Kept}
 use Rattle.running_world.specs.Breaking.{judged_asked, clash_told}
 use Rattle.running_world.specs.Foreknowing.{IsKnown, IsForeknownAt}
@@ -27,9 +27,9 @@ invariant_of-self c =
     let K : Transcribed → Type 0 = λ t. IsKnown t.registry c.args.fore in
     let F : Transcribed → Type 0 = λ t. IsForeknownAt t.registry (places_of t.registry t.kept) c.args.asked.at c.args.asked.to c.args.asked.ask c.args.fore in
     let number : c.len.result + 1 ≡ suc (length kept) = omega (arith, c.len.ensures, length-reverse items) in
-    let B : Option Broken → Option Broken = λ o. or_else c.self.inside.broken (or_else c.args.judged o) in
-    let broken : or_else c.self.inside.broken (or_else c.args.judged (clash_told c.self.inside.index.halves (suc (length kept)) c.args.reply)) ≡ c.first_of-self-inside.result =
-    sym (c.first_of-self-inside.ensures ∙ ap (λ o. or_else c.self.inside.broken o) c.first_of.ensures ∙ ap B c.clash_in-clash.ensures ∙ ap (λ n. B (clash_told c.self.inside.index.halves n c.args.reply)) number) in
+    let B : Option Broken → Option Broken = λ o. option_or c.self.inside.broken (option_or c.args.judged o) in
+    let broken : option_or c.self.inside.broken (option_or c.args.judged (clash_told c.self.inside.index.halves (suc (length kept)) c.args.reply)) ≡ c.first_of-self-inside.result =
+    sym (c.first_of-self-inside.ensures ∙ ap (λ o. option_or c.self.inside.broken o) c.first_of.ensures ∙ ap B c.clash_in-clash.ensures ∙ ap (λ n. B (clash_told c.self.inside.index.halves n c.args.reply)) number) in
     let kept_is : k ∷ kept ≡ reverse c.push_reserved.new.self.items =
     sym (ap (λ (ks : List Kept). reverse ks) c.push_reserved.ensures.items ∙ pushed items k) in
     let T : List Kept → Type 0 = λ ks. IsTranscript in_c ks (vec_capacity c.push_reserved.new.self) c.set.new.self c.self.inside.index (Some c.args.fore) c.first_of-self-inside.result false in
