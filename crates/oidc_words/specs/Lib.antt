@@ -8,3 +8,4 @@ pub mod Modes
 pub mod Lives
 pub mod Paths
 pub mod Errors
+pub mod Laws
