@@ -4,3 +4,4 @@ pub mod Kinds
 pub mod Reading
 pub mod Fitting
 pub mod Building
+pub mod Laws
