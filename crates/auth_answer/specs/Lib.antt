@@ -3,3 +3,4 @@ pub mod Params
 pub mod Reading
 pub mod Parts
 pub mod Sent
+pub mod Laws

@@ -1,24 +1,19 @@
 // Laws about authorization responses, for the crates above.
 
-ghost use Rattle.std.specs.Prelude.{◌≡◌, ◌++◌, ℕ, List, false, codes, Option, Ok, Err, option_map, option_and_then, IfSome};
-ghost use Rattle.std.specs.List.{list_any};
+ghost use Rattle.std.specs.Prelude.{◌≡◌, ◌++◌, ℕ, List, codes, Option, Ok, Err, option_map, option_and_then, IfSome};
 ghost use Rattle.std.specs.Str.{IsUtf8};
-ghost use Rattle.sso_base.specs.Words.{Word, Text, word_of_text};
-ghost use Rattle.registered_url.specs.Query.{form_names};
-ghost use Rattle.sso_base.specs.Texts.{has_text};
-ghost use Rattle.configuration_rows.specs.Version1.{answer_names};
+ghost use Rattle.sso_base.specs.Words.{Word, word_of_text};
+ghost use Rattle.request_params.specs.Reading.{value_of};
+ghost use Rattle.oidc_words.specs.declared.errors.Refusal.{Refusal};
 ghost use Rattle.oidc_words.specs.Lives.{access_life_text};
 ghost use Rattle.oidc_words.specs.TokenTypes.{bearer_word};
-ghost use Rattle.request_params.specs.Reading.{value_of};
-ghost use Rattle.oidc_words.specs.declared.errors.AuthError.{AuthError};
-ghost use Rattle.oidc_words.specs.declared.errors.Refusal.{Refusal};
 ghost use Rattle.auth_answer.specs.declared.answer.Answer.{Answer};
 ghost use Rattle.auth_answer.specs.declared.heard.Heard.{Heard};
 ghost use Rattle.auth_answer.specs.declared.no.AnswerNo.{AnswerNo};
-ghost use Rattle.oidc_words.specs.Errors.{error_text, error_of, SaysError};
 ghost use Rattle.auth_answer.specs.Printing.{pairs_of, answer_params, answer_form, answer_location, answer_mark, refusal_form, refusal_location};
 ghost use Rattle.auth_answer.specs.Reading.{answer_read, HasAnswer, RefusesAnswer, IsHeard};
-ghost use Rattle.auth_answer.specs.Sent.{answer_heard, refusal_heard, StatesWord};
+ghost use Rattle.auth_answer.specs.Sent.{refusal_heard, StatesWord};
+ghost use Rattle.auth_answer.specs.Laws.{WrittenAnswersAreRead, WrittenAnswersAreReadWithAnyState, OwnQueriesAreIgnored};
 
 /// The location of a response is its redirect URI, a mark and its form.
 pub fn responses_stand_behind_redirection_uris()
@@ -50,8 +45,8 @@ pub fn refused_answers_repeat_a_name()
 /// Reading the form of a successful response returns its parts and no error, if its ID Token is UTF-8. If its state is absent
 /// or the text of a word, the result has that word as its state.
 pub fn written_answers_are_read()
-    ensures read { (a : Answer) (state : Option Word) → StatesWord a.state state → IfSome a.id IsUtf8 → answer_read (answer_form a) ≡ Ok (answer_heard a state) }
-    ensures any_state { (a : Answer) → IfSome a.state IsUtf8 → IfSome a.id IsUtf8 → answer_read (answer_form a) ≡ Ok (answer_heard a (option_and_then word_of_text a.state)) }
+    ensures read { WrittenAnswersAreRead }
+    ensures any_state { WrittenAnswersAreReadWithAnyState }
 {}
 
 /// Reading the form of an error response returns its code and its state, and nothing else.
@@ -62,5 +57,5 @@ pub fn written_refusals_are_read()
 
 /// The redirect URI's own query changes nothing, if it has no parameter name of a response.
 pub fn own_queries_are_ignored()
-    ensures { (query form : List ℕ) → list_any (λ name. has_text name answer_names) (form_names query) ≡ false → answer_read (query ++ codes "&" ++ form) ≡ answer_read form }
+    ensures { OwnQueriesAreIgnored }
 {}

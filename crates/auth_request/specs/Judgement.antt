@@ -1,6 +1,7 @@
 -- Validation of an authorization request: the first row that applies (OpenID Connect Core 1.0, 3.1.2.2, 3.1.2.6, 3.2.2.1 and 6;
 -- RFC 6749, 3.1.2.4 and 4.1.2.1).
-use Rattle.std.specs.Prelude.{ℕ, Bool, false, not, ◌&&◌, List, [], ◌∷◌, Option, Some, None, is_some, is_none, option_and_then, unwrap_or, slice_get, Result, Ok, Err, if◌then◌else◌}
+use Rattle.std.specs.Prelude.{ℕ, Bool, false, not, ◌&&◌, List, [], ◌∷◌, Option, Some, None, is_some, is_none, option_and_then, unwrap_or, slice_get, Result, Ok}
+use Rattle.std.specs.Prelude.{Err, if◌then◌else◌}
 use Rattle.std.specs.Str.{bytes_eq}
 use Rattle.sso_base.specs.Refusals.{first_refusal}
 use Rattle.sso_base.specs.Texts.{has_text}
@@ -15,7 +16,8 @@ use Rattle.auth_request.specs.declared.parameters.Asking.{Asking}
 use Rattle.auth_request.specs.declared.wish.Wish.{Wish}
 use Rattle.oidc_words.specs.declared.errors.Refusal.{Refusal}
 use Rattle.oidc_words.specs.declared.errors.AuthError.{AuthError}
-use Rattle.oidc_words.specs.declared.errors.AuthError.TheVariants.{InvalidRequest, UnauthorizedClient, UnsupportedResponseType, InvalidScope, InvalidRequestObject, RequestUriNotSupported, RegistrationNotSupported}
+use Rattle.oidc_words.specs.declared.errors.AuthError.TheVariants.{InvalidRequest, UnauthorizedClient, UnsupportedResponseType, InvalidScope}
+use Rattle.oidc_words.specs.declared.errors.AuthError.TheVariants.{InvalidRequestObject, RequestUriNotSupported, RegistrationNotSupported}
 use Rattle.auth_request.specs.declared.wish.PageNo.{PageNo}
 use Rattle.auth_request.specs.declared.wish.PageNo.TheVariants.{Client as NoClient, Redirect as NoRedirect}
 use Rattle.auth_request.specs.declared.wish.Verdict.{Verdict}
@@ -73,8 +75,12 @@ errors k p a object_refused =
     ∷ []
 
 -- an error goes to the redirect URI, with `state`; it is in the fragment if the response type's responses are
+abbrev pub refusal_to : List ℕ → Params → Option ℕ → AuthError → Refusal
+refusal_to uri p number code =
+    record { redirect = uri; fragment = is_in_fragment (types_of_number number); state = p.state; code = code }
+
 abbrev pub refusal_of : List ℕ → Params → Asking → AuthError → Refusal
-refusal_of uri p a code = record { redirect = uri; fragment = is_in_fragment (types_of_number a.number); state = p.state; code = code }
+refusal_of uri p a code = refusal_to uri p a.number code
 
 abbrev pub wish_of : ℕ → List ℕ → Params → Asking → Wish
 wish_of n uri p a =

@@ -4,3 +4,4 @@ pub mod NamedSubjects
 pub mod Judgement
 pub mod Granted
 pub mod Values
+pub mod Laws

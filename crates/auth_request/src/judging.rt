@@ -1,10 +1,7 @@
 // Validation of an authorization request: the first row that applies (OpenID Connect Core 1.0, 3.1.2.2).
 
 ghost use Rattle.std.specs.Prelude.{◌≡◌, IfOk, option_map};
-ghost use Rattle.std.specs.List.{list_any};
 ghost use Rattle.sso_base.specs.Refusals.{first_refusal};
-ghost use Rattle.sso_base.specs.Texts.{has_text};
-ghost use Rattle.oidc_words.specs.Types.{types_of_number, is_in_fragment};
 ghost use Rattle.auth_request.specs.Judgement as spec;
 ghost use Rattle.auth_request.specs.Values as values;
 
@@ -145,7 +142,7 @@ fn refusal_of(
     number: Option<usize>,
     code: AuthError,
 ) -> Result<Refusal, NoMemory>
-    ensures { IfOk result (λ r. r ≡ record { redirect = redirect.now; fragment = is_in_fragment (types_of_number number); state = params.now.state; code = code }) }
+    ensures { IfOk result (λ r. r ≡ spec.refusal_to redirect.now params.now number code) }
 {
     Ok(Refusal {
         redirect: redirect.copy(alloc)?,

@@ -1,16 +1,8 @@
 // Laws about validation, for the crates above.
 
-ghost use Rattle.std.specs.Prelude.{◌≡◌, ◌⊎◌, ◌↔◌, ◌&&◌, ◌||◌, ℕ, Bool, true, List, codes, Some, is_some, option_and_then, IfSome};
-ghost use Rattle.serde_json.specs.Data.{Data};
-ghost use Rattle.serde_json.specs.Find.{get};
-ghost use Rattle.serde_json.specs.Read.{read};
-ghost use Rattle.sso_base.specs.Refusals.{NoneHolds};
-ghost use Rattle.sso_base.specs.Texts.{has_text};
-ghost use Rattle.client_registry.specs.declared.records.Client.{Client};
+ghost use Rattle.std.specs.Prelude.{◌≡◌, ◌⊎◌, ℕ, Bool, true, List};
 ghost use Rattle.client_registry.specs.Configuration.{Configuration};
-ghost use Rattle.client_registry.specs.Numbers.{client_at};
 ghost use Rattle.client_registry.specs.Registered.{IsSubject};
-ghost use Rattle.oidc_words.specs.Claims.{is_standard_claim};
 ghost use Rattle.oidc_words.specs.Words.{is_filled};
 ghost use Rattle.request_params.specs.declared.params.Params.{Params};
 ghost use Rattle.auth_request.specs.declared.wish.Wish.{Wish};
@@ -18,18 +10,18 @@ ghost use Rattle.oidc_words.specs.declared.errors.Refusal.{Refusal};
 ghost use Rattle.auth_request.specs.declared.wish.PageNo.{PageNo};
 ghost use Rattle.auth_request.specs.declared.wish.PageNo.TheVariants as page;
 ghost use Rattle.auth_request.specs.declared.wish.Verdict.TheVariants as verdict;
-ghost use Rattle.auth_request.specs.ClaimsParameter.{is_claims_request, claims_of};
-ghost use Rattle.auth_request.specs.NamedSubjects.{names_subject};
-ghost use Rattle.auth_request.specs.Parameters.{asking_of};
-ghost use Rattle.auth_request.specs.Judgement.{judgement, errors, wish_of};
-ghost use Rattle.auth_request.specs.Granted.{ClientsAreApart, IsRegistered, AnswersInFragment, IsWish, IsWishOf};
+ghost use Rattle.auth_request.specs.Judgement.{judgement};
+ghost use Rattle.auth_request.specs.Granted.{IsRegistered, IsWish, IsWishOf};
+ghost use Rattle.auth_request.specs.Laws.{RegisteredUrisGetNoErrorPage, ErrorsAreInTheFragmentOfTheType, RequestsWithoutErrorsAreGranted};
+ghost use Rattle.auth_request.specs.Laws.{IdTokenClaimsAreStandardMembers, UserInfoClaimsAreStandardMembers, SubjectsAreNamedByValueOrValues};
+ghost use Rattle.auth_request.specs.Laws.{NamedSubjectsAreKept};
 
 /// A response is sent only to a redirect URI that is registered for the request's client. An error page is shown if and only if
 /// the request has no such URI: its client is unknown, or the URI is none of that client's (RFC 6749, 3.1.2.4).
 pub fn answers_go_to_registered_uris()
     ensures refused { (c : Configuration) (p : Params) (b : Bool) (x : Refusal) → judgement c p b ≡ verdict.Refuse x → (n : ℕ) × IsRegistered c p n x.redirect }
     ensures granted { (c : Configuration) (p : Params) (b : Bool) (w : Wish) → judgement c p b ≡ verdict.Grant w → IsRegistered c p w.client w.redirect }
-    ensures shown { (c : Configuration) (p : Params) (b : Bool) (y : PageNo) (n : ℕ) (uri : List ℕ) → ClientsAreApart c → judgement c p b ≡ verdict.Page y → IsRegistered c p n uri → ⊥ }
+    ensures shown { RegisteredUrisGetNoErrorPage }
     ensures pages { (c : Configuration) (p : Params) (b : Bool) (y : PageNo) → judgement c p b ≡ verdict.Page y → (y ≡ page.Client) ⊎ (y ≡ page.Redirect) }
 {}
 
@@ -37,7 +29,7 @@ pub fn answers_go_to_registered_uris()
 /// than `code`, even if that type is none of the client's.
 pub fn refusals_answer_as_the_type_does()
     ensures state { (c : Configuration) (p : Params) (b : Bool) (x : Refusal) → judgement c p b ≡ verdict.Refuse x → x.state ≡ p.state }
-    ensures fragment { (c : Configuration) (p : Params) (b : Bool) (x : Refusal) → judgement c p b ≡ verdict.Refuse x → (x.fragment ≡ true) ↔ AnswersInFragment p }
+    ensures fragment { ErrorsAreInTheFragmentOfTheType }
 {}
 
 /// A granted wish has the contents of the parameters, and satisfies the invariant of wishes.
@@ -48,21 +40,21 @@ pub fn granted_wishes_are_the_requests()
 
 /// A request with a registered redirect URI is granted if no error's condition is true.
 pub fn requests_without_errors_are_granted()
-    ensures { (c : Configuration) (p : Params) (b : Bool) (n : ℕ) (k : Client) (uri : List ℕ) → ClientsAreApart c → IsRegistered c p n uri → client_at c n ≡ Some k → NoneHolds (errors k p (asking_of p) b) → judgement c p b ≡ verdict.Grant (wish_of n uri p (asking_of p)) }
+    ensures { RequestsWithoutErrorsAreGranted }
 {}
 
 /// If a `claims` parameter has the right form, the claims that it requests, in the ID Token and from the UserInfo endpoint, are
 /// exactly the standard claims among its members (OpenID Connect Core 1.0, 5.5).
 pub fn asked_claims_are_standard_members()
-    ensures id_asked { (t : List ℕ) (d : Data) (q : List ℕ) → read t ≡ Some d → is_claims_request d ≡ true → has_text q (claims_of (Some t)).id_asked ≡ (is_standard_claim q && is_some (option_and_then (get q) (get (codes "id_token") d))) }
-    ensures info_asked { (t : List ℕ) (d : Data) (q : List ℕ) → read t ≡ Some d → is_claims_request d ≡ true → has_text q (claims_of (Some t)).info_asked ≡ (is_standard_claim q && is_some (option_and_then (get q) (get (codes "userinfo") d))) }
+    ensures id_asked { IdTokenClaimsAreStandardMembers }
+    ensures info_asked { UserInfoClaimsAreStandardMembers }
 {}
 
 /// A `claims` parameter of its form that asks for the claim `sub` in the ID Token names subjects exactly where it has `value`
 /// or `values` there; and a text that is not empty is among those that are kept exactly where `value` is it, or an element of
 /// `values` is (OpenID Connect Core 1.0, 5.5.1). No subject of a registry is empty.
 pub fn named_subjects_are_kept()
-    ensures there { (t : List ℕ) (d sub : Data) → read t ≡ Some d → is_claims_request d ≡ true → option_and_then (get (codes "sub")) (get (codes "id_token") d) ≡ Some sub → is_some (claims_of (Some t)).subs ≡ (is_some (get (codes "value") sub) || is_some (get (codes "values") sub)) }
-    ensures named { (t : List ℕ) (d sub : Data) (q : List ℕ) → read t ≡ Some d → is_claims_request d ≡ true → option_and_then (get (codes "sub")) (get (codes "id_token") d) ≡ Some sub → is_filled q ≡ true → IfSome (claims_of (Some t)).subs (λ subs. has_text q subs ≡ names_subject q sub) }
+    ensures there { SubjectsAreNamedByValueOrValues }
+    ensures named { NamedSubjectsAreKept }
     ensures subjects { (t : List ℕ) → IsSubject t → is_filled t ≡ true }
 {}

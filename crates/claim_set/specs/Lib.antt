@@ -5,3 +5,4 @@ pub mod Reading
 pub mod Fitting
 pub mod Building
 pub mod Wrapped
+pub mod Laws

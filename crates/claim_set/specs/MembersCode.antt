@@ -3,7 +3,8 @@ use Rattle.std.specs.Prelude.{◌≡◌, ℕ, List}
 use Rattle.std.proofs.Common.{refl, ap, ap₂, arith}
 use Rattle.std.specs.Coded.{Coded, coded_ℕ, coded_ℤ, coded_bool, coded_list}
 use base.Stored.{Gv, gnil, gnum, gcons, coded_float}
-use Rattle.serde_json.specs.Data.{Num, unsigned, negative, float, Data, null, boolean, number, string, array, object, Items, no_items, item, Members, no_members, member}
+use Rattle.serde_json.specs.Data.{Num, unsigned, negative, float, Data, null, boolean, number, string, array, object, Items, no_items, item, Members}
+use Rattle.serde_json.specs.Data.{no_members, member}
 
 abbrev left : Gv → Gv
 left gnil = gnil
@@ -75,7 +76,8 @@ mutual
   pub members_inj : (x y : Members) → members_tree x ≡ members_tree y → x ≡ y
   members_inj no_members no_members p = refl
   members_inj (member k d ms) (member l e ns) p =
-      same_member (text_code.inj k l (ap (λ g. left (right g)) p)) (data_inj d e (ap (λ g. left (right (right g))) p)) (members_inj ms ns (ap (λ g. right (right (right g))) p))
+      same_member (text_code.inj k l (ap (λ g. left (right g)) p)) (data_inj d e (ap (λ g. left (right (right g))) p))
+          (members_inj ms ns (ap (λ g. right (right (right g))) p))
   members_inj x y p = absurd (omega (arith, ap tag p))
 
 abbrev pub members_code : Coded Members

@@ -7,13 +7,13 @@ ghost use Rattle.json.specs.Print.{quoted};
 ghost use Rattle.serde_json.specs.Data.{Data, Members, no_members, put, depth, string, number, unsigned, boolean, array, object};
 ghost use Rattle.serde_json.specs.Find.{get_member};
 ghost use Rattle.serde_json.specs.Read.{read};
-ghost use Rattle.serde_json.specs.Written.{compact_text};
 ghost use Rattle.claim_set.specs.declared.no.ClaimNo.TheVariants as no;
 ghost use Rattle.claim_set.specs.Claims.{claims_depth, without, text_items};
 ghost use Rattle.claim_set.specs.Kinds.{text_claim, number_claim, flag_claim, texts_claim, member_claim};
 ghost use Rattle.claim_set.specs.Reading.{claims_text, claims_read, Reads, IsFirstWrong};
 ghost use Rattle.claim_set.specs.Fitting.{Fits, InOrder, ClaimsFit, EntriesFit};
 ghost use Rattle.claim_set.specs.Building.{Entry, audience, put_all, without_all, names, found, is_distinct, HasNone};
+ghost use Rattle.claim_set.specs.Laws.{ClaimsLengthenTheText};
 
 /// A text is read as certain claims if and only if it contains them. Their names are in order, each once, and they nest at most
 /// 127 deep.
@@ -40,7 +40,7 @@ pub fn written_claims_are_read()
 /// Setting a name makes the text longer by at most the quoted name, the text of its value, and two bytes. A quoted text has at
 /// most six bytes for each of its own, plus two.
 pub fn written_claims_have_lengths()
-    ensures put { (k : List ℕ) (d : Data) (ms : Members) → length (claims_text (put k d ms)) ≤ length (claims_text ms) + (length (quoted k) + (length (compact_text d) + 2)) }
+    ensures put { ClaimsLengthenTheText }
     ensures text { (t : List ℕ) → length (quoted t) ≤ 6 * length t + 2 }
 {}
 

@@ -1,6 +1,7 @@
 -- Rules about the records of a configuration whose rows satisfy their own rules: names, secrets and redirect URIs that occur
 -- twice, sizes, hosts, and subjects.
-use Rattle.std.specs.Prelude.{ℕ, ◌==◌, ◌&&◌, ◌||◌, Bool, true, not, List, [], ◌∷◌, ◌++◌, length, nat_lt, codes, map, Option, Some, None, slice_get, unwrap_or, if◌then◌else◌}
+use Rattle.std.specs.Prelude.{ℕ, ◌==◌, ◌&&◌, ◌||◌, Bool, true, not, List, [], ◌∷◌, ◌++◌, length, nat_lt, codes, map, Option, Some, None, slice_get, unwrap_or}
+use Rattle.std.specs.Prelude.{if◌then◌else◌}
 use Rattle.std.specs.List.{list_any, position_from}
 use Rattle.std.specs.Str.{bytes_eq}
 use Rattle.sha2.specs.Sha256.{sha256}
@@ -14,6 +15,7 @@ use Rattle.client_registry.specs.declared.records.Party.{Party}
 use Rattle.configuration_rows.specs.Refusals.{note_if, each}
 use Rattle.sso_base.specs.Texts.{has_text}
 use Rattle.client_registry.specs.Records.{client_place}
+use Rattle.client_registry.specs.declared.reading.Rows.{Rows}
 
 -- ---- indices, counted from 0
 
@@ -102,6 +104,10 @@ records_refusals issuer users clients parties =
     ++ note_if (nat_lt 64 (length parties)) (no.TooMany (codes "party"))
     ++ each mixed_hosts clients
     ++ each (unknown_client (length clients)) parties
+
+-- the refusals of the records of all rows
+abbrev pub rows_broken : List ℕ → Rows → List RegNo
+rows_broken issuer rows = records_refusals issuer rows.users.items rows.clients.items rows.parties.items
 
 -- ---- subjects (OpenID Connect Core 1.0, 8)
 

@@ -6,7 +6,7 @@ ghost use Rattle.client_registry.specs.Reading.{document_in, registry_read, vers
 ghost use Rattle.client_registry.specs.Configuration.{provider_table, configuration_of, salt_of};
 ghost use Rattle.configuration_rows.specs.Version1.{rows_refusals};
 ghost use Rattle.client_registry.specs.Records as spec;
-ghost use Rattle.client_registry.specs.Rules.{records_refusals, subjects_refusals, subjects_at};
+ghost use Rattle.client_registry.specs.Rules.{subjects_refusals, subjects_at, rows_broken};
 ghost use Rattle.configuration_rows.specs.Refusals.{least};
 ghost use Rattle.client_registry.specs.Registered.{IsRegistry, AllHoldClaims};
 
@@ -81,8 +81,8 @@ fn rows_of(alloc: Global, root: &Value) -> Result<Rows, NoMemory>
 }
 
 fn judge_rules(alloc: Global, issuer: &str, rows: &Rows) -> Result<(), RegNo>
-    ensures ok { IfOk result (λ u. records_refusals issuer.now rows.now.users.items rows.now.clients.items rows.now.parties.items ≡ []) }
-    ensures err { IfErr result (λ e. (e ≡ RegNo.NoMemory) ⊎ (least (records_refusals issuer.now rows.now.users.items rows.now.clients.items rows.now.parties.items) ≡ Some e)) }
+    ensures ok { IfOk result (λ u. rows_broken issuer.now rows.now ≡ []) }
+    ensures err { IfErr result (λ e. (e ≡ RegNo.NoMemory) ⊎ (least (rows_broken issuer.now rows.now) ≡ Some e)) }
 {
     let mut refusals = Refusals::new(alloc);
     judge_records(

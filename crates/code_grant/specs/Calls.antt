@@ -8,7 +8,8 @@ use Rattle.code_grant.specs.declared.rows.TurnRow.{TurnRow}
 use Rattle.code_grant.specs.declared.rows.SessionRow.{SessionRow}
 use Rattle.code_grant.specs.declared.rows.CodeRow.{CodeRow}
 use Rattle.code_grant.specs.declared.rows.TokenRow.{TokenRow}
-use Rattle.code_grant.specs.Tables.{Tables, with_room, purged, with_turn, with_session, with_code, with_token, turn_set, turn_ended, session_ended, session_renewed, session_visited, redemption, after_answer, with_consent}
+use Rattle.code_grant.specs.Tables.{Tables, with_room, purged, with_turn, with_session, with_code, with_token, turn_set, turn_ended, session_ended}
+use Rattle.code_grant.specs.Tables.{session_renewed, session_visited, redemption, after_answer, with_consent}
 
 pub data Call : Type 0 where
   reserve : Call

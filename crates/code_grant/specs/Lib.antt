@@ -4,3 +4,4 @@ pub mod Redeeming
 pub mod Room
 pub mod Rows
 pub mod Tables
+pub mod Laws

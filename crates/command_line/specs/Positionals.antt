@@ -22,6 +22,9 @@ command_at (Some name) (Some first) (Some second) None = of_three name first sec
 command_at (Some name) (Some first) (Some second) (Some third) = of_four name first second third
 command_at name first second third = None
 
+abbrev pub command_by_place : Positionals → Option Command
+command_by_place p = command_at (option_copied p.name) (option_copied p.first) (option_copied p.second) (option_copied p.third)
+
 -- a required positional
 abbrev pub required_rule : Text → Rule
 required_rule id = record (new_rule id) { required = true }

@@ -2,11 +2,10 @@
 
 ghost use Rattle.std.specs.Prelude.{◌≡◌, ◌≤◌, true, length, map, IfOk};
 ghost use Rattle.std.specs.List.{list_all};
-ghost use Rattle.std.specs.Option.{option_copied};
 ghost use Rattle.command_line.specs.Commands as spec;
 ghost use Rattle.command_line.specs.Commands.{command_of};
 ghost use Rattle.command_line.specs.Numbers.{number_in};
-ghost use Rattle.command_line.specs.Positionals.{command_at};
+ghost use Rattle.command_line.specs.Positionals.{command_by_place};
 
 use crate::number::read_number;
 use crate::positionals::{Positionals, read_positionals};
@@ -166,7 +165,7 @@ fn of_four(
 
 // The command with these words at these positions.
 fn choose(alloc: Global, words: &Positionals<'_>) -> Result<Option<Command>, NoMemory>
-    ensures { IfOk result (λ c. c ≡ command_at (option_copied words.now.name) (option_copied words.now.first) (option_copied words.now.second) (option_copied words.now.third)) }
+    ensures { IfOk result (λ c. c ≡ command_by_place words.now) }
 {
     let (Some(name), Some(first)) = (words.name, words.first) else {
         return Ok(None);

@@ -2,7 +2,8 @@
 use Rattle.std.specs.Prelude.{◌≡◌, ◌<◌, ◌≤◌, ℕ, ◌+◌, Bool, List, [], ◌∷◌, ◌++◌, nat_lt, Option, Some, None, if◌then◌else◌}
 use Rattle.std.specs.List.{AllByRecursion}
 use Rattle.configuration_rows.specs.declared.no.RegNo.{RegNo}
-use Rattle.configuration_rows.specs.declared.no.RegNo.TheVariants.{NoMemory, TooLong, NotToml, Version, Missing, WrongKind, BadUrl, Twice, ShortSecret, TooMany, MixedHosts, UnknownClient, SubjectClash}
+use Rattle.configuration_rows.specs.declared.no.RegNo.TheVariants.{NoMemory, TooLong, NotToml, Version, Missing, WrongKind, BadUrl, Twice, ShortSecret, TooMany}
+use Rattle.configuration_rows.specs.declared.no.RegNo.TheVariants.{MixedHosts, UnknownClient, SubjectClash}
 
 -- the order in which errors are reported
 abbrev pub number : RegNo → ℕ

@@ -68,7 +68,9 @@ misplaced parties (Some id) None = false
 misplaced parties (Some id) (Some u) = list_any (is_apart id u) parties
 
 abbrev pub logout_rule : List Data → Row → Data → List RegNo
-logout_rule parties row client = note_if (misplaced parties (text_at (codes "id") client) (url_at (codes "logout_uri") client)) (no.WrongKind (path_text row (codes "logout_uri")))
+logout_rule parties row client =
+    note_if (misplaced parties (text_at (codes "id") client) (url_at (codes "logout_uri") client))
+        (no.WrongKind (path_text row (codes "logout_uri")))
 
 -- the first client with this id
 abbrev pub client_with : List ℕ → List Data → Option Data
@@ -107,8 +109,12 @@ misdirects client None u = false
 misdirects client (Some t) None = false
 misdirects client (Some t) (Some u) = has_answer_name u || (has_text u.path own_paths || is_not_of client t u)
 
+abbrev pub party_misdirects : List Data → Data → Bool
+party_misdirects clients party =
+    misdirects (client_of clients party) (text_at (codes "redirect_uri") party) (url_at (codes "redirect_uri") party)
+
 abbrev pub redirect_rule : List Data → Row → Data → List RegNo
-redirect_rule clients row party = note_if (misdirects (client_of clients party) (text_at (codes "redirect_uri") party) (url_at (codes "redirect_uri") party)) (no.BadUrl (path_text row (codes "redirect_uri")))
+redirect_rule clients row party = note_if (party_misdirects clients party) (no.BadUrl (path_text row (codes "redirect_uri")))
 
 -- the response types of a client; `code` if it states none
 abbrev pub response_texts : Data → List (List ℕ)
@@ -129,8 +135,11 @@ unfoldable pub lacks_type : Option Data → List ℕ → Bool
 lacks_type None t = false
 lacks_type (Some client) t = lacks_number (response_texts client) (type_number t)
 
+abbrev pub party_lacks_type : List Data → Data → Bool
+party_lacks_type clients party = lacks_type (client_of clients party) (text_or (codes "response_type") code_word party)
+
 abbrev pub type_rule : List Data → Row → Data → List RegNo
-type_rule clients row party = note_if (lacks_type (client_of clients party) (text_or (codes "response_type") code_word party)) (no.WrongKind (path_text row (codes "response_type")))
+type_rule clients row party = note_if (party_lacks_type clients party) (no.WrongKind (path_text row (codes "response_type")))
 
 -- ---- the rows of the table
 

@@ -5,7 +5,8 @@ ghost use Rattle.std.specs.List.{list_all};
 ghost use Rattle.toml.specs.View.{view};
 ghost use Rattle.registered_url.specs.Rule.{url_of as url_in};
 ghost use Rattle.configuration_rows.specs.Values.{hex_bytes, as_natural};
-ghost use Rattle.configuration_rows.specs.Kinds.{allows, is_name, is_within, has_length, text_keeps, passes, unless, are_urls, issuer_breach, breach as breach_in};
+ghost use Rattle.configuration_rows.specs.Kinds.{allows, is_name, is_within, has_length, text_keeps, passes, unless, are_urls, issuer_breach};
+ghost use Rattle.configuration_rows.specs.Kinds.{breach as breach_in};
 ghost use Rattle.oidc_words.specs.Types.{is_response_type};
 
 use crate::claims::claims_of;

@@ -5,9 +5,8 @@ ghost use Rattle.std.specs.List.{list_any};
 ghost use Rattle.std.specs.Str.{bytes_eq};
 ghost use Rattle.toml.specs.View.{view};
 ghost use Rattle.sso_base.specs.Texts.{has_text};
-ghost use Rattle.oidc_words.specs.Types.{code_word};
 ghost use Rattle.configuration_rows.specs.Kinds.{passes};
-ghost use Rattle.configuration_rows.specs.Values.{text_at as text_in, text_or as text_or_in, url_at as url_in};
+ghost use Rattle.configuration_rows.specs.Values.{text_at as text_in};
 ghost use Rattle.configuration_rows.specs.Version1 as spec;
 
 use crate::no::RegNo;
@@ -130,7 +129,7 @@ fn is_misdirected(
 }
 
 fn misdirects(alloc: Global, clients: &[Value], party: &Value) -> Result<bool, NoMemory>
-    ensures { IfOk result (λ b. b ≡ spec.misdirects (spec.client_of (map view clients.now) (view party.now)) (text_in (codes "redirect_uri") (view party.now)) (url_in (codes "redirect_uri") (view party.now))) }
+    ensures { IfOk result (λ b. b ≡ spec.party_misdirects (map view clients.now) (view party.now)) }
 {
     let Some(text) = text_at(party, "redirect_uri") else {
         return Ok(false);
@@ -184,7 +183,7 @@ pub fn has_type(number: usize, texts: &[Text]) -> bool
 
 #[tactic(auto, unfolding(crate::specs::Version1::lacks_type))]
 fn lacks_type(alloc: Global, clients: &[Value], party: &Value) -> Result<bool, NoMemory>
-    ensures { IfOk result (λ b. b ≡ spec.lacks_type (spec.client_of (map view clients.now) (view party.now)) (text_or_in (codes "response_type") code_word (view party.now))) }
+    ensures { IfOk result (λ b. b ≡ spec.party_lacks_type (map view clients.now) (view party.now)) }
 {
     let Some(client) = client_of(clients, party) else {
         return Ok(false);

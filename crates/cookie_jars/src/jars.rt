@@ -4,7 +4,7 @@ ghost use Rattle.std.specs.Prelude.{◌≡◌, ℕ, ◌<◌, ◌==◌, true, [],
 ghost use Rattle.std.specs.Vec.{vec_capacity};
 ghost use Rattle.std.specs.Option.{option_or};
 ghost use Rattle.cookie_jars.specs.Jars as spec;
-ghost use Rattle.cookie_jars.specs.JarMaps.{jar_in, has_jar, jars_at};
+ghost use Rattle.cookie_jars.specs.JarMaps.{jar_in, has_jar, jars_at, jar_after_theft};
 ghost use Rattle.cookie_jars.specs.JarsFound.{HaveSlots, IsBelow};
 
 use crate::jar_map::{JarMap, empty_jar};
@@ -68,7 +68,7 @@ fn set_in(map: &mut JarMap, browser: u32, set: &Jar)
 // Replaces the thief's jar by a copy of the owner's.
 fn steal_in(map: &mut JarMap, thief: u32, owner: u32)
     requires { has_jar map.old thief ≡ true }
-    ensures { (other : ℕ) → jar_in map.new other ≡ (if other == thief then jar_in map.old owner else jar_in map.old other) }
+    ensures { (other : ℕ) → jar_in map.new other ≡ jar_after_theft map.old thief owner other }
 {
     let jar = map.jar(owner);
     map.put(thief, jar);
@@ -90,7 +90,7 @@ fn prepare_all(maps: &mut Vec<JarMap>, browser: u32) -> Result<(), NoMemory>
 fn steal_in_all(maps: &mut Vec<JarMap>, thief: u32, owner: u32)
     requires { HaveSlots maps.old.items thief }
     ensures count { length maps.new.items ≡ length maps.old.items }
-    ensures jars { (n other : ℕ) → jar_in (jars_at maps.new.items n) other ≡ (if other == thief then jar_in (jars_at maps.old.items n) owner else jar_in (jars_at maps.old.items n) other) }
+    ensures jars { (n other : ℕ) → jar_in (jars_at maps.new.items n) other ≡ jar_after_theft (jars_at maps.old.items n) thief owner other }
 {
     for n in 0..maps.len() {
         steal_in(&mut maps[n], thief, owner);

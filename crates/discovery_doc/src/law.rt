@@ -1,19 +1,17 @@
 // Laws about discovery documents, for the crates above.
 
-ghost use Rattle.std.specs.Prelude.{◌≡◌, ◌++◌, ℕ, List, Ok, Err};
-ghost use Rattle.serde_json.specs.Data.{Members};
-ghost use Rattle.sso_base.specs.Refusals.{first_refusal};
+ghost use Rattle.std.specs.Prelude.{◌≡◌, ℕ, List, Ok, Err};
 ghost use Rattle.claim_set.specs.declared.no.ClaimNo.{ClaimNo};
-ghost use Rattle.claim_set.specs.Reading.{Reads, claims_read, claims_text};
+ghost use Rattle.claim_set.specs.Reading.{claims_read, claims_text};
 ghost use Rattle.client_registry.specs.declared.records.Provider.{Provider};
 ghost use Rattle.client_registry.specs.Configuration.{Configuration};
 ghost use Rattle.client_registry.specs.Registered.{IsRegistry};
-ghost use Rattle.discovery_doc.specs.declared.no.DiscNo.{DiscNo};
 ghost use Rattle.discovery_doc.specs.declared.no.DiscNo.TheVariants as no;
 ghost use Rattle.discovery_doc.specs.Metadata.{metadata};
-ghost use Rattle.discovery_doc.specs.Reading.{absences, faults, provider_in, discovery_read};
+ghost use Rattle.discovery_doc.specs.Reading.{discovery_read};
 ghost use Rattle.discovery_doc.specs.Document.{IsDocument};
 ghost use Rattle.discovery_doc.specs.Printed.{IsPrintable};
+ghost use Rattle.discovery_doc.specs.Laws.{RefusedDocumentsHaveTheFirstReason, DocumentsWithoutReasonAreAccepted};
 
 /// A text is accepted if and only if it is a discovery document of the requested provider, and the result is this provider.
 pub fn read_documents_have_the_metadata()
@@ -25,8 +23,8 @@ pub fn read_documents_have_the_metadata()
 /// of `faults` is true. Of these conditions, the first counts.
 pub fn refused_documents_have_the_first_reason()
     ensures unread { (issuer b : List ℕ) (e : ClaimNo) → claims_read b ≡ Err e → discovery_read issuer b ≡ Err no.NotObject }
-    ensures refused { (issuer b : List ℕ) (ms : Members) (e : DiscNo) → Reads b ms → first_refusal (absences ms ++ faults issuer ms) ≡ Err e → discovery_read issuer b ≡ Err e }
-    ensures accepted { (issuer b : List ℕ) (ms : Members) → Reads b ms → first_refusal (absences ms ++ faults issuer ms) ≡ Ok tt → discovery_read issuer b ≡ Ok (provider_in ms) }
+    ensures refused { RefusedDocumentsHaveTheFirstReason }
+    ensures accepted { DocumentsWithoutReasonAreAccepted }
 {}
 
 /// A document is only accepted for the issuer that it names.

@@ -1,11 +1,13 @@
 -- Rows in slots, and deques of slot numbers over them: one in the order of issue, and one for each key, in the order of the
 -- key's bytes.
-use Rattle.std.specs.Prelude.{◌≡◌, ◌<◌, ◌≤◌, ◌==◌, ℕ, suc, List, [], ◌∷◌, ◌++◌, map, length, slice_index, slice_index_or, Option, Some, None, option_map, option_and_then, unwrap_or, if◌then◌else◌}
+use Rattle.std.specs.Prelude.{◌≡◌, ◌<◌, ◌≤◌, ◌==◌, ℕ, suc, List, [], ◌∷◌, ◌++◌, map, length, slice_index, slice_index_or, Option, Some, None, option_map}
+use Rattle.std.specs.Prelude.{option_and_then, unwrap_or, if◌then◌else◌, IfSome, IsSome, false}
 use Rattle.std.specs.List.{AllByRecursion, filter_map}
 use Rattle.std.specs.Cmp.Lexicographic.{slice_cmp}
 use Rattle.std.specs.Ordering.{nat_cmp}
 use Rattle.std.specs.VecDeque.{deque_capacity}
 use Rattle.std.specs.declared.cmp.Ordering.TheVariants.{Less, Greater}
+use Rattle.sso_base.specs.Rows.{lives}
 use Rattle.held_rows.specs.declared.row.By.{By}
 use Rattle.held_rows.specs.declared.row.By.TheVariants.{Name, Group, OtherGroup}
 use Rattle.held_rows.specs.declared.stored.Issued.{Issued}
@@ -66,7 +68,8 @@ module _ {R : Type 0} (key : R → Option (List ℕ)) (row : ℕ → Option R) w
   pub record IsStart (index bytes : List ℕ) (place : ℕ) : Type 0 where
     pub in_range : place ≤ length index
     pub before : (k d : ℕ) → k < place → key_in (slice_index_or index k d) ≡ Some bytes → ⊥
-    pub run : (j k d : ℕ) → place ≤ j → j ≤ k → k < length index → key_in (slice_index_or index k d) ≡ Some bytes → key_in (slice_index_or index j d) ≡ Some bytes
+    pub run : (j k d : ℕ) → place ≤ j → j ≤ k → k < length index → key_in (slice_index_or index k d) ≡ Some bytes
+        → key_in (slice_index_or index j d) ≡ Some bytes
 
   -- a rank is at this position, or would be inserted there
   pub record IsPlace (index wanted : List ℕ) (place : ℕ) : Type 0 where
@@ -93,6 +96,15 @@ IsBounded serial by_issue next = AllByRecursion (λ n. n ≤ next) (map serial b
 
 abbrev pub stored_rows : {R : Type 0} → Stored R → List R
 stored_rows s = rows_at s.slots s.by_issue.items
+
+-- the slot has this row
+abbrev pub IsRowAt : {R : Type 0} → Stored R → ℕ → Option R → Type 0
+IsRowAt s slot row = IsSome (row_at s.slots slot) × (row_at s.slots slot ≡ row)
+
+-- the slot has a row whose life is over
+abbrev pub IsOverAt : {R : Type 0} → Stored R → ℕ → ℕ → (R → ℕ) → ℕ → Type 0
+IsOverAt s slot life begun at =
+    IsSome (row_at s.slots slot) × IfSome (row_at s.slots slot) (λ row. lives life (begun row) at ≡ false)
 
 -- the number of rows that there is memory for
 abbrev pub stored_capacity : {R : Type 0} → Stored R → ℕ

@@ -1,12 +1,13 @@
 // Rows in slots, and deques of slot numbers over them: one in the order of issue, and one for each key, in the order of the
 // key's bytes.
 
-ghost use Rattle.std.specs.Prelude.{◌≡◌, ◌<◌, ◌≤◌, ℕ, List, [], ◌∷◌, ◌++◌, length, map, filter, not, slice_get, slice_index, Some, None, true, false, option_copied, OnOk, IfSome, IfNone, IsSome, is_some};
+ghost use Rattle.std.specs.Prelude.{◌≡◌, ◌<◌, ◌≤◌, [], ◌∷◌, ◌++◌, length, map, filter, not, slice_index, Some, None, true};
+ghost use Rattle.std.specs.Prelude.{option_copied, OnOk, IfSome, IfNone, IsSome, is_some};
 ghost use Rattle.std.specs.List.{list_any};
-ghost use Rattle.sso_base.specs.Rows.{row_of, lives, live_rows};
+ghost use Rattle.sso_base.specs.Rows.{row_of, live_rows};
 ghost use Rattle.held_rows.specs.Held as spec;
 ghost use Rattle.held_rows.specs.Counts.{Lists};
-ghost use Rattle.held_rows.specs.Index.{row_at, serial_at, key_in, IsIndex, IsRising, IsStored, IsRemoved, IsReplaced, stored_rows, stored_capacity};
+ghost use Rattle.held_rows.specs.Index.{row_at, serial_at, IsIndex, IsRising, IsStored, IsRemoved, IsReplaced, stored_rows, stored_capacity, IsRowAt, IsOverAt};
 ghost use Rattle.held_rows.specs.SlotList.{HasValue};
 
 use crate::index::{is_at, put_in, start, take_from};
@@ -171,7 +172,7 @@ impl<R: Row + Drop> Stored<R> {
     // The slot of the row of a name.
     pub(crate) fn slot_of(&self, name: &[u8]) -> Option<u16>
         requires { IsStored R.name R.key R.begun R.IsSound self.now }
-        ensures some { IfSome result (λ slot. IsSome (row_at self.now.slots slot) × (row_at self.now.slots slot ≡ row_of R.name name.now (stored_rows self.now))) }
+        ensures some { IfSome result (λ slot. IsRowAt self.now slot (row_of R.name name.now (stored_rows self.now))) }
         ensures none { IfNone result (row_of R.name name.now (stored_rows self.now) ≡ None) }
     {
         let place = start(&self.slots, &self.by_name, By::Name, name);
@@ -262,7 +263,7 @@ impl<R: Row + Drop> Stored<R> {
     // The slot of a row whose life has ended at the moment, if there is one. It is the slot of the first row.
     pub(crate) fn ended(&self, at: Moment) -> Option<u16>
         requires { IsStored R.name R.key R.begun R.IsSound self.now }
-        ensures some { IfSome result (λ slot. IsSome (row_at self.now.slots slot) × IfSome (row_at self.now.slots slot) (λ row. lives R.LIFE (R.begun row) at ≡ false)) }
+        ensures some { IfSome result (λ slot. IsOverAt self.now slot R.LIFE R.begun at) }
         ensures none { IfNone result (live_rows R.LIFE R.begun at (stored_rows self.now) ≡ stored_rows self.now) }
     {
         let slot = *self.by_issue.front()?;

@@ -36,25 +36,37 @@ module _ (left_out : Option Condition) where
   -- a consent form: its turn, and the session for which the turn is to be answered
   pub record IsConsentInTime (past : OpPast) (at : ℕ) (row : TurnRow) : Type 0 where
     pub turn : Unless left_out within_lives (lives turn_life row.begun at ≡ true)
-    pub session : (session : SessionRow) → session_of past row.session ≡ Some session → Unless left_out within_lives (lives session_life session.auth_time at ≡ true)
-    pub recent : (session : SessionRow) → session_of past row.session ≡ Some session → Unless left_out recent_sign_in (is_late row.wish (Some (standing_agreed past row session)) at ≡ false)
+    pub session : (session : SessionRow) → session_of past row.session ≡ Some session
+        → Unless left_out within_lives (lives session_life session.auth_time at ≡ true)
+    pub recent : (session : SessionRow) → session_of past row.session ≡ Some session
+        → Unless left_out recent_sign_in (is_late row.wish (Some (standing_agreed past row session)) at ≡ false)
 
   abbrev pub IsOpInTime : OpPast → ℕ → OpAsk → Type 0
-  IsOpInTime past at (op_ask.Login turn signed b session) = (row : TurnRow) → turn_of past turn ≡ Some row → Unless left_out within_lives (lives turn_life row.begun at ≡ true)
+  IsOpInTime past at (op_ask.Login turn signed b session) =
+      (row : TurnRow) → turn_of past turn ≡ Some row → Unless left_out within_lives (lives turn_life row.begun at ≡ true)
   IsOpInTime past at (op_ask.Consent turn agree b session) = (row : TurnRow) → turn_of past turn ≡ Some row → IsConsentInTime past at row
-  IsOpInTime past at (op_ask.Token (Ok grant)) = (row : CodeRow) → code_of past (word_of_text grant.code) ≡ Some row → Unless left_out code_in_time (lives code_usable row.issued at ≡ true)
-  IsOpInTime past at (op_ask.Info (Given w)) = (row : TokenRow) → access_token_of past w ≡ Some row → Unless left_out within_lives (lives access_life row.issued at ≡ true)
+  IsOpInTime past at (op_ask.Token (Ok grant)) =
+      (row : CodeRow) → code_of past (word_of_text grant.code) ≡ Some row
+      → Unless left_out code_in_time (lives code_usable row.issued at ≡ true)
+  IsOpInTime past at (op_ask.Info (Given w)) =
+      (row : TokenRow) → access_token_of past w ≡ Some row
+      → Unless left_out within_lives (lives access_life row.issued at ≡ true)
   IsOpInTime past at asked = Unit {0}
 
   -- an authorization response: the login, and the ID Token in it, if the response type has one
   pub record IsResponseInTime (types : Types) (past : RpPast) (at : ℕ) (asked : RpAsk) : Type 0 where
     pub login : (row : LoginRow) → login_of past (state_named asked) ≡ Some row → Unless left_out within_lives (lives login_life row.begun at ≡ true)
-    pub token : (claims : IdClaims) → claims_judged types asked ≡ Some claims → Unless left_out token_in_time (lives (id_token_life + leeway) claims.iat at ≡ true)
+    pub token : (claims : IdClaims) → claims_judged types asked ≡ Some claims
+        → Unless left_out token_in_time (lives (id_token_life + leeway) claims.iat at ≡ true)
 
   abbrev pub IsRpInTime : Types → RpPast → ℕ → RpAsk → Type 0
   IsRpInTime types past at (rp_ask.Callback heard id b) = IsResponseInTime types past at (rp_ask.Callback heard id b)
-  IsRpInTime types past at (rp_ask.Tokens w came id) = (row : PendingRow) → pending_of types past w ≡ Some row → Unless left_out within_lives (lives pending_life row.since at ≡ true)
-  IsRpInTime types past at (rp_ask.Info w came) = (row : PendingRow) → pending_of types past w ≡ Some row → Unless left_out within_lives (lives pending_life row.since at ≡ true)
+  IsRpInTime types past at (rp_ask.Tokens w came id) =
+      (row : PendingRow) → pending_of types past w ≡ Some row
+      → Unless left_out within_lives (lives pending_life row.since at ≡ true)
+  IsRpInTime types past at (rp_ask.Info w came) =
+      (row : PendingRow) → pending_of types past w ≡ Some row
+      → Unless left_out within_lives (lives pending_life row.since at ≡ true)
   IsRpInTime types past at asked = Unit {0}
 
   -- a place, after this world

@@ -4,3 +4,4 @@ pub mod Login
 pub mod Outcome
 pub mod OwnWish
 pub mod Shown
+pub mod Laws

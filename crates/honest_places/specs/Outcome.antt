@@ -61,4 +61,6 @@ pub record GoesWell (c : Configuration) (v : Visitor) (last : Place) (earlier : 
 
 -- in a world: whatever its later places, each login that is honest up to a place goes well up to that place
 abbrev pub HonestLoginsSucceed : Configuration → World → Type 0
-HonestLoginsSucceed c world = (later before : World) (v : Visitor) (last : Place) (earlier : List Place) → world ≡ later ++ before → MayLogIn c v → IsHonest c v before (last ∷ earlier) → GoesWell c v last earlier
+HonestLoginsSucceed c world =
+    (later before : World) (v : Visitor) (last : Place) (earlier : List Place) → world ≡ later ++ before → MayLogIn c v
+    → IsHonest c v before (last ∷ earlier) → GoesWell c v last earlier

@@ -4,3 +4,4 @@ pub mod Reading
 pub mod Sealing
 pub mod Token
 pub mod Judging
+pub mod Laws

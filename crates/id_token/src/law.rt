@@ -1,23 +1,21 @@
 // Laws about ID Tokens, for the crates above.
 
-ghost use Rattle.std.specs.Prelude.{◌≡◌, ◌↔◌, ◌<◌, ◌^◌, ℕ, List, Ok, Err, IsOk, IfSome, IsTrue};
+ghost use Rattle.std.specs.Prelude.{◌≡◌, ◌↔◌, ℕ, List, Ok, Err, IsOk};
 ghost use Rattle.serde_json.specs.Data.{Members};
 ghost use Rattle.sso_base.specs.Refusals.{first_refusal};
 ghost use Rattle.claim_set.specs.declared.no.ClaimNo.{ClaimNo};
-ghost use Rattle.claim_set.specs.Fitting.{ClaimsFit};
 ghost use Rattle.claim_set.specs.Reading.{Reads, claims_read};
 ghost use Rattle.jws_compact.specs.declared.no.JwsNo.{JwsNo};
 ghost use Rattle.jws_compact.specs.declared.unsealing.Unsealed.{Unsealed};
 ghost use Rattle.jws_compact.specs.Jws.{Sealed, Opens, verdict};
 ghost use Rattle.id_token.specs.declared.claims.IdClaims.{IdClaims};
 ghost use Rattle.id_token.specs.declared.rules.IdRules.{IdRules};
-ghost use Rattle.id_token.specs.declared.no.IdNo.{IdNo};
 ghost use Rattle.id_token.specs.declared.no.IdNo.TheVariants as no;
-ghost use Rattle.id_token.specs.Claims.{id_members, is_subject};
 ghost use Rattle.id_token.specs.Reading.{id_read};
-ghost use Rattle.id_token.specs.Sealing.{id_text, HasTexts, IsSealable};
+ghost use Rattle.id_token.specs.Sealing.{id_text, IsSealable};
 ghost use Rattle.id_token.specs.Token.{IsIdToken, id_refusals};
 ghost use Rattle.id_token.specs.Judging.{IsGoodIdToken, id_judged};
+ghost use Rattle.id_token.specs.Laws.{RefusedTokensHaveTheFirstReason, ClaimsOfTheirTypesFit};
 
 /// A text is accepted if and only if it is an ID Token under the key: a sealed claim set that contains the claims.
 pub fn read_tokens_are_sealed_claims()
@@ -30,7 +28,7 @@ pub fn read_tokens_are_sealed_claims()
 pub fn refused_tokens_have_the_first_reason()
     ensures unopened { (k t : List ℕ) (e : JwsNo) → verdict k t ≡ Err e → id_read k t ≡ Err (no.Jws e) }
     ensures unread { (k h p t : List ℕ) (e : ClaimNo) → Sealed k h p t → claims_read p ≡ Err e → id_read k t ≡ Err (no.Claims e) }
-    ensures refused { (k h p t : List ℕ) (ms : Members) (e : IdNo) → Sealed k h p t → Reads p ms → first_refusal (id_refusals ms) ≡ Err e → id_read k t ≡ Err e }
+    ensures refused { RefusedTokensHaveTheFirstReason }
     ensures accepted { (k h p t : List ℕ) (ms : Members) → Sealed k h p t → Reads p ms → first_refusal (id_refusals ms) ≡ Ok tt → IsOk (id_read k t) }
 {}
 
@@ -44,7 +42,7 @@ pub fn unsealed_texts_are_refused()
 
 /// The claim set of an ID Token fits if the claims are values of their types.
 pub fn claims_of_their_types_fit()
-    ensures { (x : IdClaims) → HasTexts x → IsTrue (is_subject x.sub) → x.exp < 2 ^ 40 → x.iat < 2 ^ 40 → IfSome x.auth_time (λ n. n < 2 ^ 40) → ClaimsFit (id_members x) }
+    ensures { ClaimsOfTheirTypesFit }
 {}
 
 /// Reading the sealed text of an ID Token's claims, under the same key, returns these claims.

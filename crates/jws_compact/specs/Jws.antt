@@ -1,6 +1,7 @@
 -- Sealed texts: the compact serialization of a JSON Web Signature (RFC 7515, 3.1 and 7.1). HMAC-SHA-256 is the only algorithm
 -- (RFC 7518, 3.2). Keys, headers, payloads and texts are lists of bytes.
-use Rattle.std.specs.Prelude.{◌≡◌, ◌≤◌, ℕ, ◌+◌, ◌==◌, Bool, false, not, List, [], ◌∷◌, ◌++◌, length, nat_lt, Option, Some, None, option_map, option_and_then, is_some, unwrap_or, Result, Ok, codes, if◌then◌else◌}
+use Rattle.std.specs.Prelude.{◌≡◌, ◌≤◌, ℕ, ◌+◌, ◌==◌, Bool, false, not, List, [], ◌∷◌, ◌++◌, length, nat_lt, Option, Some, None, option_map, option_and_then}
+use Rattle.std.specs.Prelude.{is_some, unwrap_or, Result, Ok, codes, if◌then◌else◌}
 use Rattle.std.specs.Str.{is_utf8, bytes_eq}
 use Rattle.base64.specs.GeneralPurpose.{IsBytes}
 use Rattle.serde_json.specs.Data.{Data}
@@ -13,7 +14,8 @@ use Rattle.jws_compact.specs.declared.sealing.Typ.{Typ}
 use Rattle.jws_compact.specs.declared.sealing.Typ.TheVariants.{Jwt, LogoutJwt}
 use Rattle.jws_compact.specs.declared.unsealing.Unsealed.{Unsealed}
 use Rattle.jws_compact.specs.declared.no.JwsNo.{JwsNo}
-use Rattle.jws_compact.specs.declared.no.JwsNo.TheVariants.{TooLong, NotThreeParts, HeaderSpelling, PayloadSpelling, MacSpelling, HeaderNotObject, AlgNotHs256, Crit, BadMac}
+use Rattle.jws_compact.specs.declared.no.JwsNo.TheVariants.{TooLong, NotThreeParts, HeaderSpelling, PayloadSpelling, MacSpelling, HeaderNotObject, AlgNotHs256}
+use Rattle.jws_compact.specs.declared.no.JwsNo.TheVariants.{Crit, BadMac}
 
 -- ---- headers
 

@@ -2,7 +2,8 @@
 use Rattle.std.specs.Prelude.{codes}
 use Rattle.sso_base.specs.Words.{Text}
 use Rattle.jws_compact.specs.declared.no.JwsNo.{JwsNo}
-use Rattle.jws_compact.specs.declared.no.JwsNo.TheVariants.{NoMemory, TooLong, NotThreeParts, HeaderSpelling, PayloadSpelling, MacSpelling, HeaderNotObject, AlgNotHs256, Crit, BadMac}
+use Rattle.jws_compact.specs.declared.no.JwsNo.TheVariants.{NoMemory, TooLong, NotThreeParts, HeaderSpelling, PayloadSpelling, MacSpelling, HeaderNotObject}
+use Rattle.jws_compact.specs.declared.no.JwsNo.TheVariants.{AlgNotHs256, Crit, BadMac}
 
 -- the name of an error
 unfoldable pub jws_name : JwsNo → Text

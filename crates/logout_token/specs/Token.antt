@@ -1,6 +1,7 @@
 -- What a logout token is, in the standard's words: a sealed claim set that contains its claims and the logout event, and no
 -- nonce (OpenID Connect Back-Channel Logout 1.0, 2.4). Then the errors for other texts, in order (2.6).
-use Rattle.std.specs.Prelude.{◌≡◌, ◌<◌, ◌^◌, ◌⊎◌, ℕ, List, [], ◌∷◌, Bool, not, ◌&&◌, ◌||◌, Option, Some, None, option_map, option_and_then, is_some, is_none, codes, IsTrue, IfSome}
+use Rattle.std.specs.Prelude.{◌≡◌, ◌<◌, ◌^◌, ◌⊎◌, ℕ, List, [], ◌∷◌, Bool, not, ◌&&◌, ◌||◌, Option, Some, None, option_map, option_and_then, is_some, is_none}
+use Rattle.std.specs.Prelude.{codes, IsTrue, IfSome}
 use Rattle.std.specs.Str.{str_to_ascii_lowercase}
 use Rattle.serde_json.specs.Data.{string, object, Members}
 use Rattle.serde_json.specs.Find.{get_member, as_str}

@@ -1,22 +1,19 @@
 // Laws about logout tokens, for the crates above.
 
-ghost use Rattle.std.specs.Prelude.{◌≡◌, ◌↔◌, ◌<◌, ◌+◌, ◌^◌, ℕ, List, Ok, Err, IsOk};
-ghost use Rattle.serde_json.specs.Data.{Members};
-ghost use Rattle.sso_base.specs.Refusals.{first_refusal};
-ghost use Rattle.oidc_words.specs.Lives.{seen_life};
+ghost use Rattle.std.specs.Prelude.{◌≡◌, ◌↔◌, ◌<◌, ◌^◌, ℕ, List, Ok, Err};
 ghost use Rattle.claim_set.specs.Fitting.{ClaimsFit};
-ghost use Rattle.claim_set.specs.Reading.{Reads, claims_read};
+ghost use Rattle.claim_set.specs.Reading.{claims_read};
 ghost use Rattle.claim_set.specs.declared.no.ClaimNo.{ClaimNo};
 ghost use Rattle.jws_compact.specs.declared.no.JwsNo.{JwsNo};
 ghost use Rattle.jws_compact.specs.declared.unsealing.Unsealed.{Unsealed};
-ghost use Rattle.jws_compact.specs.Jws.{Sealed, Opens, typ_of, verdict};
+ghost use Rattle.jws_compact.specs.Jws.{Sealed, Opens, verdict};
 ghost use Rattle.logout_token.specs.declared.claims.LogoutClaims.{LogoutClaims};
-ghost use Rattle.logout_token.specs.declared.no.LogoutNo.{LogoutNo};
 ghost use Rattle.logout_token.specs.declared.no.LogoutNo.TheVariants as no;
 ghost use Rattle.logout_token.specs.LogoutToken.{logout_members, logout_text, logout_read};
 ghost use Rattle.logout_token.specs.Judging.{logout_judged, IsGoodLogoutToken};
-ghost use Rattle.logout_token.specs.Token.{IsLogoutToken, logout_refusals};
+ghost use Rattle.logout_token.specs.Token.{IsLogoutToken};
 ghost use Rattle.logout_token.specs.Fitting.{HasTexts, IsSealable};
+ghost use Rattle.logout_token.specs.Laws.{RefusedTokensHaveTheFirstReason, TokensWithoutReasonAreAccepted, GoodTokensAreRemembered};
 
 /// A text is accepted if and only if it is a logout token under the key: a sealed claim set with the claims and the logout
 /// event, and without a nonce (OpenID Connect Back-Channel Logout 1.0, 2.4).
@@ -30,8 +27,8 @@ pub fn read_tokens_are_sealed_claims()
 pub fn refused_tokens_have_the_first_reason()
     ensures unopened { (k t : List ℕ) (e : JwsNo) → verdict k t ≡ Err e → logout_read k t ≡ Err (no.Jws e) }
     ensures unread { (k h p t : List ℕ) (e : ClaimNo) → Sealed k h p t → claims_read p ≡ Err e → logout_read k t ≡ Err (no.Claims e) }
-    ensures refused { (k h p t : List ℕ) (ms : Members) (e : LogoutNo) → Sealed k h p t → Reads p ms → first_refusal (logout_refusals (typ_of h) ms) ≡ Err e → logout_read k t ≡ Err e }
-    ensures accepted { (k h p t : List ℕ) (ms : Members) → Sealed k h p t → Reads p ms → first_refusal (logout_refusals (typ_of h) ms) ≡ Ok tt → IsOk (logout_read k t) }
+    ensures refused { RefusedTokensHaveTheFirstReason }
+    ensures accepted { TokensWithoutReasonAreAccepted }
 {}
 
 /// A text is rejected with `Jws` if and only if it is not sealed under the key, and the reason is the one for which it is not
@@ -61,5 +58,5 @@ pub fn good_tokens_pass()
 /// A logout token that is good at a moment is not good 661 seconds later or at any time after that. So a relying party that
 /// remembers it for that long accepts it only once (OpenID Connect Back-Channel Logout 1.0, 2.6, step 8).
 pub fn good_tokens_are_remembered()
-    ensures { (issuer client : List ℕ) (x : LogoutClaims) (at later : ℕ) → IsGoodLogoutToken issuer client x at → IsGoodLogoutToken issuer client x later → later < at + seen_life }
+    ensures { GoodTokensAreRemembered }
 {}

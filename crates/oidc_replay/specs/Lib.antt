@@ -6,3 +6,4 @@ pub mod Storm
 pub mod Text
 pub mod Theorem
 pub mod Words
+pub mod Laws

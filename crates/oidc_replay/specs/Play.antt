@@ -47,11 +47,15 @@ abbrev pub asked_if : Configuration → List ℕ → Played → Option Sent → 
 asked_if c seed play None = with_place play Nothing
 asked_if c seed play (Some sent) = asked c seed play sent
 
+-- the place of a line that may send a request
+abbrev pub line_asked : Configuration → List ℕ → Played → Line → Played
+line_asked c seed play line = asked_if c seed play (line_sent c play.world play.jars line)
+
 abbrev pub line_played : Configuration → List ℕ → Played → Line → Played
 line_played c seed play (At seconds) = record play { at = seconds }
 line_played c seed play (Steal thief owner) = record play { jars = jars_stolen thief owner play.jars }
 line_played c seed play (Show place) = play
-line_played c seed play line = asked_if c seed play (line_sent c play.world play.jars line)
+line_played c seed play line = line_asked c seed play line
 
 -- nothing is played after the end
 abbrev pub play_on : Configuration → List ℕ → Played → Line → Played

@@ -92,7 +92,7 @@ impl Play {
         requires role { sending.NamesRole self.old.running.registry line.now }
         ensures registry { self.new.running.registry ≡ self.old.running.registry }
         ensures seed { self.new.seed ≡ self.old.seed }
-        ensures ok { OnOk result (spec.played_of self.new ≡ spec.asked_if self.old.running.registry self.old.seed (spec.played_of self.old) (sending.line_sent self.old.running.registry (world_of self.old.running) self.old.running.jars line.now)) }
+        ensures ok { OnOk result (spec.played_of self.new ≡ spec.line_asked self.old.running.registry self.old.seed (spec.played_of self.old) line.now) }
     {
         // The world is legal, so that a role which received a request is one of the registry.
         self.world.theorem();

@@ -4,7 +4,10 @@ use Rattle.std.specs.Prelude.{◌≡◌, ◌⊎◌, List, [], ◌∷◌, codes, 
 use Rattle.std.specs.Str.{bytes_eq}
 use Rattle.sso_base.specs.Words.{Text}
 use Rattle.oidc_words.specs.declared.errors.AuthError.{AuthError}
-use Rattle.oidc_words.specs.declared.errors.AuthError.TheVariants.{InvalidRequest, UnauthorizedClient, AccessDenied, UnsupportedResponseType, InvalidScope, ServerError, TemporarilyUnavailable, InteractionRequired, LoginRequired, AccountSelectionRequired, ConsentRequired, InvalidRequestUri, InvalidRequestObject, RequestNotSupported, RequestUriNotSupported, RegistrationNotSupported, Other}
+use Rattle.oidc_words.specs.declared.errors.AuthError.TheVariants.{InvalidRequest, UnauthorizedClient, AccessDenied, UnsupportedResponseType, InvalidScope}
+use Rattle.oidc_words.specs.declared.errors.AuthError.TheVariants.{ServerError, TemporarilyUnavailable, InteractionRequired, LoginRequired}
+use Rattle.oidc_words.specs.declared.errors.AuthError.TheVariants.{AccountSelectionRequired, ConsentRequired, InvalidRequestUri, InvalidRequestObject}
+use Rattle.oidc_words.specs.declared.errors.AuthError.TheVariants.{RequestNotSupported, RequestUriNotSupported, RegistrationNotSupported, Other}
 
 -- the sixteen codes that the two standards define
 abbrev pub error_codes : List AuthError

@@ -9,3 +9,4 @@ pub mod Lives
 pub mod Paths
 pub mod Routes
 pub mod Errors
+pub mod Laws

@@ -1,16 +1,18 @@
 // Laws about the words of the standards, for the crates above.
 
-ghost use Rattle.std.specs.Prelude.{◌≡◌, ◌<◌, ◌↔◌, ◌&&◌, ◌||◌, ℕ, List, Option, Some, None, is_some, slice_get, codes, decimal, ◌+◌, true, false};
-ghost use Rattle.std.specs.List.{list_any, AllByRecursion, join_with_byte};
+ghost use Rattle.std.specs.Prelude.{◌≡◌, ◌<◌, ◌↔◌, ◌&&◌, ◌||◌, ℕ, List, Some, None, is_some, slice_get, codes, decimal, ◌+◌, true, false};
+ghost use Rattle.std.specs.List.{list_any};
 ghost use Rattle.sso_base.specs.Words.{Text};
 ghost use Rattle.oidc_words.specs.declared.scopes.Scopes.{Scopes};
-ghost use Rattle.oidc_words.specs.Words.{is_one_of, has_word, parameter_words, chosen, orders};
+ghost use Rattle.oidc_words.specs.Words.{is_one_of, parameter_words, chosen};
 ghost use Rattle.oidc_words.specs.Scopes.{scope_words, scopes_among, scope_choices, scope_text, no_scopes, all_scopes, joined, covers};
-ghost use Rattle.oidc_words.specs.Claims.{profile_claims, email_claims, address_claims, phone_claims, is_claim_of, is_standard_claim, scopes_with, scopes_with_any, kind_of};
+ghost use Rattle.oidc_words.specs.Claims.{profile_claims, email_claims, address_claims, phone_claims, is_claim_of, is_standard_claim, scopes_with};
+ghost use Rattle.oidc_words.specs.Claims.{scopes_with_any, kind_of};
 ghost use Rattle.oidc_words.specs.declared.errors.AuthError.{AuthError};
 ghost use Rattle.oidc_words.specs.Errors.{error_text, error_of, SaysError};
 ghost use Rattle.oidc_words.specs.Lives.{code_usable, code_life, access_life, access_life_text, seen_life, leeway, oldest};
-ghost use Rattle.oidc_words.specs.Types.{code_word, id_token_word, token_word, types_text, types_of_number, response_types, type_number, is_response_type, is_in_fragment, type_choices};
+ghost use Rattle.oidc_words.specs.Types.{types_text, types_of_number, response_types, type_number, is_response_type, is_in_fragment};
+ghost use Rattle.oidc_words.specs.Laws.{ResponseTypesAreReadInAnyOrder, ResponseTypesAreTheirWords};
 
 /// `covers` is a partial order on sets of scope values. The greatest set has all of them, the smallest has none, and the union
 /// of two sets is the smallest set that covers both.
@@ -60,9 +62,9 @@ pub fn scope_texts_are_read()
 /// type's number. A text that is read as a type has the words of that type, and the number is below six.
 pub fn type_texts_are_read()
     ensures read { (n : ℕ) → n < 6 → type_number (types_text (types_of_number (Some n))) ≡ Some n }
-    ensures any_order { (n : ℕ) → n < 6 → AllByRecursion (λ ws. type_number (join_with_byte 32 ws) ≡ Some n) (orders (chosen (type_choices (types_of_number (Some n))))) }
+    ensures any_order { ResponseTypesAreReadInAnyOrder }
     ensures order { (n : ℕ) → n < 6 → slice_get response_types n ≡ Some (types_text (types_of_number (Some n))) }
-    ensures words { (t : Text) → is_response_type t ≡ true → types_of_number (type_number t) ≡ record { code = has_word code_word t; id_token = has_word id_token_word t; token = has_word token_word t } }
+    ensures words { ResponseTypesAreTheirWords }
     ensures below { (t : Text) (n : ℕ) → type_number t ≡ Some n → n < 6 }
 {}
 

@@ -94,7 +94,9 @@ need_after_yes c past e row session = needed c row.wish (Some (standing_agreed p
 
 -- ---- a login page: of a new turn where a login is needed, or again after a wrong password
 
-pub record NewTurn (c : Configuration) (past : OpPast) (e : Entry OpAsk) (wish : Wish) (browser presented : Option Word) (w b : Word) (again : Bool) : Type 0 where
+pub record NewTurn
+    (c : Configuration) (past : OpPast) (e : Entry OpAsk) (wish : Wish) (browser presented : Option Word) (w b : Word)
+    (again : Bool) : Type 0 where
   pub wanted : need_at_once c past e wish (live_session past e.at presented) ≡ need.Login
   pub drawn : fresh_word e.fresh 1 ≡ w
   pub browser_is : page_browser past e browser ≡ b
@@ -114,7 +116,9 @@ LoginPageCause c past e other w b again = ⊥
 
 -- ---- a consent page: at once, or after a right password
 
-pub record ConsentAtOnce (c : Configuration) (past : OpPast) (e : Entry OpAsk) (wish : Wish) (browser presented : Option Word) (w b : Word) (given : Option Word) (client : Text) (scopes : Scopes) : Type 0 where
+pub record ConsentAtOnce
+    (c : Configuration) (past : OpPast) (e : Entry OpAsk) (wish : Wish) (browser presented : Option Word) (w b : Word)
+    (given : Option Word) (client : Text) (scopes : Scopes) : Type 0 where
   pub session : SessionRow
   pub live : live_session past e.at presented ≡ Some session
   pub wanted : need_at_once c past e wish (Some session) ≡ need.Consent
@@ -124,7 +128,9 @@ pub record ConsentAtOnce (c : Configuration) (past : OpPast) (e : Entry OpAsk) (
   pub client_is : client_id c wish.client ≡ client
   pub scopes_are : needed_scopes wish ≡ scopes
 
-pub record ConsentAfterLogin (c : Configuration) (past : OpPast) (e : Entry OpAsk) (turn : Option Word) (user : ℕ) (browser presented : Option Word) (w b : Word) (given : Option Word) (client : Text) (scopes : Scopes) : Type 0 where
+pub record ConsentAfterLogin
+    (c : Configuration) (past : OpPast) (e : Entry OpAsk) (turn : Option Word) (user : ℕ) (browser presented : Option Word)
+    (w b : Word) (given : Option Word) (client : Text) (scopes : Scopes) : Type 0 where
   pub row : TurnRow
   pub own : OwnTurn past e turn browser row
   pub wanted : need_after_login c past e row (session_after past e user presented) ≡ need.Consent
@@ -143,21 +149,27 @@ ConsentPageCause c past e other w b given client scopes = ⊥
 
 -- ---- a successful response: at once, after a right password, or after a yes
 
-pub record AnsweredAtOnce (c : Configuration) (past : OpPast) (e : Entry OpAsk) (wish : Wish) (presented : Option Word) (answer : Answer) (given : Option Word) : Type 0 where
+pub record AnsweredAtOnce
+    (c : Configuration) (past : OpPast) (e : Entry OpAsk) (wish : Wish) (presented : Option Word) (answer : Answer)
+    (given : Option Word) : Type 0 where
   pub session : SessionRow
   pub live : live_session past e.at presented ≡ Some session
   pub enough : need_at_once c past e wish (Some session) ≡ need.Answer
   pub answer_is : issued c wish (session_authentication session) e.at e.fresh ≡ answer
   pub none_given : given ≡ None
 
-pub record AnsweredAfterLogin (c : Configuration) (past : OpPast) (e : Entry OpAsk) (turn : Option Word) (user : ℕ) (browser presented : Option Word) (answer : Answer) (given : Option Word) : Type 0 where
+pub record AnsweredAfterLogin
+    (c : Configuration) (past : OpPast) (e : Entry OpAsk) (turn : Option Word) (user : ℕ) (browser presented : Option Word)
+    (answer : Answer) (given : Option Word) : Type 0 where
   pub row : TurnRow
   pub own : OwnTurn past e turn browser row
   pub enough : need_after_login c past e row (session_after past e user presented) ≡ need.Answer
   pub answer_is : issued c row.wish (session_authentication (session_after past e user presented)) e.at e.fresh ≡ answer
   pub given_is : given ≡ Some (session_after past e user presented).word
 
-pub record AnsweredAfterYes (c : Configuration) (past : OpPast) (e : Entry OpAsk) (turn browser presented : Option Word) (answer : Answer) (given : Option Word) : Type 0 where
+pub record AnsweredAfterYes
+    (c : Configuration) (past : OpPast) (e : Entry OpAsk) (turn browser presented : Option Word) (answer : Answer)
+    (given : Option Word) : Type 0 where
   pub row : TurnRow
   pub session : SessionRow
   pub own : OwnConsent past e turn browser presented row session
@@ -173,7 +185,9 @@ AnsweredCause c past e other answer given = ⊥
 
 -- ---- an error response: the judgement's, at once, after a right password, or to a consent form
 
-pub record RefusedAtOnce (c : Configuration) (past : OpPast) (e : Entry OpAsk) (wish : Wish) (presented : Option Word) (refusal : Refusal) (given : Option Word) : Type 0 where
+pub record RefusedAtOnce
+    (c : Configuration) (past : OpPast) (e : Entry OpAsk) (wish : Wish) (presented : Option Word) (refusal : Refusal)
+    (given : Option Word) : Type 0 where
   pub code : AuthError
   pub refusal_is : refusal_of wish code ≡ refusal
   pub none_given : given ≡ None
@@ -192,7 +206,9 @@ ErrorAfterYes need.Login code = LoginRequired ≡ code
 ErrorAfterYes need.Consent code = ConsentRequired ≡ code
 ErrorAfterYes need.Answer code = ⊥
 
-pub record RefusedAfterLogin (c : Configuration) (past : OpPast) (e : Entry OpAsk) (turn : Option Word) (user : ℕ) (browser presented : Option Word) (refusal : Refusal) (given : Option Word) : Type 0 where
+pub record RefusedAfterLogin
+    (c : Configuration) (past : OpPast) (e : Entry OpAsk) (turn : Option Word) (user : ℕ) (browser presented : Option Word)
+    (refusal : Refusal) (given : Option Word) : Type 0 where
   pub row : TurnRow
   pub own : OwnTurn past e turn browser row
   pub code : AuthError
@@ -204,7 +220,9 @@ abbrev pub ErrorAtConsent : Bool → Need → AuthError → Type 0
 ErrorAtConsent false wanted code = AccessDenied ≡ code
 ErrorAtConsent true wanted code = ErrorAfterYes wanted code
 
-pub record RefusedAtConsent (c : Configuration) (past : OpPast) (e : Entry OpAsk) (turn : Option Word) (agree : Bool) (browser presented : Option Word) (refusal : Refusal) (given : Option Word) : Type 0 where
+pub record RefusedAtConsent
+    (c : Configuration) (past : OpPast) (e : Entry OpAsk) (turn : Option Word) (agree : Bool) (browser presented : Option Word)
+    (refusal : Refusal) (given : Option Word) : Type 0 where
   pub row : TurnRow
   pub session : SessionRow
   pub own : OwnConsent past e turn browser presented row session

@@ -14,3 +14,4 @@ pub mod Legal
 pub mod Authentications
 pub mod OwnRows
 pub mod Drawn
+pub mod Laws

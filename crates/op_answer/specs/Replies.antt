@@ -33,7 +33,8 @@ use Rattle.code_grant.specs.declared.redeem.Redeem.TheVariants.{Redeemed}
 use Rattle.client_registry.specs.ClientSets.{no_clients}
 use Rattle.op_exchange.specs.declared.ask.OpAsk.{OpAsk}
 use Rattle.op_exchange.specs.declared.reply.OpReply.{OpReply}
-use Rattle.op_exchange.specs.declared.reply.OpReply.TheVariants.{LoginPage, ConsentPage, Answered, Refused, ErrorPage, Tokens, TokenRefused, Info, InfoRefused, SignedOut}
+use Rattle.op_exchange.specs.declared.reply.OpReply.TheVariants.{LoginPage, ConsentPage, Answered, Refused, ErrorPage, Tokens, TokenRefused, Info, InfoRefused}
+use Rattle.op_exchange.specs.declared.reply.OpReply.TheVariants.{SignedOut}
 use Rattle.oidc_words.specs.Types.{is_in_fragment}
 use Rattle.op_issue.specs.Issued.{issued}
 use Rattle.op_answer.specs.Past.{OpPast}

@@ -1,7 +1,7 @@
 -- The rows that a step makes, from the rows that live before it. If the reply is the provider's answer, they are the rows that
 -- the definitions of turns, sessions, codes and access tokens make.
 use Rattle.std.specs.Prelude.{ℕ, length, Option, Some, None, option_map, option_and_then, Ok}
-use Rattle.sso_base.specs.Words.{Word, word_of_text}
+use Rattle.sso_base.specs.Words.{Word, word_of_text, Text}
 use Rattle.sso_base.specs.declared.history.Entry.{Entry}
 use Rattle.auth_request.specs.declared.wish.Wish.{Wish}
 use Rattle.auth_request.specs.declared.wish.Verdict.TheVariants.{Grant}
@@ -51,6 +51,10 @@ session_for past e ask own = None
 abbrev pub session_found : OpPast → Entry OpAsk → OpAsk → Option SessionRow
 session_found past e ask = session_for past e ask (session_of_turn past e.at (turn_found past e.at ask))
 
+-- the access token that a token response has for a code
+abbrev pub access_for_code : OpPast → ℕ → Word → Text → Option TokenRow
+access_for_code past at w code = access_redeemed (length past) at w (held_code past at (word_of_text code))
+
 -- the client that a reply answers
 abbrev pub client_found : OpPast → Entry OpAsk → OpReply → Option ℕ
 client_found past e reply = client_of_wish (is_answered reply) (wish_found past e.at e.ask)
@@ -72,8 +76,7 @@ code_put past e reply =
     code_made_by (length past) e.at (code_in reply) (wish_found past e.at e.ask) (session_found past e e.ask)
 
 abbrev pub access_put_by : OpPast → Entry OpAsk → OpAsk → OpReply → Option Wish → Option SessionRow → Option TokenRow
-access_put_by past e (Token (Ok grant)) (Tokens w id) wish session =
-    access_redeemed (length past) e.at w (held_code past e.at (word_of_text grant.code))
+access_put_by past e (Token (Ok grant)) (Tokens w id) wish session = access_for_code past e.at w grant.code
 access_put_by past e ask (Answered answer given) wish session = access_answered (length past) e.at answer.access wish session
 access_put_by past e ask reply wish session = None
 

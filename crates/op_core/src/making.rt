@@ -2,7 +2,6 @@
 
 ghost use Rattle.std.specs.Prelude.{◌≡◌, ◌<◌, ◌≤◌, true, false, length, IfOk, IfSome, option_map};
 ghost use Rattle.std.specs.Option.{option_copied};
-ghost use Rattle.sso_base.specs.Words.{word_of_text};
 ghost use Rattle.sso_base.specs.Legal.{last_moment};
 ghost use Rattle.code_grant.specs.declared.rows.TurnRow.{TurnRow};
 ghost use Rattle.op_exchange.specs.Asks.{is_prepared, is_prepared_wish};
@@ -383,7 +382,7 @@ impl OpCore {
         grant: &Grant,
     ) -> Result<Option<TokenRow>, NoMemory>
         requires { last_moment (past_of self.now) ≤ at }
-        ensures row { IfOk result (λ row. row ≡ tokens.access_redeemed (length (past_of self.now)) at word (codes.held_code (past_of self.now) at (word_of_text grant.now.code))) }
+        ensures row { IfOk result (λ row. row ≡ spec.access_for_code (past_of self.now) at word grant.now.code) }
         ensures own { IfOk result (λ row. IfSome row (λ token. is_own_token self.now.registry token ≡ true)) }
         ensures user { IfOk result (λ row. IfSome row (λ token. token.user < 512)) }
         ensures client { IfOk result (λ row. IfSome row (λ token. token.client < 128)) }

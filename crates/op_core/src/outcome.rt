@@ -63,7 +63,7 @@ impl OpCore {
         requires turn_is_own { IfSome (option_copied turn) (λ row. is_own_turn self.now.registry row ≡ true) }
         requires session_is_own { IfSome (option_copied own) (λ row. is_own_session self.now.registry row ≡ true) }
         requires answer { reply.now ≡ op_answer self.now.registry (past_of self.now) entry.now }
-        ensures rows { IfOk result (λ o. spec.MakesRows (past_of self.now) (record { entry = entry.now; reply = reply.now }) o.made.turn o.made.session o.made.code o.made.token o.used o.client) }
+        ensures rows { IfOk result (λ o. spec.IsOutcome (past_of self.now) (record { entry = entry.now; reply = reply.now }) o) }
         ensures own_turn { IfOk result (λ o. IfSome o.made.turn (λ row. is_own_turn self.now.registry row ≡ true)) }
         ensures own_session { IfOk result (λ o. IfSome o.made.session (λ row. is_own_session self.now.registry row ≡ true)) }
         ensures own_code { IfOk result (λ o. IfSome o.made.code (λ row. is_own_code self.now.registry row ≡ true)) }

@@ -1,8 +1,7 @@
 // The provider's replies, if no table were full.
 
-ghost use Rattle.std.specs.Prelude.{◌≡◌, ◌<◌, ◌≤◌, true, false, length, option_map, IfOk, IfSome};
+ghost use Rattle.std.specs.Prelude.{◌≡◌, ◌<◌, ◌≤◌, true, false, IfOk, IfSome};
 ghost use Rattle.std.specs.Option.{option_copied};
-ghost use Rattle.sso_base.specs.Words.{is_word};
 ghost use Rattle.sso_base.specs.Legal.{last_moment};
 ghost use Rattle.op_exchange.specs.Asks.{is_prepared_wish, is_prepared_verdict};
 ghost use Rattle.op_exchange.specs.declared.reply.OpReply.TheVariants as reply;
@@ -11,7 +10,7 @@ ghost use Rattle.op_tables.specs.Agreeing.{is_own_turn, is_own_session};
 ghost use Rattle.op_core.specs.FormReplies.{consent_for};
 ghost use Rattle.op_core.specs.Providing.{past_of};
 ghost use Rattle.op_answer.specs.Replies as spec;
-ghost use Rattle.user_interaction.specs.Need.{needed};
+ghost use Rattle.op_answer.specs.Causes.{need_at_once};
 
 use crate::authentications::authentication_of_session;
 use crate::state::OpCore;
@@ -115,7 +114,7 @@ impl OpCore {
     fn needed(&self, entry: &Entry<OpAsk>, wish: &Wish, session: Option<&SessionRow>) -> Need
         requires wish { is_prepared_wish self.now.registry wish.now ≡ true }
         requires session { IfSome (option_copied session) (λ row. is_own_session self.now.registry row ≡ true) }
-        ensures { result ≡ needed self.now.registry wish.now (option_map (spec.standing_of (past_of self.now) wish.now false) (option_copied session.entry)) entry.now.at }
+        ensures { result ≡ need_at_once self.now.registry (past_of self.now) entry.now wish.now (option_copied session.entry) }
     {
         match session {
             Some(session) => {

@@ -1,6 +1,6 @@
 // One step of the provider: it decides the reply, makes the rows, reserves all memory, and only then changes anything.
 
-ghost use Rattle.std.specs.Prelude.{◌≡◌, ℕ, ◌<◌, ◌≤◌, ◌+◌, ◌++◌, [], ◌∷◌, length, true, IfSome, IfOk, OnOk, OnErr};
+ghost use Rattle.std.specs.Prelude.{◌≡◌, ◌<◌, ◌≤◌, ◌+◌, ◌++◌, [], ◌∷◌, length, true, IfSome, IfOk, OnOk, OnErr};
 ghost use Rattle.sso_base.specs.Legal.{last_moment, IsEntry};
 ghost use Rattle.sso_base.specs.Journal.{history_weight, most_weight};
 ghost use Rattle.client_registry.specs.Configuration.{Configuration};
@@ -8,11 +8,8 @@ ghost use Rattle.code_grant.specs.Tables.{with_room};
 ghost use Rattle.op_exchange.specs.Values.{IsOpAsk};
 ghost use Rattle.op_exchange.specs.Weight as weights;
 ghost use Rattle.op_answer.specs.Answering.{op_answer};
-ghost use Rattle.op_answer.specs.Past.{OpPast};
 ghost use Rattle.op_tables.specs.Agreeing.{is_own_turn, is_own_session, is_own_code, is_own_token};
-ghost use Rattle.op_tables.specs.Keeping.{IsUpdate};
-ghost use Rattle.op_tables.specs.Updating.{MayUpdate};
-ghost use Rattle.op_core.specs.Outcome.{MakesRows};
+ghost use Rattle.op_core.specs.Outcome.{IsOutcome, MayPut, LeavesPut};
 ghost use Rattle.op_core.specs.Providing.{past_of};
 
 use crate::outcome::{Decision, Outcome};
@@ -44,7 +41,7 @@ fn put(
     weight: u64,
 )
     requires reserved { length journal.old.pairs < journal.old.capacity }
-    requires may { (c : Configuration) × (past : OpPast) × (before : ℕ) × MayUpdate grants.old (record { entry = entry; reply = reply }) outcome.made.turn outcome.made.session outcome.made.code outcome.made.token outcome.used outcome.client c past before }
+    requires may { MayPut grants.old (record { entry = entry; reply = reply }) outcome }
     requires tables { grants.old.reserved ≡ record { turns = true; sessions = true; codes = true; tokens = true } }
     requires client { IfSome outcome.client (λ n. n < 128) }
     requires turn { IfSome outcome.made.turn (λ row. row.wish.client < 128) }
@@ -54,7 +51,7 @@ fn put(
     requires weight { weight ≡ weights.ask_weight entry.ask }
     requires room { history_weight weights.ask_weight journal.old.pairs + weight ≤ most_weight }
     ensures pairs { journal.new.pairs ≡ journal.old.pairs ++ (record { entry = entry; reply = reply }) ∷ [] }
-    ensures tables { (c : Configuration) (past : OpPast) (before : ℕ) → MayUpdate grants.old (record { entry = entry; reply = reply }) outcome.made.turn outcome.made.session outcome.made.code outcome.made.token outcome.used outcome.client c past before → IsUpdate grants.old grants.new past (record { entry = entry; reply = reply }) }
+    ensures tables { LeavesPut grants.old grants.new (record { entry = entry; reply = reply }) outcome }
 {
     let pair = Pair { entry, reply };
     let Outcome { made, used, client } = outcome;
@@ -71,7 +68,7 @@ fn take_in(
     outcome: Outcome,
     weight: u64,
 ) -> Result<(), NoMemory>
-    requires may { (c : Configuration) × (past : OpPast) × (before : ℕ) × MayUpdate (with_room grants.old) (record { entry = entry; reply = reply }) outcome.made.turn outcome.made.session outcome.made.code outcome.made.token outcome.used outcome.client c past before }
+    requires may { MayPut (with_room grants.old) (record { entry = entry; reply = reply }) outcome }
     requires client { IfSome outcome.client (λ n. n < 128) }
     requires turn { IfSome outcome.made.turn (λ row. row.wish.client < 128) }
     requires session { IfSome outcome.made.session (λ row. row.user < 512) }
@@ -80,7 +77,7 @@ fn take_in(
     requires weight { weight ≡ weights.ask_weight entry.ask }
     requires room { history_weight weights.ask_weight journal.old.pairs + weight ≤ most_weight }
     ensures pairs { OnOk result (journal.new.pairs ≡ journal.old.pairs ++ (record { entry = entry; reply = reply }) ∷ []) }
-    ensures tables { OnOk result ((c : Configuration) (past : OpPast) (before : ℕ) → MayUpdate (with_room grants.old) (record { entry = entry; reply = reply }) outcome.made.turn outcome.made.session outcome.made.code outcome.made.token outcome.used outcome.client c past before → IsUpdate (with_room grants.old) grants.new past (record { entry = entry; reply = reply })) }
+    ensures tables { OnOk result (LeavesPut (with_room grants.old) grants.new (record { entry = entry; reply = reply }) outcome) }
     ensures same_pairs { OnErr result (journal.new.pairs ≡ journal.old.pairs) }
     ensures same_tables { OnErr result (grants.new ≡ grants.old) }
 {
@@ -111,7 +108,7 @@ impl OpCore {
         requires moment { last_moment (past_of self.old) ≤ entry.at }
         requires answer { reply ≡ op_answer self.old.registry (past_of self.old) entry }
         requires entry { IsEntry IsOpAsk entry }
-        requires rows { MakesRows (past_of self.old) (record { entry = entry; reply = reply }) outcome.made.turn outcome.made.session outcome.made.code outcome.made.token outcome.used outcome.client }
+        requires rows { IsOutcome (past_of self.old) (record { entry = entry; reply = reply }) outcome }
         requires own_turn { IfSome outcome.made.turn (λ row. is_own_turn self.old.registry row ≡ true) }
         requires own_session { IfSome outcome.made.session (λ row. is_own_session self.old.registry row ≡ true) }
         requires own_code { IfSome outcome.made.code (λ row. is_own_code self.old.registry row ≡ true) }

@@ -6,3 +6,5 @@ pub mod LogoutTokens
 pub mod LogoutMessages
 pub mod Ending
 pub mod Told
+pub mod Laws
+pub mod LogoutLaws

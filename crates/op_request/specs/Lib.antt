@@ -2,3 +2,4 @@ pub mod Routes
 pub mod PostedForms
 pub mod Prepared
 pub mod Requests
+pub mod Laws

@@ -87,7 +87,9 @@ pub record RepeatsParameter (c : Configuration) (request : Ask) : Type 0 where
   pub repeats : RepeatsFirst (kept_pairs (form_of request.method request)) name
 
 abbrev pub RepeatsAName : Configuration → Ask → Type 0
-RepeatsAName c request = RepeatsParameter c request ⊎ (RepeatsField c request endpoint.Login login_names ⊎ RepeatsField c request endpoint.Consent consent_names)
+RepeatsAName c request =
+    RepeatsParameter c request
+        ⊎ (RepeatsField c request endpoint.Login login_names ⊎ RepeatsField c request endpoint.Consent consent_names)
 
 -- ---- an authorization request
 

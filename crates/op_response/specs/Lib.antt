@@ -3,3 +3,4 @@ pub mod Pages
 pub mod Lines
 pub mod Telling
 pub mod Told
+pub mod Laws

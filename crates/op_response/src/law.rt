@@ -1,10 +1,7 @@
 // Laws about the output of replies.
 
-ghost use Rattle.std.specs.Prelude.{◌≡◌, ◌==◌, ◌++◌, ◌↔◌, ℕ, [], ◌∷◌, Bool, true, false, Option, Some, is_some, codes, map, Ok};
-ghost use Rattle.std.specs.List.{list_any};
-ghost use Rattle.std.specs.Str.{IsUtf8};
-ghost use Rattle.std.specs.Str.Iter.{HasSubslice};
-ghost use Rattle.sso_base.specs.Words.{Word, Text, word_text};
+ghost use Rattle.std.specs.Prelude.{◌≡◌, ◌↔◌, ℕ, [], true, false, Option, Some, is_some, map};
+ghost use Rattle.sso_base.specs.Words.{Word, word_text};
 ghost use Rattle.sso_base.specs.declared.http.Kind.TheVariants as kind;
 ghost use Rattle.http_reply.specs.UserAgent.{cookie_read};
 ghost use Rattle.client_registry.specs.Configuration.{Configuration};
@@ -12,21 +9,20 @@ ghost use Rattle.client_registry.specs.Numbers.{client_id};
 ghost use Rattle.client_registry.specs.Registered.{IsRegistry};
 ghost use Rattle.oidc_words.specs.declared.scopes.Scopes.{Scopes};
 ghost use Rattle.oidc_words.specs.declared.errors.Refusal.{Refusal};
-ghost use Rattle.oidc_words.specs.Paths.{login_path, consent_path};
 ghost use Rattle.oidc_words.specs.Words.{parameter_words};
 ghost use Rattle.oidc_words.specs.Scopes.{scopes_among, scope_text};
 ghost use Rattle.auth_answer.specs.declared.answer.Answer.{Answer};
 ghost use Rattle.auth_answer.specs.Printing.{answer_location, refusal_location};
-ghost use Rattle.token_endpoint.specs.Answer.{tokens_read};
 ghost use Rattle.op_exchange.specs.declared.reply.OpReply.{OpReply};
 ghost use Rattle.op_exchange.specs.declared.reply.OpReply.TheVariants as reply;
-ghost use Rattle.op_exchange.specs.Fields.{turn_field};
 ghost use Rattle.op_exchange.specs.Replied.{ends_turn, session_given};
 ghost use Rattle.op_response.specs.Cookies.{browser_cookie, session_cookie};
 ghost use Rattle.op_response.specs.Telling.{http_of};
 ghost use Rattle.op_response.specs.Lines.{line_of};
 ghost use Rattle.http_reply.specs.Told.{kept, sets_cookie};
 ghost use Rattle.op_response.specs.Told.{browser_given, words_set, is_token_response, has_mark};
+ghost use Rattle.op_response.specs.Laws.{WrittenTokensAreRead, LoginFormsArePostedToTheProvider, LoginFormsHaveTheirTurn, ConsentFormsArePostedToTheProvider};
+ghost use Rattle.op_response.specs.Laws.{ConsentFormsHaveTheirTurn, ConsentPagesNameClientAndScopes, PlainBodiesAreLines, LinesTellTheParts};
 
 /// The cookies of a reply hold exactly the words that it sets, in order: the browser word of a page, and the session word, if
 /// there is one. A user agent reads each under its name as the word's text, for every path, `HttpOnly`, `SameSite=Lax` and, if
@@ -50,7 +46,7 @@ pub fn responses_send_the_user_agent_on()
 pub fn token_responses_are_not_cached()
     ensures pragma { (c : Configuration) (r : OpReply) → (http_of c r).pragma ≡ is_token_response r }
     ensures json { (c : Configuration) (r : OpReply) → is_token_response r ≡ true → (http_of c r).kind ≡ kind.Json }
-    ensures read { (c : Configuration) (w : Word) (id : Text) → IsUtf8 id → tokens_read (record { status = (http_of c (reply.Tokens w id)).status; body = (http_of c (reply.Tokens w id)).body }) ≡ Ok (record { access = word_text w; id = id }) }
+    ensures read { WrittenTokensAreRead }
 {}
 
 /// A reply has a challenge if and only if its status is 401 (RFC 9110, 15.5.2).
@@ -61,11 +57,11 @@ pub fn challenges_are_unauthorized()
 /// The login form and the consent form are posted to the paths that the provider serves for them, with the text of their own
 /// turn. A consent page states the client and the scope values that it requests.
 pub fn forms_are_posted_to_the_provider()
-    ensures login { (c : Configuration) (turn browser : Word) (again : Bool) → HasSubslice (http_of c (reply.LoginPage turn browser again)).body (codes "<form method=\"post\" action=\"" ++ (c.prefix ++ (login_path ++ codes "\">"))) }
-    ensures login_turn { (c : Configuration) (turn browser : Word) (again : Bool) → HasSubslice (http_of c (reply.LoginPage turn browser again)).body (codes "<input type=\"hidden\" name=\"" ++ (turn_field ++ (codes "\" value=\"" ++ (word_text turn ++ codes "\">")))) }
-    ensures consent { (c : Configuration) (turn browser : Word) (given : Option Word) (client : Text) (scopes : Scopes) → HasSubslice (http_of c (reply.ConsentPage turn browser given client scopes)).body (codes "<form method=\"post\" action=\"" ++ (c.prefix ++ (consent_path ++ codes "\">"))) }
-    ensures consent_turn { (c : Configuration) (turn browser : Word) (given : Option Word) (client : Text) (scopes : Scopes) → HasSubslice (http_of c (reply.ConsentPage turn browser given client scopes)).body (codes "<input type=\"hidden\" name=\"" ++ (turn_field ++ (codes "\" value=\"" ++ (word_text turn ++ codes "\">")))) }
-    ensures asked { (c : Configuration) (turn browser : Word) (given : Option Word) (client : Text) (scopes : Scopes) → HasSubslice (http_of c (reply.ConsentPage turn browser given client scopes)).body (codes "<p>" ++ (client ++ (codes ": " ++ (scope_text scopes ++ codes "</p>")))) }
+    ensures login { LoginFormsArePostedToTheProvider }
+    ensures login_turn { LoginFormsHaveTheirTurn }
+    ensures consent { ConsentFormsArePostedToTheProvider }
+    ensures consent_turn { ConsentFormsHaveTheirTurn }
+    ensures asked { ConsentPagesNameClientAndScopes }
     ensures scopes { (s : Scopes) → scopes_among (parameter_words (Some (scope_text s))) ≡ s }
 {}
 
@@ -79,12 +75,12 @@ pub fn pages_have_nothing_to_escape()
 
 /// A plain body is one line, and a reply without a kind has an empty body.
 pub fn plain_bodies_are_lines()
-    ensures plain { (c : Configuration) (r : OpReply) → (http_of c r).kind ≡ kind.Plain → (line : Text) × ((http_of c r).body ≡ line ++ 10 ∷ []) × (list_any (λ b. b == 10) line ≡ false) }
+    ensures plain { PlainBodiesAreLines }
     ensures empty { (c : Configuration) (r : OpReply) → (http_of c r).kind ≡ kind.Empty → (http_of c r).body ≡ [] }
 {}
 
 /// A line shows which parts a response has but none of their values, and the code of an error.
 pub fn lines_tell_parts_and_codes()
-    ensures parts { (a b : Answer) (given other : Option Word) → is_some a.code ≡ is_some b.code → is_some a.id ≡ is_some b.id → is_some a.access ≡ is_some b.access → line_of (reply.Answered a given) ≡ line_of (reply.Answered b other) }
+    ensures parts { LinesTellTheParts }
     ensures code { (a b : Refusal) (given other : Option Word) → line_of (reply.Refused a given) ≡ line_of (reply.Refused b other) → a.code ≡ b.code }
 {}

@@ -27,7 +27,7 @@ use Rattle.op_exchange.specs.Replied.{ends_turn}
 use Rattle.op_tables.specs.declared.keeping.Agreement.{Agreement}
 use Rattle.op_answer.specs.Past.{OpPair, OpPast}
 use Rattle.op_answer.specs.Turns.{turns, turn_made, turn_kept}
-use Rattle.op_answer.specs.Sessions.{sessions, session_made, session_kept, session_set, session_of}
+use Rattle.op_answer.specs.Sessions.{sessions, session_made, session_kept, session_set, session_of, client_answered, session_used}
 use Rattle.op_answer.specs.Codes.{codes_issued, code_made, code_kept, code_named, held_code, redeem, is_spent}
 use Rattle.op_answer.specs.AccessTokens.{accesses, access_made, access_kept}
 use Rattle.op_answer.specs.Consents.{turn_agreed, granted_by}
@@ -149,9 +149,37 @@ token_put (Some row) t = record t { tokens = put access_name (Some row) t.tokens
 
 -- the tables after a pair: the rows that lived at its moment, as the pair leaves them, the rows that it makes, and its grants
 pub record IsUpdate (before after : Tables) (past : OpPast) (p : OpPair) : Type 0 where
-  pub turns_are : after.turns ≡ put turn_name (turn_made (turns past) past p) (filter_map (turn_kept past p) (live_rows turn_life turn_begun p.entry.at before.turns))
-  pub sessions_are : after.sessions ≡ put session_name (session_made (sessions past) past p) (filter_map (session_kept past p) (live_rows session_life session_begun p.entry.at before.sessions))
-  pub codes_are : after.codes ≡ put code_name (code_made (codes_issued past) past p) (filter_map (code_kept past p) (live_rows code_life code_begun p.entry.at before.codes))
-  pub tokens_are : after.tokens ≡ put access_name (access_made (accesses past) past p) (filter_map (access_kept past p) (live_rows access_life access_begun p.entry.at before.tokens))
+  pub turns_are : after.turns
+      ≡ put turn_name (turn_made (turns past) past p)
+          (filter_map (turn_kept past p) (live_rows turn_life turn_begun p.entry.at before.turns))
+  pub sessions_are : after.sessions
+      ≡ put session_name (session_made (sessions past) past p)
+          (filter_map (session_kept past p) (live_rows session_life session_begun p.entry.at before.sessions))
+  pub codes_are : after.codes
+      ≡ put code_name (code_made (codes_issued past) past p)
+          (filter_map (code_kept past p) (live_rows code_life code_begun p.entry.at before.codes))
+  pub tokens_are : after.tokens
+      ≡ put access_name (access_made (accesses past) past p)
+          (filter_map (access_kept past p) (live_rows access_life access_begun p.entry.at before.tokens))
   pub grants_are : (user client : ℕ) → user < 512 → client < 128
-      → granted_to user client after.consents ≡ joined (granted_to user client before.consents) (granted_by past user client (turn_agreed past p.entry.ask p.reply))
+      → granted_to user client after.consents
+          ≡ joined (granted_to user client before.consents) (granted_by past user client (turn_agreed past p.entry.ask p.reply))
+
+-- the sessions are as the pair leaves them after its past, if it used this session and answered this client
+abbrev pub KeepsSessions : Tables → Tables → OpPair → Option Word → Option ℕ → Type 0
+KeepsSessions before after p used client =
+    (past : OpPast) → ((n : ℕ) → client ≡ Some n → session_used past p.entry.ask p.reply ≡ used)
+    → client_answered past p ≡ client → after ≡ record before { sessions = filter_map (session_kept past p) before.sessions }
+
+-- the codes and the access tokens are as the pair leaves them after its past
+abbrev pub KeepsCodes : Tables → Tables → OpPair → Type 0
+KeepsCodes before after p =
+    (past : OpPast) → FindsCode before.codes past p.entry.at p.entry.ask → TellsRedemption past p.entry.at p.entry.ask p.reply
+    → after ≡ record before { codes = filter_map (code_kept past p) before.codes; tokens = filter_map (access_kept past p) before.tokens }
+
+-- the grants are those before, and those of the consent form that the pair answered after its past
+abbrev pub GrantsAgreement : Tables → Tables → OpPair → Type 0
+GrantsAgreement before after p =
+    (past : OpPast) → FindsAgreement before past p.entry.ask p.reply → (user client : ℕ) → user < 512 → client < 128
+    → granted_to user client after.consents
+        ≡ joined (granted_to user client before.consents) (granted_by past user client (turn_agreed past p.entry.ask p.reply))

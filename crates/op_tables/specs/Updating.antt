@@ -14,9 +14,13 @@ use Rattle.op_answer.specs.Sessions.{sessions, session_made, session_used, clien
 use Rattle.op_answer.specs.Codes.{codes_issued, code_made}
 use Rattle.op_answer.specs.AccessTokens.{accesses, access_made}
 use Rattle.op_answer.specs.Answering.{op_answer}
+use Rattle.op_tables.specs.declared.made.Made.{Made}
 use Rattle.op_tables.specs.Agreeing.{Agrees, IsBegun, AreOwn}
+use Rattle.op_tables.specs.Keeping.{IsUpdate}
 
-pub record MayUpdate (t : Tables) (p : OpPair) (turn : Option TurnRow) (session : Option SessionRow) (code : Option CodeRow) (token : Option TokenRow) (used : Option Word) (client : Option ℕ) (c : Configuration) (past : OpPast) (before : ℕ) : Type 0 where
+pub record MayUpdate
+    (t : Tables) (p : OpPair) (turn : Option TurnRow) (session : Option SessionRow) (code : Option CodeRow)
+    (token : Option TokenRow) (used : Option Word) (client : Option ℕ) (c : Configuration) (past : OpPast) (before : ℕ) : Type 0 where
   pub order : before ≤ p.entry.at
   pub agrees : Agrees t past before
   pub begun : IsBegun t before
@@ -28,3 +32,15 @@ pub record MayUpdate (t : Tables) (p : OpPair) (turn : Option TurnRow) (session 
   pub session_is : session ≡ session_made (sessions past) past p
   pub code_is : code ≡ code_made (codes_issued past) past p
   pub token_is : token ≡ access_made (accesses past) past p
+
+-- some past and moment before the pair for which this is the precondition
+abbrev pub MayUpdateTables : Tables → OpPair → Made → Option Word → Option ℕ → Type 0
+MayUpdateTables t p made used client =
+    (c : Configuration) × (past : OpPast) × (before : ℕ)
+    × MayUpdate t p made.turn made.session made.code made.token used client c past before
+
+-- after each such past the tables follow the pair
+abbrev pub UpdatesTables : Tables → Tables → OpPair → Made → Option Word → Option ℕ → Type 0
+UpdatesTables t after p made used client =
+    (c : Configuration) (past : OpPast) (before : ℕ)
+    → MayUpdate t p made.turn made.session made.code made.token used client c past before → IsUpdate t after past p

@@ -1,19 +1,14 @@
 // The changes of a pair to the tables, so that they stay in agreement with the past. They allocate nothing.
 
-ghost use Rattle.std.specs.Prelude.{◌≡◌, ◌<◌, ◌≤◌, ℕ, filter_map, Some, IfSome, option_map};
+ghost use Rattle.std.specs.Prelude.{◌≡◌, ◌<◌, filter_map, Some, IfSome};
 ghost use Rattle.std.specs.Option.{option_copied};
 ghost use Rattle.sso_base.specs.Words.{Word, word_of_text};
-ghost use Rattle.sso_base.specs.Rows.{put, row_of};
-ghost use Rattle.oidc_words.specs.Scopes.{joined};
+ghost use Rattle.sso_base.specs.Rows.{put};
 ghost use Rattle.held_rows.specs.Held.{MayAddRow};
 ghost use Rattle.code_grant.specs.Rows.{turn_name, turn_begun, session_name, session_begun, code_name, code_begun, access_name, access_begun};
-ghost use Rattle.code_grant.specs.Consents.{granted_to};
 ghost use Rattle.op_answer.specs.Past.{OpPast};
 ghost use Rattle.op_answer.specs.Turns as turns;
 ghost use Rattle.op_answer.specs.Sessions as sessions;
-ghost use Rattle.op_answer.specs.Codes as codes;
-ghost use Rattle.op_answer.specs.AccessTokens as tokens;
-ghost use Rattle.op_answer.specs.Consents as consents;
 ghost use Rattle.op_tables.specs.Keeping as spec;
 
 use code_grant::{CodeRow, Grants, SessionRow, TokenRow, TurnRow};
@@ -133,7 +128,7 @@ pub(crate) fn keep_sessions(
     client: Option<u32>,
 )
     requires { IfSome client (λ n. n < 128) }
-    ensures { (past : OpPast) → ((n : ℕ) → client ≡ Some n → sessions.session_used past pair.now.entry.ask pair.now.reply ≡ used) → sessions.client_answered past pair.now ≡ client → grants.new ≡ record grants.old { sessions = filter_map (sessions.session_kept past pair.now) grants.old.sessions } }
+    ensures { spec.KeepsSessions grants.old grants.new pair.now used client }
 {
     end_if(grants, session_ended(&pair.entry.ask, &pair.reply));
     visit_if(grants, used, client);
@@ -170,7 +165,7 @@ fn ask_code(grants: &mut Grants, grant: &Grant, at: Moment)
 /// Updates the codes and the access tokens with the pair. A token request that got tokens marks its code spent. One that found
 /// its code spent removes the access tokens issued for it (RFC 6749, 4.1.2).
 pub(crate) fn keep_codes(grants: &mut Grants, pair: &Pair<OpAsk, OpReply>)
-    ensures { (past : OpPast) → spec.FindsCode grants.old.codes past pair.now.entry.at pair.now.entry.ask → spec.TellsRedemption past pair.now.entry.at pair.now.entry.ask pair.now.reply → grants.new ≡ record grants.old { codes = filter_map (codes.code_kept past pair.now) grants.old.codes; tokens = filter_map (tokens.access_kept past pair.now) grants.old.tokens } }
+    ensures { spec.KeepsCodes grants.old grants.new pair.now }
 {
     if let Some(grant) = grant_answered(&pair.entry.ask, &pair.reply) {
         ask_code(grants, grant, pair.entry.at);
@@ -281,7 +276,7 @@ fn agreement_of(grants: &Grants, turn: Option<Word>) -> Option<Agreement>
 
 /// Grants the scopes of the consent that a form gave.
 pub(crate) fn grant_agreed(grants: &mut Grants, pair: &Pair<OpAsk, OpReply>)
-    ensures granted { (past : OpPast) → spec.FindsAgreement grants.old past pair.now.entry.ask pair.now.reply → (user client : ℕ) → user < 512 → client < 128 → granted_to user client grants.new.consents ≡ joined (granted_to user client grants.old.consents) (consents.granted_by past user client (consents.turn_agreed past pair.now.entry.ask pair.now.reply)) }
+    ensures granted { spec.GrantsAgreement grants.old grants.new pair.now }
     ensures others { grants.new ≡ record grants.old { consents = grants.new.consents } }
 {
     let agreed = agreement_of(grants, agreed_turn(&pair.entry.ask, &pair.reply));

@@ -1,11 +1,8 @@
 // Updating the tables with a pair.
 
-ghost use Rattle.std.specs.Prelude.{◌≡◌, ◌<◌, ◌≤◌, ℕ, true, length, IfSome};
-ghost use Rattle.client_registry.specs.Configuration.{Configuration};
+ghost use Rattle.std.specs.Prelude.{◌≡◌, ◌<◌, ◌≤◌, true, length, IfSome};
 ghost use Rattle.held_rows.specs.Held.{most_rows};
-ghost use Rattle.op_answer.specs.Past.{OpPast};
-ghost use Rattle.op_tables.specs.Keeping.{IsUpdate};
-ghost use Rattle.op_tables.specs.Updating.{MayUpdate};
+ghost use Rattle.op_tables.specs.Updating.{MayUpdateTables, UpdatesTables};
 
 use crate::keeping::{grant_agreed, keep_codes, keep_sessions, keep_turns, put_rows};
 use crate::made::Made;
@@ -31,14 +28,14 @@ pub fn update_tables(
     used: Option<Word>,
     client: Option<u32>,
 )
-    requires may { (c : Configuration) × (past : OpPast) × (before : ℕ) × MayUpdate grants.old pair.now made.turn made.session made.code made.token used client c past before }
+    requires may { MayUpdateTables grants.old pair.now made used client }
     requires reserved { grants.old.reserved ≡ record { turns = true; sessions = true; codes = true; tokens = true } }
     requires client { IfSome client (λ n. n < 128) }
     requires turn { IfSome made.turn (λ r. r.wish.client < 128) }
     requires session { IfSome made.session (λ r. r.user < 512) }
     requires code { IfSome made.code (λ r. (r.user < 512) × (r.wish.client < 128)) }
     requires token { IfSome made.token (λ r. (r.user < 512) × (r.client < 128)) }
-    ensures { (c : Configuration) (past : OpPast) (before : ℕ) → MayUpdate grants.old pair.now made.turn made.session made.code made.token used client c past before → IsUpdate grants.old grants.new past pair.now }
+    ensures { UpdatesTables grants.old grants.new pair.now made used client }
 {
     sessions_fit(grants, &made.session);
     grants.purge(pair.entry.at);

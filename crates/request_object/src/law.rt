@@ -1,21 +1,17 @@
 // Laws about request objects, for the crates above.
 
-ghost use Rattle.std.specs.Prelude.{◌≡◌, ℕ, List, Ok, Err, IsOk};
-ghost use Rattle.serde_json.specs.Data.{Members};
-ghost use Rattle.sso_base.specs.Refusals.{first_refusal};
-ghost use Rattle.claim_set.specs.declared.no.ClaimNo.{ClaimNo};
+ghost use Rattle.std.specs.Prelude.{◌≡◌, ℕ, List, Ok, Err};
 ghost use Rattle.claim_set.specs.Fitting.{ClaimsFit};
-ghost use Rattle.claim_set.specs.Reading.{Reads, claims_read};
 ghost use Rattle.jws_compact.specs.declared.no.JwsNo.{JwsNo};
-ghost use Rattle.jws_compact.specs.Jws.{Sealed, verdict};
+ghost use Rattle.jws_compact.specs.Jws.{verdict};
 ghost use Rattle.client_registry.specs.declared.records.Client.{Client};
 ghost use Rattle.request_params.specs.declared.params.Params.{Params};
-ghost use Rattle.request_object.specs.declared.no.ObjNo.{ObjNo};
 ghost use Rattle.request_object.specs.declared.no.ObjNo.TheVariants as no;
 ghost use Rattle.request_object.specs.Request.{request_members, request_text};
 ghost use Rattle.request_object.specs.Sealing.{HasTexts, IsSealable};
 ghost use Rattle.request_object.specs.Reading.{request_read};
-ghost use Rattle.request_object.specs.Object.{IsRequestObject, request_refusals};
+ghost use Rattle.request_object.specs.Object.{IsRequestObject};
+ghost use Rattle.request_object.specs.Laws.{UnreadableClaimsAreRefused, RefusedObjectsHaveTheFirstReason, ObjectsWithoutReasonAreAccepted};
 
 /// A text is accepted if and only if it is a request object of the client for the issuer: a claim set, sealed under the
 /// client's secret, that contains the parameters (OpenID Connect Core 1.0, 6.1).
@@ -28,9 +24,9 @@ pub fn read_objects_are_request_objects()
 /// payload is no claim set; or a condition of `request_refusals` is true, the first of which counts.
 pub fn refused_objects_have_the_first_reason()
     ensures unopened { (client : Client) (issuer t : List ℕ) (e : JwsNo) → verdict client.secret t ≡ Err e → request_read client issuer t ≡ Err (no.Jws e) }
-    ensures unread { (client : Client) (issuer h p t : List ℕ) (e : ClaimNo) → Sealed client.secret h p t → claims_read p ≡ Err e → request_read client issuer t ≡ Err (no.Claims e) }
-    ensures refused { (client : Client) (issuer h p t : List ℕ) (ms : Members) (e : ObjNo) → Sealed client.secret h p t → Reads p ms → first_refusal (request_refusals client issuer ms) ≡ Err e → request_read client issuer t ≡ Err e }
-    ensures accepted { (client : Client) (issuer h p t : List ℕ) (ms : Members) → Sealed client.secret h p t → Reads p ms → first_refusal (request_refusals client issuer ms) ≡ Ok tt → IsOk (request_read client issuer t) }
+    ensures unread { UnreadableClaimsAreRefused }
+    ensures refused { RefusedObjectsHaveTheFirstReason }
+    ensures accepted { ObjectsWithoutReasonAreAccepted }
 {}
 
 /// The claim set of a request object fits if the identifier, the issuer and the parameters are in UTF-8.

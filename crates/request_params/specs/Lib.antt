@@ -8,3 +8,4 @@ pub mod Location
 pub mod Printing
 pub mod Signed
 pub mod Scheme
+pub mod Laws

@@ -6,7 +6,8 @@ use Rattle.std.specs.Str.{IsUtf8, bytes_eq}
 use Rattle.sso_base.specs.Words.{Text}
 use Rattle.request_params.specs.declared.params.Params.{Params}
 use Rattle.request_params.specs.declared.name.ParamName.{ParamName}
-use Rattle.request_params.specs.declared.name.ParamName.TheVariants.{ResponseType, ClientId, RedirectUri, Scope, State, Nonce, ResponseMode, Prompt, MaxAge, Claims, Request, RequestUri, Registration}
+use Rattle.request_params.specs.declared.name.ParamName.TheVariants.{ResponseType, ClientId, RedirectUri, Scope, State, Nonce, ResponseMode, Prompt, MaxAge}
+use Rattle.request_params.specs.declared.name.ParamName.TheVariants.{Claims, Request, RequestUri, Registration}
 
 -- the text of a name
 abbrev pub name_text : ParamName → Text

@@ -10,7 +10,7 @@ ghost use Rattle.request_params.specs.Location.{query_mark};
 ghost use Rattle.request_params.specs.Reading.{request_read, HasRequest, RefusesForm};
 ghost use Rattle.request_params.specs.Merging.{request_merged, IsMerged, RefusesMerge};
 ghost use Rattle.request_params.specs.Printing.{request_form, request_location, IsPrinted};
-ghost use Rattle.request_params.specs.Signed.{outer_params, inner_params, IsSignable};
+ghost use Rattle.request_params.specs.Laws.{OtherParametersAreKept, SignedParametersAreWhole};
 
 /// Each parameter has its own name, and two sets of parameters are equal if they are equal name by name. Setting one parameter
 /// leaves the others unchanged.
@@ -19,7 +19,7 @@ pub fn parameters_have_names()
     ensures written { (t : Text) (name : ParamName) → name_of t ≡ Some name → name_text name ≡ t }
     ensures same { (p q : Params) → ((name : ParamName) → param_of name p ≡ param_of name q) → p ≡ q }
     ensures set { (name : ParamName) (value : Option Text) (params : Params) → param_of name (with_param name value params) ≡ value }
-    ensures kept { (name other : ParamName) (value : Option Text) (params : Params) → ¬ (name ≡ other) → param_of other (with_param name value params) ≡ param_of other params }
+    ensures kept { OtherParametersAreKept }
 {}
 
 /// A form is accepted if and only if no parameter name occurs twice in it with values, and the result is the values of these
@@ -60,5 +60,5 @@ pub fn printed_requests_are_read()
 
 /// Merging the parameters outside a request object with those in it gives the whole request, together with the object.
 pub fn signed_requests_are_whole()
-    ensures { (params : Params) (object : Text) → IsSignable params → request_merged (outer_params params object) (inner_params params) ≡ Ok (record params { request = Some object }) }
+    ensures { SignedParametersAreWhole }
 {}

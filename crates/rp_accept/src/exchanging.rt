@@ -1,7 +1,6 @@
 // The reply to the tokens of a live exchange.
 
 ghost use Rattle.std.specs.Prelude.{◌≡◌, IfOk};
-ghost use Rattle.id_token.specs.Judging.{id_judged};
 ghost use Rattle.rp_answer.specs.Replies as spec;
 
 use crate::fetching::is_other;
@@ -46,7 +45,7 @@ impl Setup {
         tokens: &Tokens,
         claims: &IdClaims,
     ) -> Result<RpReply, NoMemory>
-        ensures { IfOk result (λ r. r ≡ spec.back_judged self.now entry.now pending.now tokens.now claims.now (id_judged (spec.back_rules self.now pending.now tokens.now) claims.now entry.now.at)) }
+        ensures { IfOk result (λ r. r ≡ spec.back_verified self.now entry.now pending.now tokens.now claims.now) }
     {
         let rules = self.back_rules(alloc, pending, tokens)?;
         if let Err(why) = judge_id(&rules, claims, entry.at) {

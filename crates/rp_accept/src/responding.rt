@@ -2,7 +2,6 @@
 
 ghost use Rattle.std.specs.Prelude.{◌≡◌, IfOk};
 ghost use Rattle.std.specs.Option.{option_copied};
-ghost use Rattle.id_token.specs.Judging.{id_judged};
 ghost use Rattle.rp_answer.specs.Asked as asked;
 ghost use Rattle.rp_answer.specs.Replies as spec;
 
@@ -167,7 +166,7 @@ impl Setup {
         heard: &Heard,
         claims: &IdClaims,
     ) -> Result<RpReply, NoMemory>
-        ensures { IfOk result (λ r. r ≡ spec.front_judged self.now entry.now heard.now claims.now (id_judged (spec.front_rules self.now login.now heard.now) claims.now entry.now.at)) }
+        ensures { IfOk result (λ r. r ≡ spec.front_verified self.now entry.now login.now heard.now claims.now) }
     {
         let rules = self.front_rules(alloc, login, heard)?;
         if let Err(why) = judge_id(&rules, claims, entry.at) {

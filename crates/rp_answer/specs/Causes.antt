@@ -112,7 +112,9 @@ AskCause s past e other to browser = ⊥
 
 -- ---- a token request: a whole response of a live login, from its browser, whose ID Token was accepted where it has one
 
-pub record CodeExchanged (s : PartySetup) (past : RpPast) (e : Entry RpAsk) (heard : Heard) (id : Option (Result IdClaims IdNo)) (browser : Option Word) (w : Word) (message : Message) : Type 0 where
+pub record CodeExchanged
+    (s : PartySetup) (past : RpPast) (e : Entry RpAsk) (heard : Heard) (id : Option (Result IdClaims IdNo))
+    (browser : Option Word) (w : Word) (message : Message) : Type 0 where
   pub login : LoginRow
   pub response : WholeResponse s past e heard browser login
   pub accepted : IfGood (front_rules s login heard) e.at (if_wanted (party_of s).types.id_token id)
@@ -134,7 +136,9 @@ FragmentCause other = ⊥
 -- ---- a UserInfo request: the same without a code, or an accepted ID Token for a live exchange; the party asks for UserInfo at
 -- this endpoint, and there is an access token
 
-pub record FetchedAtOnce (s : PartySetup) (past : RpPast) (e : Entry RpAsk) (heard : Heard) (id : Option (Result IdClaims IdNo)) (browser : Option Word) (w : Word) (message : Message) : Type 0 where
+pub record FetchedAtOnce
+    (s : PartySetup) (past : RpPast) (e : Entry RpAsk) (heard : Heard) (id : Option (Result IdClaims IdNo))
+    (browser : Option Word) (w : Word) (message : Message) : Type 0 where
   pub login : LoginRow
   pub response : WholeResponse s past e heard browser login
   pub claims : IdClaims
@@ -147,7 +151,9 @@ pub record FetchedAtOnce (s : PartySetup) (past : RpPast) (e : Entry RpAsk) (hea
   pub drawn : fresh_word e.fresh 0 ≡ w
   pub message_is : info_message endpoint access ≡ message
 
-pub record FetchedAfterExchange (s : PartySetup) (past : RpPast) (e : Entry RpAsk) (pending : Word) (came : Tokens) (id : Option (Result IdClaims IdNo)) (w : Word) (message : Message) : Type 0 where
+pub record FetchedAfterExchange
+    (s : PartySetup) (past : RpPast) (e : Entry RpAsk) (pending : Word) (came : Tokens) (id : Option (Result IdClaims IdNo))
+    (w : Word) (message : Message) : Type 0 where
   pub exchange : PendingRow
   pub live : live_pending (party_of s).types past e.at pending stage.Tokens ≡ Some exchange
   pub claims : IdClaims
@@ -169,7 +175,9 @@ FetchCause s past e other w message = ⊥
 abbrev pub NotFetched : Option Text → Option Text → Type 0
 NotFetched endpoint access = (endpoint ≡ None) ⊎ (access ≡ None)
 
-pub record EnteredAtOnce (s : PartySetup) (past : RpPast) (e : Entry RpAsk) (heard : Heard) (id : Option (Result IdClaims IdNo)) (browser : Option Word) (w : Word) (sub : Text) : Type 0 where
+pub record EnteredAtOnce
+    (s : PartySetup) (past : RpPast) (e : Entry RpAsk) (heard : Heard) (id : Option (Result IdClaims IdNo))
+    (browser : Option Word) (w : Word) (sub : Text) : Type 0 where
   pub login : LoginRow
   pub response : WholeResponse s past e heard browser login
   pub claims : IdClaims
@@ -179,7 +187,9 @@ pub record EnteredAtOnce (s : PartySetup) (past : RpPast) (e : Entry RpAsk) (hea
   pub drawn : fresh_word e.fresh 1 ≡ w
   pub sub_is : claims.sub ≡ sub
 
-pub record EnteredAfterExchange (s : PartySetup) (past : RpPast) (e : Entry RpAsk) (pending : Word) (came : Tokens) (id : Option (Result IdClaims IdNo)) (w : Word) (sub : Text) : Type 0 where
+pub record EnteredAfterExchange
+    (s : PartySetup) (past : RpPast) (e : Entry RpAsk) (pending : Word) (came : Tokens) (id : Option (Result IdClaims IdNo))
+    (w : Word) (sub : Text) : Type 0 where
   pub exchange : PendingRow
   pub live : live_pending (party_of s).types past e.at pending stage.Tokens ≡ Some exchange
   pub claims : IdClaims
@@ -260,14 +270,18 @@ pub record PartMissing (s : PartySetup) (past : RpPast) (e : Entry RpAsk) (heard
   pub lacks : part_missing (party_of s).types heard ≡ Some missing
 
 -- a response type with neither a code nor an ID Token, which no client has
-pub record NothingToEnterBy (s : PartySetup) (past : RpPast) (e : Entry RpAsk) (heard : Heard) (id : Option (Result IdClaims IdNo)) (browser : Option Word) (missing : Part) : Type 0 where
+pub record NothingToEnterBy
+    (s : PartySetup) (past : RpPast) (e : Entry RpAsk) (heard : Heard) (id : Option (Result IdClaims IdNo))
+    (browser : Option Word) (missing : Part) : Type 0 where
   pub login : LoginRow
   pub response : WholeResponse s past e heard browser login
   pub no_code : front_code s heard ≡ None
   pub no_id : if_wanted (party_of s).types.id_token id ≡ None
   pub part_is : missing ≡ part.Id
 
-pub record FrontTokenRefused (s : PartySetup) (past : RpPast) (e : Entry RpAsk) (heard : Heard) (id : Option (Result IdClaims IdNo)) (browser : Option Word) (why : IdNo) : Type 0 where
+pub record FrontTokenRefused
+    (s : PartySetup) (past : RpPast) (e : Entry RpAsk) (heard : Heard) (id : Option (Result IdClaims IdNo))
+    (browser : Option Word) (why : IdNo) : Type 0 where
   pub login : LoginRow
   pub response : WholeResponse s past e heard browser login
   pub refused : IdRefused (front_rules s login heard) e.at (if_wanted (party_of s).types.id_token id) why
@@ -289,12 +303,15 @@ pub record ExchangeFailed (s : PartySetup) (past : RpPast) (e : Entry RpAsk) (pe
   pub live : live_pending (party_of s).types past e.at pending stage.Tokens ≡ Some exchange
   pub failed : came ≡ why
 
-pub record BackTokenRefused (s : PartySetup) (past : RpPast) (e : Entry RpAsk) (pending : Word) (came : Tokens) (id : Option (Result IdClaims IdNo)) (why : IdNo) : Type 0 where
+pub record BackTokenRefused
+    (s : PartySetup) (past : RpPast) (e : Entry RpAsk) (pending : Word) (came : Tokens) (id : Option (Result IdClaims IdNo))
+    (why : IdNo) : Type 0 where
   pub exchange : PendingRow
   pub live : live_pending (party_of s).types past e.at pending stage.Tokens ≡ Some exchange
   pub refused : IdRefused (back_rules s exchange came) e.at id why
 
-pub record AnotherSubject (s : PartySetup) (past : RpPast) (e : Entry RpAsk) (pending : Word) (came : Tokens) (id : Option (Result IdClaims IdNo)) : Type 0 where
+pub record AnotherSubject
+    (s : PartySetup) (past : RpPast) (e : Entry RpAsk) (pending : Word) (came : Tokens) (id : Option (Result IdClaims IdNo)) : Type 0 where
   pub exchange : PendingRow
   pub live : live_pending (party_of s).types past e.at pending stage.Tokens ≡ Some exchange
   pub claims : IdClaims

@@ -13,3 +13,4 @@ pub mod Causes
 pub mod Legal
 pub mod Hashes
 pub mod Endings
+pub mod Laws

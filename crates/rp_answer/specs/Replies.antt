@@ -132,10 +132,14 @@ abbrev pub front_judged : PartySetup → Entry RpAsk → Heard → IdClaims → 
 front_judged s e heard claims (Err why) = Refused (no.Id why)
 front_judged s e heard claims (Ok good) = exchange_or_enter s e heard (front_code s heard) (Some claims)
 
+-- the ID Token's claims are verified
+abbrev pub front_verified : PartySetup → Entry RpAsk → LoginRow → Heard → IdClaims → RpReply
+front_verified s e login heard claims = front_judged s e heard claims (id_judged (front_rules s login heard) claims e.at)
+
 abbrev pub front_read : PartySetup → Entry RpAsk → LoginRow → Heard → Option (Result IdClaims IdNo) → RpReply
 front_read s e login heard None = exchange_or_enter s e heard (front_code s heard) None
 front_read s e login heard (Some (Err why)) = Refused (no.Id why)
-front_read s e login heard (Some (Ok claims)) = front_judged s e heard claims (id_judged (front_rules s login heard) claims e.at)
+front_read s e login heard (Some (Ok claims)) = front_verified s e login heard claims
 
 abbrev pub response_parts : PartySetup → Entry RpAsk → LoginRow → Heard → Option (Result IdClaims IdNo) → Option Part → RpReply
 response_parts s e login heard id (Some missing) = Refused (no.Missing missing)
@@ -174,10 +178,13 @@ back_judged s e pending came claims (Err why) = Refused (no.Id why)
 back_judged s e pending came claims (Ok good) =
     if is_other claims.sub pending.sub then Refused no.SubjectDiffers else back_accepted s e pending came claims
 
+abbrev pub back_verified : PartySetup → Entry RpAsk → PendingRow → Tokens → IdClaims → RpReply
+back_verified s e pending came claims = back_judged s e pending came claims (id_judged (back_rules s pending came) claims e.at)
+
 abbrev pub back_read : PartySetup → Entry RpAsk → PendingRow → Tokens → Option (Result IdClaims IdNo) → RpReply
 back_read s e pending came None = Refused (no.Missing part.Id)
 back_read s e pending came (Some (Err why)) = Refused (no.Id why)
-back_read s e pending came (Some (Ok claims)) = back_judged s e pending came claims (id_judged (back_rules s pending came) claims e.at)
+back_read s e pending came (Some (Ok claims)) = back_verified s e pending came claims
 
 -- The errors in order: no live exchange, a bad response, a bad ID Token, another subject.
 abbrev pub tokens : PartySetup → Entry RpAsk → Option PendingRow → Result Tokens TokensNo → Option (Result IdClaims IdNo) → RpReply
@@ -221,7 +228,10 @@ abbrev pub logout_good : PartySetup → RpPast → Entry RpAsk → LogoutClaims 
 logout_good s past e claims (Err why) = Refused (no.Logout why)
 logout_good s past e claims (Ok good) = logout_new s past e claims (live_seen past e.at claims.jti)
 
+abbrev pub logout_verified : PartySetup → RpPast → Entry RpAsk → LogoutClaims → RpReply
+logout_verified s past e claims = logout_good s past e claims (logout_judged s.provider.issuer (client_of s).id claims e.at)
+
 -- The errors in order: a bad logout token, one that was accepted before.
 abbrev pub logout : PartySetup → RpPast → Entry RpAsk → Result LogoutClaims LogoutNo → RpReply
 logout s past e (Err why) = Refused (no.Logout why)
-logout s past e (Ok claims) = logout_good s past e claims (logout_judged s.provider.issuer (client_of s).id claims e.at)
+logout s past e (Ok claims) = logout_verified s past e claims

@@ -21,23 +21,44 @@ use Rattle.rp_answer.specs.Seens.{seens, seen_made, seen_kept}
 use Rattle.rp_answer.specs.Answering.{rp_answer}
 use Rattle.rp_core.specs.Agreeing.{Agrees, IsBegun}
 use Rattle.rp_core.specs.Making.{MakesRows}
+use Rattle.rp_core.specs.declared.making.Made.{Made}
 
 -- the rows that lived at the pair's moment, as the pair leaves them, and the rows that it makes
 pub record IsUpdate (types : Types) (before after : Tables) (past : RpPast) (p : RpPair) : Type 0 where
-  pub logins_are : after.logins ≡ put login_name (login_made (logins past) past p) (filter_map (login_kept past p) (live_rows login_life login_begun p.entry.at before.logins))
+  pub logins_are : after.logins
+      ≡ put login_name (login_made (logins past) past p)
+          (filter_map (login_kept past p) (live_rows login_life login_begun p.entry.at before.logins))
   pub pendings_are : after.pendings
-      ≡ put pending_name (pending_made types (pendings types past) past p) (filter_map (pending_kept past p) (live_rows pending_life pending_begun p.entry.at before.pendings))
-  pub visits_are : after.visits ≡ put visit_name (visit_made types (visits types past) past p) (filter_map (visit_kept past p) (live_rows visit_life visit_begun p.entry.at before.visits))
-  pub seens_are : after.seens ≡ put seen_name (seen_made (seens past) past p) (filter_map (seen_kept past p) (live_rows seen_life seen_begun p.entry.at before.seens))
+      ≡ put pending_name (pending_made types (pendings types past) past p)
+          (filter_map (pending_kept past p) (live_rows pending_life pending_begun p.entry.at before.pendings))
+  pub visits_are : after.visits
+      ≡ put visit_name (visit_made types (visits types past) past p)
+          (filter_map (visit_kept past p) (live_rows visit_life visit_begun p.entry.at before.visits))
+  pub seens_are : after.seens
+      ≡ put seen_name (seen_made (seens past) past p)
+          (filter_map (seen_kept past p) (live_rows seen_life seen_begun p.entry.at before.seens))
 
 -- The precondition of an update: the tables agree with the past, the reply is the answer after it, and the rows are those it
 -- makes.
-pub record MayUpdate (s : PartySetup) (past : RpPast) (before : ℕ) (t : Tables) (p : RpPair) (login : Option LoginRow) (pending : Option PendingRow) (visit : Option SessionRow) (seen : Option SeenRow) : Type 0 where
+pub record MayUpdate
+    (s : PartySetup) (past : RpPast) (before : ℕ) (t : Tables) (p : RpPair) (login : Option LoginRow)
+    (pending : Option PendingRow) (visit : Option SessionRow) (seen : Option SeenRow) : Type 0 where
   pub order : before ≤ p.entry.at
   pub agrees : Agrees (party_of s).types t past before
   pub begun : IsBegun t before
   pub reply_is : p.reply ≡ rp_answer s past p.entry
   pub rows : MakesRows (party_of s).types past p login pending visit seen
+
+-- some setup, past and moment before the pair for which this is the precondition
+abbrev pub MayUpdateTables : Tables → RpPair → Made → Type 0
+MayUpdateTables t p made =
+    (s : PartySetup) × (past : RpPast) × (before : ℕ) × MayUpdate s past before t p made.login made.pending made.visit made.seen
+
+-- after each such past the tables follow the pair
+abbrev pub UpdatesTables : Tables → Tables → RpPair → Made → Type 0
+UpdatesTables t after p made =
+    (s : PartySetup) (past : RpPast) (before : ℕ) → MayUpdate s past before t p made.login made.pending made.visit made.seen
+    → IsUpdate (party_of s).types t after past p
 
 -- ---- exchanges that get their response
 

@@ -19,6 +19,7 @@ use Rattle.rp_answer.specs.Logins.{logins, login_made, live_login}
 use Rattle.rp_answer.specs.Pendings.{pendings, pending_started, pending_followed, pending_made, live_pending}
 use Rattle.rp_answer.specs.Seens.{seens, seen_made}
 use Rattle.rp_answer.specs.Visits.{visits, visit_of, visit_after, visit_made}
+use Rattle.rp_core.specs.declared.making.Made.{Made}
 
 -- the pending exchange after the response of the live login
 abbrev pub started_found : Types → RpPast → Entry RpAsk → Word → Stage → Option PendingRow
@@ -59,8 +60,14 @@ visit_found types past e (Entered w sub) = visit_in types past e w e.ask
 visit_found types past e reply = None
 
 -- these are the rows that the definitions make
-pub record MakesRows (types : Types) (past : RpPast) (p : RpPair) (login : Option LoginRow) (pending : Option PendingRow) (visit : Option SessionRow) (seen : Option SeenRow) : Type 0 where
+pub record MakesRows
+    (types : Types) (past : RpPast) (p : RpPair) (login : Option LoginRow) (pending : Option PendingRow)
+    (visit : Option SessionRow) (seen : Option SeenRow) : Type 0 where
   pub login_is : login ≡ login_made (logins past) past p
   pub pending_is : pending ≡ pending_made types (pendings types past) past p
   pub visit_is : visit ≡ visit_made types (visits types past) past p
   pub seen_is : seen ≡ seen_made (seens past) past p
+
+-- these are the rows that the pair makes
+abbrev pub AreMade : Types → RpPast → RpPair → Made → Type 0
+AreMade types past p made = MakesRows types past p made.login made.pending made.visit made.seen

@@ -4,10 +4,9 @@ ghost use Rattle.std.specs.Prelude.{◌≡◌, ◌≤◌, IfOk};
 ghost use Rattle.sso_base.specs.Legal.{last_moment};
 ghost use Rattle.rp_login.specs.declared.rows.Stage.TheVariants as stage;
 ghost use Rattle.rp_answer.specs.Setup.{party_of};
-ghost use Rattle.rp_answer.specs.Pendings.{live_pending};
 ghost use Rattle.rp_answer.specs.Replies as spec;
 ghost use Rattle.rp_answer.specs.Visits.{live_visit};
-ghost use Rattle.rp_core.specs.Relying.{past_of};
+ghost use Rattle.rp_core.specs.Relying.{past_of, exchange_at};
 
 use crate::state::RpCore;
 use id_token::{IdClaims, IdNo};
@@ -30,7 +29,7 @@ impl RpCore {
         id: &Option<Result<IdClaims, IdNo>>,
     ) -> Result<RpReply, NoMemory>
         requires { last_moment (past_of self.now) ≤ entry.now.at }
-        ensures { IfOk result (λ r. r ≡ spec.tokens self.now.setup entry.now (live_pending (party_of self.now.setup).types (past_of self.now) entry.now.at pending stage.Tokens) tokens.now id.now) }
+        ensures { IfOk result (λ r. r ≡ spec.tokens self.now.setup entry.now (exchange_at self.now entry.now.at pending stage.Tokens) tokens.now id.now) }
     {
         let Some(row) = self.live_pending(entry.at, pending, Stage::Tokens) else {
             return Ok(RpReply::Refused {
@@ -54,7 +53,7 @@ impl RpCore {
         sub: &Result<Text, InfoNo>,
     ) -> Result<RpReply, NoMemory>
         requires { last_moment (past_of self.now) ≤ entry.now.at }
-        ensures { IfOk result (λ r. r ≡ spec.info entry.now (live_pending (party_of self.now.setup).types (past_of self.now) entry.now.at pending stage.Info) sub.now) }
+        ensures { IfOk result (λ r. r ≡ spec.info entry.now (exchange_at self.now entry.now.at pending stage.Info) sub.now) }
     {
         let Some(row) = self.live_pending(entry.at, pending, Stage::Info) else {
             return Ok(RpReply::Refused {

@@ -1,11 +1,10 @@
 // Updating the tables with a pair. It allocates nothing.
 
-ghost use Rattle.std.specs.Prelude.{◌≡◌, true, false, filter_map, IfSome, ℕ, None};
+ghost use Rattle.std.specs.Prelude.{◌≡◌, true, false, filter_map, IfSome, None};
 ghost use Rattle.held_rows.specs.Held.{MayAddRow};
 ghost use Rattle.rp_login.specs.Tables.{ArePendings};
 ghost use Rattle.rp_login.specs.Rows.{login_name, login_begun, pending_name, pending_begun, visit_name, visit_begun, seen_name, seen_begun};
 ghost use Rattle.rp_answer.specs.Past.{RpPast};
-ghost use Rattle.rp_answer.specs.Setup.{PartySetup, party_of};
 ghost use Rattle.rp_answer.specs.Asked as asked;
 ghost use Rattle.rp_answer.specs.Logins as logins;
 ghost use Rattle.rp_answer.specs.Pendings as pendings;
@@ -175,10 +174,10 @@ fn add_seen(tables: &mut Logins, row: Option<SeenRow>)
 }
 
 /// Updates the tables with a pair: expired rows are removed, the pair changes the other rows, and its new rows are added.
-pub(crate) fn update_tables(tables: &mut Logins, pair: &Pair<RpAsk, RpReply>, made: Made)
-    requires may { (s : PartySetup) × (past : RpPast) × (before : ℕ) × spec.MayUpdate s past before tables.old pair.now made.login made.pending made.visit made.seen }
+pub(crate) fn take_up(tables: &mut Logins, pair: &Pair<RpAsk, RpReply>, made: Made)
+    requires may { spec.MayUpdateTables tables.old pair.now made }
     requires reserved { tables.old.reserved ≡ record { logins = true; pendings = true; visits = true; seens = true } }
-    ensures { (s : PartySetup) (past : RpPast) (before : ℕ) → spec.MayUpdate s past before tables.old pair.now made.login made.pending made.visit made.seen → spec.IsUpdate (party_of s).types tables.old tables.new past pair.now }
+    ensures { spec.UpdatesTables tables.old tables.new pair.now made }
 {
     tables.purge(pair.entry.at);
     keep_logins(tables, pair);

@@ -2,8 +2,7 @@
 
 ghost use Rattle.std.specs.Prelude.{◌≡◌, ◌≤◌, IfOk};
 ghost use Rattle.sso_base.specs.Legal.{last_moment};
-ghost use Rattle.logout_token.specs.Judging.{logout_judged};
-ghost use Rattle.rp_answer.specs.Setup.{party_of, client_of};
+ghost use Rattle.rp_answer.specs.Setup.{party_of};
 ghost use Rattle.rp_answer.specs.Replies as spec;
 ghost use Rattle.rp_answer.specs.Seens.{live_seen};
 ghost use Rattle.rp_answer.specs.Visits.{live_visit};
@@ -44,7 +43,7 @@ impl RpCore {
     // Verifies the claims of a logout token.
     fn logout_read(&self, entry: &Entry<RpAsk>, claims: &LogoutClaims) -> RpReply
         requires { last_moment (past_of self.now) ≤ entry.now.at }
-        ensures { result ≡ spec.logout_good self.now.setup (past_of self.now) entry.now claims.now (logout_judged self.now.setup.provider.issuer (client_of self.now.setup).id claims.now entry.now.at) }
+        ensures { result ≡ spec.logout_verified self.now.setup (past_of self.now) entry.now claims.now }
     {
         match self.setup.judge_logout(claims, entry.at) {
             Ok(()) => self.logout_new(entry, claims),

@@ -13,7 +13,7 @@ ghost use Rattle.rp_answer.specs.Seens as seens;
 ghost use Rattle.rp_answer.specs.Visits as visits;
 ghost use Rattle.rp_answer.specs.Setup.{party_of};
 ghost use Rattle.rp_core.specs.Making as spec;
-ghost use Rattle.rp_core.specs.Relying.{past_of};
+ghost use Rattle.rp_core.specs.Relying.{past_of, exchange_at};
 
 use crate::state::RpCore;
 use id_token::{IdClaims, IdNo};
@@ -344,7 +344,7 @@ impl RpCore {
         answered: Word,
     ) -> Result<Option<SessionRow>, NoMemory>
         requires { last_moment (past_of self.now) ≤ at }
-        ensures { IfOk result (λ row. row ≡ option_and_then (visits.visit_after at word) (pendings.live_pending (party_of self.now.setup).types (past_of self.now) at answered stage.Info)) }
+        ensures { IfOk result (λ row. row ≡ option_and_then (visits.visit_after at word) (exchange_at self.now at answered stage.Info)) }
     {
         match self.live_pending(at, answered, Stage::Info) {
             Some(pending) => visit_after(alloc, at, word, pending),
@@ -431,7 +431,7 @@ impl RpCore {
     ) -> Result<Made, NoMemory>
         requires moment { last_moment (past_of self.now) ≤ entry.now.at }
         requires answer { reply.now ≡ rp_answer self.now.setup (past_of self.now) entry.now }
-        ensures { IfOk result (λ m. spec.MakesRows (party_of self.now.setup).types (past_of self.now) (record { entry = entry.now; reply = reply.now }) m.login m.pending m.visit m.seen) }
+        ensures { IfOk result (λ m. spec.AreMade (party_of self.now.setup).types (past_of self.now) (record { entry = entry.now; reply = reply.now }) m) }
     {
         Ok(Made {
             login: self.login_started(entry, reply),

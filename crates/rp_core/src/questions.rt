@@ -12,7 +12,7 @@ ghost use Rattle.rp_answer.specs.Pendings as pendings;
 ghost use Rattle.rp_answer.specs.Replies.{meant_count};
 ghost use Rattle.rp_answer.specs.Seens as seens;
 ghost use Rattle.rp_answer.specs.Visits as visits;
-ghost use Rattle.rp_core.specs.Relying.{past_of};
+ghost use Rattle.rp_core.specs.Relying.{past_of, exchanges_at};
 
 use crate::state::RpCore;
 use logout_token::LogoutClaims;
@@ -131,8 +131,8 @@ impl RpCore {
     // Whether no exchange with this word can be added when the answered one, which lives, ends.
     fn lacks_beside_live(&self, at: Moment, answered: Word, word: Word) -> bool
         requires order { last_moment (past_of self.now) ≤ at }
-        requires there { is_some (row_of pending_name answered (pendings.live_pendings (party_of self.now.setup).types (past_of self.now) at)) ≡ true }
-        ensures { result ≡ is_full most_rows pending_name word (without pending_name answered (pendings.live_pendings (party_of self.now.setup).types (past_of self.now) at)) }
+        requires there { is_some (row_of pending_name answered (exchanges_at self.now at)) ≡ true }
+        ensures { result ≡ is_full most_rows pending_name word (without pending_name answered (exchanges_at self.now at)) }
     {
         let named = self.is_pending(at, word);
         answered != word && named
@@ -141,7 +141,7 @@ impl RpCore {
     /// Whether no pending exchange with this word can be added when the answered one ends.
     pub(crate) fn lacks_pending_beside(&self, at: Moment, answered: Word, word: Word) -> bool
         requires { last_moment (past_of self.now) ≤ at }
-        ensures { result ≡ is_full most_rows pending_name word (without pending_name answered (pendings.live_pendings (party_of self.now.setup).types (past_of self.now) at)) }
+        ensures { result ≡ is_full most_rows pending_name word (without pending_name answered (exchanges_at self.now at)) }
     {
         if self.is_pending(at, answered) {
             self.lacks_beside_live(at, answered, word)

@@ -5,9 +5,8 @@ ghost use Rattle.sso_base.specs.Legal.{last_moment};
 ghost use Rattle.rp_answer.specs.Setup.{party_of};
 ghost use Rattle.held_rows.specs.Held.{most_rows, is_full};
 ghost use Rattle.rp_login.specs.Rows.{pending_name};
-ghost use Rattle.rp_answer.specs.Pendings.{live_pendings};
 ghost use Rattle.rp_answer.specs.Room as spec;
-ghost use Rattle.rp_core.specs.Relying.{past_of};
+ghost use Rattle.rp_core.specs.Relying.{past_of, exchanges_at};
 
 use crate::state::RpCore;
 use rp_exchange::{RpAsk, RpReply};
@@ -24,7 +23,7 @@ impl RpCore {
     // Whether there is no room for a UserInfo request with this word, when the exchange of a token response ends.
     fn lacks_question(&self, entry: &Entry<RpAsk>, word: Word) -> bool
         requires { last_moment (past_of self.now) ≤ entry.now.at }
-        ensures { result ≡ is_full most_rows pending_name word (spec.beside_answered entry.now.ask (live_pendings (party_of self.now.setup).types (past_of self.now) entry.now.at)) }
+        ensures { result ≡ is_full most_rows pending_name word (spec.beside_answered entry.now.ask (exchanges_at self.now entry.now.at)) }
     {
         match &entry.ask {
             RpAsk::Tokens { pending, .. } => self.lacks_pending_beside(entry.at, *pending, word),

@@ -1,16 +1,15 @@
 // One step of a relying party: it decides the reply, makes the rows, reserves all memory, and only then changes anything.
 
-ghost use Rattle.std.specs.Prelude.{◌≡◌, ℕ, ◌<◌, ◌≤◌, ◌+◌, ◌++◌, true, [], ◌∷◌, length, OnOk, OnErr};
+ghost use Rattle.std.specs.Prelude.{◌≡◌, ◌<◌, ◌≤◌, ◌+◌, ◌++◌, true, [], ◌∷◌, length, OnOk, OnErr};
 ghost use Rattle.rp_login.specs.Tables.{with_room};
 ghost use Rattle.sso_base.specs.Legal.{last_moment, IsEntry};
 ghost use Rattle.sso_base.specs.Journal.{history_weight, most_weight};
 ghost use Rattle.rp_exchange.specs.Values.{IsRpAsk};
 ghost use Rattle.rp_exchange.specs.Weight as weights;
 ghost use Rattle.rp_answer.specs.Answering.{rp_answer};
-ghost use Rattle.rp_answer.specs.Past.{RpPast};
 ghost use Rattle.rp_answer.specs.Setup.{PartySetup, party_of};
-ghost use Rattle.rp_core.specs.Keeping.{MayUpdate, IsUpdate};
-ghost use Rattle.rp_core.specs.Making.{MakesRows};
+ghost use Rattle.rp_core.specs.Keeping.{MayUpdateTables, UpdatesTables};
+ghost use Rattle.rp_core.specs.Making.{AreMade};
 ghost use Rattle.rp_core.specs.Relying.{past_of};
 
 use crate::keeping::update_tables;
@@ -42,12 +41,12 @@ fn put(
     weight: u64,
 )
     requires reserved { length journal.old.pairs < journal.old.capacity }
-    requires may { (s : PartySetup) × (past : RpPast) × (before : ℕ) × MayUpdate s past before logins.old (record { entry = entry; reply = reply }) made.login made.pending made.visit made.seen }
+    requires may { MayUpdateTables logins.old (record { entry = entry; reply = reply }) made }
     requires tables { logins.old.reserved ≡ record { logins = true; pendings = true; visits = true; seens = true } }
     requires weight { weight ≡ weights.ask_weight entry.ask }
     requires room { history_weight weights.ask_weight journal.old.pairs + weight ≤ most_weight }
     ensures pairs { journal.new.pairs ≡ journal.old.pairs ++ (record { entry = entry; reply = reply }) ∷ [] }
-    ensures tables { (s : PartySetup) (past : RpPast) (before : ℕ) → MayUpdate s past before logins.old (record { entry = entry; reply = reply }) made.login made.pending made.visit made.seen → IsUpdate (party_of s).types logins.old logins.new past (record { entry = entry; reply = reply }) }
+    ensures tables { UpdatesTables logins.old logins.new (record { entry = entry; reply = reply }) made }
 {
     let pair = Pair { entry, reply };
     update_tables(logins, &pair, made);
@@ -63,11 +62,11 @@ fn take_in(
     made: Made,
     weight: u64,
 ) -> Result<(), NoMemory>
-    requires may { (s : PartySetup) × (past : RpPast) × (before : ℕ) × MayUpdate s past before (with_room logins.old) (record { entry = entry; reply = reply }) made.login made.pending made.visit made.seen }
+    requires may { MayUpdateTables (with_room logins.old) (record { entry = entry; reply = reply }) made }
     requires weight { weight ≡ weights.ask_weight entry.ask }
     requires room { history_weight weights.ask_weight journal.old.pairs + weight ≤ most_weight }
     ensures pairs { OnOk result (journal.new.pairs ≡ journal.old.pairs ++ (record { entry = entry; reply = reply }) ∷ []) }
-    ensures tables { OnOk result ((s : PartySetup) (past : RpPast) (before : ℕ) → MayUpdate s past before (with_room logins.old) (record { entry = entry; reply = reply }) made.login made.pending made.visit made.seen → IsUpdate (party_of s).types (with_room logins.old) logins.new past (record { entry = entry; reply = reply })) }
+    ensures tables { OnOk result (UpdatesTables (with_room logins.old) logins.new (record { entry = entry; reply = reply }) made) }
     ensures same_pairs { OnErr result (journal.new.pairs ≡ journal.old.pairs) }
     ensures same_tables { OnErr result (logins.new ≡ logins.old) }
 {
@@ -98,7 +97,7 @@ impl RpCore {
         requires moment { last_moment (past_of self.old) ≤ entry.at }
         requires answer { reply ≡ rp_answer self.old.setup (past_of self.old) entry }
         requires entry { IsEntry IsRpAsk entry }
-        requires rows { MakesRows (party_of self.old.setup).types (past_of self.old) (record { entry = entry; reply = reply }) made.login made.pending made.visit made.seen }
+        requires rows { AreMade (party_of self.old.setup).types (past_of self.old) (record { entry = entry; reply = reply }) made }
         requires weight { weight ≡ weights.ask_weight entry.ask }
         requires room { history_weight weights.ask_weight self.old.history + weight ≤ most_weight }
         ensures setup { OnOk result (self.new.setup ≡ self.old.setup) }

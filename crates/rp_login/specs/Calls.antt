@@ -9,7 +9,8 @@ use Rattle.rp_login.specs.declared.rows.PendingRow.{PendingRow}
 use Rattle.rp_login.specs.declared.rows.SessionRow.{SessionRow}
 use Rattle.rp_login.specs.declared.rows.SeenRow.{SeenRow}
 use Rattle.oidc_words.specs.Lives.{seen_life}
-use Rattle.rp_login.specs.Tables.{Tables, with_room, purged, with_login, with_pending, with_visit, with_seen, login_ended, pending_ended, visit_ended, named_ended}
+use Rattle.rp_login.specs.Tables.{Tables, with_room, purged, with_login, with_pending, with_visit, with_seen, login_ended, pending_ended, visit_ended}
+use Rattle.rp_login.specs.Tables.{named_ended}
 
 pub data Call : Type 0 where
   reserve : Call

@@ -3,3 +3,4 @@ pub mod Named
 pub mod Room
 pub mod Rows
 pub mod Tables
+pub mod Laws

@@ -1,3 +1,4 @@
 pub mod Routes
 pub mod Prepared
 pub mod Requests
+pub mod Laws

@@ -1,5 +1,6 @@
 -- The values of requests to a relying party, of token responses and of UserInfo responses.
-use Rattle.std.specs.Prelude.{ℕ, ◌==◌, nat_lt, Bool, true, false, ◌&&◌, List, [], length, filter, codes, Option, Some, None, option_map, option_and_then, unwrap_or, Result, Ok, Err, if◌then◌else◌}
+use Rattle.std.specs.Prelude.{ℕ, ◌==◌, nat_lt, Bool, true, false, ◌&&◌, List, [], length, filter, codes, Option, Some, None, option_map, option_and_then}
+use Rattle.std.specs.Prelude.{unwrap_or, Result, Ok, Err, if◌then◌else◌}
 use Rattle.std.specs.Str.{bytes_eq}
 use Rattle.sso_base.specs.Words.{Word, Text}
 use Rattle.sso_base.specs.declared.http.Method.{Method}

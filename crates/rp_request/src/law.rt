@@ -1,38 +1,26 @@
 // Laws about the values that requests and responses produce.
 
-ghost use Rattle.std.specs.Prelude.{◌≡◌, ℕ, List, [], true, false, IsFalse, codes, Option, Some, None, option_map, Result, Ok, Err};
+ghost use Rattle.std.specs.Prelude.{◌≡◌, ℕ, List, [], true, IsFalse, codes, Some, Ok, Err};
 ghost use Rattle.sso_base.specs.Words.{Word, Text};
 ghost use Rattle.sso_base.specs.declared.http.Ask.{Ask};
 ghost use Rattle.sso_base.specs.declared.message.Answered.{Answered};
 ghost use Rattle.client_registry.specs.Configuration.{Configuration};
-ghost use Rattle.client_registry.specs.Numbers.{party_row, party_secret};
-ghost use Rattle.client_registry.specs.Registered.{IsRegistry};
-ghost use Rattle.request_params.specs.Form.{form_pairs, form_of, posted};
+ghost use Rattle.request_params.specs.Form.{form_pairs};
 ghost use Rattle.request_params.specs.Reading.{has_name, StandsTwice};
-ghost use Rattle.id_token.specs.declared.claims.IdClaims.{IdClaims};
-ghost use Rattle.id_token.specs.declared.no.IdNo.{IdNo};
-ghost use Rattle.id_token.specs.Token.{IsIdToken};
 ghost use Rattle.jws_compact.specs.declared.no.JwsNo.TheVariants as jws_no;
-ghost use Rattle.id_token.specs.Reading.{id_read};
-ghost use Rattle.auth_answer.specs.declared.heard.Heard.{Heard};
-ghost use Rattle.auth_answer.specs.declared.no.AnswerNo.{AnswerNo};
-ghost use Rattle.auth_answer.specs.Reading.{HasAnswer, RefusesAnswer};
-ghost use Rattle.token_endpoint.specs.declared.reading.Tokens.{Tokens};
-ghost use Rattle.token_endpoint.specs.declared.no.TokensNo.{TokensNo};
-ghost use Rattle.token_endpoint.specs.Answer.{tokens_read, HasTokens};
-ghost use Rattle.userinfo.specs.declared.no.InfoNo.{InfoNo};
-ghost use Rattle.userinfo.specs.Answer.{info_read, IsUserInfo};
-ghost use Rattle.logout_token.specs.declared.claims.LogoutClaims.{LogoutClaims};
-ghost use Rattle.logout_token.specs.declared.no.LogoutNo.{LogoutNo};
+ghost use Rattle.userinfo.specs.Answer.{IsUserInfo};
 ghost use Rattle.logout_token.specs.declared.no.LogoutNo.TheVariants as logout_no;
 ghost use Rattle.logout_token.specs.LogoutToken.{logout_read};
-ghost use Rattle.logout_token.specs.Token.{IsLogoutToken};
 ghost use Rattle.rp_exchange.specs.declared.ask.RpAsk.TheVariants as ask;
 ghost use Rattle.rp_exchange.specs.Asks.{is_prepared};
 ghost use Rattle.rp_request.specs.declared.routes.Endpoint.{Endpoint};
-ghost use Rattle.rp_request.specs.declared.routes.Endpoint.TheVariants as endpoint;
-ghost use Rattle.rp_request.specs.Prepared.{wants_page, logout_token_in, prepared, tokens_prepared, info_prepared};
-ghost use Rattle.rp_request.specs.Requests.{IsTo, own_endpoint, IsOpened, IsLogoutOpened, StandsAlone, HasCookies};
+ghost use Rattle.rp_request.specs.Prepared.{logout_token_in, prepared, tokens_prepared, info_prepared};
+ghost use Rattle.rp_request.specs.Requests.{IsTo, own_endpoint, StandsAlone, HasCookies};
+ghost use Rattle.rp_request.specs.Laws.{FragmentPagesAreWanted, WantedPagesAreAskedFor, ReadResponsesAreInTheForm, ResponsesInTheFormAreRead};
+ghost use Rattle.rp_request.specs.Laws.{RefusedResponsesAreInTheForm, BadFormsAreRefused, IdTokensAreOpenedByTheSecret, IdTokensOfTheSecretAreAccepted};
+ghost use Rattle.rp_request.specs.Laws.{ReadTokensAreInTheResponse, TokensInTheResponseAreRead, BadTokenResponsesAreRefused, IdTokensOfTokenResponsesAreOpened};
+ghost use Rattle.rp_request.specs.Laws.{IdTokensOfTokenResponsesAreAccepted, ReadSubjectsAreInTheResponse, BadUserInfoResponsesAreRefused};
+ghost use Rattle.rp_request.specs.Laws.{LogoutRequestsAreRead, LogoutTokensAreOpenedByTheSecret, LogoutTokensOfTheSecretAreAccepted};
 
 /// A request gives `NotHere` if and only if it is to no endpoint: its path is not listed for its method, and is not that of the
 /// redirect URI or of the logout URI. Any other value belongs to the endpoint that the request is to.
@@ -45,57 +33,57 @@ pub fn requests_are_told_by_method_and_path()
 /// The fragment page is requested by a GET of the redirect URI with an empty query, if the response is in the fragment for the
 /// response type, and by no other request (OpenID Connect Core 1.0, 3.2.2.5).
 pub fn the_page_is_asked_for_without_a_query()
-    ensures wanted { (c : Configuration) (n : ℕ) (request : Ask) → prepared c n request ≡ ask.Fragment → IsTo c n request endpoint.Redirection × (wants_page (party_row c n).types request ≡ true) }
-    ensures asked { (c : Configuration) (n : ℕ) (request : Ask) → IsRegistry c → IsTo c n request endpoint.Redirection → wants_page (party_row c n).types request ≡ true → prepared c n request ≡ ask.Fragment }
+    ensures wanted { FragmentPagesAreWanted }
+    ensures asked { WantedPagesAreAskedFor }
 {}
 
 /// Any other authorization response is the form in the query of a GET, or in the body of a POST, of the redirect URI. It is
 /// accepted if and only if no parameter name of a response occurs twice in the form. Otherwise it is rejected with the first
 /// such name (RFC 6749, 3.1).
 pub fn callbacks_are_read_from_forms()
-    ensures heard { (c : Configuration) (n : ℕ) (request : Ask) (heard : Heard) (id : Option (Result IdClaims IdNo)) (browser : Option Word) → prepared c n request ≡ ask.Callback (Ok heard) id browser → HasAnswer (form_of request.method request) heard }
-    ensures hears { (c : Configuration) (n : ℕ) (request : Ask) (heard : Heard) → IsRegistry c → IsTo c n request endpoint.Redirection → wants_page (party_row c n).types request ≡ false → HasAnswer (form_of request.method request) heard → prepared c n request ≡ ask.Callback (Ok heard) (option_map (id_read (party_secret c n)) heard.id) request.first }
-    ensures refused { (c : Configuration) (n : ℕ) (request : Ask) (why : AnswerNo) (id : Option (Result IdClaims IdNo)) (browser : Option Word) → prepared c n request ≡ ask.Callback (Err why) id browser → RefusesAnswer (form_of request.method request) why }
-    ensures refuses { (c : Configuration) (n : ℕ) (request : Ask) (why : AnswerNo) → IsRegistry c → IsTo c n request endpoint.Redirection → wants_page (party_row c n).types request ≡ false → RefusesAnswer (form_of request.method request) why → prepared c n request ≡ ask.Callback (Err why) None request.first }
+    ensures heard { ReadResponsesAreInTheForm }
+    ensures hears { ResponsesInTheFormAreRead }
+    ensures refused { RefusedResponsesAreInTheForm }
+    ensures refuses { BadFormsAreRefused }
 {}
 
 /// The ID Token in an authorization response is read as its claims if and only if it is an ID Token under the secret of the
 /// party's client (OpenID Connect Core 1.0, 3.1.3.7, step 8; 10.1). Nothing is read if and only if there is none.
 pub fn id_tokens_are_opened_by_the_secret()
-    ensures opened { (c : Configuration) (n : ℕ) (request : Ask) (heard : Heard) (id : Option (Result IdClaims IdNo)) (browser : Option Word) → prepared c n request ≡ ask.Callback (Ok heard) id browser → IsOpened (party_secret c n) heard.id id }
-    ensures accepted { (c : Configuration) (n : ℕ) (request : Ask) (heard : Heard) (id : Option (Result IdClaims IdNo)) (browser : Option Word) (text : Text) (claims : IdClaims) → prepared c n request ≡ ask.Callback (Ok heard) id browser → heard.id ≡ Some text → IsIdToken (party_secret c n) text claims → id ≡ Some (Ok claims) }
+    ensures opened { IdTokensAreOpenedByTheSecret }
+    ensures accepted { IdTokensOfTheSecretAreAccepted }
 {}
 
 /// A token response is given to the exchange that is waiting for it. It is accepted, with its tokens, if and only if it is a
 /// successful token response (Core 3.1.3.3). Otherwise it is rejected for the first reason, without an ID Token.
 pub fn token_answers_are_read_for_their_exchange()
-    ensures read { (c : Configuration) (n : ℕ) (pending w : Word) (answer : Answered) (tokens : Tokens) (id : Option (Result IdClaims IdNo)) → tokens_prepared c n pending answer ≡ ask.Tokens w (Ok tokens) id → (w ≡ pending) × HasTokens answer tokens }
-    ensures reads { (c : Configuration) (n : ℕ) (pending : Word) (answer : Answered) (tokens : Tokens) → HasTokens answer tokens → tokens_prepared c n pending answer ≡ ask.Tokens pending (Ok tokens) (Some (id_read (party_secret c n) tokens.id)) }
-    ensures refuses { (c : Configuration) (n : ℕ) (pending : Word) (answer : Answered) (why : TokensNo) → tokens_read answer ≡ Err why → tokens_prepared c n pending answer ≡ ask.Tokens pending (Err why) None }
+    ensures read { ReadTokensAreInTheResponse }
+    ensures reads { TokensInTheResponseAreRead }
+    ensures refuses { BadTokenResponsesAreRefused }
 {}
 
 /// The ID Token in a token response is read as its claims if and only if it is an ID Token under the secret of the party's
 /// client.
 pub fn token_answers_have_opened_id_tokens()
-    ensures opened { (c : Configuration) (n : ℕ) (pending w : Word) (answer : Answered) (tokens : Tokens) (id : Option (Result IdClaims IdNo)) → tokens_prepared c n pending answer ≡ ask.Tokens w (Ok tokens) id → IsOpened (party_secret c n) (Some tokens.id) id }
-    ensures accepted { (c : Configuration) (n : ℕ) (pending w : Word) (answer : Answered) (tokens : Tokens) (id : Option (Result IdClaims IdNo)) (claims : IdClaims) → tokens_prepared c n pending answer ≡ ask.Tokens w (Ok tokens) id → IsIdToken (party_secret c n) tokens.id claims → id ≡ Some (Ok claims) }
+    ensures opened { IdTokensOfTokenResponsesAreOpened }
+    ensures accepted { IdTokensOfTokenResponsesAreAccepted }
 {}
 
 /// A UserInfo response is given to the exchange that is waiting for it. It is accepted, with its subject, if and only if it is
 /// a successful UserInfo response (Core 5.3.2). Otherwise it is rejected for the first reason.
 pub fn info_answers_are_read_for_their_exchange()
-    ensures read { (pending w : Word) (answer : Answered) (sub : Text) → info_prepared pending answer ≡ ask.Info w (Ok sub) → (w ≡ pending) × IsUserInfo answer sub }
+    ensures read { ReadSubjectsAreInTheResponse }
     ensures reads { (pending : Word) (answer : Answered) (sub : Text) → IsUserInfo answer sub → info_prepared pending answer ≡ ask.Info pending (Ok sub) }
-    ensures refuses { (pending : Word) (answer : Answered) (why : InfoNo) → info_read answer ≡ Err why → info_prepared pending answer ≡ ask.Info pending (Err why) }
+    ensures refuses { BadUserInfoResponsesAreRefused }
 {}
 
 /// A logout request is read as the logout token in its form, under the secret of the party's client. The result is the claims,
 /// if and only if it is a logout token under that secret, or why it is none (OpenID Connect Back-Channel Logout 1.0, 2.5 and
 /// 2.6).
 pub fn logout_tokens_are_opened_by_the_secret()
-    ensures reads { (c : Configuration) (n : ℕ) (request : Ask) → IsRegistry c → IsTo c n request endpoint.Logout → prepared c n request ≡ ask.Logout (logout_read (party_secret c n) (logout_token_in (posted request.body))) }
-    ensures opened { (c : Configuration) (n : ℕ) (request : Ask) (claims : Result LogoutClaims LogoutNo) → prepared c n request ≡ ask.Logout claims → IsLogoutOpened (party_secret c n) (logout_token_in (posted request.body)) claims }
-    ensures accepted { (c : Configuration) (n : ℕ) (request : Ask) (claims : LogoutClaims) → IsRegistry c → IsTo c n request endpoint.Logout → IsLogoutToken (party_secret c n) (logout_token_in (posted request.body)) claims → prepared c n request ≡ ask.Logout (Ok claims) }
+    ensures reads { LogoutRequestsAreRead }
+    ensures opened { LogoutTokensAreOpenedByTheSecret }
+    ensures accepted { LogoutTokensOfTheSecretAreAccepted }
 {}
 
 /// The logout token of a form is the value of the only pair with the name `logout_token`. If no pair or several pairs have that

@@ -4,3 +4,4 @@ pub mod Refusals
 pub mod Lines
 pub mod Telling
 pub mod Told
+pub mod Laws

@@ -1,33 +1,29 @@
 // Laws about the output of replies.
 
-ghost use Rattle.std.specs.Prelude.{◌≡◌, ◌++◌, ◌↔◌, ℕ, [], ◌∷◌, true, Some, is_some, codes, map};
+ghost use Rattle.std.specs.Prelude.{◌≡◌, ◌++◌, ◌↔◌, ℕ, [], ◌∷◌, true, Some, is_some, codes};
 ghost use Rattle.std.specs.Str.Iter.{HasSubslice};
 ghost use Rattle.sso_base.specs.Words.{Word, Text};
 ghost use Rattle.sso_base.specs.declared.http.Kind.TheVariants as kind;
 ghost use Rattle.sso_base.specs.declared.message.Message.{Message};
-ghost use Rattle.http_reply.specs.UserAgent.{cookie_read};
 ghost use Rattle.client_registry.specs.Configuration.{Configuration};
-ghost use Rattle.client_registry.specs.Numbers.{party_name};
-ghost use Rattle.client_registry.specs.Registered.{IsRegistry};
 ghost use Rattle.oidc_words.specs.Paths.{home_path};
 ghost use Rattle.oidc_words.specs.declared.errors.AuthError.{AuthError};
 ghost use Rattle.rp_exchange.specs.declared.no.RpNo.{RpNo};
 ghost use Rattle.rp_exchange.specs.declared.no.RpNo.TheVariants as no;
 ghost use Rattle.rp_exchange.specs.declared.reply.RpReply.{RpReply};
 ghost use Rattle.rp_exchange.specs.declared.reply.RpReply.TheVariants as reply;
-ghost use Rattle.rp_response.specs.Cookies.{browser_cookie, session_cookie};
 ghost use Rattle.rp_response.specs.Telling.{http_of};
 ghost use Rattle.rp_response.specs.Lines.{line_of};
-ghost use Rattle.http_reply.specs.Told.{kept, sets_cookie};
-ghost use Rattle.rp_response.specs.Told.{browser_given, session_given, words_set, sends_on, is_full};
+ghost use Rattle.rp_response.specs.Told.{sends_on, is_full};
+ghost use Rattle.rp_response.specs.Laws.{CookiesAreTheWordsOfReplies, BrowserCookiesAreSet, SessionCookiesAreSet};
 
 /// The cookies of a reply hold exactly the words that it sets: the browser word when a login begins, and the session word when
 /// a session begins. A user agent reads each under its name as the word's text, for every path, `HttpOnly`, `SameSite=Lax` and,
 /// if and only if the issuer is https, `Secure` (RFC 6265, 5.2).
 pub fn cookies_hold_the_words_of_replies()
-    ensures read { (c : Configuration) (n : ℕ) (r : RpReply) → IsRegistry c → map cookie_read (http_of c n r).cookies ≡ map (kept c.secure) (words_set (party_name c n) r) }
-    ensures browser { (c : Configuration) (n : ℕ) (r : RpReply) → IsRegistry c → sets_cookie (browser_cookie (party_name c n)) (http_of c n r).cookies ≡ is_some (browser_given r) }
-    ensures session { (c : Configuration) (n : ℕ) (r : RpReply) → IsRegistry c → sets_cookie (session_cookie (party_name c n)) (http_of c n r).cookies ≡ is_some (session_given r) }
+    ensures read { CookiesAreTheWordsOfReplies }
+    ensures browser { BrowserCookiesAreSet }
+    ensures session { SessionCookiesAreSet }
 {}
 
 /// When a login or a session begins, the reply redirects the user agent with status 303: to the provider, or to the page that

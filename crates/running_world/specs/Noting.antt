@@ -34,6 +34,7 @@ use Rattle.running_world.specs.declared.kept.Asked.{Asked}
 use Rattle.running_world.specs.declared.kept.Kept.{Kept}
 use Rattle.running_world.specs.declared.noting.Index.{Index}
 use Rattle.sso_places.specs.Cookies.{set_by}
+use Rattle.world_index.specs.declared.setters.Setter.{Setter}
 use Rattle.running_world.specs.Whole.{from_if}
 
 -- ---- cookies
@@ -47,6 +48,22 @@ word_sets_for from other w (Some v) = bytes_eq v w && not (from == other)
 abbrev pub sets_for : ℕ → ℕ → Word → Jar → Bool
 sets_for from other w set = not (from == other) && list_any (λ v. bytes_eq v w) (jar_words set)
 
+-- the word is noted as set under this number, and nothing else
+abbrev pub IsWordSet : List (Word × Setter) → List (Word × Setter) → ℕ → Option Word → Type 0
+IsWordSet before after from word =
+    (w : Word) (other : ℕ) → set_for_other after w other ≡ (word_sets_for from other w word || set_for_other before w other)
+
+-- the words of a jar are noted so
+abbrev pub AreWordsSet : List (Word × Setter) → List (Word × Setter) → ℕ → Jar → Type 0
+AreWordsSet before after from set =
+    (w : Word) (other : ℕ) → set_for_other after w other ≡ (sets_for from other w set || set_for_other before w other)
+
+-- some of them are, and nothing else
+abbrev pub AreWordsPartlySet : List (Word × Setter) → List (Word × Setter) → ℕ → Jar → Type 0
+AreWordsPartlySet before after from set =
+    (w : Word) (other : ℕ)
+    → (sets_for from other w set || set_for_other after w other) ≡ (sets_for from other w set || set_for_other before w other)
+
 -- ---- tokens
 
 -- the logout tokens of a sign-out, by the session that it ends
@@ -59,6 +76,10 @@ written_by c at fresh (op.Answered answer given) client ended = token_if (client
 written_by c at fresh (op.Tokens access id) client ended = token_if client (Some id)
 written_by c at fresh (op.SignedOut messages) client ended = ended_writes c at fresh ended
 written_by c at fresh reply client ended = []
+
+-- the tokens that the provider writes in reply to a request
+abbrev pub op_writes : Configuration → Asked → Foreknown → OpReply → List TokenText
+op_writes c a fore answer = written_by c a.at a.fresh answer fore.client fore.ended
 
 -- the number of a client, if a sign-out notifies it
 abbrev pub told_by : Option Client → List Bool → ℕ → List ℕ
@@ -74,12 +95,16 @@ logout_written c out answered n = map (λ client. (client, issued_logout c clien
 
 -- all these tokens are noted, and nothing else
 abbrev pub AreNoted : List (List Text) → List (List Text) → List TokenText → Type 0
-AreNoted before after texts = (t : Text) (client : ℕ) → is_written_for after t client ≡ (list_any (is_token (client, t)) texts || is_written_for before t client)
+AreNoted before after texts =
+    (t : Text) (client : ℕ)
+    → is_written_for after t client ≡ (list_any (is_token (client, t)) texts || is_written_for before t client)
 
 -- some of these tokens are noted, and nothing else
 abbrev pub ArePartlyNoted : List (List Text) → List (List Text) → List TokenText → Type 0
 ArePartlyNoted before after texts =
-    (t : Text) (client : ℕ) → (list_any (is_token (client, t)) texts || is_written_for after t client) ≡ (list_any (is_token (client, t)) texts || is_written_for before t client)
+    (t : Text) (client : ℕ)
+    → (list_any (is_token (client, t)) texts || is_written_for after t client)
+        ≡ (list_any (is_token (client, t)) texts || is_written_for before t client)
 
 -- ---- codes and access tokens
 
@@ -99,7 +124,7 @@ issued_here half place (w ∷ words) = option_or (issued_as half w place) (issue
 -- ---- the contents of a place
 
 abbrev pub writes_by : Configuration → Asked → Foreknown → To → WorldReply → List TokenText
-writes_by c a fore to.Provider (reply.Provider answer) = written_by c a.at a.fresh answer fore.client fore.ended
+writes_by c a fore to.Provider (reply.Provider answer) = op_writes c a fore answer
 writes_by c a fore (to.Party n) (reply.Party answer) = rp_written (own_site c) n a.fresh answer
 writes_by c a fore role answer = []
 
@@ -116,14 +141,26 @@ abbrev pub issued_by : WorldReply → List Word
 issued_by (reply.Provider answer) = words_issued answer
 issued_by answer = []
 
+-- the half hashes of these words are noted at a place, and nothing else
+abbrev pub AreIssued : List (Text × Issued) → List (Text × Issued) → ℕ → WorldReply → Type 0
+AreIssued before after place reply =
+    (half : Text) → issued_of after half ≡ option_or (issued_of before half) (issued_here half place (issued_by reply))
+
+-- some of them are, and nothing else
+abbrev pub ArePartlyIssued : List (Text × Issued) → List (Text × Issued) → ℕ → WorldReply → Type 0
+ArePartlyIssued before after place reply =
+    (half : Text)
+    → option_or (issued_of after half) (issued_here half place (issued_by reply))
+        ≡ option_or (issued_of before half) (issued_here half place (issued_by reply))
+
 -- the place is indexed
 pub record IsNoted (c : Configuration) (before after : Index) (k : Kept) (place : ℕ) (fore : Foreknown) : Type 0 where
-  pub set : (w : Word) (from : ℕ) → set_for_other after.setters w from ≡ (sets_for (from_if k.asked) from w (set_by k.reply) || set_for_other before.setters w from)
+  pub set : AreWordsSet before.setters after.setters (from_if k.asked) (set_by k.reply)
   pub wrote : AreNoted before.written after.written (kept_writes c fore k)
-  pub issued : (half : Text) → issued_of after.halves half ≡ option_or (issued_of before.halves half) (issued_here half place (issued_by k.reply))
+  pub issued : AreIssued before.halves after.halves place k.reply
 
 -- parts of the place may be indexed, and nothing else is
 pub record IsPartlyNoted (c : Configuration) (before after : Index) (k : Kept) (place : ℕ) (fore : Foreknown) : Type 0 where
-  pub set : (w : Word) (from : ℕ) → (sets_for (from_if k.asked) from w (set_by k.reply) || set_for_other after.setters w from) ≡ (sets_for (from_if k.asked) from w (set_by k.reply) || set_for_other before.setters w from)
+  pub set : AreWordsPartlySet before.setters after.setters (from_if k.asked) (set_by k.reply)
   pub wrote : ArePartlyNoted before.written after.written (kept_writes c fore k)
-  pub issued : (half : Text) → option_or (issued_of after.halves half) (issued_here half place (issued_by k.reply)) ≡ option_or (issued_of before.halves half) (issued_here half place (issued_by k.reply))
+  pub issued : ArePartlyIssued before.halves after.halves place k.reply

@@ -1,7 +1,10 @@
 -- One step of a role, and the invariants of the roles of a world.
-use Rattle.std.specs.Prelude.{◌≡◌, ℕ, List, ◌∷◌, Some, slice_get, slice_set}
+use Rattle.std.specs.Prelude.{◌≡◌, ℕ, List, ◌∷◌, Some, slice_get, slice_set, ◌+◌, ◌<◌, ◌≤◌, Err, OnOk, Result}
 use Rattle.sso_base.specs.Words.{Word}
 use Rattle.sso_base.specs.Legal.{last_moment}
+use Rattle.sso_base.specs.declared.step.CoreNo.{CoreNo}
+use Rattle.sso_base.specs.declared.step.CoreNo.TheVariants.{JournalFull}
+use Rattle.sso_base.specs.Journal.{history_weight, most_weight}
 use Rattle.op_exchange.specs.declared.ask.OpAsk.{OpAsk}
 use Rattle.op_exchange.specs.declared.reply.OpReply.{OpReply}
 use Rattle.op_answer.specs.Answering.{op_answer}
@@ -9,6 +12,7 @@ use Rattle.op_answer.specs.Legal.{IsLegalOp}
 use Rattle.op_core.specs.Providing.{Providing, past_of as op_past_of}
 use Rattle.rp_exchange.specs.declared.ask.RpAsk.{RpAsk}
 use Rattle.rp_exchange.specs.declared.reply.RpReply.{RpReply}
+use Rattle.rp_exchange.specs.Weight.{ask_weight as rp_weight}
 use Rattle.rp_answer.specs.Answering.{rp_answer}
 use Rattle.rp_answer.specs.Legal.{IsLegalRp}
 use Rattle.rp_core.specs.Relying.{Relying, past_of as rp_past_of}
@@ -42,3 +46,15 @@ pub record RpStepsAt (before after : List Relying) (n at : ℕ) (fresh : List Wo
   pub found : slice_get before n ≡ Some old
   pub set : after ≡ slice_set before n new
   pub steps : RpSteps old new at fresh asked moment answer
+
+-- after a step the history of the party had room for the request
+abbrev pub PartyHasRoom : {A : Type 0} → Result A CoreNo → List Relying → ℕ → RpAsk → Type 0
+PartyHasRoom result roles n asked =
+    (role : Relying) → slice_get roles n ≡ Some role
+    → OnOk result (history_weight rp_weight role.history + rp_weight asked ≤ most_weight)
+
+-- a step that is refused because the history is full reports its weight, and there was no room for the request
+abbrev pub PartyReportsFull : {A : Type 0} → Result A CoreNo → List Relying → ℕ → RpAsk → Type 0
+PartyReportsFull result roles n asked =
+    (role : Relying) (w : ℕ) → slice_get roles n ≡ Some role → result ≡ Err (JournalFull w)
+    → (w ≡ history_weight rp_weight role.history) × (most_weight < w + rp_weight asked)

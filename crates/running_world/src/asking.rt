@@ -1,16 +1,15 @@
 // Sends a request to one role of a world, and keeps its reply.
 
-ghost use Rattle.std.specs.Prelude.{◌≡◌, ℕ, ◌<◌, ◌≤◌, ◌+◌, length, Err, Some, slice_get, IfOk, OnOk, OnErr};
-ghost use Rattle.sso_base.specs.Journal.{history_weight, most_weight};
+ghost use Rattle.std.specs.Prelude.{◌≡◌, ◌<◌, ◌≤◌, ◌+◌, length, IfOk, OnOk, OnErr};
+ghost use Rattle.sso_base.specs.Journal.{history_weight, most_weight, ReportsFull};
 ghost use Rattle.op_exchange.specs.Weight.{ask_weight as op_weight};
 ghost use Rattle.op_request.specs.Prepared.{prepared as op_prepared};
 ghost use Rattle.op_core.specs.Providing.{past_of as op_past_of};
-ghost use Rattle.rp_core.specs.Relying.{Relying};
-ghost use Rattle.rp_exchange.specs.Weight.{ask_weight as rp_weight};
 ghost use Rattle.sso_places.specs.Legal.{party_prepared};
 ghost use Rattle.sso_places.specs.World.{op_past};
 ghost use Rattle.running_world.specs.Running.{places_of};
 ghost use Rattle.running_world.specs.Worlds.{shown, OpAsked, RpAsked};
+ghost use Rattle.running_world.specs.Roles.{PartyHasRoom, PartyReportsFull};
 
 use crate::foreknown::nothing_foreknown;
 use crate::kept::Asked;
@@ -40,7 +39,7 @@ pub(crate) fn ask_provider(
     ensures provider { OnErr result (provider.new ≡ provider.old) }
     ensures transcript { OnErr result (shown transcript.new ≡ shown transcript.old) }
     ensures room { OnOk result (history_weight op_weight provider.old.history + op_weight (op_prepared transcript.old.registry request) ≤ most_weight) }
-    ensures full { (w : ℕ) → result ≡ Err (CoreNo.JournalFull w) → (w ≡ history_weight op_weight provider.old.history) × (most_weight < w + op_weight (op_prepared transcript.old.registry request)) }
+    ensures full { ReportsFull result (history_weight op_weight provider.old.history) (op_weight (op_prepared transcript.old.registry request)) }
 {
     transcript.prepare(alloc, from, To::Provider)?;
     let asked = prepare_op(alloc, transcript.registry(), &request)?;
@@ -93,8 +92,8 @@ pub(crate) fn ask_party(
     ensures ok { OnOk result (RpAsked parties.old.items parties.new.items transcript.old transcript.new from party at fresh ask) }
     ensures parties { OnErr result (parties.new.items ≡ parties.old.items) }
     ensures transcript { OnErr result (shown transcript.new ≡ shown transcript.old) }
-    ensures room { (role : Relying) → slice_get parties.old.items party ≡ Some role → OnOk result (history_weight rp_weight role.history + rp_weight (party_prepared transcript.old.registry party ask) ≤ most_weight) }
-    ensures full { (role : Relying) (w : ℕ) → slice_get parties.old.items party ≡ Some role → result ≡ Err (CoreNo.JournalFull w) → (w ≡ history_weight rp_weight role.history) × (most_weight < w + rp_weight (party_prepared transcript.old.registry party ask)) }
+    ensures room { PartyHasRoom result parties.old.items party (party_prepared transcript.old.registry party ask) }
+    ensures full { PartyReportsFull result parties.old.items party (party_prepared transcript.old.registry party ask) }
 {
     transcript.prepare(alloc, from, To::Party(party))?;
     let asked = prepare_party(alloc, transcript.registry(), party, &ask)?;

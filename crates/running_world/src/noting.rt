@@ -1,6 +1,6 @@
 // What later places look up of a place: the cookies that it sets, the tokens that it writes, and the words that it issues.
 
-ghost use Rattle.std.specs.Prelude.{◌≡◌, ℕ, ◌||◌, false, length, reverse, Some, None, IfSome, IfOk, OnOk, OnErr};
+ghost use Rattle.std.specs.Prelude.{◌≡◌, ℕ, false, length, reverse, Some, None, IfSome, IfOk, OnOk, OnErr};
 ghost use Rattle.std.specs.List.{AllByRecursion};
 ghost use Rattle.std.specs.Option.{option_or};
 ghost use Rattle.sso_base.specs.Words.{Word as WordOf, Text as TextOf};
@@ -50,7 +50,7 @@ impl Index {
 
 // Notes that the word, if there is one, is set under a number.
 fn note_word(setters: &mut Setters, word: &Option<Word>, from: u32) -> Result<(), NoMemory>
-    ensures ok { OnOk result ((w : WordOf) (other : ℕ) → set_for_other setters.new w other ≡ (spec.word_sets_for from other w word.now || set_for_other setters.old w other)) }
+    ensures ok { OnOk result (spec.IsWordSet setters.old setters.new from word.now) }
     ensures err { OnErr result (setters.new ≡ setters.old) }
 {
     match word {
@@ -61,8 +61,8 @@ fn note_word(setters: &mut Setters, word: &Option<Word>, from: u32) -> Result<()
 
 // Notes that the cookies of a jar are set under a number.
 fn note_set(setters: &mut Setters, set: &Jar, from: u32) -> Result<(), NoMemory>
-    ensures ok { OnOk result ((w : WordOf) (other : ℕ) → set_for_other setters.new w other ≡ (spec.sets_for from other w set.now || set_for_other setters.old w other)) }
-    ensures either { (w : WordOf) (other : ℕ) → (spec.sets_for from other w set.now || set_for_other setters.new w other) ≡ (spec.sets_for from other w set.now || set_for_other setters.old w other) }
+    ensures ok { OnOk result (spec.AreWordsSet setters.old setters.new from set.now) }
+    ensures either { spec.AreWordsPartlySet setters.old setters.new from set.now }
 {
     note_word(setters, &set.first, from)?;
     note_word(setters, &set.second, from)
@@ -81,8 +81,8 @@ fn note_half(halves: &mut Halves, word: &Option<Word>, place: u64) -> Result<(),
 
 // Notes the code and the access token that a reply issues at a place.
 fn note_issued(halves: &mut Halves, reply: &WorldReply, place: u64) -> Result<(), NoMemory>
-    ensures ok { OnOk result ((half : TextOf) → issued_of halves.new half ≡ option_or (issued_of halves.old half) (spec.issued_here half place (spec.issued_by reply.now))) }
-    ensures either { (half : TextOf) → option_or (issued_of halves.new half) (spec.issued_here half place (spec.issued_by reply.now)) ≡ option_or (issued_of halves.old half) (spec.issued_here half place (spec.issued_by reply.now)) }
+    ensures ok { OnOk result (spec.AreIssued halves.old halves.new place reply.now) }
+    ensures either { spec.ArePartlyIssued halves.old halves.new place reply.now }
 {
     let WorldReply::Provider(reply) = reply else {
         return Ok(());

@@ -1,6 +1,6 @@
 // The roles of a world: cores, each with the moment of its last entry.
 
-ghost use Rattle.std.specs.Prelude.{◌≡◌, ℕ, ◌<◌, ◌≤◌, ◌+◌, [], length, true, Err, Some, slice_get, IfSome, IfOk, OnOk, OnErr};
+ghost use Rattle.std.specs.Prelude.{◌≡◌, ℕ, ◌<◌, ◌≤◌, ◌+◌, [], length, true, Err, Some, IfSome, IfOk, OnOk, OnErr};
 ghost use Rattle.sso_base.specs.Legal.{last_moment};
 ghost use Rattle.sso_base.specs.Journal.{history_weight, most_weight};
 ghost use Rattle.op_core.specs.Providing.{past_of as op_past_of};
@@ -12,7 +12,7 @@ ghost use Rattle.rp_exchange.specs.Weight.{ask_weight as rp_weight};
 ghost use Rattle.rp_accept.specs.Serving.{setup_of};
 ghost use Rattle.sso_places.specs.Told.{session_ended as ended_of};
 ghost use Rattle.running_world.specs.Stepping.{later};
-ghost use Rattle.running_world.specs.Roles.{OpSteps, RpSteps, RpStepsAt};
+ghost use Rattle.running_world.specs.Roles.{OpSteps, RpSteps, RpStepsAt, PartyHasRoom, PartyReportsFull};
 ghost use Rattle.running_world.specs.Parties.{AreNewParties};
 ghost use Rattle.running_world.specs.Foreknowing.{IsForeknown};
 ghost use Rattle.code_grant.specs.declared.rows.SessionRow.{SessionRow as SessionOf};
@@ -242,8 +242,8 @@ pub(crate) fn step_at(
     requires { number < length roles.old.items }
     ensures ok { IfOk result (λ told. RpStepsAt roles.old.items roles.new.items number at fresh ask told.at told.reply) }
     ensures err { OnErr result (roles.new.items ≡ roles.old.items) }
-    ensures room { (role : Relying) → slice_get roles.old.items number ≡ Some role → OnOk result (history_weight rp_weight role.history + rp_weight ask ≤ most_weight) }
-    ensures full { (role : Relying) (w : ℕ) → slice_get roles.old.items number ≡ Some role → result ≡ Err (CoreNo.JournalFull w) → (w ≡ history_weight rp_weight role.history) × (most_weight < w + rp_weight ask) }
+    ensures room { PartyHasRoom result roles.old.items number ask }
+    ensures full { PartyReportsFull result roles.old.items number ask }
 {
     roles[number as usize].step(alloc, at, fresh, ask)
 }

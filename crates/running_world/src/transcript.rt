@@ -14,6 +14,7 @@ ghost use Rattle.cookie_jars.specs.Jars.{jar_of, jars_set, jars_stolen};
 ghost use Rattle.running_world.specs.Running.{kept_at, places_of};
 ghost use Rattle.sso_places.specs.Cookies.{set_by};
 ghost use Rattle.running_world.specs.Whole.{Answers, IsWhole, from_if, role_if};
+ghost use Rattle.running_world.specs.Transcribed.{judged_at_provider};
 
 use crate::clashing::clash_in;
 use crate::foreknown::Foreknown;
@@ -127,7 +128,7 @@ impl Transcript {
     ) -> Result<Option<Broken>, NoMemory>
         requires ready { self.now.ready ≡ Some (record { browser = from; to = To.Provider }) }
         requires asked { asked.now ≡ op_prepared self.now.registry request.now }
-        ensures { IfOk result (λ o. o ≡ judged_asked self.now.registry (places_of self.now.registry self.now.kept) from To.Provider (WorldAsk.Http request.now)) }
+        ensures { IfOk result (λ o. o ≡ judged_at_provider self.now from request.now) }
     {
         let token = checked_by_provider(alloc, &self.registry, request, asked)?;
         let forged = forges(alloc, &self.registry, &self.index.written, &token)?;

@@ -1,7 +1,8 @@
 // A running world.
 
-ghost use Rattle.std.specs.Prelude.{◌≡◌, ℕ, ◌<◌, ◌≤◌, ◌+◌, [], ◌∷◌, length, Err, None, Some, option_copied, option_map, option_and_then, IfSome, IfOk, IfErr, OnOk, OnErr};
-ghost use Rattle.sso_base.specs.Journal.{most_weight};
+ghost use Rattle.std.specs.Prelude.{◌≡◌, ◌<◌, ◌≤◌, ◌+◌, [], ◌∷◌, length, Err, None, Some, option_copied, option_map, option_and_then, IfSome, IfOk, IfErr};
+ghost use Rattle.std.specs.Prelude.{OnOk, OnErr};
+ghost use Rattle.sso_base.specs.Journal.{most_weight, ReportsFull};
 ghost use Rattle.sso_places.specs.Legal.{IsRole};
 ghost use Rattle.sso_places.specs.Site.{own_site};
 ghost use Rattle.sso_places.specs.World.{Nothing, place_at, from_of, role_at, reply_at};
@@ -92,7 +93,7 @@ impl World {
         ensures theorem { OnOk result (TheoremHolds self.old.registry (world_of self.new)) }
         ensures err { OnErr result (self.new ≡ self.old) }
         ensures room { OnOk result (role_weight to (world_of self.old) + asked_weight self.old.registry to ask ≤ most_weight) }
-        ensures full { (w : ℕ) → result ≡ Err (CoreNo.JournalFull w) → (w ≡ role_weight to (world_of self.old)) × (most_weight < w + asked_weight self.old.registry to ask) }
+        ensures full { ReportsFull result (role_weight to (world_of self.old)) (asked_weight self.old.registry to ask) }
     {
         match to {
             To::Provider => match ask {

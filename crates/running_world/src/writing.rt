@@ -110,8 +110,8 @@ pub(crate) fn note_op_written(
     requires count { length written.old ≡ length registry.now.clients }
     requires fore { IsKnown registry.now fore.now }
     ensures count { length written.new ≡ length written.old }
-    ensures ok { OnOk result (spec.AreNoted written.old written.new (spec.written_by registry.now asked.now.at asked.now.fresh reply.now fore.now.client fore.now.ended)) }
-    ensures either { spec.ArePartlyNoted written.old written.new (spec.written_by registry.now asked.now.at asked.now.fresh reply.now fore.now.client fore.now.ended) }
+    ensures ok { OnOk result (spec.AreNoted written.old written.new (spec.op_writes registry.now asked.now fore.now reply.now)) }
+    ensures either { spec.ArePartlyNoted written.old written.new (spec.op_writes registry.now asked.now fore.now reply.now) }
 {
     match reply {
         OpReply::Answered { answer, .. } => note_text(

@@ -13,7 +13,7 @@
 //! | `reads|BYTES` | how many reads a request has, any of which ends its connection if it fails, and how it is served if none does |
 //! | `work|DESK` | how one worker ends at one desk |
 //! | `serve|DESK|..` | the summary of the server, and each desk |
-//! | `calls|MORE|..` | the answers of a store with one pass to these requests, each `REPLY at PLACE`, `full at WEIGHT` or `no memory`, and its places at the end |
+//! | `calls|MORE|..` | a store's answers to these requests of one pass, each `REPLY at PLACE`, `full at WEIGHT` or `no memory`, and its places at the end |
 //! | `two threads` | the result of 2,000 calls of a store by two threads at the same time |
 //! | `sso|SHELF|SINK|WORDS|DESK|..` | the exit status for the words, the text, and each desk |
 //! | `sso|SHELF|SINK|WORDS|two logins` or `two keys` | the same for two desks that wait for each other |

@@ -24,6 +24,11 @@ pub record LinkMemory : Type 0 where
   pub exchanges : List Exchange
   pub calls : ℕ
 
+-- one more exchange over it
+abbrev pub has_exchanged : LinkMemory → Text → List ℕ → Option (List ℕ) → LinkMemory
+has_exchanged link to asked back =
+    record link { exchanges = link.exchanges ++ record { to = to; asked = asked; back = back } ∷ [] }
+
 -- a link in memory whose calls with some numbers fail, from 1: the link, those numbers, its number of calls, and of faults
 pub record FaultyLinkMemory : Type 0 where
   pub link : LinkMemory

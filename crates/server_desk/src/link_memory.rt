@@ -1,7 +1,7 @@
-ghost use Rattle.std.specs.Prelude.{◌≡◌, ◌≢◌, ◌≤◌, ◌==◌, ◌++◌, true, false, [], ◌∷◌, length, take, drop, Err, IfOk, OnOk, OnErr, IsErr};
+ghost use Rattle.std.specs.Prelude.{◌≡◌, ◌≢◌, ◌≤◌, ◌==◌, true, false, [], length, take, drop, Err, IfOk, OnOk, OnErr, IsErr};
 ghost use Rattle.std.specs.List.{list_any};
 ghost use Rattle.server_desk.specs.Doors.{grown};
-ghost use Rattle.server_desk.specs.Links.{next_answer, TookCall, told_link, told_faulty_link};
+ghost use Rattle.server_desk.specs.Links.{next_answer, TookCall, told_link, told_faulty_link, has_exchanged};
 
 use crate::link::{Link, LinkNo};
 use sso_base::{Blob, NoMemory, Text};
@@ -105,7 +105,7 @@ impl MemoryLink {
         asked: &[u8],
         back: Option<Blob>,
     ) -> Result<(), NoMemory>
-        ensures ok { OnOk result (self.new ≡ record self.old { exchanges = self.old.exchanges ++ record { to = to.now; asked = asked.now; back = back } ∷ [] }) }
+        ensures ok { OnOk result (self.new ≡ has_exchanged self.old to.now asked.now back) }
         ensures err { OnErr result (self.new ≡ self.old) }
     {
         let exchanged = Exchanged {

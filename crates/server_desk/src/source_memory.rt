@@ -1,4 +1,5 @@
-ghost use Rattle.std.specs.Prelude.{◌≡◌, ℕ, ◌+◌, ◌-◌, ◌^◌, ◌<◌, ◌≤◌, ◌==◌, ◌++◌, min, true, false, List, [], length, take, drop, Option, Some, IfOk, OnErr, IsOk, IsErr};
+ghost use Rattle.std.specs.Prelude.{◌≡◌, ℕ, ◌+◌, ◌-◌, ◌^◌, ◌<◌, ◌≤◌, ◌==◌, ◌++◌, min, true, false, List, [], length, take, drop, Option, Some, IfOk, OnErr};
+ghost use Rattle.std.specs.Prelude.{IsOk, IsErr};
 ghost use Rattle.std.specs.List.{list_any};
 ghost use Rattle.sso_base.specs.Faults.{HasCause};
 ghost use Rattle.server_desk.specs.Sources.{Gives, IsSpent};

@@ -1,6 +1,7 @@
 -- How a server runs its core: how requests are parsed, and how replies are sent.
-use Rattle.std.specs.Prelude.{ℕ, List, Option}
+use Rattle.std.specs.Prelude.{◌≡◌, ◌≢◌, ◌<◌, ℕ, List, [], ◌∷◌, ◌++◌, Option, None}
 use Rattle.sso_base.specs.Words.{Text}
+use Rattle.sso_base.specs.declared.history.Pair.{Pair}
 use Rattle.sso_base.specs.declared.http.Ask.{Ask}
 use Rattle.sso_base.specs.declared.http.HttpReply.{HttpReply}
 use Rattle.sso_base.specs.declared.message.Message.{Message}
@@ -23,3 +24,9 @@ pub record Manner (A R : Type 0) : Type 0 where
 -- the bytes of a reply
 abbrev pub bytes_by : {A R : Type 0} → Manner A R → R → List ℕ
 bytes_by m reply = reply_bytes (m.http reply)
+
+-- after the answer to a request that a reply makes, fewer requests may follow than after that reply
+abbrev pub HasFewerRounds : {S A R : Type 0} → Manner A R → (S → List (Pair A R) → Type 0) → (R → ℕ) → Type 0
+HasFewerRounds {S} {A} {R} m is_legal rounds =
+    (s : S) (before : List (Pair A R)) (pair : Pair A R) (reply : R) (answer : Answered) → is_legal s (before ++ pair ∷ [])
+    → pair.entry.ask ≡ m.answered reply answer → m.question reply ≢ None → rounds pair.reply < rounds reply

@@ -1,11 +1,13 @@
 -- Seats: desks with their passes, at which workers serve concurrently.
-use Rattle.std.specs.Prelude.{◌≡◌, ◌⊎◌, ◌≤◌, ℕ, Bool, true, false, List, [], ◌∷◌, length}
+use Rattle.std.specs.Prelude.{◌≡◌, ◌⊎◌, ◌≤◌, ℕ, Bool, true, false, List, [], ◌∷◌, length, ◌<◌, ◌^◌}
 use Rattle.sso_base.specs.Faults.{Rose}
 use Rattle.sso_base.specs.Words.{Text}
+use Rattle.sso_base.specs.declared.history.Pair.{Pair}
 use Rattle.server_desk.specs.Doors.{DoorState, started, shared}
 use Rattle.server_desk.specs.declared.desk.Desk.{Desk}
 use Rattle.turn_store.specs.declared.store.Pass.{Pass}
-use Rattle.turn_store.specs.Passes.{number_of, front_of}
+use Rattle.turn_store.specs.Passes.{number_of, front_of, IsPassOf}
+use Rattle.turn_store.specs.declared.store.Turn.{Turn}
 use Rattle.serving.specs.declared.seats.Seat.{Seat}
 use Rattle.serving.specs.declared.work.WorkEnd.{WorkEnd}
 use Rattle.serving.specs.declared.work.WorkEnd.TheVariants.{DoorFault}
@@ -75,7 +77,9 @@ module _ {O A R D L C W : Type 0} where
     pub is_listening : new.listens ≡ old.listens
     pub later : (t.closings old.desk.door ≤ t.closings new.desk.door) × (t.door_faults old.desk.door ≤ t.door_faults new.desk.door)
     pub idle : old.listens ≡ false → (new ≡ old) × (services ≡ [])
-    pub ended : old.listens ≡ true → ((new.worked.end ≡ DoorFault) × Failed t old.desk new.desk) ⊎ ((is_fault new.worked.end ≡ false) × EndedWell t old.desk new.desk)
+    pub ended : old.listens ≡ true
+        → ((new.worked.end ≡ DoorFault) × Failed t old.desk new.desk)
+            ⊎ ((is_fault new.worked.end ≡ false) × EndedWell t old.desk new.desk)
 
   abbrev pub SeatsServed : {S K : Type 0} → Telling D L C W S K → Manner A R → List (Seat O D L C W A R) → List (Seat O D L C W A R) → Type 0
   SeatsServed t m [] [] = Unit {0}
@@ -84,4 +88,13 @@ module _ {O A R D L C W : Type 0} where
 
   -- the doors were opened, and then all open seats were served
   abbrev pub OpenedAndServed : {S K : Type 0} → Telling D L C W S K → Manner A R → Text → List (Seat O D L C W A R) → List (Seat O D L C W A R) → Type 0
-  OpenedAndServed t m place olds news = (opened : List (Seat O D L C W A R)) × Opened t.state t.closings t.door_faults place olds opened × SeatsServed t m opened news
+  OpenedAndServed t m place olds news =
+      (opened : List (Seat O D L C W A R)) × Opened t.state t.closings t.door_faults place olds opened
+          × SeatsServed t m opened news
+
+-- a seat at which nobody has served: its pass is of this store, and its door and its desk have room for all turns
+abbrev pub MayServe : {O Setup A R D L C W S K : Type 0} → (O → Setup) → (Setup → List (Pair A R) → Type 0)
+    → (D → DoorState S K) → Turn O A R → Seat O D L C W A R → Type 0
+MayServe setup is_legal state store seat =
+    IsPassOf setup is_legal store seat.pass × ((state seat.desk.door).given < 2 ^ 63) × (seat.desk.turns ≤ 2 ^ 56)
+        × (seat.worked.served ≡ 0)

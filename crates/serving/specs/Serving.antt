@@ -123,20 +123,23 @@ module _ {A R : Type 0} (m : Manner A R) where
   Cause left left' before now history steps calls (Err NoMemory) = Unit {0}
   Cause left left' before now history steps calls (Err (Http why)) = (steps ≡ []) × IsUnasked left left' before now why
   Cause left left' before now history steps calls (Err Link) = (call : LinkCall) × IsLastCall steps calls call × (call.answer ≡ Err Failed)
-  Cause left left' before now history steps calls (Err Peer) = (call : LinkCall) × (bytes : List ℕ) × IsLastCall steps calls call × (call.answer ≡ Ok bytes) × IsNoAnswer bytes
+  Cause left left' before now history steps calls (Err Peer) =
+      (call : LinkCall) × (bytes : List ℕ) × IsLastCall steps calls call × (call.answer ≡ Ok bytes) × IsNoAnswer bytes
   Cause left left' before now history steps calls (Err Full) = IsStopped left left' history steps calls
 
   -- one round after a reply: nothing if the reply has no question, otherwise a step, after which fewer rounds are left
   abbrev pub RoundMade : (R → ℕ) → R → List (Stepped A R) → List LinkCall → R → Type 0
   RoundMade rounds reply steps calls next =
       ((steps ≡ []) × (calls ≡ []) × (next ≡ reply) × (m.question reply ≡ None))
-      ⊎ ((s : Stepped A R) × (call : LinkCall) × (steps ≡ s ∷ []) × (calls ≡ call ∷ []) × (next ≡ s.reply) × Asks reply call × IsAskedBack reply call s.asked × (rounds s.reply < rounds reply))
+      ⊎ ((s : Stepped A R) × (call : LinkCall) × (steps ≡ s ∷ []) × (calls ≡ call ∷ []) × (next ≡ s.reply) × Asks reply call
+           × IsAskedBack reply call s.asked × (rounds s.reply < rounds reply))
 
   -- why such a round made no step
   abbrev pub RoundFailed : List (Pair A R) → R → List LinkCall → NoReply → Type 0
   RoundFailed history reply calls NoMemory = (calls ≡ []) ⊎ ((call : LinkCall) × (calls ≡ call ∷ []) × Asks reply call)
   RoundFailed history reply calls Link = (call : LinkCall) × (calls ≡ call ∷ []) × Asks reply call × (call.answer ≡ Err Failed)
-  RoundFailed history reply calls Peer = (call : LinkCall) × (bytes : List ℕ) × (calls ≡ call ∷ []) × Asks reply call × (call.answer ≡ Ok bytes) × IsNoAnswer bytes
+  RoundFailed history reply calls Peer =
+      (call : LinkCall) × (bytes : List ℕ) × (calls ≡ call ∷ []) × Asks reply call × (call.answer ≡ Ok bytes) × IsNoAnswer bytes
   RoundFailed history reply calls Full =
       (call : LinkCall) × (asked : A) × (calls ≡ call ∷ []) × Asks reply call × IsAskedBack reply call asked × IsFull m.weighs history asked
   RoundFailed history reply calls why = ⊥
@@ -151,7 +154,8 @@ module _ {A R : Type 0} (m : Manner A R) where
   RestCause history reply steps calls (Ok last) = ((steps ≡ []) × (last ≡ reply) × (m.question last ≡ None)) ⊎ IsLastReply steps last
   RestCause history reply steps calls (Err NoMemory) = Unit {0}
   RestCause history reply steps calls (Err Link) = (call : LinkCall) × IsLastUnanswered steps calls call × (call.answer ≡ Err Failed)
-  RestCause history reply steps calls (Err Peer) = (call : LinkCall) × (bytes : List ℕ) × IsLastUnanswered steps calls call × (call.answer ≡ Ok bytes) × IsNoAnswer bytes
+  RestCause history reply steps calls (Err Peer) =
+      (call : LinkCall) × (bytes : List ℕ) × IsLastUnanswered steps calls call × (call.answer ≡ Ok bytes) × IsNoAnswer bytes
   RestCause history reply steps calls (Err Full) =
       (asked : A) × LeadsTo reply steps calls asked × IsFull m.weighs history asked
   RestCause history reply steps calls (Err why) = ⊥

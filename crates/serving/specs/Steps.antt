@@ -52,3 +52,8 @@ module _ {A R : Type 0} where
     pub later : Begins (front_of old) s.before
     pub front : front_of new ≡ history_after s
     pub calls : calls_of new ≡ calls_of old ++ called_of s ∷ []
+
+-- the pass made one step for this request, with this reply, by the first reading of the clock and the first four words
+abbrev pub StepsOnce : {C A R : Type 0} → Pass C A R → Pass C A R → A → (ℕ → Option ℕ) → (ℕ → Option Word) → R → Type 0
+StepsOnce {C} {A} {R} old new asked moments words reply =
+    (s : Stepped A R) × Made old new s × (s.asked ≡ asked) × (s.reply ≡ reply) × IsDrawn moments words 0 s

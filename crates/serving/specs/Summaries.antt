@@ -49,11 +49,15 @@ module _ {D L C W S K : Type 0} (t : Telling D L C W S K) where
     -- the connections that it served, and its part of the history
     abbrev pub ServedAt : List (Pair A R) → Desk D L C W → Desk D L C W → List (Service S K A R) → Type 0
     ServedAt history old new services =
-        AtDesk m t.left t.read_faults t.taken t.write_faults history (t.state old.door) (t.state new.door) (t.link_state old.tools.link) (t.link_state new.tools.link) (t.moments old.tools.clock) (t.moments new.tools.clock) (t.words old.tools.draw) (t.words new.tools.draw) services
+        AtDesk m t.left t.read_faults t.taken t.write_faults history (t.state old.door) (t.state new.door)
+            (t.link_state old.tools.link) (t.link_state new.tools.link) (t.moments old.tools.clock) (t.moments new.tools.clock) (t.words old.tools.draw)
+            (t.words new.tools.draw) services
 
     -- One desk: it ended well or its door failed. If the first door could not listen, it served nobody. A door that did not
     -- fail listens at the right place. Its steps are in the history, in their order.
-    pub record DeskServed (history : List (Pair A R)) (listening : Bool) (at : Option Text → Option Text) (old new : Desk D L C W) (services : List (Service S K A R)) : Type 0 where
+    pub record DeskServed
+        (history : List (Pair A R)) (listening : Bool) (at : Option Text → Option Text) (old new : Desk D L C W)
+        (services : List (Service S K A R)) : Type 0 where
       pub served : ServedAt history old new services
       pub order : LieBehind [] history (steps_in services)
       pub turns : new.turns ≡ old.turns
@@ -62,9 +66,11 @@ module _ {D L C W S K : Type 0} (t : Telling D L C W S K) where
       pub place : listening ≡ true → ((t.state new.door).place ≡ at (t.state old.door).place) ⊎ Failed old new
 
     -- the desks, one after another
-    abbrev pub DesksServed : List (Pair A R) → Bool → (Option Text → Option Text) → List (Desk D L C W) → List (Desk D L C W) → List (List (Service S K A R)) → Type 0
+    abbrev pub DesksServed : List (Pair A R) → Bool → (Option Text → Option Text) → List (Desk D L C W) → List (Desk D L C W)
+        → List (List (Service S K A R)) → Type 0
     DesksServed history listening place [] [] [] = Unit {0}
-    DesksServed history listening place (old ∷ olds) (new ∷ news) (services ∷ works) = DeskServed history listening place old new services × DesksServed history listening place olds news works
+    DesksServed history listening place (old ∷ olds) (new ∷ news) (services ∷ works) =
+        DeskServed history listening place old new services × DesksServed history listening place olds news works
     DesksServed history listening place olds news works = ⊥
 
     -- The first desk listens at this place, and the others at its address. If its door could not be opened, the others are
@@ -93,7 +99,10 @@ places_in {S} {K} {A} {R} services = places_of (map called_of (steps_in services
 
 -- The closed store: its history is legal for the setup, and each of its places is exactly one step of one connection of one
 -- desk. It also states whether the first door was opened.
-pub record ClosedSo {D L C W S K A R Core Setup : Type 0} (t : Telling D L C W S K) (m : Manner A R) (setup : Core → Setup) (history_of : Core → List (Pair A R)) (is_legal : Setup → List (Pair A R) → Type 0) (configured : Setup) (place : Text) (olds news : List (Desk D L C W)) (closed : Closed Core) (served entries : ℕ) : Type 0 where
+pub record ClosedSo
+    {D L C W S K A R Core Setup : Type 0} (t : Telling D L C W S K) (m : Manner A R) (setup : Core → Setup)
+    (history_of : Core → List (Pair A R)) (is_legal : Setup → List (Pair A R) → Type 0) (configured : Setup) (place : Text)
+    (olds news : List (Desk D L C W)) (closed : Closed Core) (served entries : ℕ) : Type 0 where
   pub set_up : setup closed.core ≡ configured
   pub legal : is_legal configured (history_of closed.core)
   pub listening : Bool
@@ -105,8 +114,13 @@ pub record ClosedSo {D L C W S K A R Core Setup : Type 0} (t : Telling D L C W S
   pub length_is : entries ≡ length (history_of closed.core)
 
 -- What a server with these desks did. Without a desk it did nothing.
-pub record Summarises {D L C W S K A R Core Setup : Type 0} (t : Telling D L C W S K) (m : Manner A R) (setup : Core → Setup) (history_of : Core → List (Pair A R)) (is_legal : Setup → List (Pair A R) → Type 0) (configured : Setup) (place : Text) (olds news : List (Desk D L C W)) (s : Summary Core A R) : Type 0 where
+pub record Summarises
+    {D L C W S K A R Core Setup : Type 0} (t : Telling D L C W S K) (m : Manner A R) (setup : Core → Setup)
+    (history_of : Core → List (Pair A R)) (is_legal : Setup → List (Pair A R) → Type 0) (configured : Setup) (place : Text)
+    (olds news : List (Desk D L C W)) (s : Summary Core A R) : Type 0 where
   pub none : olds ≡ [] → (s.served ≡ 0) × (s.entries ≡ 0) × (s.fault ≡ false) × (s.closed ≡ None) × (news ≡ [])
-  pub some : 0 < length olds → (closed : Closed Core) × (s.closed ≡ Some closed) × ClosedSo t m setup history_of is_legal configured place olds news closed s.served s.entries
+  pub some : 0 < length olds
+      → (closed : Closed Core) × (s.closed ≡ Some closed)
+          × ClosedSo t m setup history_of is_legal configured place olds news closed s.served s.entries
   pub failed : s.fault ≡ true → SomeFailed t olds news
   pub well : s.fault ≡ false → AllEndedWell t olds news

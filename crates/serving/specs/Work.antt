@@ -34,7 +34,9 @@ module _ {A R : Type 0} where
     pub calls : calls_of new ≡ calls_of old ++ map called_of steps
 
   -- that is all that was done with the pass, the link, the clock and the draw; each step had its own reading of the clock
-  pub record Did {C : Type 0} (pass pass' : Pass C A R) (link link' : LinkState) (moments moments' : ℕ → Option ℕ) (words words' : ℕ → Option Word) (w : Work A R) : Type 0 where
+  pub record Did
+      {C : Type 0} (pass pass' : Pass C A R) (link link' : LinkState) (moments moments' : ℕ → Option ℕ)
+      (words words' : ℕ → Option Word) (w : Work A R) : Type 0 where
     pub made : MadeAll pass pass' w.steps
     pub sent : TookCalls link link' w.calls
     pub drawn : DrawnFrom moments words 0 w.steps

@@ -43,7 +43,9 @@ module _ {S K A R : Type 0} where
   -- each step was called with the moment and the words of its own reading of the clock
   abbrev pub DrawnIn : (ℕ → Option ℕ) → (ℕ → Option Word) → ℕ → List (Service S K A R) → Type 0
   DrawnIn moments words reading [] = Unit {0}
-  DrawnIn moments words reading (s ∷ services) = DrawnFrom moments words reading s.work.steps × (length s.work.steps ≤ s.work.readings) × DrawnIn moments words (reading + s.work.readings) services
+  DrawnIn moments words reading (s ∷ services) =
+      DrawnFrom moments words reading s.work.steps × (length s.work.steps ≤ s.work.readings)
+          × DrawnIn moments words (reading + s.work.readings) services
 
   -- one of these connections ended this way
   abbrev pub SomeEnded : ServedEnd → List (Service S K A R) → Type 0
@@ -59,11 +61,16 @@ module _ {S K A R : Type 0} where
   module _ (m : Manner A R) (left : S → Option (List ℕ)) (read_faults : S → ℕ) (taken : K → Option (List ℕ)) (write_faults : K → ℕ) where
     -- each connection was served, and its steps are in this history, in their order
     abbrev pub ServesAll : List (Pair A R) → List (Service S K A R) → Type 0
-    ServesAll history services = AllByRecursion (λ (s : Service S K A R). Serves m left read_faults taken write_faults history s.came s.went s.work s.served) services
+    ServesAll history services =
+        AllByRecursion
+            (λ (s : Service S K A R). Serves m left read_faults taken write_faults history s.came s.went s.work s.served)
+            services
 
     -- that is all that was done with the door, the link, the clock and the draw of a desk; if a connection ended because of the
     -- link, the link failed
-    pub record AtDesk (history : List (Pair A R)) (door door' : DoorState S K) (link link' : LinkState) (moments moments' : ℕ → Option ℕ) (words words' : ℕ → Option Word) (services : List (Service S K A R)) : Type 0 where
+    pub record AtDesk
+        (history : List (Pair A R)) (door door' : DoorState S K) (link link' : LinkState) (moments moments' : ℕ → Option ℕ)
+        (words words' : ℕ → Option Word) (services : List (Service S K A R)) : Type 0 where
       pub passed : Passed door door' services
       pub sent : TookCalls link link' (calls_in services)
       pub drawn : DrawnIn moments words 0 services

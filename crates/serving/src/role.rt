@@ -1,13 +1,11 @@
-ghost use Rattle.std.specs.Prelude.{◌≡◌, ◌≢◌, ◌≤◌, ◌<◌, ◌++◌, ◌∷◌, [], None, Some, IfOk, ℕ, List, option_map, unwrap_or};
+ghost use Rattle.std.specs.Prelude.{◌≡◌, ◌≢◌, ◌≤◌, ◌<◌, [], None, IfOk, ℕ, option_map, unwrap_or};
 
 use sso_base::{Answered, Ask, Core, HttpReply, Message, Messages, NoMemory, Text};
 use std::alloc::Global;
 
 /// The role of a server: its core, how requests are parsed for it, and how its replies are sent.
 pub trait Role: Sync {
-    ghost use Rattle.serving.specs.Manner.{Manner};
-    ghost use Rattle.sso_base.specs.declared.message.Answered as answered_by;
-    ghost use Rattle.sso_base.specs.declared.history.Pair as pair_of;
+    ghost use Rattle.serving.specs.Manner.{Manner, HasFewerRounds};
 
     /// The core.
     type Core: Core;
@@ -65,5 +63,5 @@ pub trait Role: Sync {
     ghost few_rounds: { (x : Self) (reply : Self.Core.Reply) → (rounds reply ≤ 2) × ((manner x).question reply ≢ None → 0 < rounds reply) };
 
     /// After such a request fewer may follow.
-    ghost fewer_rounds: { (x : Self) (s : Self.Core.Setup) (before : List (pair_of.Pair Self.Core.Ask Self.Core.Reply)) (pair : pair_of.Pair Self.Core.Ask Self.Core.Reply) (reply : Self.Core.Reply) (answer : answered_by.Answered) → Self.Core.is_legal s (before ++ pair ∷ []) → pair.entry.ask ≡ (manner x).answered reply answer → (manner x).question reply ≢ None → rounds pair.reply < rounds reply };
+    ghost fewer_rounds: { (x : Self) → HasFewerRounds (manner x) Self.Core.is_legal rounds };
 }

@@ -1,13 +1,10 @@
 // Desks with their passes, at which workers serve concurrently.
 
-ghost use Rattle.std.specs.Prelude.{◌≡◌, ◌≢◌, ◌⊎◌, ◌+◌, ◌^◌, ◌≤◌, ◌<◌, ℕ, List, [], ◌∷◌, ◌++◌, map, length, slice_index_or, true, false, Ok, Err, IfOk, OnErr, vec_len, vec_capacity};
-ghost use Rattle.std.specs.List.{All, AllByRecursion, sum_by, list_any};
+ghost use Rattle.std.specs.Prelude.{◌≡◌, ◌+◌, ◌^◌, ◌≤◌, ◌<◌, [], map, length, false, vec_capacity};
+ghost use Rattle.std.specs.List.{All, sum_by, list_any};
 ghost use Rattle.server_desk.specs.Doors.{started, shared};
-ghost use Rattle.serving.specs.Seating.{seated, is_left, OpenedSo, AllOpened, Opened, SeatServed, SeatsServed, OpenedAndServed};
-ghost use Rattle.sso_base.specs.Faults.{Rose};
-ghost use Rattle.turn_store.specs.Passes.{IsPassOf, number_of, front_of};
-ghost use Rattle.serving.specs.Work.{MadeAll};
-ghost use Rattle.serving.specs.Working as spec;
+ghost use Rattle.serving.specs.Seating.{seated, is_left, OpenedSo, AllOpened, Opened, SeatServed, SeatsServed, OpenedAndServed, MayServe};
+ghost use Rattle.turn_store.specs.Passes.{IsPassOf};
 
 use crate::backend::Backend;
 use crate::role::Role;
@@ -135,7 +132,7 @@ where
     <X::Core as Core>::Reply: Send,
     requires ready { X.ready backend.now.role.now }
     requires some { 0 < length seats.old }
-    requires seats { All (λ seat. IsPassOf X.Core.setup X.Core.is_legal backend.now.store.now seat.pass × ((D.state seat.desk.door).given < 2 ^ 63) × (seat.desk.turns ≤ 2 ^ 56) × (seat.worked.served ≡ 0)) seats.old }
+    requires seats { All (λ seat. MayServe X.Core.setup X.Core.is_legal D.state backend.now.store.now seat) seats.old }
     ensures passes { All (λ seat. IsPassOf X.Core.setup X.Core.is_legal backend.now.store.now seat.pass) seats.new }
     ensures served { SeatsServed ⟦<Desk<D, L, C, W> as Tells>⟧.telling (X.manner backend.now.role.now) seats.old seats.new }
 {
@@ -162,7 +159,7 @@ where
     <X::Core as Core>::Reply: Send,
     requires ready { X.ready backend.now.role.now }
     requires some { 0 < length seats.old }
-    requires seats { All (λ seat. IsPassOf X.Core.setup X.Core.is_legal backend.now.store.now seat.pass × ((D.state seat.desk.door).given < 2 ^ 63) × (seat.desk.turns ≤ 2 ^ 56) × (seat.worked.served ≡ 0)) seats.old }
+    requires seats { All (λ seat. MayServe X.Core.setup X.Core.is_legal D.state backend.now.store.now seat) seats.old }
     ensures passes { All (λ seat. IsPassOf X.Core.setup X.Core.is_legal backend.now.store.now seat.pass) seats.new }
     ensures served { OpenedAndServed ⟦<Desk<D, L, C, W> as Tells>⟧.telling (X.manner backend.now.role.now) place.now seats.old seats.new }
 {

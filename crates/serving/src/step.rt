@@ -5,7 +5,7 @@ ghost use Rattle.server_desk.specs.Ahead.{IsTold, MovedOn};
 ghost use Rattle.sso_base.specs.Words.{fresh_word};
 ghost use Rattle.turn_store.specs.Places.{Begins};
 ghost use Rattle.turn_store.specs.Passes.{IsPassOf, number_of, front_of, calls_of};
-ghost use Rattle.serving.specs.Steps.{Stepped, IsDrawn, IsNoStep, Made};
+ghost use Rattle.serving.specs.Steps.{IsNoStep, StepsOnce};
 
 use crate::backend::Backend;
 use crate::no_reply::NoReply;
@@ -39,7 +39,7 @@ pub fn step<R: Wait, X: Role, K: Clock, W: Draw>(
     requires { IsPassOf X.Core.setup X.Core.is_legal backend.now.store.now pass.old }
     ensures pass { IsPassOf X.Core.setup X.Core.is_legal backend.now.store.now pass.new }
     ensures number { number_of pass.new ≡ number_of pass.old }
-    ensures made { IfOk result (λ reply. (s : Stepped X.Core.Ask X.Core.Reply) × Made pass.old pass.new s × (s.asked ≡ ask) × (s.reply ≡ reply) × IsDrawn (K.ahead clock.old) (W.ahead draw.old) 0 s) }
+    ensures made { IfOk result (λ reply. StepsOnce pass.old pass.new ask (K.ahead clock.old) (W.ahead draw.old) reply) }
     ensures refused { OnErr result (calls_of pass.new ≡ calls_of pass.old) }
     ensures later { OnErr result (Begins (front_of pass.old) (front_of pass.new)) }
     ensures why { IfErr result (IsNoStep X.Core.weighs (front_of pass.new) ask) }

@@ -1,16 +1,12 @@
 //! The theorem and further properties, as contracts of functions with empty bodies.
 
-ghost use Rattle.std.specs.Prelude.{ℕ, Option};
-ghost use Rattle.sso_base.specs.Words.{Text};
 ghost use Rattle.sso_model.specs.Founded.{HoldsOnlyFounded, OnceEach};
 ghost use Rattle.sso_places.specs.Agreement.{SignsOn};
-ghost use Rattle.sso_places.specs.Binding.{IsBound};
-ghost use Rattle.sso_places.specs.Legal.{IsLegalWorld};
-ghost use Rattle.sso_places.specs.Premises.{HasDistinctWords, HasDistinctHashes, IsUnleaked, IsUnforged, IsJoined};
 ghost use Rattle.sso_places.specs.Reading.{machine_of};
-ghost use Rattle.sso_places.specs.SameBrowser.{IsAskedOnlyFrom, IsAnsweredOnlyTo};
-ghost use Rattle.sso_places.specs.Site.{Site, IsSite};
+ghost use Rattle.sso_places.specs.Site.{Site};
 ghost use Rattle.sso_places.specs.World.{World};
+ghost use Rattle.sign_on.specs.Laws.{LegalWorldsSignOn, AnswersGoToTheBrowserThatAsked, LegalWorldsAreBound, LegalityIsNeeded, DistinctWordsAreNeeded};
+ghost use Rattle.sign_on.specs.Laws.{SecretCookiesAreNeeded, UnforgedTokensAreNeeded, JoinedAnswersAreNeeded};
 
 /// The sign-on theorem. The registry must be one that was read, and each party trusts a provider with its issuer. Take any
 /// legal world that meets these premises: its random words are distinct, no cookie is used under another browser number, no
@@ -18,7 +14,7 @@ ghost use Rattle.sso_places.specs.World.{World};
 /// reading is a run of the sign-on machine. The live rows of the machine are then, party by party and in order, the live
 /// sessions of the party's history.
 pub fn agreement()
-    ensures { (s : Site) (world : World) → IsSite s → IsLegalWorld s world → HasDistinctWords world → IsUnleaked world → IsUnforged s world → IsJoined world → SignsOn s world }
+    ensures { LegalWorldsSignOn }
 {}
 
 /// If the reading is such a run, each live session of the machine is founded. Its browser began that login there, and the
@@ -31,7 +27,7 @@ pub fn sessions_are_founded()
 /// Take any legal world in which no cookie is used under another number. If all authorization requests with a nonce came from
 /// one browser, all answers to the nonce went to that browser.
 pub fn same_browser()
-    ensures { (s : Site) (world : World) (browser : ℕ) (nonce : Option Text) → IsLegalWorld s world → IsUnleaked world → IsAskedOnlyFrom world browser nonce → IsAnsweredOnlyTo (machine_of s world).answered browser nonce }
+    ensures { AnswersGoToTheBrowserThatAsked }
 {}
 
 /// Codes and access tokens are bound to ID Tokens (OpenID Connect Core 1.0, 3.1.3.8, 3.2.2.9 and 3.3.2.10). Needs the premises
@@ -42,7 +38,7 @@ pub fn same_browser()
 /// - A party sent a UserInfo request with an access token, its last verified ID Token has an `at_hash`, and the provider answered
 ///   UserInfo for that access token. Then one earlier reply had the access token together with that ID Token.
 pub fn binding()
-    ensures { (s : Site) (world : World) → IsSite s → IsLegalWorld s world → HasDistinctWords world → IsUnleaked world → IsUnforged s world → IsJoined world → HasDistinctHashes world → IsBound s world }
+    ensures { LegalWorldsAreBound }
 {}
 
 /// No premise of the sign-on theorem about worlds can be left out: without it the conclusion is false, even for a registry that
@@ -55,9 +51,9 @@ pub fn binding()
 /// - A browser presents an ID Token that somebody else sealed under the client's secret.
 /// - The token endpoint's answer comes under the number of another browser.
 pub fn no_premise_can_be_left_out()
-    ensures legal { ¬ ((s : Site) (world : World) → IsSite s → HasDistinctWords world → IsUnleaked world → IsUnforged s world → IsJoined world → SignsOn s world) }
-    ensures words { ¬ ((s : Site) (world : World) → IsSite s → IsLegalWorld s world → IsUnleaked world → IsUnforged s world → IsJoined world → SignsOn s world) }
-    ensures cookies { ¬ ((s : Site) (world : World) → IsSite s → IsLegalWorld s world → HasDistinctWords world → IsUnforged s world → IsJoined world → SignsOn s world) }
-    ensures tokens { ¬ ((s : Site) (world : World) → IsSite s → IsLegalWorld s world → HasDistinctWords world → IsUnleaked world → IsJoined world → SignsOn s world) }
-    ensures answers { ¬ ((s : Site) (world : World) → IsSite s → IsLegalWorld s world → HasDistinctWords world → IsUnleaked world → IsUnforged s world → SignsOn s world) }
+    ensures legal { LegalityIsNeeded }
+    ensures words { DistinctWordsAreNeeded }
+    ensures cookies { SecretCookiesAreNeeded }
+    ensures tokens { UnforgedTokensAreNeeded }
+    ensures answers { JoinedAnswersAreNeeded }
 {}

@@ -67,8 +67,12 @@ abbrev pub number_asked : Configuration → Option ℕ → Option (List ℕ) →
 number_asked c (Some number) metadata = setup_asked c number (trusted c metadata)
 number_asked c None metadata = Err (configuration_refusal (codes "NoParty"))
 
+-- the setup of the party with this name
+abbrev pub name_asked : Configuration → Text → Option (List ℕ) → Result PartySetup Answer
+name_asked c name metadata = number_asked c (party_place name c.parties) metadata
+
 abbrev pub party_asked : Result Configuration RegNo → Text → Option (List ℕ) → Result PartySetup Answer
-party_asked (Ok c) name metadata = number_asked c (party_place name c.parties) metadata
+party_asked (Ok c) name metadata = name_asked c name metadata
 party_asked (Err why) name metadata = Err (configuration_refusal (registry_name why))
 
 -- the party that is to be served, with the provider that it trusts

@@ -1,6 +1,7 @@
 -- How a call of the program ends: for each status, what is true then. A shelf's contents and a sink's output are options, since
 -- those of real files and of a real output are unknown.
-use Rattle.std.specs.Prelude.{◌≡◌, ◌⊎◌, ℕ, Bool, true, false, ◌||◌, ◌==◌, nat_le, List, [], ◌∷◌, ◌++◌, length, Option, Some, None, option_map, Result, Ok, Err, codes}
+use Rattle.std.specs.Prelude.{◌≡◌, ◌⊎◌, ℕ, Bool, true, false, ◌||◌, ◌==◌, nat_le, List, [], ◌∷◌, ◌++◌, length, Option, Some, None, option_map, Result, Ok, Err}
+use Rattle.std.specs.Prelude.{codes}
 use Rattle.sso_base.specs.Words.{Text}
 use Rattle.sso_base.specs.Faults.{Rose}
 use Rattle.sso_base.specs.Outside.{Content, content_of, Takes, TakesFront}
@@ -33,7 +34,8 @@ use Rattle.trace_lines.specs.declared.no.TraceNo.{TraceNo}
 use Rattle.trace_lines.specs.Trace.{trace_told}
 use Rattle.storm_texts.specs.Config.{config_text}
 use Rattle.storm_texts.specs.Trace.{trace_text}
-use Rattle.sso.specs.Answer.{Answer, usage_text, shelf_text, registry_name, configuration_text, refused_text, answer_to, storm_answer, without_feed, is_secret, token_text, token_answer}
+use Rattle.sso.specs.Answer.{Answer, usage_text, shelf_text, registry_name, configuration_text, refused_text, answer_to, storm_answer, without_feed, is_secret}
+use Rattle.sso.specs.Answer.{token_text, token_answer}
 use Rattle.sso.specs.Asked.{metadata_name, metadata_text, trusted, op_asked, rp_asked, server_answer}
 use Rattle.sso.specs.Outcomes.{IsContent, IsContentIf, MayAnswer}
 
@@ -206,7 +208,9 @@ module _ {D L C W S K : Type 0} (t : Telling D L C W S K) (olds news : List (Des
   -- ---- any outcome, cut short
 
   -- The sink failed during this call, and a prefix of a possible outcome was written.
-  pub record StopsWriting (contents : Option (List Content)) (shelf_before shelf_after : ℕ) (words : List Text) (before after : ℕ) (old new : Option (List ℕ)) : Type 0 where
+  pub record StopsWriting
+      (contents : Option (List Content)) (shelf_before shelf_after : ℕ) (words : List Text) (before after : ℕ)
+      (old new : Option (List ℕ)) : Type 0 where
     pub rose : Rose before after
     pub answer : Answer
     pub may : MayAnswer t olds news contents shelf_before shelf_after (command_of words) answer
@@ -272,3 +276,13 @@ abbrev pub is_serving : Option Command → Bool
 is_serving (Some (Op config)) = true
 is_serving (Some (Rp config party metadata)) = true
 is_serving command = false
+
+-- the provider or a party is served
+abbrev pub RunsServer : {D L C W S K : Type 0} → Telling D L C W S K → List (Desk D L C W) → List (Desk D L C W)
+    → Option (List Content) → List Text → Bool → Option (List ℕ) → Option (List ℕ) → Type 0
+RunsServer t olds news contents words failed old new =
+    RunsProvider t olds news contents words failed old new ⊎ RunsParty t olds news contents words failed old new
+
+-- a token or a discovery document is refused
+abbrev pub RefusesTokenOrMetadata : Option (List Content) → List Text → Option (List ℕ) → Option (List ℕ) → Type 0
+RefusesTokenOrMetadata contents words old new = RefusesToken contents words old new ⊎ RefusesMetadata contents words old new

@@ -5,7 +5,8 @@ use Rattle.sso_base.specs.Words.{Text}
 use Rattle.sso_base.specs.Outside.{Content}
 use Rattle.server_desk.specs.declared.desk.Desk.{Desk}
 use Rattle.serving.specs.Summaries.{Telling}
-use Rattle.sso.specs.Ends.{ShowsUsage, ReportsShelf, RefusesConfiguration, RefusesTrace, RefusesToken, RefusesMetadata, OpensToken, RunsProvider, RunsParty, StopsWriting, is_refusal}
+use Rattle.sso.specs.Ends.{ShowsUsage, ReportsShelf, RefusesConfiguration, RefusesTrace, RefusesToken, RefusesMetadata, OpensToken, RunsProvider, RunsParty}
+use Rattle.sso.specs.Ends.{StopsWriting, is_refusal}
 use Rattle.sso.specs.SignOn.{Replays, Storms}
 
 -- a call: its inputs and its results

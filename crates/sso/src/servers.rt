@@ -2,10 +2,9 @@
 
 ghost use Rattle.std.specs.Prelude.{◌≡◌, ◌^◌, ◌≤◌, ◌<◌, false, length, Ok, IfOk};
 ghost use Rattle.std.specs.List.{All};
-ghost use Rattle.client_registry.specs.Rules.{party_place};
 ghost use Rattle.rp_accept.specs.Serving.{setup_of};
 ghost use Rattle.sso.specs.Asked as spec;
-ghost use Rattle.sso.specs.Asked.{metadata_refusal, server_answer, op_asked, rp_asked, number_asked};
+ghost use Rattle.sso.specs.Asked.{metadata_refusal, server_answer, op_asked, rp_asked, name_asked};
 ghost use Rattle.sso.specs.Outcomes.{ServedOp, ServedRp};
 
 use crate::configuration::{refuse_configuration, refuse_registry};
@@ -174,7 +173,7 @@ fn serve_party<R: Threads + Wait + Sync, D: Door, L: Link, C: Clock, W: Draw>(
 ) -> Result<Outcome, NoMemory>
     requires few { length desks.old.items ≤ 64 }
     requires desks { All (λ desk. (desk.turns ≤ 2 ^ 56) × ((D.state desk.door).given < 2 ^ 63)) desks.old.items }
-    ensures { IfOk result (ServedRp ⟦<Desk<D, L, C, W> as Tells>⟧.telling desks.old.items desks.new.items (number_asked registry.now (party_place name.now registry.now.parties) metadata.now)) }
+    ensures { IfOk result (ServedRp ⟦<Desk<D, L, C, W> as Tells>⟧.telling desks.old.items desks.new.items (name_asked registry.now name.now metadata.now)) }
 {
     let Some(party) = registry.find_party(name.as_str().as_bytes()) else {
         return refuse_configuration(alloc, "NoParty");

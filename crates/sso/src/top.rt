@@ -4,9 +4,10 @@ ghost use Rattle.std.specs.Prelude.{◌≡◌, ◌⊎◌, ◌^◌, ◌≤◌, �
 ghost use Rattle.std.specs.List.{All};
 ghost use Rattle.sso_base.specs.Outside.{Content};
 ghost use Rattle.command_line.specs.declared.command.Command.TheVariants.{Storm};
-ghost use Rattle.command_line.specs.Commands.{command_of, is_command, asks_replay, asks_storm, asks_token, asks_op, asks_rp};
+ghost use Rattle.command_line.specs.Commands.{command_of, is_command, asks_storm, AsksReplay, AsksStorm, AsksToken, AsksOp, AsksRp};
 ghost use Rattle.sso.specs.Answer.{storm_answer};
-ghost use Rattle.sso.specs.Ends.{ShowsUsage, ReportsShelf, RefusesConfiguration, RefusesTrace, RefusesToken, RefusesMetadata, OpensToken, RunsProvider, RunsParty, StopsWriting, status_for, IsStatus, IsStatusOf, is_refusal, asks_play, is_serving};
+ghost use Rattle.sso.specs.Ends.{ShowsUsage, ReportsShelf, RefusesConfiguration, RefusesTrace, OpensToken, RunsProvider, RunsServer, RefusesTokenOrMetadata};
+ghost use Rattle.sso.specs.Ends.{RunsParty, StopsWriting, status_for, IsStatus, IsStatusOf, is_refusal, asks_play, is_serving};
 ghost use Rattle.sso.specs.SignOn.{Replays, Storms};
 ghost use Rattle.sso.specs.Outcomes.{IsWritten};
 ghost use Rattle.sso.specs.Statuses.{Ended};
@@ -62,21 +63,23 @@ fn run<R: Threads + Wait + Sync, H: Shelf, K: Sink, D: Door, L: Link, C: Clock, 
 ///
 /// | Status | Meaning | Text |
 /// |---|---|---|
-/// | 0 | `replay`: the trace was played to its end, no premise failed, and the whole text was written | the text of its play |
-/// | | `storm`: its play went to its end, no premise failed, and the whole text was written | the summary of its play |
-/// | | `token`: the token is sealed under the secret, and the whole text was written | its payload and a line feed |
-/// | | `op`, `rp`: each desk served its turns or has a closed door, and the whole text was written | `served` with the number of connections, `entries` with those of the history |
+/// | 0 | `replay`: the trace was played to its end, and no premise failed | the text of its play |
+/// | | `storm`: its play went to its end, and no premise failed | the summary of its play |
+/// | | `token`: the token is sealed under the secret | its payload and a line feed |
+/// | | `op`, `rp`: each desk served its turns or has a closed door | `served` with the number of connections, `entries` with those of the history |
 /// | 1 | out of memory | none |
 /// | 2 | the words are not a command | the usage |
 /// | 3 | CONFIG is rejected, or has no party NAME | `configuration`, the refusal's name and its values, or `configuration NoParty` |
 /// | 4 | TRACE is not an accepted trace | `trace`, the refusal's name and the number of its line |
 /// | 5 | the shelf's fault count rose | `shelf` |
 /// | 6 | the sink's fault count rose | a prefix of one of these texts |
-/// | 7 | the trace was played to its end, a premise failed, and the whole text was written | the text or the summary of its play, with the first place at which one fails |
-/// | 8 | a history would have exceeded its limit before the end of the trace, and the whole text was written | the text or the summary so far, and `journal` with the place |
+/// | 7 | the trace was played to its end, and a premise failed | the text or the summary of its play, with the first place at which one fails |
+/// | 8 | a history would have exceeded its limit before the end of the trace | the text or the summary so far, and `journal` with the place |
 /// | 9 | a door's fault count rose | `door` |
 /// | 10 | the secret is empty or longer than 128 bytes, or the token is not sealed under it | `token Secret`, or `token` and the refusal's name |
 /// | | DISCOVERY has more than 65,536 bytes, or is not the metadata of the configuration's issuer | `discovery Size`, or `discovery` and the refusal's name |
+///
+/// With the statuses 0, 7 and 8 the whole text was written.
 ///
 /// The words and the contents of the shelf determine the status, unless memory ran out, the shelf or the sink failed, or desks
 /// served. The statuses are tried in the order 2, 5, 3, 10 for DISCOVERY, 4, 8, 7, 10, 9, 0. A secret and a token are the
@@ -96,16 +99,16 @@ pub fn sso<R: Threads + Wait + Sync, H: Shelf, K: Sink, D: Door, L: Link, C: Clo
 
     // The sign-on theorem, and that honest logins succeed, are parts of these six clauses. They are about the same play whose
     // text was written.
-    ensures replayed { result ≡ 0 → asks_replay (command_of words.now) ≡ true → Replays (H.contents shelf.old) words.now 0 (K.taken out.old) (K.taken out.new) }
-    ensures broken { result ≡ 7 → asks_replay (command_of words.now) ≡ true → Replays (H.contents shelf.old) words.now 7 (K.taken out.old) (K.taken out.new) }
-    ensures full { result ≡ 8 → asks_replay (command_of words.now) ≡ true → Replays (H.contents shelf.old) words.now 8 (K.taken out.old) (K.taken out.new) }
-    ensures stormed { result ≡ 0 → asks_storm (command_of words.now) ≡ true → Storms words.now 0 (K.taken out.old) (K.taken out.new) }
-    ensures storm_broken { result ≡ 7 → asks_storm (command_of words.now) ≡ true → Storms words.now 7 (K.taken out.old) (K.taken out.new) }
-    ensures storm_full { result ≡ 8 → asks_storm (command_of words.now) ≡ true → Storms words.now 8 (K.taken out.old) (K.taken out.new) }
+    ensures replayed { result ≡ 0 → AsksReplay words.now → Replays (H.contents shelf.old) words.now 0 (K.taken out.old) (K.taken out.new) }
+    ensures broken { result ≡ 7 → AsksReplay words.now → Replays (H.contents shelf.old) words.now 7 (K.taken out.old) (K.taken out.new) }
+    ensures full { result ≡ 8 → AsksReplay words.now → Replays (H.contents shelf.old) words.now 8 (K.taken out.old) (K.taken out.new) }
+    ensures stormed { result ≡ 0 → AsksStorm words.now → Storms words.now 0 (K.taken out.old) (K.taken out.new) }
+    ensures storm_broken { result ≡ 7 → AsksStorm words.now → Storms words.now 7 (K.taken out.old) (K.taken out.new) }
+    ensures storm_full { result ≡ 8 → AsksStorm words.now → Storms words.now 8 (K.taken out.old) (K.taken out.new) }
     ensures play { (result ≡ 7) ⊎ (result ≡ 8) → asks_play (command_of words.now) ≡ true }
-    ensures opened { result ≡ 0 → asks_token (command_of words.now) ≡ true → OpensToken (H.contents shelf.old) words.now (K.taken out.old) (K.taken out.new) }
-    ensures provider { result ≡ 0 → asks_op (command_of words.now) ≡ true → RunsProvider ⟦<Desk<D, L, C, W> as Tells>⟧.telling desks.old.items desks.new.items (H.contents shelf.old) words.now false (K.taken out.old) (K.taken out.new) }
-    ensures party { result ≡ 0 → asks_rp (command_of words.now) ≡ true → RunsParty ⟦<Desk<D, L, C, W> as Tells>⟧.telling desks.old.items desks.new.items (H.contents shelf.old) words.now false (K.taken out.old) (K.taken out.new) }
+    ensures opened { result ≡ 0 → AsksToken words.now → OpensToken (H.contents shelf.old) words.now (K.taken out.old) (K.taken out.new) }
+    ensures provider { result ≡ 0 → AsksOp words.now → RunsProvider ⟦<Desk<D, L, C, W> as Tells>⟧.telling desks.old.items desks.new.items (H.contents shelf.old) words.now false (K.taken out.old) (K.taken out.new) }
+    ensures party { result ≡ 0 → AsksRp words.now → RunsParty ⟦<Desk<D, L, C, W> as Tells>⟧.telling desks.old.items desks.new.items (H.contents shelf.old) words.now false (K.taken out.old) (K.taken out.new) }
     ensures command { result ≡ 0 → is_command words.now ≡ true }
 
     ensures memory { result ≡ 1 → K.taken out.new ≡ K.taken out.old }
@@ -116,8 +119,8 @@ pub fn sso<R: Threads + Wait + Sync, H: Shelf, K: Sink, D: Door, L: Link, C: Clo
     ensures accepted { result ≡ 4 → asks_storm (command_of words.now) ≡ false }
     ensures shelf { result ≡ 5 → ReportsShelf (H.faults shelf.old) (H.faults shelf.new) words.now (K.taken out.old) (K.taken out.new) }
     ensures sink { result ≡ 6 → StopsWriting ⟦<Desk<D, L, C, W> as Tells>⟧.telling desks.old.items desks.new.items (H.contents shelf.old) (H.faults shelf.old) (H.faults shelf.new) words.now (K.faults out.old) (K.faults out.new) (K.taken out.old) (K.taken out.new) }
-    ensures door { result ≡ 9 → RunsProvider ⟦<Desk<D, L, C, W> as Tells>⟧.telling desks.old.items desks.new.items (H.contents shelf.old) words.now true (K.taken out.old) (K.taken out.new) ⊎ RunsParty ⟦<Desk<D, L, C, W> as Tells>⟧.telling desks.old.items desks.new.items (H.contents shelf.old) words.now true (K.taken out.old) (K.taken out.new) }
-    ensures refused { result ≡ 10 → RefusesToken (H.contents shelf.old) words.now (K.taken out.old) (K.taken out.new) ⊎ RefusesMetadata (H.contents shelf.old) words.now (K.taken out.old) (K.taken out.new) }
+    ensures door { result ≡ 9 → RunsServer ⟦<Desk<D, L, C, W> as Tells>⟧.telling desks.old.items desks.new.items (H.contents shelf.old) words.now true (K.taken out.old) (K.taken out.new) }
+    ensures refused { result ≡ 10 → RefusesTokenOrMetadata (H.contents shelf.old) words.now (K.taken out.old) (K.taken out.new) }
 
     // Which status is returned: by the words alone, and by the contents of a shelf, if they are known.
     ensures range { result ≤ 10 }

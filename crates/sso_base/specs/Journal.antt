@@ -1,10 +1,12 @@
 -- The weight of a core's history, the history after one more pair, and which histories are legal. A history is a list of pairs,
 -- oldest first.
-use Rattle.std.specs.Prelude.{◌≡◌, ◌≤◌, ℕ, nat_lt, List, [], ◌∷◌, ◌++◌, reverse, if◌then◌else◌}
+use Rattle.std.specs.Prelude.{◌≡◌, ◌≤◌, ℕ, nat_lt, List, [], ◌∷◌, ◌++◌, reverse, if◌then◌else◌, ◌+◌, ◌<◌, Err, Result}
 use Rattle.std.specs.List.{sum_by}
 use Rattle.sso_base.specs.declared.history.Entry.{Entry}
 use Rattle.sso_base.specs.declared.history.Pair.{Pair}
 use Rattle.sso_base.specs.Legal.{last_moment, IsLegalBy}
+use Rattle.sso_base.specs.declared.step.CoreNo.{CoreNo}
+use Rattle.sso_base.specs.declared.step.CoreNo.TheVariants.{JournalFull}
 
 -- the greatest weight of a history
 abbrev pub most_weight : ℕ
@@ -30,7 +32,8 @@ abbrev pub extended : {A R : Type 0} → List (Pair A R) → ℕ → List (List 
 extended history at fresh asked reply = history ++ (record { entry = entry_of history at fresh asked; reply = reply }) ∷ []
 
 -- each reply is the answer of the core, and the history weighs no more than the limit
-pub record IsLegalHistoryBy {A R : Type 0} (IsAsk : A → Type 0) (answer : List (Pair A R) → Entry A → R) (weighs : A → ℕ) (history : List (Pair A R)) : Type 0 where
+pub record IsLegalHistoryBy
+    {A R : Type 0} (IsAsk : A → Type 0) (answer : List (Pair A R) → Entry A → R) (weighs : A → ℕ) (history : List (Pair A R)) : Type 0 where
   pub past : IsLegalBy IsAsk answer (reverse history)
   pub light : history_weight weighs history ≤ most_weight
 
@@ -43,3 +46,11 @@ pub record Journaled (A R : Type 0) : Type 0 where
 pub record IsWeighed {A R : Type 0} (weighs : A → ℕ) (history : List (Pair A R)) (weight : ℕ) : Type 0 where
   pub weight_is : weight ≡ history_weight weighs history
   pub light : weight ≤ most_weight
+
+-- this is the refusal of a history of this weight, whose limit leaves no room for this much more
+abbrev pub IsFullRefusal : ℕ → ℕ → CoreNo → Type 0
+IsFullRefusal weight more no = (no ≡ JournalFull weight) × (most_weight < weight + more)
+
+-- if a call is refused so, it is for a history of this weight and for this much more
+abbrev pub ReportsFull : {A : Type 0} → Result A CoreNo → ℕ → ℕ → Type 0
+ReportsFull result weight more = (w : ℕ) → result ≡ Err (JournalFull w) → (w ≡ weight) × (most_weight < w + more)

@@ -21,7 +21,9 @@ NoneMakes name made kept w [] before = Unit {0}
 NoneMakes name made kept w (p ∷ later) before =
     (is_named name w (made (rows_by name made kept (later ++ before)) (later ++ before) p) ≡ false) × NoneMakes name made kept w later before
 
-pub record Stands {P R : Type 0} (name : R → Word) (made : List R → List P → P → Option R) (kept : List P → P → R → Option R) (past : List P) (w : Word) (row : R) : Type 0 where
+pub record Stands
+    {P R : Type 0} (name : R → Word) (made : List R → List P → P → Option R) (kept : List P → P → R → Option R) (past : List P)
+    (w : Word) (row : R) : Type 0 where
   pub later : List P
   pub maker : P
   pub earlier : List P

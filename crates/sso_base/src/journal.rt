@@ -1,6 +1,6 @@
 //! The stored history of a core.
 
-ghost use Rattle.std.specs.Prelude.{◌≡◌, ℕ, ◌+◌, ◌<◌, ◌≤◌, List, [], ◌∷◌, ◌++◌, length, reverse, Err, IfOk, OnOk};
+ghost use Rattle.std.specs.Prelude.{◌≡◌, ℕ, ◌+◌, ◌<◌, ◌≤◌, [], ◌∷◌, ◌++◌, length, reverse, Err, IfOk, OnOk};
 ghost use Rattle.sso_base.specs.Legal.{last_moment};
 ghost use Rattle.sso_base.specs.Journal as spec;
 ghost use Rattle.sso_base.specs.Weights.{told_weight};
@@ -74,7 +74,7 @@ impl<A: Weighed + Drop, R: Drop> Journal<A, R> {
     // Whether a request of this weight fits into the history; otherwise the error holds the history's weight.
     fn room_for(&self, weight: u64) -> Result<(), CoreNo>
         ensures ok { OnOk result (spec.history_weight A.weighs self.now.pairs + weight ≤ spec.most_weight) }
-        ensures full { (no : CoreNo) → result ≡ Err no → (no ≡ CoreNo.JournalFull (spec.history_weight A.weighs self.now.pairs)) × (spec.most_weight < spec.history_weight A.weighs self.now.pairs + weight) }
+        ensures full { (no : CoreNo) → result ≡ Err no → spec.IsFullRefusal (spec.history_weight A.weighs self.now.pairs) weight no }
     {
         if MOST_WEIGHT - self.weight < weight {
             return Err(CoreNo::JournalFull(self.weight));
@@ -87,7 +87,7 @@ impl<A: Weighed + Drop, R: Drop> Journal<A, R> {
     pub fn admit(&self, ask: &A) -> Result<u64, CoreNo>
         ensures weight { IfOk result (λ weight. weight ≡ A.weighs ask.now) }
         ensures room { OnOk result (spec.history_weight A.weighs self.now.pairs + A.weighs ask.now ≤ spec.most_weight) }
-        ensures full { (w : ℕ) → result ≡ Err (CoreNo.JournalFull w) → (w ≡ spec.history_weight A.weighs self.now.pairs) × (spec.most_weight < w + A.weighs ask.now) }
+        ensures full { spec.ReportsFull result (spec.history_weight A.weighs self.now.pairs) (A.weighs ask.now) }
     {
         let weight = ask.weight()?;
         self.room_for(weight)?;

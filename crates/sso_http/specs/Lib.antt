@@ -18,3 +18,4 @@ pub mod Requests
 pub mod Sendable
 pub mod Told
 pub mod Writing
+pub mod Laws

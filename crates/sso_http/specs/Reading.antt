@@ -1,5 +1,5 @@
 -- What a reader of a head knows, byte by byte, about the bytes so far. The lists here have the newest byte first.
-use Rattle.std.specs.Prelude.{◌≡◌, ℕ, ◌==◌, ◌&&◌, ◌||◌, not, Bool, true, false, List, [], ◌∷◌, reverse, if◌then◌else◌}
+use Rattle.std.specs.Prelude.{◌≡◌, ℕ, ◌==◌, ◌&&◌, ◌||◌, not, Bool, true, false, List, [], ◌∷◌, reverse, if◌then◌else◌, ◌++◌}
 use Rattle.sso_http.specs.Lines.{is_empty_line}
 use Rattle.sso_http.specs.declared.head.Begun.{Begun}
 use Rattle.sso_http.specs.declared.head.Begun.TheVariants.{Nothing, Return, More}
@@ -51,3 +51,8 @@ pub record IsEnded (bytes : List ℕ) : Type 0 where
   pub parts : reverse bytes ≡ last ∷ seen
   pub first : has_head seen ≡ false
   pub ends : ends_head (last ∷ seen) ≡ true
+
+-- the reader took this byte, and this tells whether it ends the head
+abbrev pub TakesByte : Reader → Reader → ℕ → Bool → Type 0
+TakesByte old new byte ends =
+    (new.bytes.items ≡ old.bytes.items ++ byte ∷ []) × Tracks new × (ends ≡ ends_head (byte ∷ reverse old.bytes.items))

@@ -3,7 +3,8 @@ use Rattle.std.specs.Prelude.{ℕ, List, codes, Option, Some, None, option_map}
 use Rattle.http_reply.specs.Replies.{plain}
 use Rattle.sso_http.specs.Replies.{reply_bytes}
 use Rattle.sso_http.specs.declared.no.HttpNo.{HttpNo}
-use Rattle.sso_http.specs.declared.no.HttpNo.TheVariants.{NoMemory, ReadFault, EndedEarly, HeadTooLong, BadHead, Transfer, NoLength, BodyTooLong, BadTarget, CookieTwice}
+use Rattle.sso_http.specs.declared.no.HttpNo.TheVariants.{NoMemory, ReadFault, EndedEarly, HeadTooLong, BadHead, Transfer, NoLength, BodyTooLong, BadTarget}
+use Rattle.sso_http.specs.declared.no.HttpNo.TheVariants.{CookieTwice}
 
 -- the status of the reply; none if the connection failed or ended, since nobody would receive one
 abbrev pub status_of : HttpNo → Option ℕ

@@ -1,7 +1,7 @@
 // The head of a request, byte by byte.
 
-ghost use Rattle.std.specs.Prelude.{◌≡◌, ◌++◌, ℕ, List, [], ◌∷◌, reverse, IfOk, OnErr};
-ghost use Rattle.sso_http.specs.Reading.{after_byte, ends_head, kind_of, Tracks};
+ghost use Rattle.std.specs.Prelude.{◌≡◌, ℕ, List, [], IfOk, OnErr};
+ghost use Rattle.sso_http.specs.Reading.{after_byte, kind_of, Tracks, TakesByte};
 
 use sso_base::NoMemory;
 use std::alloc::Global;
@@ -42,7 +42,7 @@ impl Reader {
     /// Takes one more byte, and returns whether the head ends with it.
     pub(crate) fn take(&mut self, byte: u8) -> Result<bool, NoMemory>
         requires tracks { Tracks self.old }
-        ensures more { IfOk result (λ ends. (self.new.bytes.items ≡ self.old.bytes.items ++ byte ∷ []) × Tracks self.new × (ends ≡ ends_head (byte ∷ reverse self.old.bytes.items))) }
+        ensures more { IfOk result (λ ends. TakesByte self.old self.new byte ends) }
         ensures same { OnErr result (self.new.bytes.items ≡ self.old.bytes.items) }
     {
         self.bytes.push(byte)?;

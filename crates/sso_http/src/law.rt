@@ -1,22 +1,17 @@
 // Lemmas about requests, replies and the answers of peers, for the crates above.
 
-ghost use Rattle.std.specs.Prelude.{◌≡◌, ◌++◌, ℕ, true, List, [], ◌∷◌, length, codes, Result, Ok};
-ghost use Rattle.httparse.specs.Grammar.{RequestHead};
+ghost use Rattle.std.specs.Prelude.{◌≡◌, ◌++◌, ℕ, true, List, [], ◌∷◌, codes};
 ghost use Rattle.sso_base.specs.Words.{Text};
-ghost use Rattle.sso_base.specs.declared.http.Ask.{Ask};
 ghost use Rattle.sso_base.specs.declared.http.HttpReply.{HttpReply};
 ghost use Rattle.sso_base.specs.declared.message.Answered.{Answered};
 ghost use Rattle.http_reply.specs.Told.{Named};
-ghost use Rattle.sso_http.specs.Causes.{MeetsNoCause, Names};
 ghost use Rattle.sso_http.specs.Cookies.{cookies_of};
-ghost use Rattle.sso_http.specs.Judging.{IsHeadOf};
 ghost use Rattle.sso_http.specs.Lines.{IsHead};
 ghost use Rattle.sso_http.specs.Peers.{IsAnswer};
 ghost use Rattle.sso_http.specs.Presented.{presented, have_names, texts_under};
 ghost use Rattle.sso_http.specs.Replies.{reply_bytes};
-ghost use Rattle.sso_http.specs.Requests.{Answers, IsOfBytes, IsRequest, IsShortHead};
 ghost use Rattle.sso_http.specs.Sendable.{IsSendable};
-ghost use Rattle.sso_http.specs.declared.no.HttpNo.{HttpNo};
+ghost use Rattle.sso_http.specs.Laws.{BytesHaveOneAnswer, WholeRequestsAreRead, RequestsWithoutACauseAreRead};
 
 /// Bytes begin with at most one head, so they have at most one rest after a head.
 pub fn heads_end_once()
@@ -25,20 +20,20 @@ pub fn heads_end_once()
 
 /// The result of reading is a function of the bytes: two results for the same bytes are equal, and leave the same rest.
 pub fn bytes_have_one_answer()
-    ensures { (first second bytes x y : List ℕ) (a b : Result Ask HttpNo) → IsOfBytes a → IsOfBytes b → Answers first second bytes x a → Answers first second bytes y b → (a ≡ b) × (x ≡ y) }
+    ensures { BytesHaveOneAnswer }
 {}
 
 /// A whole request is read, whatever follows it, and that is left. Together with `bytes_have_one_answer`: it is refused only if
 /// memory runs out or the source fails.
 pub fn whole_requests_are_read()
-    ensures { (first second head body more : List ℕ) (ask : Ask) → IsRequest first second head body ask → Answers first second (head ++ body ++ more) more (Ok ask) }
+    ensures { WholeRequestsAreRead }
 {}
 
 /// A request without a reason for a refusal is read, whatever follows it, and that is left. Its head has at most 16,384 bytes
 /// and is one of HTTP/1.0 or HTTP/1.1 with at most 64 fields, without a transfer coding. The body has the length that the head
 /// says, the target begins with `/`, and neither cookie of the server is present twice.
 pub fn requests_without_a_cause_are_read()
-    ensures { (first second head body more : List ℕ) (h : RequestHead) → IsShortHead head → IsHeadOf head h → MeetsNoCause first second h (length body) → (ask : Ask) × Answers first second (head ++ body ++ more) more (Ok ask) × Names h ask }
+    ensures { RequestsWithoutACauseAreRead }
 {}
 
 /// Bytes are at most one answer of a peer.

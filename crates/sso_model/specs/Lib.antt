@@ -3,3 +3,4 @@ pub mod Lists
 pub mod Machine
 pub mod Named
 pub mod Rows
+pub mod Laws

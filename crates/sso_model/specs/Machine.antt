@@ -3,7 +3,8 @@ use Rattle.std.specs.Prelude.{◌≡◌, ◌≢◌, ℕ, Bool, List, [], ◌∷�
 use Rattle.std.specs.List.{AllByRecursion}
 use Rattle.std.specs.Str.{bytes_eq}
 use Rattle.sso_model.specs.Lists.{Has, Lacks}
-use Rattle.sso_model.specs.Rows.{Began, Signed, Answered, Sent, Entered, Live, Machine, Step, begin, sign, answer, redeem, out, close, enter, see, drop, end, lapse, unnamed}
+use Rattle.sso_model.specs.Rows.{Began, Signed, Answered, Sent, Entered, Live, Machine, Step, begin, sign, answer, redeem, out, close, enter, see, drop, end}
+use Rattle.sso_model.specs.Rows.{lapse, unnamed}
 
 -- the initial state
 abbrev pub start : Machine

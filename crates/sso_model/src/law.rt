@@ -6,6 +6,7 @@ ghost use Rattle.sso_model.specs.Rows.{Live, Machine, Sent, Step, end};
 ghost use Rattle.sso_model.specs.Machine.{start, after, after_all, IsRun};
 ghost use Rattle.sso_model.specs.Founded.{HoldsOnlyFounded, OnceEach};
 ghost use Rattle.sso_model.specs.Named.{IsNamed};
+ghost use Rattle.sso_model.specs.Laws.{OtherSessionsStay};
 
 /// After any run, each session that a relying party holds for a browser is founded. That browser began that login there. The
 /// provider answered its nonce for that session's user, to a browser that had signed in as that user by password.
@@ -23,5 +24,5 @@ pub fn once_each()
 /// including those of other clients and of other users.
 pub fn named_sessions_end()
     ensures ended { (m : Machine) (message : Sent) (count : ℕ) (row : Live) → IsNamed message row → Has (after m (end message count)).live row → ⊥ }
-    ensures others { (m : Machine) (message : Sent) (count : ℕ) (row : Live) → (IsNamed message row → ⊥) → Has m.live row → Has (after m (end message count)).live row }
+    ensures others { OtherSessionsStay }
 {}

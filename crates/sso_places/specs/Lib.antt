@@ -14,3 +14,4 @@ pub mod Told
 pub mod Tokens
 pub mod World
 pub mod Written
+pub mod Laws

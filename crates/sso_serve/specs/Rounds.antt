@@ -51,18 +51,22 @@ is_tokens : (secret : Text) (pending : Word) (read : Result Tokens TokensNo) →
 is_tokens secret pending (Ok came) = (pending, Ok came, _, refl)
 is_tokens secret pending (Err why) = (pending, Err why, None, refl)
 
-no_exchange : (s : PartySetup) (past : RpPast) (p : RpPair) (asked : RpAsk) (w : Word) (message : Message) → IsTokens asked → ExchangeCause s past p.entry asked w message → ⊥
+no_exchange : (s : PartySetup) (past : RpPast) (p : RpPair) (asked : RpAsk) (w : Word) (message : Message) → IsTokens asked
+    → ExchangeCause s past p.entry asked w message → ⊥
 no_exchange s past p asked w message is cause = subst (λ (a : RpAsk). ExchangeCause s past p.entry a w message) is.3 cause
 
-no_exchange_now : (s : PartySetup) (past : RpPast) (p : RpPair) (asked : RpAsk) (w : Word) (message : Message) → IsInfo asked → ExchangeCause s past p.entry asked w message → ⊥
+no_exchange_now : (s : PartySetup) (past : RpPast) (p : RpPair) (asked : RpAsk) (w : Word) (message : Message) → IsInfo asked
+    → ExchangeCause s past p.entry asked w message → ⊥
 no_exchange_now s past p asked w message is cause = subst (λ (a : RpAsk). ExchangeCause s past p.entry a w message) is.2 cause
 
-no_fetch : (s : PartySetup) (past : RpPast) (p : RpPair) (asked : RpAsk) (w : Word) (message : Message) → IsInfo asked → FetchCause s past p.entry asked w message → ⊥
+no_fetch : (s : PartySetup) (past : RpPast) (p : RpPair) (asked : RpAsk) (w : Word) (message : Message) → IsInfo asked
+    → FetchCause s past p.entry asked w message → ⊥
 no_fetch s past p asked w message is cause = subst (λ (a : RpAsk). FetchCause s past p.entry a w message) is.2 cause
 
 -- after a token response no token request follows
 after_tokens : (s : PartySetup) (past : RpPast) (p : RpPair) → IsTokens p.entry.ask → (r : RpReply) → rp_answer s past p.entry ≡ r → rp_rounds r < 2
-after_tokens s past p is (reply.Exchange w message) h = absurd (no_exchange s past p p.entry.ask w message is (exchanges_have_a_cause s past p.entry w message h))
+after_tokens s past p is (reply.Exchange w message) h =
+    absurd (no_exchange s past p p.entry.ask w message is (exchanges_have_a_cause s past p.entry w message h))
 after_tokens s past p is (reply.Ask to browser) h = omega arith
 after_tokens s past p is reply.Fragment h = omega arith
 after_tokens s past p is (reply.Fetch w message) h = omega arith
@@ -76,7 +80,8 @@ after_tokens s past p is reply.NotHere h = omega arith
 
 -- after a UserInfo response no request to the provider follows
 after_info : (s : PartySetup) (past : RpPast) (p : RpPair) → IsInfo p.entry.ask → (r : RpReply) → rp_answer s past p.entry ≡ r → rp_rounds r < 1
-after_info s past p is (reply.Exchange w message) h = absurd (no_exchange_now s past p p.entry.ask w message is (exchanges_have_a_cause s past p.entry w message h))
+after_info s past p is (reply.Exchange w message) h =
+    absurd (no_exchange_now s past p p.entry.ask w message is (exchanges_have_a_cause s past p.entry w message h))
 after_info s past p is (reply.Fetch w message) h = absurd (no_fetch s past p p.entry.ask w message is (fetches_have_a_cause s past p.entry w message h))
 after_info s past p is (reply.Ask to browser) h = omega arith
 after_info s past p is reply.Fragment h = omega arith
@@ -103,7 +108,10 @@ unfolding info_prepared
 asked_info pending answer = (pending, info_read answer, refl)
 
 -- after a question fewer may follow
-pub rp_fewer_rounds : (c : Configuration) (n : ℕ) (s : PartySetup) (before : List RpPair) (p : RpPair) (r : RpReply) (answer : Answered) → IsLegalHistory s (before ++ p ∷ []) → p.entry.ask ≡ rp_answered c n r answer → rp_question r ≢ None → rp_rounds p.reply < rp_rounds r
+pub rp_fewer_rounds :
+    (c : Configuration) (n : ℕ) (s : PartySetup) (before : List RpPair) (p : RpPair) (r : RpReply) (answer : Answered)
+    → IsLegalHistory s (before ++ p ∷ []) → p.entry.ask ≡ rp_answered c n r answer → rp_question r ≢ None
+    → rp_rounds p.reply < rp_rounds r
 rp_fewer_rounds c n s before p (reply.Exchange pending message) answer legal asked question =
     after_tokens s (reverse before) p (subst IsTokens (sym asked) (asked_tokens c n pending answer)) p.reply (newest_answer s before p legal)
 rp_fewer_rounds c n s before p (reply.Fetch pending message) answer legal asked question =

@@ -3,3 +3,4 @@ pub mod Lines
 pub mod Logins
 pub mod Parties
 pub mod Trace
+pub mod Laws

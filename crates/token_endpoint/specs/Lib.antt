@@ -5,3 +5,4 @@ pub mod Request
 pub mod Granted
 pub mod Errors
 pub mod Answer
+pub mod Laws

@@ -1,7 +1,8 @@
 // Reading a token request as a grant, or rejecting it for the first reason that applies.
 
-ghost use Rattle.std.specs.Prelude.{◌≡◌, ◌⊎◌, Ok, Err, IfOk, IfErr, option_map};
+ghost use Rattle.std.specs.Prelude.{◌≡◌, ◌⊎◌, Ok, Err, IfOk, IfErr};
 ghost use Rattle.std.specs.Str.{IsUtf8};
+ghost use Rattle.std.specs.Option.{option_copied};
 ghost use Rattle.token_endpoint.specs.Request.{code_read, grant_read};
 ghost use Rattle.token_endpoint.specs.Granted.{IsGrant, Cause};
 
@@ -57,8 +58,8 @@ fn granted(
     auth: Option<&[u8]>,
     body: Option<&[u8]>,
 ) -> Result<Grant, GrantNo>
-    ensures ok { IfOk result (λ g. grant_read registry.now (option_map (λ h. h.now) auth.entry) (option_map (λ b. b.now) body.entry) ≡ Ok g) }
-    ensures err { IfErr result (λ e. (e ≡ GrantNo.NoMemory) ⊎ (grant_read registry.now (option_map (λ h. h.now) auth.entry) (option_map (λ b. b.now) body.entry) ≡ Err e)) }
+    ensures ok { IfOk result (λ g. grant_read registry.now (option_copied auth.entry) (option_copied body.entry) ≡ Ok g) }
+    ensures err { IfErr result (λ e. (e ≡ GrantNo.NoMemory) ⊎ (grant_read registry.now (option_copied auth.entry) (option_copied body.entry) ≡ Err e)) }
 {
     let Some(form) = body else {
         return Err(GrantNo::BadForm);
@@ -89,13 +90,13 @@ pub fn read_grant(
     auth: Option<&[u8]>,
     body: Option<&[u8]>,
 ) -> Result<Grant, GrantNo>
-    ensures answers { IfOk result (λ g. grant_read registry.now (option_map (λ h. h.now) auth.entry) (option_map (λ b. b.now) body.entry) ≡ Ok g) }
-    ensures grant { IfOk result (λ g. IsGrant registry.now (option_map (λ h. h.now) auth.entry) (option_map (λ b. b.now) body.entry) g) }
+    ensures answers { IfOk result (λ g. grant_read registry.now (option_copied auth.entry) (option_copied body.entry) ≡ Ok g) }
+    ensures grant { IfOk result (λ g. IsGrant registry.now (option_copied auth.entry) (option_copied body.entry) g) }
     ensures texts { IfOk result (λ g. IsUtf8 g.code × IsUtf8 g.redirect) }
-    ensures accepts { (g : Grant) → IsGrant registry.now (option_map (λ h. h.now) auth.entry) (option_map (λ b. b.now) body.entry) g → IfErr result (λ e. e ≡ GrantNo.NoMemory) }
-    ensures value { (g : Grant) → IsGrant registry.now (option_map (λ h. h.now) auth.entry) (option_map (λ b. b.now) body.entry) g → IfOk result (λ r. r ≡ g) }
-    ensures refuses { IfErr result (λ e. (e ≡ GrantNo.NoMemory) ⊎ (grant_read registry.now (option_map (λ h. h.now) auth.entry) (option_map (λ b. b.now) body.entry) ≡ Err e)) }
-    ensures cause { IfErr result (λ e. (e ≡ GrantNo.NoMemory) ⊎ Cause registry.now (option_map (λ h. h.now) auth.entry) (option_map (λ b. b.now) body.entry) e) }
+    ensures accepts { (g : Grant) → IsGrant registry.now (option_copied auth.entry) (option_copied body.entry) g → IfErr result (λ e. e ≡ GrantNo.NoMemory) }
+    ensures value { (g : Grant) → IsGrant registry.now (option_copied auth.entry) (option_copied body.entry) g → IfOk result (λ r. r ≡ g) }
+    ensures refuses { IfErr result (λ e. (e ≡ GrantNo.NoMemory) ⊎ (grant_read registry.now (option_copied auth.entry) (option_copied body.entry) ≡ Err e)) }
+    ensures cause { IfErr result (λ e. (e ≡ GrantNo.NoMemory) ⊎ Cause registry.now (option_copied auth.entry) (option_copied body.entry) e) }
 {
     // The contract of `clients` states the invariant of every registry: no two of its clients have the same id.
     let _clients = registry.clients();

@@ -1,34 +1,30 @@
 // Laws about token requests and responses, for the crates above.
 
-ghost use Rattle.std.specs.Prelude.{◌≡◌, ◌≢◌, ◌++◌, ℕ, List, Bool, true, false, codes, Option, Some, None, Ok, Err, IsOk};
+ghost use Rattle.std.specs.Prelude.{◌≡◌, ◌≢◌, ◌++◌, ℕ, List, true, false, codes, Option, Some, None, Ok, Err, IsOk};
 ghost use Rattle.std.specs.Str.{IsUtf8};
-ghost use Rattle.form_urlencoded.specs.Form.{byte_serialize};
-ghost use Rattle.json.specs.Print.{quoted};
 ghost use Rattle.serde_json.specs.Data.{Members};
 ghost use Rattle.sso_base.specs.Refusals.{first_refusal};
-ghost use Rattle.sso_base.specs.Words.{Word, Text, word_text};
 ghost use Rattle.sso_base.specs.declared.message.Answered.{Answered};
 ghost use Rattle.claim_set.specs.declared.no.ClaimNo.{ClaimNo};
 ghost use Rattle.claim_set.specs.Reading.{Reads, claims_read};
-ghost use Rattle.client_registry.specs.declared.records.Client.{Client};
 ghost use Rattle.client_registry.specs.Configuration.{Configuration};
-ghost use Rattle.client_registry.specs.Numbers.{client_at};
 ghost use Rattle.client_registry.specs.Registered.{IsRegistry};
-ghost use Rattle.request_params.specs.Form.{form_pairs};
 ghost use Rattle.token_endpoint.specs.declared.basic.Credentials.{Credentials};
 ghost use Rattle.token_endpoint.specs.declared.granting.Grant.{Grant};
 ghost use Rattle.request_params.specs.Scheme.{IsScheme};
 ghost use Rattle.token_endpoint.specs.declared.error.TokenError.{TokenError};
 ghost use Rattle.token_endpoint.specs.declared.no.GrantNo.{GrantNo};
 ghost use Rattle.token_endpoint.specs.declared.no.GrantNo.TheVariants as no;
-ghost use Rattle.token_endpoint.specs.declared.no.TokensNo.{TokensNo};
 ghost use Rattle.token_endpoint.specs.declared.no.TokensNo.TheVariants as tokens_no;
 ghost use Rattle.token_endpoint.specs.declared.reading.Tokens.{Tokens};
 ghost use Rattle.token_endpoint.specs.Basic.{is_basic_scheme, basic_header, basic_read, IsBasic};
-ghost use Rattle.token_endpoint.specs.Request.{grant_refusals, grant_read, token_message};
-ghost use Rattle.token_endpoint.specs.Granted.{Shows, credentials_of, IsGrant, Cause};
+ghost use Rattle.token_endpoint.specs.Request.{grant_read};
+ghost use Rattle.token_endpoint.specs.Granted.{IsGrant, Cause};
 ghost use Rattle.token_endpoint.specs.Errors.{error_code, error_text};
-ghost use Rattle.token_endpoint.specs.Answer.{tokens_text, tokens_read, HasTokens, token_refusals};
+ghost use Rattle.token_endpoint.specs.Answer.{tokens_read, HasTokens, token_refusals};
+ghost use Rattle.token_endpoint.specs.Laws.{GrantedClientsShowTheirSecret, RefusedRequestsHaveACause, RequestsWithoutCauseAreAccepted};
+ghost use Rattle.token_endpoint.specs.Laws.{PrintedRequestsAreGranted, WrittenRequestsHaveTheirText, TokenResponsesHaveTheirText};
+ghost use Rattle.token_endpoint.specs.Laws.{RefusedResponsesHaveTheFirstReason, PrintedTextsAreRead, PrintedWordsAreRead};
 
 /// A header has the scheme `Basic` if and only if this word, in any case, is the text before its first space or the whole
 /// header. The id and the secret that are read are those that the header literally encodes, and every such header is read.
@@ -48,31 +44,31 @@ pub fn requests_are_granted_literally()
 
 /// A grant needs the secret of its client: the client is in the registry, and the request shows its id and its secret.
 pub fn granted_clients_show_their_secret()
-    ensures { (c : Configuration) (auth body : Option (List ℕ)) (g : Grant) → grant_read c auth body ≡ Ok g → (client : Client) × (client_at c g.client ≡ Some client) × ((form : List ℕ) × (body ≡ Some form) × Shows auth (form_pairs form) (credentials_of client)) }
+    ensures { GrantedClientsShowTheirSecret }
 {}
 
 /// A request without a body gives `BadForm`. Any other is rejected if one of the conditions `grant_refusals` is true, of which
 /// the first counts; otherwise it is accepted. Each error has its cause.
 pub fn refused_requests_have_a_cause()
     ensures no_body { (c : Configuration) (auth : Option (List ℕ)) → grant_read c auth None ≡ Err no.BadForm }
-    ensures refused { (c : Configuration) (auth : Option (List ℕ)) (form : List ℕ) (e : GrantNo) → first_refusal (grant_refusals c auth (form_pairs form)) ≡ Err e → grant_read c auth (Some form) ≡ Err e }
-    ensures accepted { (c : Configuration) (auth : Option (List ℕ)) (form : List ℕ) → first_refusal (grant_refusals c auth (form_pairs form)) ≡ Ok tt → IsOk (grant_read c auth (Some form)) }
+    ensures refused { RefusedRequestsHaveACause }
+    ensures accepted { RequestsWithoutCauseAreAccepted }
     ensures cause { (c : Configuration) (auth body : Option (List ℕ)) (e : GrantNo) → IsRegistry c → grant_read c auth body ≡ Err e → Cause c auth body e }
 {}
 
 /// The request that is written for a client of a registry is granted to this client, for the same code and redirect URI.
 pub fn printed_requests_are_granted()
-    ensures { (c : Configuration) (n : ℕ) (k : Client) (endpoint code redirect : Text) → IsRegistry c → client_at c n ≡ Some k → IsUtf8 code → IsUtf8 redirect → grant_read c (token_message k endpoint code redirect).auth (token_message k endpoint code redirect).body ≡ Ok (record { client = n; code = code; redirect = redirect }) }
+    ensures { PrintedRequestsAreGranted }
 {}
 
 /// The text of the body of a written request.
 pub fn written_requests_have_their_text()
-    ensures { (k : Client) (endpoint code redirect : Text) → (token_message k endpoint code redirect).body ≡ Some (codes "grant_type=authorization_code&code=" ++ (byte_serialize code ++ (codes "&redirect_uri=" ++ byte_serialize redirect))) }
+    ensures { WrittenRequestsHaveTheirText }
 {}
 
 /// The texts of the bodies of responses.
 pub fn written_answers_have_their_text()
-    ensures tokens { (access id : Text) → tokens_text access id ≡ codes "{\"access_token\":" ++ (quoted access ++ (codes ",\"expires_in\":3600,\"id_token\":" ++ (quoted id ++ codes ",\"token_type\":\"Bearer\"}"))) }
+    ensures tokens { TokenResponsesHaveTheirText }
     ensures error { (e : TokenError) → error_text e ≡ codes "{\"error\":\"" ++ error_code e ++ codes "\"}" }
 {}
 
@@ -87,12 +83,12 @@ pub fn answers_are_read_by_their_members()
 pub fn refused_answers_have_the_first_reason()
     ensures status { (a : Answered) → a.status ≢ 200 → tokens_read a ≡ Err (tokens_no.Status a.status) }
     ensures unread { (a : Answered) (e : ClaimNo) → a.status ≡ 200 → claims_read a.body ≡ Err e → tokens_read a ≡ Err (tokens_no.Claims e) }
-    ensures refused { (a : Answered) (ms : Members) (e : TokensNo) → a.status ≡ 200 → Reads a.body ms → first_refusal (token_refusals ms) ≡ Err e → tokens_read a ≡ Err e }
+    ensures refused { RefusedResponsesHaveTheFirstReason }
     ensures accepted { (a : Answered) (ms : Members) → a.status ≡ 200 → Reads a.body ms → first_refusal (token_refusals ms) ≡ Ok tt → IsOk (tokens_read a) }
 {}
 
 /// Reading the body that is written for an access token and an ID Token, with status 200, returns these.
 pub fn printed_tokens_are_read()
-    ensures texts { (access id : Text) → IsUtf8 access → IsUtf8 id → tokens_read (record { status = 200; body = tokens_text access id }) ≡ Ok (record { access = access; id = id }) }
-    ensures words { (w : Word) (id : Text) → IsUtf8 id → tokens_read (record { status = 200; body = tokens_text (word_text w) id }) ≡ Ok (record { access = word_text w; id = id }) }
+    ensures texts { PrintedTextsAreRead }
+    ensures words { PrintedWordsAreRead }
 {}

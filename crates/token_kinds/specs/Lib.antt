@@ -1,1 +1,3 @@
 pub mod Parameters
+pub mod Laws
+pub mod RequestLaws

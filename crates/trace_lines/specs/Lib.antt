@@ -9,3 +9,4 @@ pub mod Said
 pub mod Trace
 pub mod Values
 pub mod Verbs
+pub mod Laws

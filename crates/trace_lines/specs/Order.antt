@@ -3,7 +3,8 @@ use Rattle.std.specs.Prelude.{◌<◌, ◌≤◌, ℕ, List, [], ◌∷◌, leng
 use Rattle.sso_base.specs.Values.{IsWide, latest_moment}
 use Rattle.client_registry.specs.Configuration.{Configuration}
 use Rattle.trace_lines.specs.declared.line.Line.{Line}
-use Rattle.trace_lines.specs.declared.line.Line.TheVariants.{At, Steal, Show, Begin, Follow, Mix, Forge, Login, Consent, Visit, Leave, SignOut, Carry, Back, Raw}
+use Rattle.trace_lines.specs.declared.line.Line.TheVariants.{At, Steal, Show, Begin, Follow, Mix, Forge, Login, Consent, Visit, Leave, SignOut, Carry, Back}
+use Rattle.trace_lines.specs.declared.line.Line.TheVariants.{Raw}
 use Rattle.sso_places.specs.Legal.{IsRole}
 use Rattle.trace_lines.specs.Lines.{moment_after, places_after}
 use Rattle.trace_lines.specs.LineWords.{IsVisibleWord}

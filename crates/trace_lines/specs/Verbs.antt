@@ -3,7 +3,8 @@ use Rattle.std.specs.Prelude.{List, [], ◌∷◌, codes, Option, find}
 use Rattle.std.specs.Str.{bytes_eq}
 use Rattle.sso_base.specs.Words.{Text}
 use Rattle.trace_lines.specs.declared.verb.Verb.{Verb}
-use Rattle.trace_lines.specs.declared.verb.Verb.TheVariants.{At, Steal, Show, Begin, Follow, Mix, Forge, Login, Consent, Visit, Leave, SignOut, Carry, Back, Raw}
+use Rattle.trace_lines.specs.declared.verb.Verb.TheVariants.{At, Steal, Show, Begin, Follow, Mix, Forge, Login, Consent, Visit, Leave, SignOut, Carry, Back}
+use Rattle.trace_lines.specs.declared.verb.Verb.TheVariants.{Raw}
 use Rattle.trace_lines.specs.declared.verb.Field.{Field}
 use Rattle.trace_lines.specs.declared.verb.Field.TheVariants.{Seconds, Browser, Sender, Place, Message, Party, Role, Choice, Subject, Free}
 

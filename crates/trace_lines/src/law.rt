@@ -1,22 +1,22 @@
 // Which traces are accepted and which are rejected, in terms of their grammar.
 
-ghost use Rattle.std.specs.Prelude.{◌≡◌, ◌<◌, ◌^◌, ◌↔◌, ℕ, List, [], Option, Some, is_some, true, false, Ok, Err, length};
+ghost use Rattle.std.specs.Prelude.{◌≡◌, ◌<◌, ◌^◌, ◌↔◌, ℕ, List, [], Some, Ok, Err, length};
 ghost use Rattle.std.specs.Fmt.{decimal};
 ghost use Rattle.sso_base.specs.Words.{Text};
 ghost use Rattle.client_registry.specs.Configuration.{Configuration};
 ghost use Rattle.trace_lines.specs.declared.line.Line.{Line};
-ghost use Rattle.trace_lines.specs.declared.no.Fault.{Fault};
 ghost use Rattle.trace_lines.specs.declared.no.TraceNo.TheVariants as no;
 ghost use Rattle.trace_lines.specs.declared.verb.Verb.{Verb};
-ghost use Rattle.trace_lines.specs.Faults.{IsLeast, refusal_of};
-ghost use Rattle.trace_lines.specs.Guilt.{is_skipped, line_faults};
+ghost use Rattle.trace_lines.specs.Guilt.{line_faults};
 ghost use Rattle.trace_lines.specs.Header.{seed_of, IsHeaderOf};
 ghost use Rattle.trace_lines.specs.LineWords.{words_in, AreWordsOf};
 ghost use Rattle.trace_lines.specs.Number.{number_of};
 ghost use Rattle.trace_lines.specs.Order.{IsReadFor};
 ghost use Rattle.trace_lines.specs.Said.{line_said};
-ghost use Rattle.trace_lines.specs.Trace.{Told, line_read, trace_told, HasNoHeader, IsTrace, IsFirstBad};
+ghost use Rattle.trace_lines.specs.Trace.{Told, line_read, trace_told, HasNoHeader, IsTrace};
 ghost use Rattle.trace_lines.specs.Verbs.{verb_of, verb_text};
+ghost use Rattle.trace_lines.specs.Laws.{RefusedLinesHaveTheLeastFault, ReadLinesHaveNoFault, LinesWithoutFaultSaySomething};
+ghost use Rattle.trace_lines.specs.Laws.{TracesAreRefusedForTheirFirstBadLine};
 
 /// A line is the header with a seed if and only if it is `sso-trace 1 ` and the seed's 24 bytes in lower-case hexadecimal
 /// digits.
@@ -42,10 +42,10 @@ pub fn kinds_have_their_first_words()
 /// A line is rejected for a fault if and only if that is the first of its faults in their order. A line without faults is
 /// parsed, and its result is not empty unless the line is skipped.
 pub fn the_least_fault_is_answered()
-    ensures refused { (c : Configuration) (before : List Line) (line : List ℕ) (fault : Fault) → (line_read c before line ≡ Err fault) ↔ IsLeast fault (line_faults c before line) }
-    ensures guiltless { (c : Configuration) (before : List Line) (line : List ℕ) (said : Option Line) → line_read c before line ≡ Ok said → line_faults c before line ≡ [] }
+    ensures refused { RefusedLinesHaveTheLeastFault }
+    ensures guiltless { ReadLinesHaveNoFault }
     ensures read { (c : Configuration) (before : List Line) (line : List ℕ) → line_faults c before line ≡ [] → line_read c before line ≡ Ok (line_said c line) }
-    ensures says { (c : Configuration) (before : List Line) (line : List ℕ) → line_faults c before line ≡ [] → is_skipped line ≡ false → is_some (line_said c line) ≡ true }
+    ensures says { LinesWithoutFaultSaySomething }
 {}
 
 /// A trace is accepted if and only if it has a header and each of its lines has no fault after those before it. The result is
@@ -60,5 +60,5 @@ pub fn traces_are_accepted_line_by_line()
 pub fn traces_are_refused_for_their_first_bad_line()
     ensures size { (c : Configuration) (bytes : List ℕ) → (trace_told c bytes ≡ Err no.Size) ↔ (4194304 < length bytes) }
     ensures header { (c : Configuration) (bytes : List ℕ) → (trace_told c bytes ≡ Err no.Header) ↔ HasNoHeader bytes }
-    ensures line { (c : Configuration) (bytes : List ℕ) (number : ℕ) (fault : Fault) → (trace_told c bytes ≡ Err (refusal_of number fault)) ↔ IsFirstBad c bytes number fault }
+    ensures line { TracesAreRefusedForTheirFirstBadLine }
 {}

@@ -1,12 +1,13 @@
 -- The terms of contracts about a store and its passes.
-use Rattle.std.specs.Prelude.{◌≡◌, ℕ, List, [], ◌∷◌, false}
+use Rattle.std.specs.Prelude.{◌≡◌, ℕ, List, [], ◌∷◌, false, ◌+◌, ◌++◌, ◌<◌, length}
+use Rattle.std.specs.List.{AllByRecursion}
 use Rattle.sso_base.specs.declared.history.Pair.{Pair}
-use Rattle.sso_base.specs.Journal.{entry_of}
+use Rattle.sso_base.specs.Journal.{entry_of, history_weight, most_weight}
 use Rattle.turn_store.specs.declared.view.Called.{Called}
 use Rattle.turn_store.specs.declared.view.PassView.{PassView}
 use Rattle.turn_store.specs.declared.store.Pass.{Pass}
 use Rattle.turn_store.specs.declared.store.Turn.{Turn}
-use Rattle.turn_store.specs.Places.{places_of}
+use Rattle.turn_store.specs.Places.{places_of, Begins, call_at}
 
 module _ {C E : Type 0} where
   abbrev pub first_number : List (PassView C E) → ℕ
@@ -64,3 +65,17 @@ pub record IsPassOf {C S A R : Type 0} (setup : C → S) (is_legal : S → List 
   pub view : (p : PassView C (Pair A R)) × (pass.seat.me.0.passes ≡ p ∷ []) × (setup p.start ≡ setup_of setup turn)
   pub legal : is_legal (setup_of setup turn) (front_of pass)
   pub told : pass.calls.items ≡ places_of (calls_of pass)
+
+-- the place is after all that the pass has seen, and after its calls
+abbrev pub IsAfterSeen : {C A R : Type 0} → Pass C A R → ℕ → Type 0
+IsAfterSeen {C} {A} {R} pass place =
+    (length (front_of pass) < place) × AllByRecursion (λ (call : Called (Pair A R)). call.place < place) (calls_of pass)
+
+-- the pass has one more call, with this place and this pair
+abbrev pub HasCalled : {C A R : Type 0} → Pass C A R → Pass C A R → ℕ → Pair A R → Type 0
+HasCalled before after place pair = calls_of after ≡ calls_of before ++ call_at place pair ∷ []
+
+-- The pass has seen a history of this weight, and its limit leaves no room for the request.
+abbrev pub SeesFull : {C A R : Type 0} → (A → ℕ) → Pass C A R → Pass C A R → A → ℕ → Type 0
+SeesFull weighs before after ask w =
+    Begins (front_of before) (front_of after) × (w ≡ history_weight weighs (front_of after)) × (most_weight < w + weighs ask)

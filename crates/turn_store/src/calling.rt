@@ -1,10 +1,9 @@
 // A call: one step of the core, in turn.
 
-ghost use Rattle.std.specs.Prelude.{◌≡◌, ◌<◌, ◌+◌, ℕ, [], ◌∷◌, ◌++◌, length, Err, IfOk, OnErr};
-ghost use Rattle.std.specs.List.{AllByRecursion};
-ghost use Rattle.sso_base.specs.Journal.{most_weight, history_weight, extended};
-ghost use Rattle.turn_store.specs.Places.{Begins, before_last, call_at};
-ghost use Rattle.turn_store.specs.Passes.{number_of, front_of, calls_of, pair_of, IsPassOf};
+ghost use Rattle.std.specs.Prelude.{◌≡◌, ◌<◌, ℕ, length, Err, IfOk, OnErr};
+ghost use Rattle.sso_base.specs.Journal.{extended};
+ghost use Rattle.turn_store.specs.Places.{Begins, before_last};
+ghost use Rattle.turn_store.specs.Passes.{number_of, front_of, calls_of, pair_of, IsPassOf, IsAfterSeen, HasCalled, SeesFull};
 
 use crate::calls::Placed;
 use crate::store::{Pass, Turn};
@@ -36,11 +35,11 @@ impl<C: Core> Turn<C> {
         ensures entry { IfOk result (λ placed. front_of pass.new ≡ extended (before_last (front_of pass.new)) at fresh ask placed.reply) }
         ensures front { IfOk result (λ placed. Begins (front_of pass.old) (before_last (front_of pass.new))) }
         ensures place { IfOk result (λ placed. placed.place ≡ length (front_of pass.new)) }
-        ensures later { IfOk result (λ placed. (length (front_of pass.old) < placed.place) × AllByRecursion (λ call. call.place < placed.place) (calls_of pass.old)) }
-        ensures calls { IfOk result (λ placed. calls_of pass.new ≡ calls_of pass.old ++ call_at placed.place (pair_of (before_last (front_of pass.new)) at fresh ask placed.reply) ∷ []) }
+        ensures later { IfOk result (λ placed. IsAfterSeen pass.old placed.place) }
+        ensures calls { IfOk result (λ placed. HasCalled pass.old pass.new placed.place (pair_of (before_last (front_of pass.new)) at fresh ask placed.reply)) }
         ensures refused { OnErr result (calls_of pass.new ≡ calls_of pass.old) }
         ensures no_memory { (result ≡ Err CoreNo.NoMemory) → front_of pass.new ≡ front_of pass.old }
-        ensures full { (w : ℕ) → (result ≡ Err (CoreNo.JournalFull w)) → Begins (front_of pass.old) (front_of pass.new) × (w ≡ history_weight C.weighs (front_of pass.new)) × (most_weight < w + C.weighs ask) }
+        ensures full { (w : ℕ) → (result ≡ Err (CoreNo.JournalFull w)) → SeesFull C.weighs pass.old pass.new ask w }
     {
         if pass.calls.reserve(1).is_err() {
             return Err(CoreNo::NoMemory);

@@ -1,14 +1,13 @@
 // Laws about the need of a request, for the crates above.
 
-ghost use Rattle.std.specs.Prelude.{◌≡◌, ◌≢◌, ℕ, true, false, Option, Some, None};
+ghost use Rattle.std.specs.Prelude.{◌≡◌, ◌≢◌, ℕ, Some, None};
 ghost use Rattle.client_registry.specs.Configuration.{Configuration};
-ghost use Rattle.client_registry.specs.Numbers.{client_at};
 ghost use Rattle.auth_request.specs.declared.wish.Wish.{Wish};
-ghost use Rattle.oidc_words.specs.declared.errors.AuthError.{AuthError};
 ghost use Rattle.user_interaction.specs.declared.standing.Standing.{Standing};
 ghost use Rattle.user_interaction.specs.declared.need.Need.TheVariants as need;
-ghost use Rattle.user_interaction.specs.Need.{needed, asks_consent};
-ghost use Rattle.user_interaction.specs.Answerable.{IsAnswerable, HasCause};
+ghost use Rattle.user_interaction.specs.Need.{needed};
+ghost use Rattle.user_interaction.specs.Answerable.{IsAnswerable};
+ghost use Rattle.user_interaction.specs.Laws.{SilentRequestsShowNoLoginPage, SilentRequestsShowNoConsentPage, GivenConsentIsNotAsked, RefusalsHaveTheirCauses};
 
 /// A request is answered if and only if there is a session whose user logged in for it, or recently enough, is one of the
 /// requested users, and has consented (OpenID Connect Core 1.0, 3.1.2.1 to 3.1.2.4).
@@ -20,17 +19,17 @@ pub fn answered_requests_are_answerable()
 
 /// If `prompt` has `none` and requests no login, no page is shown (OpenID Connect Core 1.0, 3.1.2.1).
 pub fn silent_requests_show_no_page()
-    ensures login { (c : Configuration) (wish : Wish) (standing : Option Standing) (at : ℕ) → wish.none ≡ true → wish.login ≡ false → needed c wish standing at ≢ need.Login }
-    ensures consent { (c : Configuration) (wish : Wish) (standing : Option Standing) (at : ℕ) → wish.none ≡ true → wish.login ≡ false → needed c wish standing at ≢ need.Consent }
+    ensures login { SilentRequestsShowNoLoginPage }
+    ensures consent { SilentRequestsShowNoConsentPage }
 {}
 
 /// The user is never asked to consent to a client that does not require consent.
 pub fn given_consent_is_not_asked()
-    ensures { (c : Configuration) (wish : Wish) (standing : Option Standing) (at : ℕ) → asks_consent (client_at c wish.client) ≡ false → needed c wish standing at ≢ need.Consent }
+    ensures { GivenConsentIsNotAsked }
 {}
 
 /// A request is refused only for these causes: a login or a consent is needed and `prompt` is `none`, or the user who logged in
 /// for it is none of the requested users (OpenID Connect Core 1.0, 3.1.2.6).
 pub fn refusals_have_their_causes()
-    ensures { (c : Configuration) (wish : Wish) (standing : Option Standing) (at : ℕ) (code : AuthError) → needed c wish standing at ≡ need.Error code → HasCause c wish standing at code }
+    ensures { RefusalsHaveTheirCauses }
 {}

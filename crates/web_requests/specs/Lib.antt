@@ -10,3 +10,4 @@ pub mod Handing
 pub mod Raw
 pub mod Arriving
 pub mod Asked
+pub mod Laws

@@ -1,5 +1,5 @@
 -- The words that replies set, each with the numbers whose replies did.
-use Rattle.std.specs.Prelude.{ℕ, Bool, false, ◌==◌, ◌||◌, not, List, Option, Some, None}
+use Rattle.std.specs.Prelude.{ℕ, Bool, false, ◌==◌, ◌||◌, not, List, Option, Some, None, ◌&&◌, ◌≡◌}
 use Rattle.std.specs.Map.{lookup}
 use Rattle.std.specs.Str.{bytes_eq}
 use Rattle.sso_base.specs.Words.{Word}
@@ -22,3 +22,9 @@ setter_of setters w = lookup (λ v. bytes_eq w v) setters
 -- a number other than this one set the word
 abbrev pub set_for_other : List (Word × Setter) → Word → ℕ → Bool
 set_for_other setters w from = is_other from (setter_of setters w)
+
+-- the word is noted as set under this number, and nothing else
+abbrev pub IsSetterNoted : List (Word × Setter) → List (Word × Setter) → Word → ℕ → Type 0
+IsSetterNoted before after word from =
+    (w : Word) (other : ℕ)
+    → set_for_other after w other ≡ ((bytes_eq word w && not (from == other)) || set_for_other before w other)

@@ -1,9 +1,8 @@
 // For each word, the numbers whose replies set it.
 
-ghost use Rattle.std.specs.Prelude.{◌≡◌, ℕ, ◌==◌, ◌&&◌, ◌||◌, not, false, option_copied, OnOk, OnErr};
-ghost use Rattle.std.specs.Str.{bytes_eq};
+ghost use Rattle.std.specs.Prelude.{◌≡◌, ℕ, ◌||◌, false, option_copied, OnOk, OnErr};
 ghost use Rattle.sso_base.specs.Words.{Word as WordOf};
-ghost use Rattle.world_index.specs.Setting.{setter_noted, set_for_other};
+ghost use Rattle.world_index.specs.Setting.{setter_noted, set_for_other, IsSetterNoted};
 
 use sso_base::{NoMemory, Word};
 use std::alloc::Global;
@@ -71,7 +70,7 @@ impl Setters {
 
     /// Notes that a reply of this number set the word. On an error nothing changes.
     pub fn note(&mut self, word: &Word, from: u32) -> Result<(), NoMemory>
-        ensures ok { OnOk result ((w : WordOf) (other : ℕ) → set_for_other self.new w other ≡ ((bytes_eq word.now w && not (from == other)) || set_for_other self.old w other)) }
+        ensures ok { OnOk result (IsSetterNoted self.old self.new word.now from) }
         ensures err { OnErr result (self.new ≡ self.old) }
     {
         let setter = setter_after(from, self.words.get(&word.bytes()));

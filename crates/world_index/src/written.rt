@@ -1,9 +1,8 @@
 // For each client, the tokens that were written for it.
 
-ghost use Rattle.std.specs.Prelude.{◌≡◌, ℕ, ◌<◌, ◌==◌, ◌&&◌, ◌||◌, false, length, IfOk, OnOk, OnErr};
-ghost use Rattle.std.specs.Str.{bytes_eq};
+ghost use Rattle.std.specs.Prelude.{◌≡◌, ℕ, ◌<◌, false, length, IfOk, OnOk, OnErr};
 ghost use Rattle.sso_base.specs.Words.{Text as TextOf};
-ghost use Rattle.world_index.specs.Writing.{is_written_for};
+ghost use Rattle.world_index.specs.Writing.{is_written_for, IsTextNoted};
 
 use crate::text_set::TextSet;
 use sso_base::{NoMemory, Text};
@@ -51,7 +50,7 @@ impl Written {
     pub fn note(&mut self, alloc: Global, text: &Text, client: u32) -> Result<(), NoMemory>
         requires { client < length self.old }
         ensures count { length self.new ≡ length self.old }
-        ensures ok { OnOk result ((t : TextOf) (other : ℕ) → is_written_for self.new t other ≡ ((client == other && bytes_eq text.now t) || is_written_for self.old t other)) }
+        ensures ok { OnOk result (IsTextNoted self.old self.new text.now client) }
         ensures err { OnErr result (self.new ≡ self.old) }
     {
         self.sets[client as usize].add(alloc, text)
