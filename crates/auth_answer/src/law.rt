@@ -6,7 +6,7 @@ ghost use Rattle.std.specs.Str.{IsUtf8};
 ghost use Rattle.sso_base.specs.Words.{Word, Text, word_of_text};
 ghost use Rattle.registered_url.specs.Query.{form_names};
 ghost use Rattle.sso_base.specs.Texts.{has_text};
-ghost use Rattle.configuration_rows.specs.Version1.{answer_names};
+ghost use Rattle.configuration_rows.specs.Rows.{answer_names};
 ghost use Rattle.oidc_words.specs.Lives.{access_life_text};
 ghost use Rattle.oidc_words.specs.TokenTypes.{bearer_word};
 ghost use Rattle.request_params.specs.Reading.{value_of};

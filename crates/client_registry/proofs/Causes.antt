@@ -8,7 +8,7 @@ use Rattle.configuration_rows.specs.declared.no.RegNo.{RegNo}
 use Rattle.configuration_rows.specs.declared.no.RegNo.TheVariants as no
 use Rattle.configuration_rows.specs.Refusals.{number, least, IsLeast}
 use Rattle.configuration_rows.specs.Values.{natural_at}
-use Rattle.configuration_rows.specs.Version1.{is_number, rows_refusals}
+use Rattle.configuration_rows.specs.Rows.{is_number, rows_refusals}
 use Rattle.configuration_rows.proofs.Order.{least_is, empty_least}
 use Rattle.configuration_rows.proofs.Phases.{HaveAtMost, HaveAtLeast, least_from, least_of_two, is_least}
 use Rattle.configuration_rows.proofs.Numbers.{HaveNumbers, of_two, wider, at_most, at_least, of_rows}

@@ -19,8 +19,8 @@ use Rattle.configuration_rows.specs.Kinds.{passes}
 use Rattle.sso_base.specs.Texts.{has_text}
 use Rattle.oidc_words.proofs.TypeTexts.{number_below}
 use Rattle.oidc_words.specs.Types.{spellings, type_number, is_response_type, types_of_number}
-use Rattle.configuration_rows.specs.Version1 as version
-use Rattle.configuration_rows.specs.Version1.{lacks_type}
+use Rattle.configuration_rows.specs.Rows as keys
+use Rattle.configuration_rows.specs.Rows.{lacks_type}
 use Rattle.client_registry.specs.declared.records.Client.{Client}
 use Rattle.client_registry.specs.declared.records.Party.{Party}
 use Rattle.client_registry.specs.Records.{no_url, types_of, client_of_row, client_place, party_of}
@@ -43,17 +43,17 @@ meant false h = absurd (true≢false h)
 -- them that use it
 record ClientKept (parties : List Data) (d : Data) : Type 0 where
   pub id : KeptText (text.Name ClientId 1 64) (codes "id") d
-  pub logout : version.misplaced parties (text_at (codes "id") d) (url_at (codes "logout_uri") d) ≡ false
+  pub logout : keys.misplaced parties (text_at (codes "id") d) (url_at (codes "logout_uri") d) ≡ false
 
-client_kept : (parties : List Data) (i : ℕ) (d : Data) → version.client_row parties i d ≡ [] → ClientKept parties d
+client_kept : (parties : List Data) (i : ℕ) (d : Data) → keys.client_row parties i d ≡ [] → ClientKept parties d
 client_kept parties i d h =
     let l : ClientLists parties i d = client_lists parties i d h in
     record { id = kept_text (row.Client i) d (codes "id") (text.Name ClientId 1 64) l.id; logout = unmet _ (no.WrongKind (path_text (row.Client i) (codes "logout_uri"))) l.logout_fits }
 
-clients_kept : (parties rows : List Data) → each (version.client_row parties) rows ≡ [] → AllByRecursion (ClientKept parties) rows
+clients_kept : (parties rows : List Data) → each (keys.client_row parties) rows ≡ [] → AllByRecursion (ClientKept parties) rows
 clients_kept parties rows h =
     all_rows (ClientKept parties) 0 rows
-    (all_weaker (λ i d. version.client_row parties i d ≡ []) (λ i d. ClientKept parties d) 0 rows (λ i d le e. client_kept parties i d e) (each_nil (version.client_row parties) 0 rows h))
+    (all_weaker (λ i d. keys.client_row parties i d ≡ []) (λ i d. ClientKept parties d) 0 rows (λ i d le e. client_kept parties i d e) (each_nil (keys.client_row parties) 0 rows h))
 
 abbrev place_from : List ℕ → ℕ → List Data → Option ℕ
 place_from id n rows = position_from (λ (k : Client). bytes_eq k.id id) n (map client_of_row rows)
@@ -65,7 +65,7 @@ record Found (parties : List Data) (id : List ℕ) (rows : List Data) (n i : ℕ
   pub row : Data
   pub kept : ClientKept parties row
   pub named : passes (bytes_eq id) (text_at (codes "id") row) ≡ true
-  pub there : version.client_with id rows ≡ Some row
+  pub there : keys.client_with id rows ≡ Some row
   pub client : slice_get (map client_of_row rows) past ≡ Some (client_of_row row)
 
 with_id : (parties : List Data) (id : List ℕ) (d : Data) (t : Bool) → ClientKept parties d → bytes_eq (text_or (codes "id") [] d) id ≡ t → passes (bytes_eq id) (text_at (codes "id") d) ≡ t
@@ -98,8 +98,8 @@ known_place (Some i) m less = refl
 record Named (parties clients : List Data) (d : Data) (place : ℕ) : Type 0 where
   pub row : Data
   pub kept : ClientKept parties row
-  pub uses : version.uses kept.id.value d ≡ true
-  pub there : version.client_of clients d ≡ Some row
+  pub uses : keys.uses kept.id.value d ≡ true
+  pub there : keys.client_of clients d ≡ Some row
   pub client : slice_get (map client_of_row clients) place ≡ Some (client_of_row row)
 
 named_by : (parties clients : List Data) (d : Data) (i : ℕ) (k : KeptText text.Any (codes "client") d) → Found parties (text_or (codes "client") [] d) clients 0 i → Named parties clients d i
@@ -111,7 +111,7 @@ named_by parties clients d i k f =
       row = f.row;
       kept = f.kept;
       uses = ap (passes (bytes_eq f.kept.id.value)) k.there ∙ same_turned k.value f.kept.id.value true id;
-      there = ap (version.client_named clients) k.there ∙ ap (λ t. version.client_with t clients) (sym same) ∙ f.there;
+      there = ap (keys.client_named clients) k.there ∙ ap (λ t. keys.client_with t clients) (sym same) ∙ f.there;
       client = ap (slice_get (map client_of_row clients)) (sym place) ∙ f.client;
     }
 
@@ -131,16 +131,16 @@ all_within (d ∷ ds) = (
 used_fits : (a b : Bool) → a ≡ true → (a && b) ≡ false → b ≡ false
 used_fits a b is h = ap (λ t. t && b) (sym is) ∙ h
 
-logout_at : (parties : List Data) (d : Data) (id : List ℕ) (p : Party) (o : Option WebUrl) → Within parties d → url_at (codes "redirect_uri") d ≡ Some p.redirect_url → version.uses id d ≡ true → version.misplaced parties (Some id) o ≡ false → IfSome o (IsLogoutOf p)
+logout_at : (parties : List Data) (d : Data) (id : List ℕ) (p : Party) (o : Option WebUrl) → Within parties d → url_at (codes "redirect_uri") d ≡ Some p.redirect_url → keys.uses id d ≡ true → keys.misplaced parties (Some id) o ≡ false → IfSome o (IsLogoutOf p)
 logout_at parties d id p None w url uses h = tt
 logout_at parties d id p (Some u) w url uses h =
-    let here : (bytes_eq u.path (codes "/leave") || version.is_elsewhere u (url_at (codes "redirect_uri") d)) ≡ false = used_fits (version.uses id d) _ uses (w (version.is_apart id u) h) in
-    let both : (bytes_eq u.path (codes "/leave") ≡ false) × (version.is_elsewhere u (url_at (codes "redirect_uri") d) ≡ false) = either_false (bytes_eq u.path (codes "/leave")) _ here in
-    record { server = meant (is_same_server u p.redirect_url) (ap (version.is_elsewhere u) (sym url) ∙ both.1); path = both.0 }
+    let here : (bytes_eq u.path (codes "/leave") || keys.is_elsewhere u (url_at (codes "redirect_uri") d)) ≡ false = used_fits (keys.uses id d) _ uses (w (keys.is_apart id u) h) in
+    let both : (bytes_eq u.path (codes "/leave") ≡ false) × (keys.is_elsewhere u (url_at (codes "redirect_uri") d) ≡ false) = either_false (bytes_eq u.path (codes "/leave")) _ here in
+    record { server = meant (is_same_server u p.redirect_url) (ap (keys.is_elsewhere u) (sym url) ∙ both.1); path = both.0 }
 
 -- ---- its response type
 
-type_at : (ts : List (List ℕ)) (n : ℕ) → n < 6 → version.has_type n ts ≡ true → slice_get (types_of ts) n ≡ Some true
+type_at : (ts : List (List ℕ)) (n : ℕ) → n < 6 → keys.has_type n ts ≡ true → slice_get (types_of ts) n ≡ Some true
 type_at ts zero less h = ap (λ b. Some b) h
 type_at ts (suc zero) less h = ap (λ b. Some b) h
 type_at ts (suc (suc zero)) less h = ap (λ b. Some b) h
@@ -153,9 +153,9 @@ default_type : is_response_type (codes "code") ≡ true
 unfolding spellings
 default_type = refl
 
-not_lacking : (client : Data) (t : List ℕ) (n : ℕ) → type_number t ≡ Some n → lacks_type (Some client) t ≡ false → version.has_type n (version.response_texts client) ≡ true
+not_lacking : (client : Data) (t : List ℕ) (n : ℕ) → type_number t ≡ Some n → lacks_type (Some client) t ≡ false → keys.has_type n (keys.response_texts client) ≡ true
 unfolding lacks_type
-not_lacking client t n is h = meant (version.has_type n (version.response_texts client)) (ap (version.lacks_number (version.response_texts client)) (sym is) ∙ h)
+not_lacking client t n is h = meant (keys.has_type n (keys.response_texts client)) (ap (keys.lacks_number (keys.response_texts client)) (sym is) ∙ h)
 
 -- ---- both
 
@@ -168,30 +168,30 @@ fits_row parties known clients i d place within l named =
     let r = row.Party i in
     let client : Data = named.row in
     let u : UrlAt (codes "redirect_uri") d = url_found r d (codes "redirect_uri") no_url l.redirect in
-    let w : Directs (version.client_of clients d) u.text u.url =
-    directs_at (version.client_of clients d) (text_at (codes "redirect_uri") d) (url_at (codes "redirect_uri") d) u.text u.url u.text_there u.url_there (unmet _ (no.BadUrl (path_text r (codes "redirect_uri"))) l.directs) in
-    let of : version.is_not_of (Some client) u.text u.url ≡ false = ap (λ o. version.is_not_of o u.text u.url) (sym named.there) ∙ w.known in
-    let both : (not (has_text u.text (texts_at (codes "redirect_uris") client)) ≡ false) × (version.has_path u.url.path (url_at (codes "logout_uri") client) ≡ false) =
-    either_false (not (has_text u.text (texts_at (codes "redirect_uris") client))) (version.has_path u.url.path (url_at (codes "logout_uri") client)) of in
+    let w : Directs (keys.client_of clients d) u.text u.url =
+    directs_at (keys.client_of clients d) (text_at (codes "redirect_uri") d) (url_at (codes "redirect_uri") d) u.text u.url u.text_there u.url_there (unmet _ (no.BadUrl (path_text r (codes "redirect_uri"))) l.directs) in
+    let of : keys.is_not_of (Some client) u.text u.url ≡ false = ap (λ o. keys.is_not_of o u.text u.url) (sym named.there) ∙ w.known in
+    let both : (not (has_text u.text (texts_at (codes "redirect_uris") client)) ≡ false) × (keys.has_path u.url.path (url_at (codes "logout_uri") client) ≡ false) =
+    either_false (not (has_text u.text (texts_at (codes "redirect_uris") client))) (keys.has_path u.url.path (url_at (codes "logout_uri") client)) of in
     let kept : is_response_type (type_text d) ≡ true = optional_text_kept r d (codes "response_type") (codes "code") text.ResponseType default_type l.type in
     let n : ℕ = unwrap_or (type_number (type_text d)) 0 in
     let number : type_number (type_text d) ≡ Some n = some_of (type_number (type_text d)) 0 kept in
     let lacks : lacks_type (Some client) (type_text d) ≡ false = ap (λ o. lacks_type o (type_text d)) (sym named.there) ∙ unmet _ (no.WrongKind (path_text r (codes "response_type"))) l.has_type in
     let url : url_at (codes "redirect_uri") d ≡ Some (unwrap_or (url_at (codes "redirect_uri") d) no_url) = u.url_there ∙ ap (λ o. Some (unwrap_or o no_url)) (sym u.url_there) in
-    let misplaced : version.misplaced parties (Some named.kept.id.value) (url_at (codes "logout_uri") client) ≡ false = ap (λ o. version.misplaced parties o (url_at (codes "logout_uri") client)) (sym named.kept.id.there) ∙ named.kept.logout in
+    let misplaced : keys.misplaced parties (Some named.kept.id.value) (url_at (codes "logout_uri") client) ≡ false = ap (λ o. keys.misplaced parties o (url_at (codes "logout_uri") client)) (sym named.kept.id.there) ∙ named.kept.logout in
     record {
       redirect = ap (λ t. has_text t (texts_at (codes "redirect_uris") client)) (or_else (text_at (codes "redirect_uri") d) u.text [] u.text_there) ∙ meant (has_text u.text (texts_at (codes "redirect_uris") client)) both.0;
-      logout = ap (λ (o : Option WebUrl). version.has_path (unwrap_or o no_url).path (url_at (codes "logout_uri") client)) u.url_there ∙ both.1;
+      logout = ap (λ (o : Option WebUrl). keys.has_path (unwrap_or o no_url).path (url_at (codes "logout_uri") client)) u.url_there ∙ both.1;
       logout_of = logout_at parties d named.kept.id.value (party_of known d) (url_at (codes "logout_uri") client) within url named.uses misplaced;
       number = n;
       types = ap types_of_number number;
-      has_type = type_at (version.response_texts client) n (number_below (type_text d) n number) (not_lacking client (type_text d) n number lacks);
+      has_type = type_at (keys.response_texts client) n (number_below (type_text d) n number) (not_lacking client (type_text d) n number lacks);
     }
 
 fits_at : (p : Party) (o : Option Client) (k : Client) → o ≡ Some k → FitsClient p k → IfSome o (FitsClient p)
 fits_at p o k is h = subst (λ q. IfSome q (FitsClient p)) (sym is) h
 
-party_fits : (parties clients : List Data) (i : ℕ) (d : Data) → Within parties d → AllByRecursion (ClientKept parties) clients → version.party_row clients i d ≡ [] → (party_of (map client_of_row clients) d).client < length (map client_of_row clients)
+party_fits : (parties clients : List Data) (i : ℕ) (d : Data) → Within parties d → AllByRecursion (ClientKept parties) clients → keys.party_row clients i d ≡ [] → (party_of (map client_of_row clients) d).client < length (map client_of_row clients)
     → IfSome (slice_get (map client_of_row clients) (party_of (map client_of_row clients) d).client) (FitsClient (party_of (map client_of_row clients) d))
 unfolding party_of
 party_fits parties clients i d within ids h less =
@@ -203,13 +203,13 @@ party_fits parties clients i d within ids h less =
     let n : Named parties clients d place = named_by parties clients d place k (found parties id clients 0 place ids (known_place (client_place id known) (length known) less)) in
     fits_at (party_of known d) (slice_get known place) (client_of_row n.row) n.client (fits_row parties known clients i d place within l n)
 
-fit_from : (parties clients : List Data) (n : ℕ) (rows : List Data) → AllByRecursion (Within parties) rows → AllByRecursion (ClientKept parties) clients → AllFrom (λ i d. version.party_row clients i d ≡ []) n rows
+fit_from : (parties clients : List Data) (n : ℕ) (rows : List Data) → AllByRecursion (Within parties) rows → AllByRecursion (ClientKept parties) clients → AllFrom (λ i d. keys.party_row clients i d ≡ []) n rows
     → AllByRecursion (λ (p : Party). p.client < length (map client_of_row clients)) (map (party_of (map client_of_row clients)) rows)
     → AllByRecursion (λ (p : Party). IfSome (slice_get (map client_of_row clients) p.client) (FitsClient p)) (map (party_of (map client_of_row clients)) rows)
 fit_from parties clients n [] within ids h known = tt
 fit_from parties clients n (d ∷ ds) within ids h known = (party_fits parties clients n d within.0 ids h.0 known.0, fit_from parties clients (n + 1) ds within.1 ids h.1 known.1)
 
-pub parties_fit : (parties clients : List Data) → each (version.client_row parties) clients ≡ [] → each (version.party_row clients) parties ≡ []
+pub parties_fit : (parties clients : List Data) → each (keys.client_row parties) clients ≡ [] → each (keys.party_row clients) parties ≡ []
     → AllByRecursion (λ (p : Party). p.client < length (map client_of_row clients)) (map (party_of (map client_of_row clients)) parties)
     → AllByRecursion (λ (p : Party). IfSome (slice_get (map client_of_row clients) p.client) (FitsClient p)) (map (party_of (map client_of_row clients)) parties)
-parties_fit parties clients h g known = fit_from parties clients 0 parties (all_within parties) (clients_kept parties clients h) (each_nil (version.party_row clients) 0 parties g) known
+parties_fit parties clients h g known = fit_from parties clients 0 parties (all_within parties) (clients_kept parties clients h) (each_nil (keys.party_row clients) 0 parties g) known

@@ -22,7 +22,7 @@ use Rattle.client_registry.specs.Configuration.{configuration_of, provider_table
 use Rattle.client_registry.specs.Registered.{AreApart, NumbersAreApart, HasNoneOf, AreDisjoint, IsUser, AllHoldClaims, IsIssuerUrl, IsRegistry}
 use Rattle.registered_url.specs.declared.web_url.WebUrl.{WebUrl}
 use Rattle.registered_url.specs.Rule.{url_of}
-use Rattle.configuration_rows.specs.Version1.{rows_refusals}
+use Rattle.configuration_rows.specs.Rows.{rows_refusals}
 use Rattle.client_registry.proofs.SpelledBytes.{hex_is_bytes}
 use Rattle.client_registry.proofs.RowFacts.{ProviderKept, provider_kept}
 use Rattle.client_registry.proofs.PartyFacts.{parties_fit}

@@ -28,7 +28,7 @@ use Rattle.configuration_rows.specs.declared.no.RegNo.{RegNo}
 use Rattle.configuration_rows.specs.declared.no.RegNo.TheVariants as no
 use Rattle.configuration_rows.specs.Refusals.{least, IsLeast, each_from, each}
 use Rattle.oidc_words.specs.Types.{spellings, types_of_number}
-use Rattle.configuration_rows.specs.Version1.{rows_refusals, lacks_type}
+use Rattle.configuration_rows.specs.Rows.{rows_refusals, lacks_type}
 use Rattle.configuration_rows.proofs.Order.{least_is}
 use Rattle.client_registry.specs.declared.records.Provider.{Provider}
 use Rattle.client_registry.specs.declared.records.User.{User}

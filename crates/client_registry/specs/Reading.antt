@@ -7,7 +7,7 @@ use Rattle.configuration_rows.specs.declared.no.RegNo.{RegNo}
 use Rattle.configuration_rows.specs.declared.no.RegNo.TheVariants.{TooLong, NotToml, Version}
 use Rattle.configuration_rows.specs.Refusals.{least}
 use Rattle.configuration_rows.specs.Values.{natural_at}
-use Rattle.configuration_rows.specs.Version1.{is_number, rows_refusals}
+use Rattle.configuration_rows.specs.Rows.{is_number, rows_refusals}
 use Rattle.client_registry.specs.Records.{users_of, clients_of, parties_of}
 use Rattle.client_registry.specs.Rules.{records_refusals, subjects_refusals}
 use Rattle.client_registry.specs.Configuration.{Configuration, configuration_of, issuer_of, salt_of}

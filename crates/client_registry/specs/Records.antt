@@ -17,7 +17,7 @@ use Rattle.configuration_rows.specs.Claims.{claims_in}
 use Rattle.oidc_words.specs.Paths.{authorize_path, token_path, userinfo_path}
 use Rattle.oidc_words.specs.Scopes.{openid_word}
 use Rattle.oidc_words.specs.Types.{code_word, types_of_number, type_number}
-use Rattle.configuration_rows.specs.Version1.{response_texts, has_type}
+use Rattle.configuration_rows.specs.Rows.{response_texts, has_type}
 
 -- ---- the provider
 

@@ -16,7 +16,7 @@ use Rattle.sso_base.specs.Texts.{has_text}
 use Rattle.configuration_rows.specs.Kinds.{is_name, is_within, are_urls}
 use Rattle.oidc_words.specs.Scopes.{is_scope}
 use Rattle.oidc_words.specs.Prompts.{is_prompt}
-use Rattle.configuration_rows.specs.Version1.{own_paths, has_path, has_answer_name}
+use Rattle.configuration_rows.specs.Rows.{own_paths, has_path, has_answer_name}
 use Rattle.client_registry.specs.Records.{urls_of, without_slash, provider_of}
 use Rattle.oidc_words.specs.Paths.{leave_path}
 use Rattle.oidc_words.specs.Types.{types_of_number}

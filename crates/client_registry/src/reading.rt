@@ -4,7 +4,7 @@ ghost use Rattle.std.specs.Prelude.{◌≡◌, ◌⊎◌, [], map, Some, None, O
 ghost use Rattle.toml.specs.View.{view};
 ghost use Rattle.client_registry.specs.Reading.{document_in, registry_read, version1_read, records_read};
 ghost use Rattle.client_registry.specs.Configuration.{provider_table, configuration_of, salt_of};
-ghost use Rattle.configuration_rows.specs.Version1.{rows_refusals};
+ghost use Rattle.configuration_rows.specs.Rows.{rows_refusals};
 ghost use Rattle.client_registry.specs.Records as spec;
 ghost use Rattle.client_registry.specs.Rules.{records_refusals, subjects_refusals, subjects_at};
 ghost use Rattle.configuration_rows.specs.Refusals.{least};

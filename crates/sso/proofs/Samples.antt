@@ -10,7 +10,7 @@ use Rattle.url.proofs.OnLiterals.{url_on_literals}
 use Rattle.registered_url.specs.Rule.{parts_of}
 use Rattle.configuration_rows.specs.declared.no.RegNo.{RegNo}
 use Rattle.configuration_rows.specs.declared.no.RegNo.TheVariants as reg
-use Rattle.configuration_rows.specs.Version1.{rows_refusals}
+use Rattle.configuration_rows.specs.Rows.{rows_refusals}
 use Rattle.client_registry.specs.Rules.{records_refusals, subjects_refusals}
 use Rattle.client_registry.specs.declared.records.Provider.{Provider}
 use Rattle.client_registry.specs.Configuration.{Configuration, configuration_of}

@@ -10,7 +10,7 @@ use Rattle.json.specs.Print.{escape_byte}
 use Rattle.oidc_words.specs.Claims.{flag_claims, seconds_claims, address_claims, is_claim_of, profile_claims, email_claims}
 use Rattle.oidc_words.specs.Types.{spellings}
 use Rattle.configuration_rows.specs.declared.no.RegNo.{RegNo}
-use Rattle.configuration_rows.specs.Version1.{rows_refusals, lacks_type}
+use Rattle.configuration_rows.specs.Rows.{rows_refusals, lacks_type}
 use Rattle.client_registry.specs.Records.{party_of}
 use Rattle.client_registry.specs.Rules.{records_refusals, subjects_refusals, party_place}
 use Rattle.client_registry.specs.Configuration.{Configuration, configuration_of}

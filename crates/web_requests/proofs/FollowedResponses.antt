@@ -6,7 +6,7 @@ use Rattle.std.specs.Str.{IsUtf8}
 use Rattle.sso_base.specs.Words.{Word, Text, word_of_text, word_text}
 use Rattle.sso_base.specs.declared.http.Ask.{Ask}
 use Rattle.registered_url.specs.declared.web_url.WebUrl.{WebUrl}
-use Rattle.configuration_rows.specs.Version1.{has_answer_name}
+use Rattle.configuration_rows.specs.Rows.{has_answer_name}
 use Rattle.oidc_words.specs.declared.errors.AuthError.{AuthError}
 use Rattle.oidc_words.specs.declared.errors.Refusal.{Refusal}
 use Rattle.client_registry.specs.declared.records.Party.{Party}
