@@ -1,5 +1,6 @@
 -- The records of rows that are guilty of nothing keep the rules of their rows.
 use Rattle.std.proofs.Common.{◌≡◌, ◌≤◌, ◌==◌, ◌&&◌, ℕ, Bool, true, false, cond, List, [], ◌∷◌, ◌++◌, length, map, replicate, nat_le, nat_lt, codes, Option, Some, None, option_and_then, unwrap_or, ◌||◌, ◌⊎◌, inl, inr, refl, sym, ap, ◌∙◌, arith, true≢false}
+use Rattle.std.specs.Prelude.{IfSome, is_none}
 use Rattle.std.specs.List.{AllByRecursion}
 use Rattle.std.proofs.lemmas.Bool.{ltb-false}
 use Rattle.std.proofs.lemmas.Bool.Decides.{nat_tests}
@@ -14,6 +15,9 @@ use Rattle.configuration_rows.specs.declared.row.Row.TheVariants as row
 use Rattle.configuration_rows.specs.declared.kind.Kind.TheVariants as kind
 use Rattle.configuration_rows.specs.declared.kind.TextRule.TheVariants as text
 use Rattle.configuration_rows.specs.declared.kind.Alphabet.TheVariants.{UserId, ClientId, PartyName, Visible}
+use Rattle.configuration_rows.specs.declared.version.Version.{Version}
+use Rattle.configuration_rows.specs.declared.version.Version.TheVariants as version
+use Rattle.configuration_rows.specs.Versions.{version_in}
 use Rattle.configuration_rows.specs.Refusals.{note_if, each}
 use Rattle.configuration_rows.specs.Paths.{path_text}
 use Rattle.configuration_rows.specs.Kinds.{is_within, is_name, are_urls}
@@ -24,12 +28,12 @@ use Rattle.configuration_rows.specs.Rows as keys
 use Rattle.configuration_rows.specs.Rows.{rows_refusals}
 use Rattle.client_registry.specs.declared.records.User.{User}
 use Rattle.client_registry.specs.declared.records.Client.{Client}
-use Rattle.client_registry.specs.Records.{no_url, rounds_of, user_of, client_of_row, party_of, urls_of}
+use Rattle.client_registry.specs.Records.{no_url, rounds_of, user_of, old_secret_of, seals_old_of, client_of_row, party_of, urls_of}
 use Rattle.client_registry.specs.Rules as rule
-use Rattle.client_registry.specs.Registered.{IsUser, IsClient, IsParty, is_url_or_none, is_prompt_or_none, is_age_or_none}
+use Rattle.client_registry.specs.Registered.{IsUser, IsSecret, IsClient, IsParty, is_url_or_none, is_prompt_or_none, is_age_or_none}
 use Rattle.client_registry.proofs.Guiltless.{front_nil, back_nil, unmet, either_false, each_nil, all_weaker, all_rows}
 use Rattle.client_registry.proofs.SpelledBytes.{hex_is_bytes, proof_is_bytes}
-use Rattle.client_registry.proofs.RowFacts.{Passing, Kept, KeptUrl, UrlAt, url_found, optional_text_kept, text_kept, hex_kept, number_kept, number_in, urls_kept, url_kept, url_there, optional_at}
+use Rattle.client_registry.proofs.RowFacts.{Passing, Kept, KeptText, kept_text, KeptUrl, UrlAt, url_found, optional_text_kept, text_kept, hex_kept, number_kept, number_in, urls_kept, url_kept, url_there, optional_at}
 
 second_true : (a b : Bool) → (a && b) ≡ true → b ≡ true
 second_true true b h = h
@@ -76,9 +80,15 @@ user_row i d h =
 
 -- ---- clients
 
+-- a text that may be a secret, whatever its length below the limit
+abbrev IsNamed : List ℕ → Type 0
+IsNamed t = is_name Visible 0 128 t ≡ true
+
 record ClientRow (k : Client) : Type 0 where
   pub id : is_name ClientId 1 64 k.id ≡ true
   pub secret : is_name Visible 0 128 k.secret ≡ true
+  pub old_secret : IfSome k.old_secret IsNamed
+  pub seals : (k.seals_old && is_none k.old_secret) ≡ false
   pub redirects : is_within 1 16 (length k.redirects) ≡ true
   pub types : length k.types ≡ 6
   pub urls : are_urls k.redirects ≡ true
@@ -93,18 +103,20 @@ logout_at o (inr k) =
     ap (λ q. is_url_or_none (option_and_then as_str q)) k.there ∙ ap is_url_or_none u.there ∙ u.url
 
 -- what the row of a client says, where nothing is noted of it
-pub record ClientLists (parties : List Data) (i : ℕ) (d : Data) : Type 0 where
+pub record ClientLists (v : Version) (parties : List Data) (i : ℕ) (d : Data) : Type 0 where
   pub id : keys.required (row.Client i) d (codes "id") (kind.Text (text.Name ClientId 1 64)) ≡ []
   pub secret : keys.required (row.Client i) d (codes "secret") (kind.Text (text.Name Visible 0 128)) ≡ []
+  pub old_secret : keys.old_secret_keys v (row.Client i) d ≡ []
   pub redirects : keys.required (row.Client i) d (codes "redirect_uris") kind.Urls ≡ []
   pub logout : keys.optional (row.Client i) d (codes "logout_uri") kind.Url ≡ []
   pub logout_fits : keys.logout_rule parties (row.Client i) d ≡ []
 
-pub client_lists : (parties : List Data) (i : ℕ) (d : Data) → keys.client_row parties i d ≡ [] → ClientLists parties i d
-client_lists parties i d h =
+pub client_lists : (v : Version) (parties : List Data) (i : ℕ) (d : Data) → keys.client_row v parties i d ≡ [] → ClientLists v parties i d
+client_lists v parties i d h =
     let r = row.Client i in
     let a : List RegNo = keys.required r d (codes "id") (kind.Text (text.Name ClientId 1 64)) in
     let b : List RegNo = keys.required r d (codes "secret") (kind.Text (text.Name Visible 0 128)) in
+    let o : List RegNo = keys.old_secret_keys v r d in
     let c : List RegNo = keys.required r d (codes "redirect_uris") kind.Urls in
     let e : List RegNo = keys.optional r d (codes "response_types") kind.ResponseTypes in
     let s : List RegNo = keys.optional r d (codes "subject") (kind.Text text.Subject) in
@@ -112,27 +124,53 @@ client_lists parties i d h =
     let l : List RegNo = keys.optional r d (codes "logout_uri") kind.Url in
     let m : List RegNo = keys.logout_rule parties r d in
     let n : List RegNo = keys.optional r d (codes "logout_session") kind.Flag in
-    let names : ((a ++ b) ++ c) ++ e ≡ [] = front_nil (((a ++ b) ++ c) ++ e) ((((s ++ t) ++ l) ++ m) ++ n) h in
-    let settings : (((s ++ t) ++ l) ++ m) ++ n ≡ [] = back_nil (((a ++ b) ++ c) ++ e) ((((s ++ t) ++ l) ++ m) ++ n) h in
-    let abc : (a ++ b) ++ c ≡ [] = front_nil ((a ++ b) ++ c) e names in
-    let ab : a ++ b ≡ [] = front_nil (a ++ b) c abc in
+    let names : (((a ++ b) ++ o) ++ c) ++ e ≡ [] = front_nil ((((a ++ b) ++ o) ++ c) ++ e) ((((s ++ t) ++ l) ++ m) ++ n) h in
+    let settings : (((s ++ t) ++ l) ++ m) ++ n ≡ [] = back_nil ((((a ++ b) ++ o) ++ c) ++ e) ((((s ++ t) ++ l) ++ m) ++ n) h in
+    let aboc : ((a ++ b) ++ o) ++ c ≡ [] = front_nil (((a ++ b) ++ o) ++ c) e names in
+    let abo : (a ++ b) ++ o ≡ [] = front_nil ((a ++ b) ++ o) c aboc in
+    let ab : a ++ b ≡ [] = front_nil (a ++ b) o abo in
     let stlm : ((s ++ t) ++ l) ++ m ≡ [] = front_nil (((s ++ t) ++ l) ++ m) n settings in
     record {
       id = front_nil a b ab;
       secret = back_nil a b ab;
-      redirects = back_nil (a ++ b) c abc;
+      old_secret = back_nil (a ++ b) o abo;
+      redirects = back_nil ((a ++ b) ++ o) c aboc;
       logout = back_nil (s ++ t) l (front_nil ((s ++ t) ++ l) m stlm);
       logout_fits = back_nil ((s ++ t) ++ l) m stlm;
     }
 
-client_row : (parties : List Data) (i : ℕ) (d : Data) → keys.client_row parties i d ≡ [] → ClientRow (client_of_row d)
-client_row parties i d h =
+-- the old secret, in the second version
+record OldKept (v : Version) (d : Data) : Type 0 where
+  named : IfSome (old_secret_of v d) IsNamed
+  seals : (seals_old_of v d && is_none (old_secret_of v d)) ≡ false
+
+named_at : (o : Option (List ℕ)) → IsNamed (unwrap_or o []) → IfSome o IsNamed
+named_at None h = tt
+named_at (Some t) h = h
+
+old_at : (b : Bool) (i : ℕ) (d : Data) → keys.old_secret_rule b (row.Client i) d ≡ [] → IfSome (text_at (codes "old_secret") d) IsNamed × ((b && is_none (text_at (codes "old_secret") d)) ≡ false)
+old_at true i d h =
+    let k : KeptText (text.Name Visible 0 128) (codes "old_secret") d = kept_text (row.Client i) d (codes "old_secret") (text.Name Visible 0 128) h in
+    (named_at (text_at (codes "old_secret") d) (text_kept (row.Client i) d (codes "old_secret") (text.Name Visible 0 128) h), ap is_none k.there)
+old_at false i d h = (named_at (text_at (codes "old_secret") d) (optional_text_kept (row.Client i) d (codes "old_secret") [] (text.Name Visible 0 128) refl h), refl)
+
+old_kept : (v : Version) (i : ℕ) (d : Data) → keys.old_secret_keys v (row.Client i) d ≡ [] → OldKept v d
+old_kept version.First i d h = record { named = tt; seals = refl }
+old_kept version.Second i d h =
+    let o = old_at (keys.seals_old d) i d (front_nil (keys.old_secret_rule (keys.seals_old d) (row.Client i) d) (keys.optional (row.Client i) d (codes "seals") (kind.Text text.Seals)) h) in
+    record { named = o.0; seals = o.1 }
+
+client_row : (v : Version) (parties : List Data) (i : ℕ) (d : Data) → keys.client_row v parties i d ≡ [] → ClientRow (client_of_row v d)
+client_row v parties i d h =
     let r = row.Client i in
-    let l : ClientLists parties i d = client_lists parties i d h in
+    let l : ClientLists v parties i d = client_lists v parties i d h in
+    let o : OldKept v d = old_kept v i d l.old_secret in
     let uris : (is_within 1 16 (length (texts_at (codes "redirect_uris") d)) ≡ true) × (are_urls (texts_at (codes "redirect_uris") d) ≡ true) = urls_kept r d (codes "redirect_uris") l.redirects in
     record {
       id = text_kept r d (codes "id") (text.Name ClientId 1 64) l.id;
       secret = text_kept r d (codes "secret") (text.Name Visible 0 128) l.secret;
+      old_secret = o.named;
+      seals = o.seals;
       redirects = uris.0;
       types = refl;
       urls = uris.1;
@@ -266,18 +304,44 @@ users_keep rows h c =
     (rows_keep keys.user_row user_of UserRow rows user_row h)
     (records_keep rule.user_size (λ u. length u.claims ≤ 2048) (map user_of rows) short_claims c)
 
+abbrev IsLong : List ℕ → Type 0
+IsLong t = 32 ≤ length t
+
+long_text : (t : List ℕ) → rule.is_short t ≡ false → IsLong t
+long_text t h = ltb-false (length t) 32 h
+
+long_old : (o : Option (List ℕ)) → rule.is_short_old o ≡ false → IfSome o IsLong
+long_old None h = tt
+long_old (Some t) h = long_text t h
+
+-- both secrets of a client are long
+record LongSecrets (k : Client) : Type 0 where
+  pub secret : IsLong k.secret
+  pub old_secret : IfSome k.old_secret IsLong
+
+long_secrets : (i : ℕ) (k : Client) → rule.short_secret i k ≡ [] → LongSecrets k
+long_secrets i k h =
+    let long = either_false (rule.is_short k.secret) (rule.is_short_old k.old_secret) (unmet _ (no.ShortSecret k.id) h) in
+    record { secret = long_text k.secret long.0; old_secret = long_old k.old_secret long.1 }
+
+-- a named text that is long is a secret
+if_secret : (o : Option (List ℕ)) → IfSome o IsNamed → IfSome o IsLong → IfSome o IsSecret
+if_secret None named long = tt
+if_secret (Some t) named long = record { name = named; long = long }
+
 record ClientRules (k : Client) : Type 0 where
-  pub long_secret : 32 ≤ length k.secret
+  pub long : LongSecrets k
   pub one_host : (k.pairwise && rule.has_two_hosts k.redirect_urls) ≡ false
 
-pub clients_keep : (parties rows : List Data) → each (keys.client_row parties) rows ≡ [] → each rule.short_secret (map client_of_row rows) ≡ [] → each rule.mixed_hosts (map client_of_row rows) ≡ [] → AllByRecursion IsClient (map client_of_row rows)
-clients_keep parties rows h s m =
-    joined ClientRow ClientRules IsClient (map client_of_row rows)
-    (λ k r q. record { id = r.id; secret = r.secret; long_secret = q.long_secret; redirects = r.redirects; types = r.types; urls = r.urls; kept = r.kept; logout = r.logout; logout_kept = r.logout_kept; one_host = q.one_host })
-    (rows_keep (keys.client_row parties) client_of_row ClientRow rows (client_row parties) h)
-    (joined (λ k. 32 ≤ length k.secret) (λ k. (k.pairwise && rule.has_two_hosts k.redirect_urls) ≡ false) ClientRules (map client_of_row rows) (λ k p q. record { long_secret = p; one_host = q })
-    (records_keep rule.short_secret (λ k. 32 ≤ length k.secret) (map client_of_row rows) (λ i k e. ltb-false (length k.secret) 32 (unmet (nat_lt (length k.secret) 32) (no.ShortSecret k.id) e)) s)
-    (records_keep rule.mixed_hosts (λ k. (k.pairwise && rule.has_two_hosts k.redirect_urls) ≡ false) (map client_of_row rows) (λ i k e. unmet (k.pairwise && rule.has_two_hosts k.redirect_urls) (no.MixedHosts k.id) e) m))
+pub clients_keep : (v : Version) (parties rows : List Data) → each (keys.client_row v parties) rows ≡ [] → each rule.short_secret (map (client_of_row v) rows) ≡ [] → each rule.mixed_hosts (map (client_of_row v) rows) ≡ []
+    → AllByRecursion IsClient (map (client_of_row v) rows)
+clients_keep v parties rows h s m =
+    joined ClientRow ClientRules IsClient (map (client_of_row v) rows)
+    (λ k r q. record { id = r.id; secret = r.secret; long_secret = q.long.secret; old_secret = if_secret k.old_secret r.old_secret q.long.old_secret; seals = r.seals; redirects = r.redirects; types = r.types; urls = r.urls; kept = r.kept; logout = r.logout; logout_kept = r.logout_kept; one_host = q.one_host })
+    (rows_keep (keys.client_row v parties) (client_of_row v) ClientRow rows (client_row v parties) h)
+    (joined LongSecrets (λ k. (k.pairwise && rule.has_two_hosts k.redirect_urls) ≡ false) ClientRules (map (client_of_row v) rows) (λ k p q. record { long = p; one_host = q })
+    (records_keep rule.short_secret LongSecrets (map (client_of_row v) rows) long_secrets s)
+    (records_keep rule.mixed_hosts (λ k. (k.pairwise && rule.has_two_hosts k.redirect_urls) ≡ false) (map (client_of_row v) rows) (λ i k e. unmet (k.pairwise && rule.has_two_hosts k.redirect_urls) (no.MixedHosts k.id) e) m))
 
 pub parties_keep : (known : List Client) (clients rows : List Data) → each (keys.party_row clients) rows ≡ [] → AllByRecursion IsParty (map (party_of known) rows)
 parties_keep known clients rows h = rows_keep (keys.party_row clients) (party_of known) IsParty rows (party_row known clients) h
@@ -286,7 +350,7 @@ parties_keep known clients rows h = rows_keep (keys.party_row clients) (party_of
 pub record RowsKeep (root : Data) : Type 0 where
   pub provider : keys.provider_row (table_at (codes "provider") root) ≡ []
   pub users : each keys.user_row (rows_at (codes "user") root) ≡ []
-  pub clients : each (keys.client_row (rows_at (codes "party") root)) (rows_at (codes "client") root) ≡ []
+  pub clients : each (keys.client_row (version_in root) (rows_at (codes "party") root)) (rows_at (codes "client") root) ≡ []
   pub parties : each (keys.party_row (rows_at (codes "client") root)) (rows_at (codes "party") root) ≡ []
 
 pub rows_keep_rules : (root : Data) → rows_refusals root ≡ [] → RowsKeep root

@@ -5,6 +5,7 @@ use Rattle.client_registry.specs.declared.records.User.{User}
 use Rattle.client_registry.specs.declared.records.Client.{Client}
 use Rattle.client_registry.specs.declared.records.Party.{Party}
 use Rattle.client_registry.specs.Records.{no_url}
+use Rattle.client_registry.specs.Secrets.{sealing}
 use Rattle.oidc_words.specs.Types.{types_of_number}
 use Rattle.client_registry.specs.Configuration.{Configuration}
 
@@ -41,6 +42,14 @@ secret_in (Some client) = client.secret
 abbrev pub client_secret : Configuration → ℕ → List ℕ
 client_secret c n = secret_in (client_at c n)
 
+-- the secret under which tokens are sealed for the client
+abbrev pub sealing_in : Option Client → List ℕ
+sealing_in None = []
+sealing_in (Some client) = sealing client
+
+abbrev pub client_sealing : Configuration → ℕ → List ℕ
+client_sealing c n = sealing_in (client_at c n)
+
 -- ---- a party
 
 abbrev pub name_in : Option Party → List ℕ
@@ -64,6 +73,8 @@ abbrev pub no_client : Client
 no_client = record {
   id = [];
   secret = [];
+  old_secret = None;
+  seals_old = false;
   redirects = [];
   types = [];
   pairwise = false;
