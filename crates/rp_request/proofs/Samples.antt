@@ -317,11 +317,11 @@ its_logout_token_is_one = logout_opened sample 0 (with_logout shop_client.secret
 
 shop_is_client : IsClient shop_client
 unfolding url_on_literals parts_of
-shop_is_client = record { id = refl; secret = refl; long_secret = omega arith; redirects = refl; types = refl; urls = refl; kept = refl; logout = refl; logout_kept = refl; one_host = refl }
+shop_is_client = record { id = refl; secret = refl; long_secret = omega arith; old_secret = tt; seals = refl; redirects = refl; types = refl; urls = refl; kept = refl; logout = refl; logout_kept = refl; one_host = refl }
 
 news_is_client : IsClient news_client
 unfolding url_on_literals parts_of
-news_is_client = record { id = refl; secret = refl; long_secret = omega arith; redirects = refl; types = refl; urls = refl; kept = refl; logout = refl; logout_kept = refl; one_host = refl }
+news_is_client = record { id = refl; secret = refl; long_secret = omega arith; old_secret = tt; seals = refl; redirects = refl; types = refl; urls = refl; kept = refl; logout = refl; logout_kept = refl; one_host = refl }
 
 shop_is_party : IsParty shop
 unfolding url_on_literals parts_of

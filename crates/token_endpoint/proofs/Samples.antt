@@ -37,6 +37,8 @@ abbrev client_a : Client
 client_a = record {
   id = codes "a";
   secret = codes "s:";
+  old_secret = None;
+  seals_old = false;
   redirects = [];
   types = [];
   pairwise = false;
