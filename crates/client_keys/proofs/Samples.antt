@@ -6,7 +6,7 @@ use Rattle.jws_compact.specs.declared.sealing.Typ.TheVariants.{Jwt}
 use Rattle.jws_compact.specs.declared.no.JwsNo.{JwsNo}
 use Rattle.jws_compact.specs.declared.no.JwsNo.TheVariants.{BadMac, NotThreeParts}
 use Rattle.jws_compact.specs.declared.unsealing.Unsealed.{Unsealed}
-use Rattle.jws_compact.specs.Jws.{header_bytes, seal_text, opened, verdict}
+use Rattle.jws_compact.specs.Jws.{header_bytes, seal_text, opened}
 use Rattle.jws_compact.proofs.OnLiterals.{jws_on_literals}
 use Rattle.jws_compact.proofs.Written.{written_sealed}
 use Rattle.client_registry.specs.declared.records.Client.{Client}
@@ -29,16 +29,16 @@ refused why = Err why
 -- ---- which secret opens
 
 opening-by_the_secret : opening shop (sealed_under (codes "key")) ≡ codes "key"
-unfolding jws_on_literals verdict opening
+unfolding jws_on_literals opening
 opening-by_the_secret = refl
 
 opening-by_the_old_secret : opening shop (sealed_under (codes "old")) ≡ codes "old"
-unfolding jws_on_literals verdict opening
+unfolding jws_on_literals opening
 opening-by_the_old_secret = refl
 
 -- an error before the MAC is that of the secret
 opening-not_for_another_error : opening shop (codes "x") ≡ codes "key"
-unfolding jws_on_literals verdict opening
+unfolding jws_on_literals opening
 opening-not_for_another_error = refl
 
 opening-without_an_old_secret : opening (record shop { old_secret = None }) (sealed_under (codes "old")) ≡ codes "key"
@@ -46,11 +46,11 @@ unfolding opening
 opening-without_an_old_secret = refl
 
 bad_mac-of_another_key : has_bad_mac (codes "key") (sealed_under (codes "old")) ≡ true
-unfolding jws_on_literals verdict
+unfolding jws_on_literals
 bad_mac-of_another_key = refl
 
 bad_mac-not_of_another_error : has_bad_mac (codes "key") (codes "x") ≡ false
-unfolding jws_on_literals verdict
+unfolding jws_on_literals
 bad_mac-not_of_another_error = refl
 
 -- ---- what is sealed for the client
@@ -63,11 +63,11 @@ opens-under_the_old_secret : verdict_for shop (sealed_under (codes "old")) ≡ O
 opens-under_the_old_secret = sealed_opens shop (header_bytes Jwt) empty_object (sealed_under (codes "old")) sealed_for-under_the_old_secret
 
 refused-under_neither : verdict_for shop (sealed_under (codes "other")) ≡ refused BadMac
-unfolding jws_on_literals verdict opening
+unfolding jws_on_literals opening
 refused-under_neither = refl
 
 refused-for_its_parts : verdict_for shop (codes "x") ≡ refused NotThreeParts
-unfolding jws_on_literals verdict opening
+unfolding jws_on_literals opening
 refused-for_its_parts = refl
 
 not_sealed_for-under_neither : (h p : Text) → SealedFor shop h p (sealed_under (codes "other")) → ⊥
