@@ -12,8 +12,8 @@ use Rattle.claim_set.specs.declared.no.ClaimNo.TheVariants as claims
 use Rattle.jws_compact.specs.declared.no.JwsNo.{JwsNo}
 use Rattle.jws_compact.specs.declared.no.JwsNo.TheVariants as jws
 use Rattle.jws_compact.specs.declared.unsealing.Unsealed.{Unsealed}
-use Rattle.jws_compact.specs.Jws.{verdict}
 use Rattle.client_registry.specs.declared.records.Client.{Client}
+use Rattle.client_keys.specs.Opening.{verdict_for}
 use Rattle.request_params.specs.declared.params.Params.{Params}
 use Rattle.request_object.specs.declared.raw.FirstClaims.{FirstClaims}
 use Rattle.request_object.specs.declared.raw.LastClaims.{LastClaims}
@@ -125,7 +125,7 @@ if_opened client issuer (Err e) = Err (Jws e)
 
 -- the parameters in a text as a request object of the client for the issuer, or the first error that applies
 unfoldable pub request_read : Client → List ℕ → List ℕ → Result Params ObjNo
-request_read client issuer t = if_opened client issuer (verdict client.secret t)
+request_read client issuer t = if_opened client issuer (verdict_for client t)
 
 -- `NoMemory` is wrapped in another error
 abbrev pub hides_memory : ObjNo → Bool
