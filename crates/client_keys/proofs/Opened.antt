@@ -9,7 +9,7 @@ use Rattle.jws_compact.specs.declared.no.JwsNo.TheVariants as no
 use Rattle.jws_compact.specs.declared.no.JwsNo.TheVariants.{BadMac}
 use Rattle.jws_compact.specs.declared.unsealing.Unsealed.{Unsealed}
 use Rattle.jws_compact.specs.Jws.{Sealed, opened, verdict}
-use Rattle.jws_compact.proofs.Opening.{verdict_sealed, sealed_verdict}
+use Rattle.jws_compact.proofs.Opening.{ok_of, verdict_sealed, sealed_verdict}
 use Rattle.client_registry.specs.declared.records.Client.{Client}
 use Rattle.client_registry.specs.Secrets.{is_old, has_secret}
 use Rattle.client_keys.specs.Opening.{SealedFor, OpensFor, is_bad_mac, has_bad_mac, opening_by, opening, verdict_for}
@@ -111,6 +111,14 @@ pub opened_is_sealed : (client : Client) (t : Text) (u : Unsealed) → verdict_f
 opened_is_sealed client t u is =
     let o = verdict_sealed (opening client t) t u is in
     (o.0, record { secret = opening client t; own = opening_is_own client t; sealed = o.1 }, o.2)
+
+-- ---- what one secret of the client opens, the client opens
+
+pub opens_alike : (client : Client) (k t : Text) (u : Unsealed) → has_secret k client ≡ true → verdict k t ≡ Ok u → verdict_for client t ≡ Ok u
+opens_alike client k t u own is =
+    let o = verdict_sealed k t u is in
+    let same : opened o.0 u.payload ≡ u = λ i. record { typ = sym o.2 i; payload = u.payload } in
+    sealed_opens client o.0 u.payload t (record { secret = k; own = own; sealed = o.1 }) ∙ ap ok_of same
 
 -- ---- a wrong MAC is wrong under each secret
 

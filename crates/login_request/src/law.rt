@@ -24,7 +24,7 @@ pub fn login_requests_are_read()
 {}
 
 /// If the party signs its requests, reading the form returns the parameters outside the request object. Reading the object,
-/// under the client's secret and for the provider's issuer, returns the parameters of the login. Merging both gives these
+/// of the client and for the provider's issuer, returns the parameters of the login. Merging both gives these
 /// parameters with the object (OpenID Connect Core 1.0, 6.1).
 pub fn signed_login_requests_are_read()
     ensures beside { (c : Configuration) (n : ℕ) (provider : Provider) (state nonce : Word) → MayAsk c n provider.issuer state nonce → (party_row c n).signed ≡ true → form.request_read (request_form (sent_params (party_client c n) (party_row c n) provider state nonce)) ≡ Ok (outer_params (party_client c n) (party_row c n) (request_text (party_client c n) provider.issuer (login_params (party_client c n) (party_row c n) state nonce))) }

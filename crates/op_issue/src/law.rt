@@ -3,7 +3,7 @@
 ghost use Rattle.std.specs.Prelude.{◌≡◌, ◌≤◌, ◌<◌, ◌+◌, ℕ, Option, Some, Ok};
 ghost use Rattle.sso_base.specs.Words.{Word, Text};
 ghost use Rattle.client_registry.specs.Configuration.{Configuration};
-ghost use Rattle.client_registry.specs.Numbers.{client_id, client_secret};
+ghost use Rattle.client_registry.specs.Numbers.{client_id, client_sealing};
 ghost use Rattle.auth_request.specs.declared.wish.Wish.{Wish};
 ghost use Rattle.id_token.specs.declared.rules.IdRules.{IdRules};
 ghost use Rattle.id_token.specs.Judging.{IsInAge, IsGoodIdToken};
@@ -15,12 +15,12 @@ ghost use Rattle.op_issue.specs.ClientRules.{client_rules};
 ghost use Rattle.op_issue.specs.IdTokens.{id_claims, issued_id};
 ghost use Rattle.op_issue.specs.Issuing.{MayIssue};
 
-/// Reading an issued ID Token under the client's secret returns the sealed claims. The claims are always short enough, and
+/// Reading an issued ID Token under the client's sealing secret returns the sealed claims. The claims are always short enough, and
 /// values of their types.
 pub fn issued_tokens_are_read()
     ensures texts { (c : Configuration) (wish : Wish) (who : Authentication) (at : ℕ) (access code : Option Word) → MayIssue c wish who at → IsWishValue wish → HasTexts (id_claims c wish who at access code) }
     ensures sealable { (c : Configuration) (wish : Wish) (who : Authentication) (at : ℕ) (access code : Option Word) → MayIssue c wish who at → IsWishValue wish → IsSealable (id_claims c wish who at access code) }
-    ensures read_back { (c : Configuration) (wish : Wish) (who : Authentication) (at : ℕ) (access code : Option Word) → MayIssue c wish who at → IsWishValue wish → id_read (client_secret c wish.client) (issued_id c wish who at access code) ≡ Ok (id_claims c wish who at access code) }
+    ensures read_back { (c : Configuration) (wish : Wish) (who : Authentication) (at : ℕ) (access code : Option Word) → MayIssue c wish who at → IsWishValue wish → id_read (client_sealing c wish.client) (issued_id c wish who at access code) ≡ Ok (id_claims c wish who at access code) }
 {}
 
 /// The wish's client accepts the issued claims for 360 seconds: their life of 300 seconds plus 60 seconds of leeway. It needs

@@ -4,7 +4,7 @@ ghost use Rattle.std.specs.Prelude.{◌≡◌, ◌≤◌, ◌<◌, ◌+◌, ◌^
 ghost use Rattle.sso_base.specs.Words.{Word, Text, IsWord};
 ghost use Rattle.sso_base.specs.declared.message.Message.{Message};
 ghost use Rattle.client_registry.specs.Configuration.{Configuration};
-ghost use Rattle.client_registry.specs.Numbers.{client_id, client_secret};
+ghost use Rattle.client_registry.specs.Numbers.{client_id, client_sealing};
 ghost use Rattle.request_params.specs.Form.{form_pairs, form_text};
 ghost use Rattle.logout_token.specs.LogoutToken.{logout_read};
 ghost use Rattle.logout_token.specs.Fitting.{HasTexts, IsSealable};
@@ -15,12 +15,12 @@ ghost use Rattle.op_issue.specs.LogoutMessages.{logout_pairs, logout_messages};
 ghost use Rattle.op_issue.specs.Ending.{MayEnd};
 ghost use Rattle.op_issue.specs.Told.{TellsAt, Tells, IsAmong};
 
-/// Reading an issued logout token under the client's secret returns the sealed claims. The claims are always short enough, and
+/// Reading an issued logout token under the client's sealing secret returns the sealed claims. The claims are always short enough, and
 /// values of their types. Reading the form of a logout request returns its token.
 pub fn logout_tokens_are_read()
     ensures texts { (c : Configuration) (client : ℕ) (out : SignOut) → MayEnd c client out → HasTexts (logout_claims c client out) }
     ensures sealable { (c : Configuration) (client : ℕ) (out : SignOut) → MayEnd c client out → IsSealable (logout_claims c client out) }
-    ensures read_back { (c : Configuration) (client : ℕ) (out : SignOut) → MayEnd c client out → logout_read (client_secret c client) (issued_logout c client out) ≡ Ok (logout_claims c client out) }
+    ensures read_back { (c : Configuration) (client : ℕ) (out : SignOut) → MayEnd c client out → logout_read (client_sealing c client) (issued_logout c client out) ≡ Ok (logout_claims c client out) }
     ensures form { (c : Configuration) (client : ℕ) (out : SignOut) → form_pairs (form_text (logout_pairs (issued_logout c client out))) ≡ logout_pairs (issued_logout c client out) }
 {}
 

@@ -13,6 +13,7 @@ ghost use Rattle.claim_set.specs.Reading.{Reads, claims_read};
 ghost use Rattle.client_registry.specs.declared.records.Client.{Client};
 ghost use Rattle.client_registry.specs.Configuration.{Configuration};
 ghost use Rattle.client_registry.specs.Numbers.{client_at};
+ghost use Rattle.client_registry.specs.Secrets.{has_secret};
 ghost use Rattle.client_registry.specs.Registered.{IsRegistry};
 ghost use Rattle.request_params.specs.Form.{form_pairs};
 ghost use Rattle.token_endpoint.specs.declared.basic.Credentials.{Credentials};
@@ -26,7 +27,8 @@ ghost use Rattle.token_endpoint.specs.declared.no.TokensNo.TheVariants as tokens
 ghost use Rattle.token_endpoint.specs.declared.reading.Tokens.{Tokens};
 ghost use Rattle.token_endpoint.specs.Basic.{is_basic_scheme, basic_header, basic_read, IsBasic};
 ghost use Rattle.token_endpoint.specs.Request.{grant_refusals, grant_read, token_message};
-ghost use Rattle.token_endpoint.specs.Granted.{Shows, credentials_of, IsGrant, Cause};
+ghost use Rattle.token_endpoint.specs.Authentication.{credentials};
+ghost use Rattle.token_endpoint.specs.Granted.{Shows, IsGrant, Cause};
 ghost use Rattle.token_endpoint.specs.Errors.{error_code, error_text};
 ghost use Rattle.token_endpoint.specs.Answer.{tokens_text, tokens_read, HasTokens, token_refusals};
 
@@ -46,9 +48,10 @@ pub fn requests_are_granted_literally()
     ensures texts { (c : Configuration) (auth body : Option (List ℕ)) (g : Grant) → grant_read c auth body ≡ Ok g → IsUtf8 g.code × IsUtf8 g.redirect }
 {}
 
-/// A grant needs the secret of its client: the client is in the registry, and the request shows its id and its secret.
+/// A grant needs a secret of its client: the client is in the registry, and the request shows its id and its secret, or its old
+/// secret.
 pub fn granted_clients_show_their_secret()
-    ensures { (c : Configuration) (auth body : Option (List ℕ)) (g : Grant) → grant_read c auth body ≡ Ok g → (client : Client) × (client_at c g.client ≡ Some client) × ((form : List ℕ) × (body ≡ Some form) × Shows auth (form_pairs form) (credentials_of client)) }
+    ensures { (c : Configuration) (auth body : Option (List ℕ)) (g : Grant) → grant_read c auth body ≡ Ok g → (client : Client) × (client_at c g.client ≡ Some client) × ((form : List ℕ) × (body ≡ Some form) × ((secret : Text) × (has_secret secret client ≡ true) × Shows auth (form_pairs form) (credentials client.id secret))) }
 {}
 
 /// A request without a body gives `BadForm`. Any other is rejected if one of the conditions `grant_refusals` is true, of which

@@ -1,6 +1,6 @@
 // No request object is accepted as a token, and no token as a request object.
 
-ghost use Rattle.std.specs.Prelude.{◌≡◌, ℕ, List, Ok, Err, codes};
+ghost use Rattle.std.specs.Prelude.{◌≡◌, ℕ, true, List, Ok, Err, codes};
 ghost use Rattle.claim_set.specs.Building.{HasNone};
 ghost use Rattle.client_registry.specs.declared.records.Client.{Client};
 ghost use Rattle.client_registry.specs.Secrets.{sealing, has_secret};
