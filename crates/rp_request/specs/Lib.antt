@@ -1,3 +1,4 @@
 pub mod Routes
+pub mod Opened
 pub mod Prepared
 pub mod Requests
