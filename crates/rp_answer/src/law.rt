@@ -23,7 +23,8 @@ ghost use Rattle.rp_login.specs.declared.rows.PendingRow.{PendingRow};
 ghost use Rattle.rp_login.specs.declared.rows.SessionRow.{SessionRow};
 ghost use Rattle.rp_login.specs.declared.table.RpTable.{RpTable};
 ghost use Rattle.rp_login.specs.declared.rows.SeenRow.{SeenRow};
-ghost use Rattle.rp_login.specs.Rows.{login_name, pending_name, visit_name, seen_name};
+ghost use Rattle.rp_login.specs.declared.rows.DeadRow.{DeadRow};
+ghost use Rattle.rp_login.specs.Rows.{login_name, pending_name, visit_name, seen_name, dead_name};
 ghost use Rattle.rp_exchange.specs.declared.ask.RpAsk.{RpAsk};
 ghost use Rattle.rp_exchange.specs.declared.no.RpNo.{RpNo};
 ghost use Rattle.rp_exchange.specs.declared.no.RpNo.TheVariants as no;
@@ -34,11 +35,12 @@ ghost use Rattle.rp_answer.specs.Setup.{PartySetup, party_of};
 ghost use Rattle.rp_answer.specs.Logins.{logins, login_made, login_kept};
 ghost use Rattle.rp_answer.specs.Pendings.{pendings, pending_made, pending_kept};
 ghost use Rattle.rp_answer.specs.Visits.{visits, live_visit, visit_made, visit_kept};
-ghost use Rattle.rp_answer.specs.Seens.{seens, seen_made, seen_kept};
+ghost use Rattle.rp_answer.specs.Seens.{seens, live_seens, seen_made, seen_kept};
+ghost use Rattle.rp_answer.specs.Deads.{deads, live_deads, dead_made, dead_kept};
 ghost use Rattle.rp_answer.specs.Answering.{rp_answer};
 ghost use Rattle.rp_answer.specs.Causes.{is_own, Stood, Comes, AskCause, FragmentCause, ExchangeCause, FetchCause, EnteredCause, UserCause, NobodyCause, LeftCause, EndedCause, RefusedCause};
 ghost use Rattle.rp_answer.specs.FullTables.{FullCause};
-ghost use Rattle.rp_answer.specs.Legal.{IsLegalRp, IsLegalHistory, BegunBy, SentBy, EnteredBy, AcceptedBy, LoginEntered, login_entered};
+ghost use Rattle.rp_answer.specs.Legal.{IsLegalRp, IsLegalHistory, BegunBy, SentBy, EnteredBy, AcceptedBy, NamedBy, LoginEntered, login_entered};
 ghost use Rattle.rp_answer.specs.Endings.{Accepts, EndsVisit};
 ghost use Rattle.rp_answer.specs.Hashes.{CodeHasHash, AccessHasHash};
 
@@ -49,6 +51,7 @@ pub fn rows_stand()
     ensures pendings { (types : Types) (past : RpPast) (w : Word) (row : PendingRow) → (row_of pending_name w (pendings types past) ≡ Some row) ↔ Stands pending_name (pending_made types) pending_kept past w row }
     ensures visits { (types : Types) (past : RpPast) (w : Word) (row : SessionRow) → (row_of visit_name w (visits types past) ≡ Some row) ↔ Stands visit_name (visit_made types) visit_kept past w row }
     ensures seens { (past : RpPast) (jti : Text) (row : SeenRow) → (row_of seen_name jti (seens past) ≡ Some row) ↔ Stands seen_name seen_made seen_kept past jti row }
+    ensures deads { (past : RpPast) (sid : Text) (row : DeadRow) → (row_of dead_name sid (deads past) ≡ Some row) ↔ Stands dead_name dead_made dead_kept past sid row }
 {}
 
 /// Why each reply of a relying party comes. A reply with these parts comes exactly where a request gives the ask, the row that
@@ -102,6 +105,18 @@ pub fn logins_enter_once()
 /// Back-Channel Logout 1.0, 2.6, step 8).
 pub fn seen_tokens_were_accepted()
     ensures { (past : RpPast) (jti : Text) (seen : SeenRow) → row_of seen_name jti (seens past) ≡ Some seen → AcceptedBy past seen }
+{}
+
+/// A session identifier is remembered where a pair accepted a logout token that has it, with the moment and the place of that
+/// pair (our choice).
+pub fn dead_sids_were_named()
+    ensures { (past : RpPast) (sid : Text) (dead : DeadRow) → row_of dead_name sid (deads past) ≡ Some dead → NamedBy past dead }
+{}
+
+/// In any legal past, at most as many session identifiers are remembered at the moment of the next pair as logout tokens. So a
+/// logout token for which there is room has room for its `sid` (our choice).
+pub fn dead_sids_are_few()
+    ensures { (s : PartySetup) (past : RpPast) (p : RpPair) → IsLegalRp s (p ∷ past) → length (live_deads past p.entry.at) ≤ length (live_seens past p.entry.at) }
 {}
 
 /// A session is no longer found exactly where its browser leaves, or a logout token is accepted that means it (OpenID Connect
