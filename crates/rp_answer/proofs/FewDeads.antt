@@ -32,7 +32,7 @@ use Rattle.rp_answer.proofs.TokensOnce.{in_order, over, cause_of}
 
 -- ---- lengths
 
-fewer : {R : Type 0} (name : R → Word) (w : Word) (rows : List R) → length (without name w rows) ≤ length rows
+pub fewer : {R : Type 0} (name : R → Word) (w : Word) (rows : List R) → length (without name w rows) ≤ length rows
 fewer name w [] = omega arith
 fewer {R} name w (r ∷ rs) =
     let again : length (without name w rs) ≤ length rs = fewer name w rs in

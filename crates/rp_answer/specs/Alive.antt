@@ -16,10 +16,13 @@ use Rattle.rp_answer.specs.Asked.{claims_judged, sid_in}
 use Rattle.rp_answer.specs.Pendings.{live_pending}
 use Rattle.rp_answer.specs.Deads.{live_dead}
 
+abbrev pub sid_waiting : Option PendingRow → Option Text
+sid_waiting pending = option_and_then (λ (row : PendingRow). row.sid) pending
+
 -- the `sid` of the last ID Token that was verified for the session that would begin; for a UserInfo response, it was verified
 -- before
 abbrev pub sid_judged : Types → RpPast → ℕ → RpAsk → Option Text
-sid_judged types past at (Info w came) = option_and_then (λ (pending : PendingRow). pending.sid) (live_pending types past at w stage.Info)
+sid_judged types past at (Info w came) = sid_waiting (live_pending types past at w stage.Info)
 sid_judged types past at asked = sid_in (claims_judged types asked)
 
 -- the record of that `sid`, if it is remembered

@@ -11,13 +11,14 @@ ghost use Rattle.rp_answer.specs.Logins as logins;
 ghost use Rattle.rp_answer.specs.Pendings as pendings;
 ghost use Rattle.rp_answer.specs.Replies.{meant_count};
 ghost use Rattle.rp_answer.specs.Seens as seens;
+ghost use Rattle.rp_answer.specs.Deads as deads;
 ghost use Rattle.rp_answer.specs.Visits as visits;
 ghost use Rattle.rp_core.specs.Relying.{past_of};
 
 use crate::state::RpCore;
 use logout_token::LogoutClaims;
 use oidc_words::{LOGIN_LIFE, PENDING_LIFE, SEEN_LIFE, VISIT_LIFE};
-use rp_login::{LoginRow, PendingRow, RpTable, SeenRow, SessionRow, Stage};
+use rp_login::{DeadRow, LoginRow, PendingRow, RpTable, SeenRow, SessionRow, Stage};
 use sso_base::{Moment, Word, bytes_if, is_live};
 
 // Whether the response is the one that is pending.
@@ -103,6 +104,21 @@ impl RpCore {
         ensures { option_copied result ≡ seens.live_seen (past_of self.now) at jti.now }
     {
         let Some(row) = self.logins.seen(jti) else {
+            return None;
+        };
+        if is_live(SEEN_LIFE, row.accepted, at) {
+            Some(row)
+        } else {
+            None
+        }
+    }
+
+    /// The session identifier that an accepted logout token named, if it is still remembered.
+    pub(crate) fn live_dead(&self, at: Moment, sid: &[u8]) -> Option<&DeadRow>
+        requires { last_moment (past_of self.now) ≤ at }
+        ensures { option_copied result ≡ deads.live_dead (past_of self.now) at sid.now }
+    {
+        let Some(row) = self.logins.dead(sid) else {
             return None;
         };
         if is_live(SEEN_LIFE, row.accepted, at) {

@@ -42,12 +42,12 @@ fn put(
     weight: u64,
 )
     requires reserved { length journal.old.pairs < journal.old.capacity }
-    requires may { (s : PartySetup) × (past : RpPast) × (before : ℕ) × TakesUp s past before logins.old (record { entry = entry; reply = reply }) made.login made.pending made.visit made.seen }
-    requires tables { logins.old.reserved ≡ record { logins = true; pendings = true; visits = true; seens = true } }
+    requires may { (s : PartySetup) × (past : RpPast) × (before : ℕ) × TakesUp s past before logins.old (record { entry = entry; reply = reply }) made.login made.pending made.visit made.seen made.dead }
+    requires tables { logins.old.reserved ≡ record { logins = true; pendings = true; visits = true; seens = true; deads = true } }
     requires weight { weight ≡ weights.ask_weight entry.ask }
     requires room { history_weight weights.ask_weight journal.old.pairs + weight ≤ most_weight }
     ensures pairs { journal.new.pairs ≡ journal.old.pairs ++ (record { entry = entry; reply = reply }) ∷ [] }
-    ensures tables { (s : PartySetup) (past : RpPast) (before : ℕ) → TakesUp s past before logins.old (record { entry = entry; reply = reply }) made.login made.pending made.visit made.seen → FollowsPair (party_of s).types logins.old logins.new past (record { entry = entry; reply = reply }) }
+    ensures tables { (s : PartySetup) (past : RpPast) (before : ℕ) → TakesUp s past before logins.old (record { entry = entry; reply = reply }) made.login made.pending made.visit made.seen made.dead → FollowsPair (party_of s).types logins.old logins.new past (record { entry = entry; reply = reply }) }
 {
     let pair = Pair { entry, reply };
     take_up(logins, &pair, made);
@@ -63,11 +63,11 @@ fn take_in(
     made: Made,
     weight: u64,
 ) -> Result<(), NoMemory>
-    requires may { (s : PartySetup) × (past : RpPast) × (before : ℕ) × TakesUp s past before (with_room logins.old) (record { entry = entry; reply = reply }) made.login made.pending made.visit made.seen }
+    requires may { (s : PartySetup) × (past : RpPast) × (before : ℕ) × TakesUp s past before (with_room logins.old) (record { entry = entry; reply = reply }) made.login made.pending made.visit made.seen made.dead }
     requires weight { weight ≡ weights.ask_weight entry.ask }
     requires room { history_weight weights.ask_weight journal.old.pairs + weight ≤ most_weight }
     ensures pairs { OnOk result (journal.new.pairs ≡ journal.old.pairs ++ (record { entry = entry; reply = reply }) ∷ []) }
-    ensures tables { OnOk result ((s : PartySetup) (past : RpPast) (before : ℕ) → TakesUp s past before (with_room logins.old) (record { entry = entry; reply = reply }) made.login made.pending made.visit made.seen → FollowsPair (party_of s).types (with_room logins.old) logins.new past (record { entry = entry; reply = reply })) }
+    ensures tables { OnOk result ((s : PartySetup) (past : RpPast) (before : ℕ) → TakesUp s past before (with_room logins.old) (record { entry = entry; reply = reply }) made.login made.pending made.visit made.seen made.dead → FollowsPair (party_of s).types (with_room logins.old) logins.new past (record { entry = entry; reply = reply })) }
     ensures same_pairs { OnErr result (journal.new.pairs ≡ journal.old.pairs) }
     ensures same_tables { OnErr result (logins.new ≡ logins.old) }
 {
@@ -98,7 +98,7 @@ impl RpCore {
         requires moment { last_moment (past_of self.old) ≤ entry.at }
         requires answer { reply ≡ rp_answer self.old.setup (past_of self.old) entry }
         requires entry { IsEntry IsRpAsk entry }
-        requires brings { Brings (party_of self.old.setup).types (past_of self.old) (record { entry = entry; reply = reply }) made.login made.pending made.visit made.seen }
+        requires brings { Brings (party_of self.old.setup).types (past_of self.old) (record { entry = entry; reply = reply }) made.login made.pending made.visit made.seen made.dead }
         requires weight { weight ≡ weights.ask_weight entry.ask }
         requires room { history_weight weights.ask_weight self.old.history + weight ≤ most_weight }
         ensures setup { OnOk result (self.new.setup ≡ self.old.setup) }
