@@ -64,6 +64,7 @@ machine_entered =
       entered = record { client = 0; nonce = Some (word_text (word 3)) } ∷ [];
       live = session ∷ [];
       ended = [];
+      dead = [];
     }
 
 whole_login : (code : Text) → word_of_text code ≡ Some (word 15) → machine_of site (entered code) ≡ machine_entered
@@ -315,6 +316,7 @@ enters code spells =
       (
         inl refl,
         record { answered = record { event = 4; browser = 1; nonce = Some (word_text (word 3)); client = 0; user = 0; sid = word_text (word 10) }; has = inl refl; nonce = refl; client = refl; user = refl; sid = refl },
+        λ never. never,
         λ never. never,
       ),
       tt,

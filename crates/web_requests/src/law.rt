@@ -9,15 +9,14 @@ ghost use Rattle.oidc_words.specs.declared.scopes.Scopes.{Scopes};
 ghost use Rattle.client_registry.specs.declared.records.Client.{Client};
 ghost use Rattle.claim_set.specs.Reading.{claims_text};
 ghost use Rattle.client_registry.specs.Configuration.{Configuration, subject_at};
-ghost use Rattle.client_registry.specs.Numbers.{client_at, party_row, party_client, party_secret};
+ghost use Rattle.client_registry.specs.Numbers.{client_at, party_row, party_client};
+ghost use Rattle.client_registry.specs.Secrets.{has_secret};
 ghost use Rattle.client_registry.specs.Registered.{IsRegistry};
 ghost use Rattle.request_params.specs.Form.{form_pairs, form_text};
 ghost use Rattle.request_params.specs.Reading.{has_name, value_of};
 ghost use Rattle.auth_request.specs.Judgement.{judgement};
 ghost use Rattle.id_token.specs.declared.claims.IdClaims.{IdClaims};
-ghost use Rattle.id_token.specs.Reading.{id_read};
 ghost use Rattle.id_token.specs.Sealing.{id_text, HasTexts, IsSealable};
-ghost use Rattle.logout_token.specs.LogoutToken.{logout_read};
 ghost use Rattle.auth_answer.specs.declared.answer.Answer.{Answer};
 ghost use Rattle.auth_answer.specs.Sent.{answer_heard, refusal_heard};
 ghost use Rattle.token_endpoint.specs.Request.{token_message};
@@ -32,6 +31,7 @@ ghost use Rattle.op_issue.specs.LogoutMessages.{logout_pairs};
 ghost use Rattle.op_request.specs.Prepared.{signed_user};
 ghost use Rattle.rp_exchange.specs.declared.ask.RpAsk.TheVariants as rp_ask;
 ghost use Rattle.rp_exchange.specs.declared.reply.RpReply.TheVariants as rp;
+ghost use Rattle.rp_request.specs.Opened.{id_read_for, logout_read_for};
 ghost use Rattle.sso_places.specs.declared.types.Jar.{Jar};
 ghost use Rattle.sso_places.specs.declared.types.To.{To};
 ghost use Rattle.sso_places.specs.declared.types.To.TheVariants as role;
@@ -57,9 +57,9 @@ pub fn authorization_requests_are_followed()
 
 /// The request that follows an authorization response goes to the party with its redirect URI. The party reads exactly the
 /// parameters that were given, from the query as from the fragment, whatever query is registered (OpenID Connect Core 1.0,
-/// 3.1.2.5, 3.1.2.6 and 3.2.2.5). An ID Token is verified under the party's secret.
+/// 3.1.2.5, 3.1.2.6 and 3.2.2.5). An ID Token is verified under the secrets of the party's client.
 pub fn responses_are_followed()
-    ensures answer { (c : Configuration) (n : ℕ) (answer : Answer) (given : Option Word) (from : ℕ) (jar : Jar) → IsRegistry c → n < length c.parties → (party_row c n).redirect ≡ answer.redirect → has_part answer ≡ true → IfSome answer.state IsUtf8 → IfSome answer.id IsUtf8 → AsksParty c from n (reply_followed c from (reply.Provider (op.Answered answer given)) jar) (rp_ask.Callback (Ok (answer_heard answer (option_and_then word_of_text answer.state))) (option_map (id_read (party_secret c n)) answer.id) jar.first) }
+    ensures answer { (c : Configuration) (n : ℕ) (answer : Answer) (given : Option Word) (from : ℕ) (jar : Jar) → IsRegistry c → n < length c.parties → (party_row c n).redirect ≡ answer.redirect → has_part answer ≡ true → IfSome answer.state IsUtf8 → IfSome answer.id IsUtf8 → AsksParty c from n (reply_followed c from (reply.Provider (op.Answered answer given)) jar) (rp_ask.Callback (Ok (answer_heard answer (option_and_then word_of_text answer.state))) (option_map (id_read_for (party_client c n)) answer.id) jar.first) }
     ensures refusal { (c : Configuration) (n : ℕ) (refusal : Refusal) (given : Option Word) (from : ℕ) (jar : Jar) → IsRegistry c → n < length c.parties → (party_row c n).redirect ≡ refusal.redirect → IfSome refusal.state IsUtf8 → AsksParty c from n (reply_followed c from (reply.Provider (op.Refused refusal given)) jar) (rp_ask.Callback (Ok (refusal_heard refusal (option_and_then word_of_text refusal.state))) None jar.first) }
 {}
 
@@ -72,13 +72,13 @@ pub fn mixed_locations_differ_in_one_name()
     ensures exactly { (name : Text) (location other : Location) → is_some (mixed name location other) ≡ (has_name name (form_pairs (form_of location)) && has_name name (form_pairs (form_of other))) }
 {}
 
-/// An ID Token that is forged with its own subject is unchanged. With another subject it is read, under the client's secret, as
-/// the claims with that subject. The request that follows a forged answer goes to the party with the answer's redirect URI. The
+/// An ID Token that is forged with its own subject is the one with the same claims under the client's secret, and so unchanged if
+/// it is sealed under it. With another subject it is read, for the client, as the claims with that subject. The request that follows a forged answer goes to the party with the answer's redirect URI. The
 /// party reads the parameters of the answer, with this ID Token in place of the original one.
 pub fn forged_tokens_differ_in_the_subject()
-    ensures own { (secret : Text) (claims : IdClaims) → IsSealable claims → forged_id claims.sub (id_text secret claims) secret ≡ Some (id_text secret claims) }
-    ensures other { (secret user : Text) (claims : IdClaims) (id : Text) → HasTexts claims → IsSealable claims → forged_id user (id_text secret claims) secret ≡ Some id → id_read secret id ≡ Ok (record claims { sub = user }) }
-    ensures followed { (c : Configuration) (n : ℕ) (answer : Answer) (claims : IdClaims) (user : Text) (given : Option Word) (from : ℕ) (jar : Jar) (l : Location) → IsRegistry c → n < length c.parties → (party_row c n).redirect ≡ answer.redirect → answer.id ≡ Some (id_text (party_secret c n) claims) → HasTexts claims → IsSealable claims → IfSome answer.state IsUtf8 → forged c (reply.Provider (op.Answered answer given)) user ≡ Some l → AsksParty c from n (followed c from l jar) (rp_ask.Callback (Ok (answer_heard (with_id answer (id_text (party_secret c n) (record claims { sub = user }))) (option_and_then word_of_text answer.state))) (Some (Ok (record claims { sub = user }))) jar.first) }
+    ensures own { (client : Client) (secret : Text) (claims : IdClaims) → has_secret secret client ≡ true → IsSealable claims → forged_id claims.sub (id_text secret claims) client ≡ Some (id_text client.secret claims) }
+    ensures other { (client : Client) (secret user : Text) (claims : IdClaims) (id : Text) → has_secret secret client ≡ true → HasTexts claims → IsSealable claims → forged_id user (id_text secret claims) client ≡ Some id → id_read_for client id ≡ Ok (record claims { sub = user }) }
+    ensures followed { (c : Configuration) (n : ℕ) (answer : Answer) (secret : Text) (claims : IdClaims) (user : Text) (given : Option Word) (from : ℕ) (jar : Jar) (l : Location) → IsRegistry c → n < length c.parties → (party_row c n).redirect ≡ answer.redirect → has_secret secret (party_client c n) ≡ true → answer.id ≡ Some (id_text secret claims) → HasTexts claims → IsSealable claims → IfSome answer.state IsUtf8 → forged c (reply.Provider (op.Answered answer given)) user ≡ Some l → AsksParty c from n (followed c from l jar) (rp_ask.Callback (Ok (answer_heard (with_id answer (id_text (party_client c n).secret (record claims { sub = user }))) (option_and_then word_of_text answer.state))) (Some (Ok (record claims { sub = user }))) jar.first) }
 {}
 
 /// The provider reads a posted form as that of its page's turn: a login form as that of the user with that password, and a
@@ -98,17 +98,17 @@ pub fn own_requests_are_read()
 
 /// A carried message is read as what it contains. A client's token request is read as its grant, and a UserInfo request as its
 /// access token (OpenID Connect Core 1.0, 3.1.3.1 and 5.3.1). A logout request is read as its logout token, verified under the
-/// secret of the first party whose client has the logout URI (OpenID Connect Back-Channel Logout 1.0, 2.5).
+/// secrets of the client of the first party whose client has the logout URI (OpenID Connect Back-Channel Logout 1.0, 2.5).
 pub fn carried_messages_are_read()
     ensures token { (c : Configuration) (n : ℕ) (client : Client) (pending : Word) (code redirect : Text) → IsRegistry c → client_at c n ≡ Some client → IsUtf8 code → IsUtf8 redirect → AsksProvider c 0 (carried c (reply.Party (rp.Exchange pending (token_message client c.provider.token code redirect))) 0) (op_ask.Token (Ok (record { client = n; code = code; redirect = redirect }))) }
     ensures info { (c : Configuration) (endpoint : Text) (pending access : Word) → IsRegistry c → c.provider.userinfo ≡ Some endpoint → IsWord access → AsksProvider c 0 (carried c (reply.Party (rp.Fetch pending (info_message endpoint (word_text access)))) 0) (op_ask.Info (bearer.Given access)) }
-    ensures logout { (c : Configuration) (n : ℕ) (uri token : Text) (messages : List Message) (number : ℕ) → IsRegistry c → party_of_logout c uri ≡ Some n → bytes_eq c.provider.token uri ≡ false → is_text c.provider.userinfo uri ≡ false → IsUtf8 token → slice_get messages number ≡ Some (record { to = uri; auth = None; body = Some (form_text (logout_pairs token)) }) → AsksParty c 0 n (carried c (reply.Provider (op.SignedOut messages)) number) (rp_ask.Logout (logout_read (party_secret c n) token)) }
+    ensures logout { (c : Configuration) (n : ℕ) (uri token : Text) (messages : List Message) (number : ℕ) → IsRegistry c → party_of_logout c uri ≡ Some n → bytes_eq c.provider.token uri ≡ false → is_text c.provider.userinfo uri ≡ false → IsUtf8 token → slice_get messages number ≡ Some (record { to = uri; auth = None; body = Some (form_text (logout_pairs token)) }) → AsksParty c 0 n (carried c (reply.Provider (op.SignedOut messages)) number) (rp_ask.Logout (logout_read_for (party_client c n) token)) }
 {}
 
 /// A party reads a response that is passed back, in the exchange that requested it, as what the provider returned: the tokens,
 /// and the subject of the user whose claims it returned (OpenID Connect Core 1.0, 3.1.3.3 and 5.3.2).
 pub fn handed_responses_are_read()
-    ensures tokens { (c : Configuration) (n from : ℕ) (pending access : Word) (message : Message) (id : Text) → IsUtf8 id → AnswersTokens c from n pending (handed_back c from (role.Party n) (reply.Party (rp.Exchange pending message)) role.Provider (reply.Provider (op.Tokens access id))) (rp_ask.Tokens pending (Ok (record { access = word_text access; id = id })) (Some (id_read (party_secret c n) id))) }
+    ensures tokens { (c : Configuration) (n from : ℕ) (pending access : Word) (message : Message) (id : Text) → IsUtf8 id → AnswersTokens c from n pending (handed_back c from (role.Party n) (reply.Party (rp.Exchange pending message)) role.Provider (reply.Provider (op.Tokens access id))) (rp_ask.Tokens pending (Ok (record { access = word_text access; id = id })) (Some (id_read_for (party_client c n) id))) }
     ensures info { (c : Configuration) (n from client user : ℕ) (pending : Word) (message : Message) (scopes : Scopes) (asked : List Text) → IsRegistry c → AnswersInfo from n pending (handed_back c from (role.Party n) (reply.Party (rp.Fetch pending message)) role.Provider (reply.Provider (op.Info (claims_text (info_members c client user scopes asked))))) (rp_ask.Info pending (Ok (subject_at c client user))) }
 {}
 
