@@ -1,6 +1,6 @@
 -- Lookup by number: users, clients and parties are numbered from 0, in the order of the file. For an unknown number the result
 -- is empty.
-use Rattle.std.specs.Prelude.{ℕ, Bool, false, nat_lt, List, [], length, Option, Some, None, option_and_then, unwrap_or, slice_get}
+use Rattle.std.specs.Prelude.{ℕ, Bool, false, nat_lt, List, [], length, Option, Some, None, unwrap_or, slice_get}
 use Rattle.client_registry.specs.declared.records.User.{User}
 use Rattle.client_registry.specs.declared.records.Client.{Client}
 use Rattle.client_registry.specs.declared.records.Party.{Party}
@@ -62,10 +62,6 @@ party_name c n = name_in (party_at c n)
 -- the client of a party
 abbrev pub client_of : Configuration → Party → Option Client
 client_of c party = client_at c party.client
-
--- the secret of the client of the party with a number
-abbrev pub party_secret : Configuration → ℕ → List ℕ
-party_secret c n = secret_in (option_and_then (client_of c) (party_at c n))
 
 -- ---- rows, with an empty default for an unknown number
 

@@ -16,13 +16,12 @@ use Rattle.sso_model.proofs.RunLaws.{apart_filter, apart_push}
 use Rattle.oidc_words.specs.Lives.{visit_life}
 use Rattle.oidc_words.specs.declared.response_types.Types.{Types}
 use Rattle.client_registry.specs.Configuration.{Configuration}
-use Rattle.client_registry.specs.Numbers.{client_secret, party_secret}
+use Rattle.client_registry.specs.declared.records.Client.{Client}
+use Rattle.client_registry.specs.Numbers.{party_client}
 use Rattle.id_token.specs.declared.claims.IdClaims.{IdClaims}
 use Rattle.id_token.specs.declared.no.IdNo.{IdNo}
-use Rattle.id_token.specs.Reading.{id_read}
 use Rattle.id_token.specs.Judging.{IsGoodIdToken}
 use Rattle.id_token.proofs.Good.{passes_good}
-use Rattle.id_token.proofs.Tokens.{token-id_read}
 use Rattle.auth_answer.specs.declared.heard.Heard.{Heard}
 use Rattle.token_endpoint.specs.declared.reading.Tokens.{Tokens as ComeTokens}
 use Rattle.login_request.proofs.PartyRows.{client_is_known}
@@ -35,7 +34,10 @@ use Rattle.rp_exchange.specs.declared.ask.RpAsk.{RpAsk}
 use Rattle.rp_exchange.specs.declared.ask.RpAsk.TheVariants as ask
 use Rattle.rp_exchange.specs.declared.reply.RpReply.{RpReply}
 use Rattle.rp_exchange.specs.declared.reply.RpReply.TheVariants as rp
+use Rattle.client_keys.specs.Opening.{opening}
+use Rattle.rp_request.specs.Opened.{id_read_for}
 use Rattle.rp_request.specs.Requests.{HasCookies, IsOpened}
+use Rattle.rp_request.proofs.Opened.{token-id_read_for}
 use Rattle.rp_request.proofs.Routing.{has_cookies}
 use Rattle.rp_request.proofs.Callbacks.{callback_opened}
 use Rattle.rp_request.proofs.TokenAnswers.{tokens_opened}
@@ -59,7 +61,7 @@ use Rattle.sso_places.specs.Site.{Site, IsSite, setup_at, client_of_party, types
 use Rattle.sso_places.specs.World.{Place, Party, World, from_of, rp_past, fresh_of}
 use Rattle.sso_places.specs.Legal.{IsLegalWorld, party_prepared}
 use Rattle.sso_places.specs.Cookies.{words_in, set_at, presented}
-use Rattle.sso_places.specs.Tokens.{TokenText, token_if}
+use Rattle.sso_places.specs.Tokens.{TokenText, token_if, is_sealed_for}
 use Rattle.sso_places.specs.Written.{written_at, written}
 use Rattle.sso_places.specs.Checked.{rp_checked, checked}
 use Rattle.sso_places.specs.Premises.{HasDistinctWords, IsUnleaked, IsUnforged, leaks, forges, asks_under, holds, holder, IsJoinedAt, IsJoined}
@@ -70,8 +72,8 @@ use Rattle.sign_on.proofs.Lists.{each_push, all_back}
 use Rattle.sign_on.proofs.Invariant.{AnsweredAs, IsTokenAnswered, IsBegunAt, IsEnteredRow, IsBegun, IsBegunPlace, Agrees, Holds, IsKept}
 use Rattle.sso_places.proofs.Places.{IsWhole, whole_places, past_own, party_legal, legal_before, legal_from, unleaked_from, distinct_before, has_words, drawn_other, place_drawn}
 use Rattle.sign_on.proofs.Shared.{own_browser, was_written, began_more, entered_more, begun_at_more, events_more, ended_more}
-use Rattle.sign_on.proofs.Registry.{secret_is, subject_finds, parties_apart}
-use Rattle.sign_on.proofs.Texts.{read_is_sealed}
+use Rattle.sign_on.proofs.Registry.{subject_finds, parties_apart}
+use Rattle.sign_on.proofs.Keys.{id_sealed_for}
 use Rattle.sign_on.proofs.AskKinds.{IsRequest, as_request, IsTokens, as_tokens, IsInfo, as_info}
 use Rattle.sign_on.proofs.LiveRows.{settled, own_pushed, other_pushed, visits_pushed, live_pushed}
 use Rattle.sign_on.proofs.Pairs.{IsPlaceOf, pair_place, place_has, one_begun, entered_word, IsSender, sends, sender_has, sender_holds, joins}
@@ -168,23 +170,24 @@ begins_as s n b from began past v nonce k j browsers nonces numbers begins =
 record HasToken (s : Site) (n from : ℕ) (request : WorldAsk) (p : RpPair) (claims : IdClaims) : Type 0 where
   text : Text
   checks : Has (checked s (Party n from request p)) (client_of_party s n, text)
-  read : id_read (client_secret s.configuration (client_of_party s n)) text ≡ Ok claims
+  read : id_read_for (party_client s.configuration n) text ≡ Ok claims
+  seals : is_sealed_for s.configuration (client_of_party s n, text) ≡ true
 
 -- the text of an ID Token that was read
-pub record ReadOf (secret : Text) (o : Option Text) (claims : IdClaims) : Type 0 where
+pub record ReadOf (client : Client) (o : Option Text) (claims : IdClaims) : Type 0 where
   pub text : Text
   pub there : o ≡ Some text
-  pub read : id_read secret text ≡ Ok claims
+  pub read : id_read_for client text ≡ Ok claims
 
-pub read_of : (secret : Text) (o : Option Text) (id : Option (Result IdClaims IdNo)) (claims : IdClaims) → IsOpened secret o id → id ≡ Some (Ok claims) → ReadOf secret o claims
-read_of secret None None claims opened is = absurd (cc)
-read_of secret None (Some id) claims opened is = absurd opened
-read_of secret (Some text) None claims opened is = absurd (cc)
-read_of secret (Some text) (Some (Ok x)) claims opened is =
+pub read_of : (client : Client) (o : Option Text) (id : Option (Result IdClaims IdNo)) (claims : IdClaims) → IsOpened client o id → id ≡ Some (Ok claims) → ReadOf client o claims
+read_of client None None claims opened is = absurd (cc)
+read_of client None (Some id) claims opened is = absurd opened
+read_of client (Some text) None claims opened is = absurd (cc)
+read_of client (Some text) (Some (Ok x)) claims opened is =
     let same : x ≡ claims = cc in
-    let R : IdClaims → Type 0 = λ y. id_read secret text ≡ Ok y in
-    record { text = text; there = refl; read = subst R same (token-id_read secret text x opened) }
-read_of secret (Some text) (Some (Err why)) claims opened is = absurd (cc)
+    let R : IdClaims → Type 0 = λ y. id_read_for client text ≡ Ok y in
+    record { text = text; there = refl; read = subst R same (token-id_read_for client text x opened) }
+read_of client (Some text) (Some (Err why)) claims opened is = absurd (cc)
 
 -- an ID Token counts if the response type has one
 claims_of : (id : Option (Result IdClaims IdNo)) (claims : IdClaims) → claims_read id ≡ Some claims → id ≡ Some (Ok claims)
@@ -212,32 +215,30 @@ not_other before sub h =
       | inr other ↦ (let never : true ≡ false = sym (ap not other) ∙ h in absurd (cc))
     ]
 
-callback_token : (s : Site) (n from : ℕ) (request : WorldAsk) (p : RpPair) (heard : Heard) (id : Option (Result IdClaims IdNo)) (browser : Option Word) (claims : IdClaims) → n < length s.configuration.parties
+callback_token : (s : Site) (n from : ℕ) (request : WorldAsk) (p : RpPair) (heard : Heard) (id : Option (Result IdClaims IdNo)) (browser : Option Word) (claims : IdClaims) → IsSite s → n < length s.configuration.parties
     → p.entry.ask ≡ ask.Callback (Ok heard) id browser → p.entry.ask ≡ party_prepared s.configuration n request → id ≡ Some (Ok claims) → HasToken s n from request p claims
-callback_token s n from request p heard id browser claims known callback asked is =
+callback_token s n from request p heard id browser claims site known callback asked is =
     let c : Configuration = s.configuration in
     let client : ℕ = client_of_party s n in
     let came : IsRequest c n request (ask.Callback (Ok heard) id browser) = as_request c n request (ask.Callback (Ok heard) id browser) (sym callback ∙ asked) refl in
-    let opened : IsOpened (party_secret c n) heard.id id = callback_opened c n came.request heard id browser came.asked_is in
-    let text : ReadOf (party_secret c n) heard.id claims = read_of (party_secret c n) heard.id id claims opened is in
-    let K : Text → Type 0 = λ k. id_read k text.text ≡ Ok claims in
+    let opened : IsOpened (party_client c n) heard.id id = callback_opened c n came.request heard id browser came.asked_is in
+    let text : ReadOf (party_client c n) heard.id claims = read_of (party_client c n) heard.id id claims opened is in
     let T : Option Text → Type 0 = λ o. Has {A = TokenText} (token_if (Some client) o) (client, text.text) in
     let A : RpAsk → Type 0 = λ a. Has {A = TokenText} (rp_checked client request a) (client, text.text) in
-    record { text = text.text; checks = subst A (sym callback) (subst T (sym text.there) (inl refl)); read = subst K (secret_is c n known) text.read }
+    record { text = text.text; checks = subst A (sym callback) (subst T (sym text.there) (inl refl)); read = text.read; seals = id_sealed_for c n text.text claims site.registry known text.read }
 
-tokens_token : (s : Site) (n from : ℕ) (request : WorldAsk) (p : RpPair) (pending : Word) (came : ComeTokens) (id : Option (Result IdClaims IdNo)) (claims : IdClaims) → n < length s.configuration.parties
+tokens_token : (s : Site) (n from : ℕ) (request : WorldAsk) (p : RpPair) (pending : Word) (came : ComeTokens) (id : Option (Result IdClaims IdNo)) (claims : IdClaims) → IsSite s → n < length s.configuration.parties
     → p.entry.ask ≡ ask.Tokens pending (Ok came) id → p.entry.ask ≡ party_prepared s.configuration n request → id ≡ Some (Ok claims) → HasToken s n from request p claims
-tokens_token s n from request p pending came id claims known tokens asked is =
+tokens_token s n from request p pending came id claims site known tokens asked is =
     let c : Configuration = s.configuration in
     let client : ℕ = client_of_party s n in
     let answer : IsTokens c n request (ask.Tokens pending (Ok came) id) pending = as_tokens c n request pending (Ok came) id (sym tokens ∙ asked) in
-    let opened : IsOpened (party_secret c n) (Some came.id) id = tokens_opened c n pending answer.answer pending came id answer.asked_is in
-    let text : ReadOf (party_secret c n) (Some came.id) claims = read_of (party_secret c n) (Some came.id) id claims opened is in
+    let opened : IsOpened (party_client c n) (Some came.id) id = tokens_opened c n pending answer.answer pending came id answer.asked_is in
+    let text : ReadOf (party_client c n) (Some came.id) claims = read_of (party_client c n) (Some came.id) id claims opened is in
     let texts : came.id ≡ text.text = same_Some came.id text.text text.there in
-    let K : Text → Type 0 = λ k. id_read k text.text ≡ Ok claims in
     let T : Text → Type 0 = λ t. Has {A = TokenText} ((client, came.id) ∷ []) (client, t) in
     let A : RpAsk → Type 0 = λ a. Has {A = TokenText} (rp_checked client request a) (client, text.text) in
-    record { text = text.text; checks = subst A (sym tokens) (subst T texts (inl refl)); read = subst K (secret_is c n known) text.read }
+    record { text = text.text; checks = subst A (sym tokens) (subst T texts (inl refl)); read = text.read; seals = id_sealed_for c n text.text claims site.registry known text.read }
 
 -- ---- the tie: an ID Token that a place verified was written, so its nonce was answered
 
@@ -254,8 +255,8 @@ tied : (s : Site) (n from : ℕ) (request : WorldAsk) (p : RpPair) (before : Wor
 tied s n from request p before claims nonce answered clean token is says =
     let c : Configuration = s.configuration in
     let client : ℕ = client_of_party s n in
-    let wrote : Has (written s before) (client, token.text) = was_written s before (Party n from request p) (client, token.text) clean token.checks (read_is_sealed (client_secret c client) token.text claims token.read) in
-    says (client, token.text) wrote claims nonce token.read is
+    let wrote : Has (written s before) (client, token.text) = was_written s before (Party n from request p) (client, token.text) clean token.checks token.seals in
+    says (client, token.text) wrote (opening (party_client c n) token.text) claims nonce token.read is
 
 -- ---- what an entering place shows
 
@@ -315,7 +316,7 @@ module _ (s : Site) (n from at : ℕ) (request : WorldAsk) (fresh : List Word) (
       let wanted : if_wanted types.id_token id ≡ Some (Ok cause.claims) = cause.accepted.read in
       let came : id ≡ Some (Ok cause.claims) = wanted_id types.id_token id cause.claims wanted in
       let good : IsGoodIdToken (front_rules (setup_at s n) login heard) cause.claims at = passes_good (front_rules (setup_at s n) login heard) cause.claims at cause.accepted.judged in
-      let token : HasToken s n from request p cause.claims = callback_token s n from request p heard id browser cause.claims legal.asked.0.0 refl legal.asked.0.1 came in
+      let token : HasToken s n from request p cause.claims = callback_token s n from request p heard id browser cause.claims site legal.asked.0.0 refl legal.asked.0.1 came in
       let nonce : nonce_by types past (ask.Callback (Ok heard) id browser) ≡ Some login.nonce = ap (λ (o : Option LoginRow). option_map (λ (row : LoginRow). row.nonce) o) found in
       let judged : claims_judged types (ask.Callback (Ok heard) id browser) ≡ Some cause.claims = wanted_read types.id_token id cause.claims wanted in
       record {
@@ -366,7 +367,7 @@ module _ (s : Site) (n from at : ℕ) (request : WorldAsk) (fresh : List Word) (
       let J : WorldAsk → Type 0 = λ r. IsJoinedAt world from r in
       let held : (y : Place) → holder pending world ≡ Some y → from_of y ≡ from = subst J answer.came_is here_joined in
       let good : IsGoodIdToken (back_rules (setup_at s n) exchange came) cause.claims at = passes_good (back_rules (setup_at s n) exchange came) cause.claims at cause.accepted.judged in
-      let token : HasToken s n from request p cause.claims = tokens_token s n from request p pending came id cause.claims legal.asked.0.0 refl legal.asked.0.1 cause.accepted.read in
+      let token : HasToken s n from request p cause.claims = tokens_token s n from request p pending came id cause.claims site legal.asked.0.0 refl legal.asked.0.1 cause.accepted.read in
       let nonce : nonce_by types past asked ≡ Some exchange.nonce = ap (λ (o : Option PendingRow). option_map (λ (row : PendingRow). row.nonce) o) found in
       let judged : claims_judged types asked ≡ Some cause.claims = ap claims_read cause.accepted.read in
       record {
@@ -399,10 +400,10 @@ module _ (s : Site) (n from at : ℕ) (request : WorldAsk) (fresh : List Word) (
       elim by.word_is [
         | inl once ↦
             (let C : RpAsk → Type 0 = λ a. claims_judged types a ≡ Some by.claims in
-            callback_token s n there.from there.request by.maker once.heard once.id once.browser by.claims legal_y.asked.0.0 once.asked legal_y.asked.0.1 (wanted_claims types.id_token once.id by.claims (subst C once.asked by.token.came)))
+            callback_token s n there.from there.request by.maker once.heard once.id once.browser by.claims site legal_y.asked.0.0 once.asked legal_y.asked.0.1 (wanted_claims types.id_token once.id by.claims (subst C once.asked by.token.came)))
         | inr after ↦
             (let C : RpAsk → Type 0 = λ a. claims_judged types a ≡ Some by.claims in
-            tokens_token s n there.from there.request by.maker row.word after.came after.id by.claims legal_y.asked.0.0 after.asked legal_y.asked.0.1 (claims_of after.id by.claims (subst C after.asked by.token.came)))
+            tokens_token s n there.from there.request by.maker row.word after.came after.id by.claims site legal_y.asked.0.0 after.asked legal_y.asked.0.1 (claims_of after.id by.claims (subst C after.asked by.token.came)))
       ] in
       let W : World → Type 0 = λ z. (t : TokenText) → Has (written s there.before) t → Has (written s z) t in
       let wrote : W world = subst W (sym there.parts) (λ t has. written_from s there.after (y ∷ there.before) t (has_append_right (written_at s there.before y) (written s there.before) t has)) in

@@ -15,7 +15,6 @@ use Rattle.code_grant.specs.declared.rows.CodeRow.{CodeRow}
 use Rattle.id_token.specs.declared.claims.IdClaims.{IdClaims}
 use Rattle.id_token.specs.Reading.{id_read}
 use Rattle.auth_request.specs.Values.{is_short_nonce}
-use Rattle.client_registry.specs.Numbers.{client_secret}
 use Rattle.auth_request.specs.Values.{IsWishValue}
 use Rattle.sso_base.specs.Values.{latest_moment}
 use Rattle.logout_token.specs.declared.claims.LogoutClaims.{LogoutClaims}
@@ -128,7 +127,7 @@ pub record AnsweredAs (c : Configuration) (answered : List Answered) (client : �
 
 -- The nonce of a text that is read as an ID Token was answered. This does not restrict a request object, since none is read so.
 abbrev pub IsTokenAnswered : Configuration → List Answered → TokenText → Type 0
-IsTokenAnswered c answered t = (x : IdClaims) (nonce : Text) → id_read (client_secret c t.0) t.1 ≡ Ok x → x.nonce ≡ Some nonce → AnsweredAs c answered t.0 x nonce
+IsTokenAnswered c answered t = (key : Text) (x : IdClaims) (nonce : Text) → id_read key t.1 ≡ Ok x → x.nonce ≡ Some nonce → AnsweredAs c answered t.0 x nonce
 
 -- the reply has this ID Token, and its claims have the half hashes of the code and of the access token in the same reply
 abbrev pub IsIdOf : Text → IdClaims → OpReply → Type 0
@@ -146,7 +145,7 @@ pub record HasReplied (world : World) (id : Text) (x : IdClaims) : Type 0 where
 
 -- A text that is read as an ID Token with a nonce was in such a reply. This does not restrict any other text.
 abbrev pub IsTokenBound : Configuration → World → TokenText → Type 0
-IsTokenBound c world t = (x : IdClaims) (nonce : Text) → id_read (client_secret c t.0) t.1 ≡ Ok x → x.nonce ≡ Some nonce → HasReplied world t.1 x
+IsTokenBound c world t = (key : Text) (x : IdClaims) (nonce : Text) → id_read key t.1 ≡ Ok x → x.nonce ≡ Some nonce → HasReplied world t.1 x
 
 -- ---- logout tokens
 
@@ -164,7 +163,7 @@ pub record SentAs (c : Configuration) (world : World) (sent : List Sent) (client
 -- A text that is read as a logout token went out. This does not restrict an ID Token or a request object, since none is read
 -- so.
 abbrev pub IsTokenSent : Configuration → World → List Sent → TokenText → Type 0
-IsTokenSent c world sent t = (y : LogoutClaims) → logout_read (client_secret c t.0) t.1 ≡ Ok y → SentAs c world sent t.0 y
+IsTokenSent c world sent t = (key : Text) (y : LogoutClaims) → logout_read key t.1 ≡ Ok y → SentAs c world sent t.0 y
 
 -- a message went out at a place that drew the word of its `jti`
 pub record IsSentRow (c : Configuration) (world : World) (row : Sent) : Type 0 where

@@ -12,14 +12,11 @@ use Rattle.sso_model.specs.Rows.{Sent, Live, Machine, Step, end}
 use Rattle.sso_model.specs.Machine.{is_meant as is_meant_row}
 use Rattle.sso_model.proofs.ListLaws.{all_has}
 use Rattle.client_registry.specs.Configuration.{Configuration, subject_at}
-use Rattle.client_registry.specs.Numbers.{client_secret, party_secret}
+use Rattle.client_registry.specs.Numbers.{party_client}
 use Rattle.login_request.proofs.PartyRows.{client_is_known}
 use Rattle.logout_token.specs.declared.claims.LogoutClaims.{LogoutClaims}
-use Rattle.logout_token.specs.LogoutToken.{logout_read}
-use Rattle.logout_token.specs.Token.{IsLogoutToken}
 use Rattle.logout_token.specs.Judging.{IsGoodLogoutToken}
 use Rattle.logout_token.proofs.Good.{passes_good}
-use Rattle.logout_token.proofs.Tokens.{logout_read-IsLogoutToken}
 use Rattle.oidc_words.specs.declared.response_types.Types.{Types}
 use Rattle.op_issue.specs.Issued.{if_wished}
 use Rattle.op_issue.specs.LogoutTokens.{logout_id}
@@ -31,6 +28,9 @@ use Rattle.rp_exchange.specs.declared.ask.RpAsk.TheVariants as ask
 use Rattle.rp_exchange.specs.declared.reply.RpReply.TheVariants as rp
 use Rattle.rp_exchange.specs.Values.{IsRpAsk}
 use Rattle.rp_request.specs.Prepared.{logout_token_in}
+use Rattle.client_keys.specs.Opening.{opening}
+use Rattle.rp_request.specs.Opened.{logout_read_for, IsLogoutTokenFor}
+use Rattle.rp_request.proofs.Opened.{token-logout_read_for}
 use Rattle.rp_request.proofs.Logouts.{logout_opened}
 use Rattle.rp_answer.specs.Past.{RpPair, RpPast}
 use Rattle.rp_answer.specs.Setup.{PartySetup, client_of}
@@ -57,8 +57,8 @@ use Rattle.sign_on.proofs.Lists.{each_filter, each_length, each_weaker, filter_o
 use Rattle.sign_on.proofs.Invariant.{SentAs, IsTokenSent, IsSentRow, AreSentApart, IsEndedRow, IsKept}
 use Rattle.sso_places.proofs.Places.{party_legal, distinct_before, past_own, drawn_other, place_drawn}
 use Rattle.sign_on.proofs.Shared.{was_written, at_more, ended_more}
-use Rattle.sign_on.proofs.Registry.{secret_is, subject_finds, finds_subject, parties_apart}
-use Rattle.sign_on.proofs.Texts.{logout_is_sealed}
+use Rattle.sign_on.proofs.Registry.{subject_finds, finds_subject, parties_apart}
+use Rattle.sign_on.proofs.Keys.{logout_sealed_for}
 use Rattle.sign_on.proofs.AskKinds.{IsRequest, as_request}
 use Rattle.sign_on.proofs.LiveRows.{settled, sessions_settled}
 use Rattle.sign_on.proofs.RpPlaces.{Does, fewer_done}
@@ -238,13 +238,12 @@ module _ (s : Site) (n from at : ℕ) (request : WorldAsk) (fresh : List Word) (
   went_out legal clean =
       let came : IsRequest c n request (ask.Logout (Ok claims)) = as_request c n request (ask.Logout (Ok claims)) legal.asked.0.1 refl in
       let text : Text = logout_token_in (posted came.request.body) in
-      let opened : IsLogoutToken (party_secret c n) text claims = logout_opened c n came.request (Ok claims) came.asked_is in
-      let K : Text → Type 0 = λ k. logout_read k text ≡ Ok claims in
-      let read : logout_read (client_secret c client) text ≡ Ok claims = subst K (secret_is c n legal.asked.0.0) (logout_read-IsLogoutToken (party_secret c n) text claims opened) in
+      let opened : IsLogoutTokenFor (party_client c n) text claims = logout_opened c n came.request (Ok claims) came.asked_is in
+      let read : logout_read_for (party_client c n) text ≡ Ok claims = token-logout_read_for (party_client c n) text claims opened in
       let L : WorldAsk → Type 0 = λ r. Has {A = TokenText} (logout_checked client r) (client, text) in
       let checks : Has (rp_checked client request (ask.Logout (Ok claims))) (client, text) = subst L (sym came.came_is) (inl refl) in
-      let wrote : Has (written s world) (client, text) = was_written s world x (client, text) clean checks (logout_is_sealed (client_secret c client) text claims read) in
-      all_has (IsTokenSent c world m.out) (written s world) (client, text) kept.holds.logouts wrote claims read
+      let wrote : Has (written s world) (client, text) = was_written s world x (client, text) clean checks (logout_sealed_for c n text claims site.registry legal.asked.0.0 read) in
+      all_has (IsTokenSent c world m.out) (written s world) (client, text) kept.holds.logouts wrote (opening (party_client c n) text) claims read
 
   -- the `jti` of the message
   named : (t : SentAs c world m.out client claims) → has_jti world client claims.jti t.row ≡ true

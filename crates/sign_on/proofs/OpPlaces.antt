@@ -319,8 +319,8 @@ answered_replies s from at request fresh asked sent given world site legal kept 
     (issued_unsent c a.wish who at (issued_access a.wish fresh) (issued_code a.wish fresh) (x ∷ world) m.out may a.known.value) in
     let E : TokenText → Type 0 = IsTokenBound c (x ∷ world) in
     let binds : a.wish.types.id_token ≡ true → E (a.wish.client, text) =
-    λ wished y nonce read is.
-    let hashes = issued_hashes c a.wish who at (issued_access a.wish fresh) (issued_code a.wish fresh) y may a.known.value read in
+    λ wished key y nonce read is.
+    let hashes = issued_hashes c a.wish who at (issued_access a.wish fresh) (issued_code a.wish fresh) key y may a.known.value read in
     let I : Answer → Type 0 = λ z. (z.id ≡ Some text) × (y.c_hash ≡ hash_of z.code) × (y.at_hash ≡ hash_of z.access) in
     let F : Bool → Option Text = λ b. if_wished b text in
     let made : I sent = subst I a.sent_is (ap F wished, hashes.0, hashes.1) in
@@ -540,8 +540,8 @@ tokens_replies s from at request fresh grant access id world site legal kept one
     let D : ℕ → Text → Type 0 = λ k t. IsTokenBound c (x ∷ world) (k, t) in
     let H : ℕ → Type 0 = λ k. D k (issued_id c code.wish who at (Some access) None) in
     let binds : D code.wish.client (issued_id c code.wish who at (Some access) None) =
-    λ y nonce read is.
-    let hashes = issued_hashes c code.wish who at (Some access) None y may told.wish.value read in
+    λ key y nonce read is.
+    let hashes = issued_hashes c code.wish who at (Some access) None key y may told.wish.value read in
     record { from = from; request = request; pair = p; has = inl refl; replied = (sym cause.token, hashes.0, hashes.1) } in
     let beside : D grant.client id = subst (D grant.client) cause.token (subst H cause.own_client binds) in
     record {
@@ -675,8 +675,8 @@ signed_out s from at request fresh asked messages world site legal distinct kept
     let J : ℕ → Option Place → Option Text = λ n o. jti_at n o in
     let T : Option Place → Option ℕ = λ o. option_and_then moment_of o in
     let went : (n : ℕ) → Has told n → IsTokenSent c (x ∷ world) rows (token n) =
-    λ n has_n y read.
-    let claims : logout_claims c n so ≡ y = logout_claims_are c n so y (may n has_n) read in
+    λ n has_n key y read.
+    let claims : logout_claims c n so ≡ y = logout_claims_are c n so key y (may n has_n) read in
     record {
       row = sent_to c number session n;
       has = sent_now c number session told m.out n has_n;

@@ -20,13 +20,12 @@ use Rattle.sso_places.specs.Site.{Site}
 use Rattle.sso_places.specs.World.{Place, Provider, Party, Nothing, World, place_at, from_of, moment_of, op_past, rp_past, op_place}
 use Rattle.sso_places.specs.Reading.{jti_at}
 use Rattle.sso_places.specs.Cookies.{set_at, presented}
-use Rattle.sso_places.specs.Tokens.{TokenText, is_token, is_sealed}
+use Rattle.sso_places.specs.Tokens.{TokenText, is_token, is_sealed_for}
 use Rattle.sso_places.specs.Written.{written}
 use Rattle.sso_places.specs.Checked.{checked}
 use Rattle.sso_places.specs.Premises.{sets_elsewhere, set_elsewhere, leaks, is_written, is_forged, forges}
 use Rattle.sso_places.specs.Each.{Each}
 use Rattle.sso_places.specs.Agreement.{IsSameSession}
-use Rattle.client_registry.specs.Numbers.{client_secret}
 use Rattle.sso_places.proofs.Lists.{any_none, any_some, any_has}
 use Rattle.sso_places.proofs.Places.{More, past_more, op_more, drawn_more}
 use Rattle.sso_places.proofs.Numbers.{place_at_before, place_at_low}
@@ -63,7 +62,7 @@ token_same t u first second =
     ap F first ∙ ap G second
 
 -- a sealed text that is checked, and that is not forged, was written before
-pub was_written : (s : Site) (world : World) (x : Place) (t : TokenText) → forges s world x ≡ false → Has (checked s x) t → is_sealed (client_secret s.configuration t.0) t.1 ≡ true → Has (written s world) t
+pub was_written : (s : Site) (world : World) (x : Place) (t : TokenText) → forges s world x ≡ false → Has (checked s x) t → is_sealed_for s.configuration t ≡ true → Has (written s world) t
 was_written s world x t clean checks seals =
     let kept : is_forged s world t ≡ false = any_none (is_forged s world) (checked s x) t clean checks in
     let S : Bool → Bool = λ b. b && not (is_written s world t) in
@@ -208,8 +207,8 @@ entered_more s x world rows all = all_weaker (IsEnteredRow s world) (IsEnteredRo
 
 -- an answer more
 answered_as_more : (c : Configuration) (row : Answered) (answered : List Answered) (t : TokenText) → IsTokenAnswered c answered t → IsTokenAnswered c (row ∷ answered) t
-answered_as_more c row answered t old x nonce read is =
-    let was : AnsweredAs c answered t.0 x nonce = old x nonce read is in
+answered_as_more c row answered t old key x nonce read is =
+    let was : AnsweredAs c answered t.0 x nonce = old key x nonce read is in
     record { row = was.row; has = inr was.has; nonce_is = was.nonce_is; client_is = was.client_is; known = was.known; subject = was.subject; sid = was.sid }
 
 pub tokens_more : (c : Configuration) (row : Answered) (answered : List Answered) (texts : List TokenText) → AllByRecursion (IsTokenAnswered c answered) texts → AllByRecursion (IsTokenAnswered c (row ∷ answered)) texts
@@ -294,8 +293,8 @@ pub sent_more : (c : Configuration) (x : Place) (world : World) (rows : List Sen
 sent_more c x world rows all = all_weaker (IsSentRow c world) (IsSentRow c (x ∷ world)) rows (sent_row_more c x world) all
 
 pub sent_as_more : (c : Configuration) (x : Place) (world : World) (sent after : List Sent) (t : TokenText) → ((row : Sent) → Has sent row → Has after row) → IsTokenSent c world sent t → IsTokenSent c (x ∷ world) after t
-sent_as_more c x world sent after t stays old y read =
-    let was : SentAs c world sent t.0 y = old y read in
+sent_as_more c x world sent after t stays old key y read =
+    let was : SentAs c world sent t.0 y = old key y read in
     record {
       row = was.row;
       has = stays was.row was.has;
@@ -313,8 +312,8 @@ logouts_more c x world sent after texts stays all = all_weaker (IsTokenSent c wo
 
 -- ID Tokens in one reply with codes and access tokens
 bound_one : (c : Configuration) (x : Place) (world : World) (t : TokenText) → IsTokenBound c world t → IsTokenBound c (x ∷ world) t
-bound_one c x world t old y nonce read is =
-    let was : HasReplied world t.1 y = old y nonce read is in
+bound_one c x world t old key y nonce read is =
+    let was : HasReplied world t.1 y = old key y nonce read is in
     record { from = was.from; request = was.request; pair = was.pair; has = inr was.has; replied = was.replied }
 
 pub bound_more : (c : Configuration) (x : Place) (world : World) (texts : List TokenText) → AllByRecursion (IsTokenBound c world) texts → AllByRecursion (IsTokenBound c (x ∷ world)) texts
