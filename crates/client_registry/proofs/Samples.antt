@@ -43,7 +43,7 @@ use Rattle.client_registry.specs.Registered.{AreApart, NumbersAreApart, HasNoneO
 use Rattle.client_registry.specs.ClaimKinds.{has_kind}
 use Rattle.client_registry.specs.Configuration.{Configuration, subject_at, configuration_of, provider_table, issuer_of, salt_of}
 use Rattle.client_registry.specs.ClientSets.{no_clients, has_client, with_client}
-use Rattle.client_registry.specs.Numbers.{user_at, client_at, party_at, is_client, client_id, client_secret, client_sealing}
+use Rattle.client_registry.specs.Numbers.{user_at, client_at, party_at, is_client, client_id, client_sealing}
 use Rattle.client_registry.specs.Reading.{document_in, unless_refused, subjects_read, records_read, rows_read, registry_read, refusals_of, IsAccepted, IsOtherVersion}
 use Rattle.client_registry.proofs.Guiltless.{front_nil, back_nil}
 use Rattle.client_registry.proofs.HeldClaims.{holds}
@@ -614,12 +614,6 @@ id-of_a_client = refl
 
 id-of_no_client : client_id at_work 1 ≡ []
 id-of_no_client = refl
-
-secret-of_a_client : client_secret at_work 0 ≡ long
-secret-of_a_client = refl
-
-secret-of_no_client : client_secret at_work 1 ≡ []
-secret-of_no_client = refl
 
 sealing-of_a_client : client_sealing at_work 0 ≡ long
 sealing-of_a_client = refl

@@ -35,13 +35,6 @@ id_in (Some client) = client.id
 abbrev pub client_id : Configuration → ℕ → List ℕ
 client_id c n = id_in (client_at c n)
 
-abbrev pub secret_in : Option Client → List ℕ
-secret_in None = []
-secret_in (Some client) = client.secret
-
-abbrev pub client_secret : Configuration → ℕ → List ℕ
-client_secret c n = secret_in (client_at c n)
-
 -- the secret under which tokens are sealed for the client
 abbrev pub sealing_in : Option Client → List ℕ
 sealing_in None = []
