@@ -1,5 +1,5 @@
 -- A text under two keys: what one key opens, another opens too or finds its MAC wrong; any other error is the same.
-use Rattle.std.proofs.Common.{◌≡◌, Bool, true, false, not, ◌∷◌, ◌++◌, Option, Some, None, Result, Ok, Err, ◌⊎◌, inl, inr, refl, ap}
+use Rattle.std.proofs.Common.{◌≡◌, Bool, true, false, ◌∷◌, ◌++◌, Option, Some, None, Result, Ok, Err, ◌⊎◌, inl, inr, refl, ap}
 use Rattle.std.specs.Str.{bytes_eq}
 use Rattle.hmac256.specs.Hmac.{hmac_of}
 use Rattle.sso_base.specs.Words.{Text}

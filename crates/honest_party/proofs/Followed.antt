@@ -16,7 +16,7 @@ use Rattle.oidc_words.specs.Types.{types_of_number}
 use Rattle.client_registry.specs.declared.records.Client.{Client}
 use Rattle.client_registry.specs.declared.records.Party.{Party}
 use Rattle.client_registry.specs.Configuration.{Configuration}
-use Rattle.client_registry.specs.Numbers.{client_at, party_row, party_client, client_sealing, sealing_in, no_client, no_party}
+use Rattle.client_registry.specs.Numbers.{client_at, party_row, party_client, client_sealing, sealing_in, no_client}
 use Rattle.client_registry.specs.Secrets.{sealing, has_secret}
 use Rattle.client_registry.proofs.SecretFacts.{seals_with_its_own}
 use Rattle.client_registry.specs.Registered.{IsRegistry}

@@ -26,7 +26,6 @@ use Rattle.rp_answer.specs.Seens.{seens, seen_of, seen_by, seen_made, seen_kept,
 use Rattle.rp_answer.specs.Deads.{deads, dead_at, dead_by, dead_made, dead_kept, live_deads}
 use Rattle.rp_answer.specs.Causes.{LogoutAccepted}
 use Rattle.rp_answer.specs.Legal.{IsLegalRp}
-use Rattle.rp_answer.specs.Endings.{Accepts}
 use Rattle.rp_answer.proofs.KeptNames.{seen_names}
 use Rattle.rp_answer.proofs.TokensOnce.{in_order, over, cause_of}
 

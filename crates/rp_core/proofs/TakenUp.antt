@@ -1,7 +1,7 @@
 -- What a step takes up: its calls may be made, and after them the tables are those after the pair.
 use Rattle.std.proofs.Common.{◌≡◌, ◌≤◌, ◌<◌, ℕ, Bool, true, false, nat_le, List, length, filter_map, Option, Some, None, Ok, IfSome, refl, sym, ◌∙◌, ap, subst, arith}
 use Rattle.sso_base.specs.Words.{Word}
-use Rattle.sso_base.specs.Rows.{without, put, row_of, live_rows}
+use Rattle.sso_base.specs.Rows.{without, put, live_rows}
 use Rattle.sso_base.proofs.RowLaws.{row_of-without_same}
 use Rattle.rp_login.specs.declared.rows.LoginRow.{LoginRow}
 use Rattle.rp_login.specs.declared.rows.PendingRow.{PendingRow}

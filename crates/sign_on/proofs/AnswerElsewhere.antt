@@ -37,6 +37,7 @@ use Rattle.op_answer.proofs.FirstLogin as op
 use Rattle.rp_exchange.specs.Values.{IsRpAsk, IsIdValue}
 use Rattle.rp_exchange.specs.declared.ask.RpAsk.{RpAsk}
 use Rattle.rp_exchange.specs.declared.ask.RpAsk.TheVariants as ask
+use Rattle.client_keys.specs.Opening.{opening}
 use Rattle.rp_request.specs.Prepared.{tokens_asked, tokens_prepared}
 use Rattle.rp_answer.specs.Past.{RpPair, RpPast}
 use Rattle.rp_answer.specs.Legal.{IsLegalRp}

@@ -634,13 +634,13 @@ pub entering_done : (s : Site) (n from at : ℕ) (request : WorldAsk) (fresh : L
     → Does s n from request (record { entry = record { at = at; fresh = fresh; ask = asked }; reply = rp.Entered w sub }) world
 entering_done s n from at request fresh (ask.Callback (Ok heard) id browser) w sub world site legal distinct unleaked tight unforged clean joined here_joined kept cause =
     entered_done s n from at request fresh (ask.Callback (Ok heard) id browser) w sub world site legal distinct kept
-    (at_once s n from at request fresh w sub world site kept heard id browser legal tight clean cause)
+    (at_once s n from at request fresh w sub world site kept heard id browser legal tight clean cause.enters)
 entering_done s n from at request fresh (ask.Tokens pending (Ok came) id) w sub world site legal distinct unleaked tight unforged clean joined here_joined kept cause =
     let x : Place = Party n from request (record { entry = record { at = at; fresh = fresh; ask = ask.Tokens pending (Ok came) id }; reply = rp.Entered w sub }) in
     entered_done s n from at request fresh (ask.Tokens pending (Ok came) id) w sub world site legal distinct kept
-    (after_exchange s n from at request fresh w sub world site kept pending came id legal (distinct_before x world distinct) unleaked joined here_joined clean cause)
+    (after_exchange s n from at request fresh w sub world site kept pending came id legal (distinct_before x world distinct) unleaked joined here_joined clean cause.enters)
 entering_done s n from at request fresh (ask.Info pending (Ok came)) w sub world site legal distinct unleaked tight unforged clean joined here_joined kept cause =
     let x : Place = Party n from request (record { entry = record { at = at; fresh = fresh; ask = ask.Info pending (Ok came) }; reply = rp.Entered w sub }) in
     entered_done s n from at request fresh (ask.Info pending (Ok came)) w sub world site legal distinct kept
-    (after_info s n from at request fresh w sub world site kept pending came legal (distinct_before x world distinct) unleaked unforged joined here_joined cause)
-entering_done s n from at request fresh asked w sub world site legal distinct unleaked tight unforged clean joined here_joined kept cause = absurd cause
+    (after_info s n from at request fresh w sub world site kept pending came legal (distinct_before x world distinct) unleaked unforged joined here_joined cause.enters)
+entering_done s n from at request fresh asked w sub world site legal distinct unleaked tight unforged clean joined here_joined kept cause = absurd cause.enters

@@ -1,5 +1,5 @@
 -- What a registry makes one: the client of a redirection URI, the user of a subject, and the party of a client.
-use Rattle.std.proofs.Common.{◌≡◌, ℕ, zero, suc, ◌+◌, ◌<◌, ◌==◌, Bool, true, false, cond, List, [], ◌∷◌, length, map, Option, Some, unwrap_or, option_and_then, slice_get, slice_index_or, inl, inr, refl, sym, ap, ◌∙◌, subst, eq-eqb, ◌≤◌, arith}
+use Rattle.std.proofs.Common.{◌≡◌, ℕ, zero, suc, ◌+◌, ◌<◌, ◌==◌, Bool, true, false, cond, List, [], ◌∷◌, length, map, Option, Some, unwrap_or, slice_get, slice_index_or, inl, inr, refl, sym, ap, ◌∙◌, subst, eq-eqb, ◌≤◌, arith}
 use Rattle.std.proofs.lemmas.Bool.{cases_lt}
 use Rattle.std.proofs.lemmas.Option.{same_Some}
 use Rattle.std.specs.Str.{bytes_eq}

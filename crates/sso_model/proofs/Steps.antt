@@ -1,6 +1,6 @@
 -- Each step on small machines: one in which it may be taken, and one in which it may not. And a login with a logout, as a run.
-use Rattle.std.proofs.Common.{◌≡◌, ℕ, true, List, [], ◌∷◌, Some, length, filter, inl, inr, refl, ap, ◌∙◌, arith}
-use Rattle.sso_model.specs.Rows.{Began, Signed, Answered, Sent, Dead, Live, Machine, Step, begin, sign, answer, redeem, out, close, enter, see, drop, end, forget, lapse, unnamed}
+use Rattle.std.proofs.Common.{◌≡◌, ℕ, true, false, List, [], ◌∷◌, Some, length, filter, inl, inr, refl, ap, ◌∙◌, arith}
+use Rattle.sso_model.specs.Rows.{Began, Signed, Answered, Sent, Live, Machine, Step, begin, sign, answer, redeem, out, close, enter, see, drop, end, forget, lapse, unnamed}
 use Rattle.sso_model.specs.Machine.{MayTake, IsRun, after, after_all, start, dead_row, is_meant}
 
 -- two clients, two users and two browsers
