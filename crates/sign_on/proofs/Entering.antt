@@ -1,16 +1,16 @@
 -- A place that lets a login in: its step may be taken, and the invariant still holds.
-use Rattle.std.proofs.Common.{◌≡◌, ◌≢◌, ℕ, suc, ◌<◌, ◌≤◌, not, Bool, true, false, List, [], ◌∷◌, ◌++◌, length, filter, Option, Some, None, option_and_then, option_map, Result, Ok, Err, refl, sym, ap, ◌∙◌, subst, inl, inr, arith}
+use Rattle.std.proofs.Common.{◌≡◌, ◌≢◌, ℕ, suc, ◌<◌, ◌≤◌, not, Bool, true, false, List, [], ◌∷◌, ◌++◌, length, filter, Option, Some, None, option_and_then, option_map, Result, Ok, Err, refl, sym, ap, ◌∙◌, subst, inl, inr, arith, ◌+◌, ◌==◌, ◌&&◌, nat_le, nat_lt, cond, eq-eqb}
 use Rattle.std.proofs.lemmas.Option.{same_Some}
 use Rattle.std.proofs.lemmas.List.{append_assoc}
 use Rattle.std.specs.List.{AllByRecursion}
 use Rattle.std.specs.Str.{bytes_eq}
 use Rattle.sso_base.specs.Words.{Word, Text, IsWord, is_word, fresh_word, word_text}
-use Rattle.sso_base.specs.Rows.{row_of, lives}
+use Rattle.sso_base.specs.Rows.{row_of, lives, if_lives}
 use Rattle.sso_base.specs.Legal.{last_moment}
 use Rattle.sso_base.proofs.RowLaws.{bool_cases, option_cases, bytes_same, bytes_true, row_has_name}
 use Rattle.sso_model.specs.Lists.{Has, Lacks}
-use Rattle.sso_model.specs.Rows.{Began, Answered, Entered, Live, Machine, Step, enter}
-use Rattle.sso_model.specs.Machine.{IsRun, IsAnsweredFor, after_all}
+use Rattle.sso_model.specs.Rows.{Began, Answered, Entered, Live, Machine, Step, enter, Dead}
+use Rattle.sso_model.specs.Machine.{IsRun, IsAnsweredFor, after_all, dead_row}
 use Rattle.sso_model.proofs.ListLaws.{all_weaker, all_has, all_filter, all_append, has_append_right}
 use Rattle.sso_model.proofs.RunLaws.{apart_filter, apart_push}
 use Rattle.oidc_words.specs.Lives.{visit_life}
@@ -29,7 +29,7 @@ use Rattle.rp_login.specs.declared.rows.LoginRow.{LoginRow}
 use Rattle.rp_login.specs.declared.rows.PendingRow.{PendingRow}
 use Rattle.rp_login.specs.declared.rows.SessionRow.{SessionRow}
 use Rattle.rp_login.specs.declared.rows.Stage.TheVariants as stage
-use Rattle.rp_login.specs.Rows.{visit_name}
+use Rattle.rp_login.specs.Rows.{visit_name, dead_name, dead_begun}
 use Rattle.rp_exchange.specs.declared.ask.RpAsk.{RpAsk}
 use Rattle.rp_exchange.specs.declared.ask.RpAsk.TheVariants as ask
 use Rattle.rp_exchange.specs.declared.reply.RpReply.{RpReply}
@@ -43,7 +43,7 @@ use Rattle.rp_request.proofs.Callbacks.{callback_opened}
 use Rattle.rp_request.proofs.TokenAnswers.{tokens_opened}
 use Rattle.rp_response.specs.Told.{browser_given, session_given}
 use Rattle.rp_answer.specs.Past.{RpPair, RpPast}
-use Rattle.rp_answer.specs.Asked.{if_wanted, claims_read, claims_judged}
+use Rattle.rp_answer.specs.Asked.{if_wanted, claims_read, claims_judged, sid_in}
 use Rattle.rp_answer.specs.Logins.{login_of, live_login}
 use Rattle.rp_answer.specs.Pendings.{pendings, pending_of}
 use Rattle.rp_answer.specs.Visits.{visits, visit_by, visit_of, visit_of_pending, visit_after, nonce_by, live_visits}
@@ -55,6 +55,12 @@ use Rattle.rp_answer.proofs.Sessions.{visits_are_drawn}
 use Rattle.rp_answer.proofs.Sending.{login_found, pending_found, pending_waits, stage_same, named_row}
 use Rattle.rp_answer.proofs.Exchanges.{fetches_are_sent}
 use Rattle.rp_answer.proofs.LoginsOnce.{logins_enter_once}
+use Rattle.sso_model.proofs.NamedEnds.{filter_passes}
+use Rattle.sso_model.proofs.ForgetRuns.{deads_filter}
+use Rattle.rp_login.specs.declared.rows.DeadRow.{DeadRow}
+use Rattle.rp_answer.specs.Deads.{deads, live_dead}
+use Rattle.rp_answer.specs.Alive.{sid_waiting, sid_judged, dead_for}
+use Rattle.std.proofs.lemmas.Grind.{common_steps}
 use Rattle.sso_places.specs.declared.types.WorldAsk.{WorldAsk}
 use Rattle.sso_places.specs.Each.{Each}
 use Rattle.sso_places.specs.Site.{Site, IsSite, setup_at, client_of_party, types_at}
@@ -65,19 +71,19 @@ use Rattle.sso_places.specs.Tokens.{TokenText, token_if, is_sealed_for}
 use Rattle.sso_places.specs.Written.{written_at, written}
 use Rattle.sso_places.specs.Checked.{rp_checked, checked}
 use Rattle.sso_places.specs.Premises.{HasDistinctWords, IsUnleaked, IsUnforged, leaks, forges, asks_under, holds, holder, IsJoinedAt, IsJoined}
-use Rattle.sso_places.specs.Reading.{machine_of, party_steps, enter_of, enter_as, user_of_subject, is_over}
+use Rattle.sso_places.specs.Reading.{machine_of, party_steps, enter_of, enter_as, user_of_subject, is_over, is_forgotten, is_after}
 use Rattle.sso_places.specs.Agreement.{IsSameSession, rows_of}
 use Rattle.sso_places.proofs.Numbers.{place_at_last}
 use Rattle.sign_on.proofs.Lists.{each_push, all_back}
-use Rattle.sign_on.proofs.Invariant.{AnsweredAs, IsTokenAnswered, IsBegunAt, IsEnteredRow, IsBegun, IsBegunPlace, Agrees, Holds, IsKept}
+use Rattle.sign_on.proofs.Invariant.{AnsweredAs, IsTokenAnswered, IsBegunAt, IsEnteredRow, IsBegun, IsBegunPlace, Agrees, Holds, IsKept, IsDeadRow}
 use Rattle.sso_places.proofs.Places.{IsWhole, whole_places, past_own, party_legal, legal_before, legal_from, unleaked_from, distinct_before, has_words, drawn_other, place_drawn}
-use Rattle.sign_on.proofs.Shared.{own_browser, was_written, began_more, entered_more, begun_at_more, events_more, ended_more}
+use Rattle.sign_on.proofs.Shared.{own_browser, was_written, began_more, entered_more, begun_at_more, events_more, ended_more, dead_more}
 use Rattle.sign_on.proofs.Registry.{subject_finds, parties_apart}
 use Rattle.sign_on.proofs.Keys.{id_sealed_for}
 use Rattle.sign_on.proofs.AskKinds.{IsRequest, as_request, IsTokens, as_tokens, IsInfo, as_info}
 use Rattle.sign_on.proofs.LiveRows.{settled, own_pushed, other_pushed, visits_pushed, live_pushed}
 use Rattle.sign_on.proofs.Pairs.{IsPlaceOf, pair_place, place_has, one_begun, entered_word, IsSender, sends, sender_has, sender_holds, joins}
-use Rattle.sign_on.proofs.RpPlaces.{lapsed, Does, agrees_by, others_agree, own_settled_agree}
+use Rattle.sign_on.proofs.RpPlaces.{lapsed, Does, agrees_by, others_agree, own_settled_agree, unforgotten}
 
 -- ---- the login of a response
 
@@ -273,6 +279,7 @@ record Enters (s : Site) (n from : ℕ) (p : RpPair) (world : World) (w : Word) 
   token : AnsweredAs s.configuration (machine_of s world).answered (client_of_party s n) claims (word_text visit.nonce)
   claims_sub : claims.sub ≡ visit.sub
   claims_sid : claims.sid ≡ visit.sid
+  sid_is : sid_judged (types_at s n) (rp_past n world) p.entry.at p.entry.ask ≡ visit.sid
 
 -- of the last ID Token: that of a response, or of a token response
 visit_is : (types : Types) (at : ℕ) (past : RpPast) (w : Word) (nonce : Option Word) (claims : Option IdClaims) (v : Word) (x : IdClaims) → nonce ≡ Some v → claims ≡ Some x
@@ -332,6 +339,7 @@ module _ (s : Site) (n from at : ℕ) (request : WorldAsk) (fresh : List Word) (
         token = tied s n from request p world cause.claims (word_text login.nonce) m.answered clean token good.nonce says;
         claims_sub = refl;
         claims_sid = refl;
+        sid_is = ap sid_in judged;
       }
 
   -- the exchange that an answer is to: its login was begun by the number under which the answer comes
@@ -383,6 +391,7 @@ module _ (s : Site) (n from at : ℕ) (request : WorldAsk) (fresh : List Word) (
         token = tied s n from request p world cause.claims (word_text exchange.nonce) m.answered clean token good.nonce says;
         claims_sub = refl;
         claims_sid = refl;
+        sid_is = ap sid_in judged;
       }
 
   -- a UserInfo response completes a login: the ID Token was verified at the place of the UserInfo request
@@ -474,6 +483,7 @@ module _ (s : Site) (n from at : ℕ) (request : WorldAsk) (fresh : List Word) (
         token = asked_for row before unforged by;
         claims_sub = refl;
         claims_sid = sym by.sid_is;
+        sid_is = ap sid_waiting cause.live;
       }
 
 -- ---- the step of an entering place
@@ -519,12 +529,39 @@ others_before n live low =
     all_weaker (λ (row : Live). row.event ≤ n) (λ (row : Live). row.event ≢ suc n) live
     (λ row below same. let least : row.event ≤ n = below in let is : row.event ≡ suc n = same in absurd (omega arith)) low
 
+not_late_lives : (a b : ℕ) → not (nat_le a b) ≡ true → nat_lt b a ≡ true
+not_late_lives a b h = grind (arith, common_steps)
+
+-- no session identifier is dead that the party does not remember
+not_dead : (s : Site) (n at : ℕ) (world : World) (row : Live) (types : Types) (asked : RpAsk) → IsSite s → n < length s.configuration.parties → IsKept s world → row.client ≡ client_of_party s n
+    → sid_judged types (rp_past n world) at asked ≡ Some row.sid → dead_for types (rp_past n world) at asked ≡ None → Lacks (unforgotten (rp_past n world) (client_of_party s n) at (machine_of s world).dead) (dead_row row)
+not_dead s n at world row types asked site mine kept client sid alive has =
+    let m : Machine = machine_of s world in
+    let past : RpPast = rp_past n world in
+    let test : Dead → Bool = λ other. not (is_forgotten past (client_of_party s n) at other) in
+    let was : IsDeadRow s world (dead_row row) =
+    all_has (IsDeadRow s world) (unforgotten past (client_of_party s n) at m.dead) (dead_row row) (all_filter (IsDeadRow s world) test m.dead kept.holds.dead) has in
+    let same : was.n ≡ n = parties_apart s.configuration was.n n site.registry was.known mine (sym was.client ∙ client) in
+    let R : ℕ → Type 0 = λ k. row_of dead_name row.sid (deads (rp_past k world)) ≡ Some was.dead in
+    let found : row_of dead_name row.sid (deads past) ≡ Some was.dead = subst R same was.remembered in
+    let passes : test (dead_row row) ≡ true = filter_passes test m.dead (dead_row row) has in
+    let A : Option DeadRow → Bool = λ o. not ((row.client == client_of_party s n) && is_after 661 at (option_map dead_begun o)) in
+    let B : Bool → Bool = λ b. not (b && nat_le (was.dead.accepted + 661) at) in
+    let young : not (nat_le (was.dead.accepted + 661) at) ≡ true = sym (ap B (eq-eqb row.client (client_of_party s n) client)) ∙ sym (ap A found) ∙ passes in
+    let lives_now : nat_lt at (was.dead.accepted + 661) ≡ true = not_late_lives (was.dead.accepted + 661) at young in
+    let D : Option Text → Option DeadRow = λ o. option_and_then (live_dead past at) o in
+    let I : Option DeadRow → Option DeadRow = λ o. option_and_then (if_lives 661 dead_begun at) o in
+    let C : Bool → Option DeadRow = λ b. cond b (Some was.dead) None in
+    let never : Some was.dead ≡ None = sym (ap D sid ∙ ap I found ∙ ap C lives_now) ∙ alive in
+    cc
+
 entered_done : (s : Site) (n from at : ℕ) (request : WorldAsk) (fresh : List Word) (asked : RpAsk) (w : Word) (sub : Text) (world : World) → IsSite s
     → IsLegalWorld s (Party n from request (record { entry = record { at = at; fresh = fresh; ask = asked }; reply = rp.Entered w sub }) ∷ world)
     → HasDistinctWords (Party n from request (record { entry = record { at = at; fresh = fresh; ask = asked }; reply = rp.Entered w sub }) ∷ world) → IsKept s world
+    → dead_for (types_at s n) (rp_past n world) at asked ≡ None
     → Enters s n from (record { entry = record { at = at; fresh = fresh; ask = asked }; reply = rp.Entered w sub }) world w sub
     → Does s n from request (record { entry = record { at = at; fresh = fresh; ask = asked }; reply = rp.Entered w sub }) world
-entered_done s n from at request fresh asked w sub world site legal distinct kept f =
+entered_done s n from at request fresh asked w sub world site legal distinct kept alive f =
     let p : RpPair = record { entry = record { at = at; fresh = fresh; ask = asked }; reply = rp.Entered w sub } in
     let x : Place = Party n from request p in
     let c : Configuration = s.configuration in
@@ -551,6 +588,7 @@ entered_done s n from at request fresh asked w sub world site legal distinct kep
     let answered : IsAnsweredFor mid row = record { answered = f.token.row; has = f.token.has; nonce = f.token.nonce_is; client = f.token.client_is; user = refl; sid = refl } in
     let unused : Lacks m.entered (record { client = client; nonce = Some (word_text visit.nonce) }) =
     not_entered s n from p world w sub m.entered site mine (distinct_before x world distinct) f old.entered in
+    let undead : Lacks mid.dead (dead_row row) = not_dead s n at world row types asked site mine kept refl (f.sid_is ∙ sid) alive in
     let rows : List Live = settled world client at m.live in
     let test : Live → Bool = λ r. not (is_over world client at r) in
     let low : AllByRecursion (λ (r : Live). r.event ≤ length world) rows = all_filter (λ (r : Live). r.event ≤ length world) test m.live old.events in
@@ -593,7 +631,8 @@ entered_done s n from at request fresh asked w sub world site legal distinct kep
       entered = record { client = client; nonce = Some (word_text visit.nonce) } ∷ m.entered;
       live = rows ++ row ∷ [];
       ended = m.ended;
-      run = subst R (sym steps) ((f.begins.has, answered, unused), tt);
+      dead = unforgotten past client at m.dead;
+      run = subst R (sym steps) ((f.begins.has, answered, unused, undead), tt);
       leaves = ap (after_all mid) steps;
       nonces = began_more x world m.began old.began;
       begins = tt;
@@ -614,6 +653,8 @@ entered_done s n from at request fresh asked w sub world site legal distinct kep
         entered_more s x world m.entered old.entered,
       );
       endings = ended_more s x world m.ended old.ended;
+      deaths = dead_more s x world (unforgotten past client at m.dead) (all_filter (IsDeadRow s world) (λ r. not (is_forgotten past client at r)) m.dead old.dead);
+      dead_once = deads_filter (λ r. not (is_forgotten past client at r)) m.dead old.dead_apart;
       texts = tt;
       logouts = tt;
       bound = tt;
@@ -633,14 +674,14 @@ pub entering_done : (s : Site) (n from at : ℕ) (request : WorldAsk) (fresh : L
     → EnteredCause (setup_at s n) (rp_past n world) (record { at = at; fresh = fresh; ask = asked }) asked w sub
     → Does s n from request (record { entry = record { at = at; fresh = fresh; ask = asked }; reply = rp.Entered w sub }) world
 entering_done s n from at request fresh (ask.Callback (Ok heard) id browser) w sub world site legal distinct unleaked tight unforged clean joined here_joined kept cause =
-    entered_done s n from at request fresh (ask.Callback (Ok heard) id browser) w sub world site legal distinct kept
+    entered_done s n from at request fresh (ask.Callback (Ok heard) id browser) w sub world site legal distinct kept cause.alive
     (at_once s n from at request fresh w sub world site kept heard id browser legal tight clean cause.enters)
 entering_done s n from at request fresh (ask.Tokens pending (Ok came) id) w sub world site legal distinct unleaked tight unforged clean joined here_joined kept cause =
     let x : Place = Party n from request (record { entry = record { at = at; fresh = fresh; ask = ask.Tokens pending (Ok came) id }; reply = rp.Entered w sub }) in
-    entered_done s n from at request fresh (ask.Tokens pending (Ok came) id) w sub world site legal distinct kept
+    entered_done s n from at request fresh (ask.Tokens pending (Ok came) id) w sub world site legal distinct kept cause.alive
     (after_exchange s n from at request fresh w sub world site kept pending came id legal (distinct_before x world distinct) unleaked joined here_joined clean cause.enters)
 entering_done s n from at request fresh (ask.Info pending (Ok came)) w sub world site legal distinct unleaked tight unforged clean joined here_joined kept cause =
     let x : Place = Party n from request (record { entry = record { at = at; fresh = fresh; ask = ask.Info pending (Ok came) }; reply = rp.Entered w sub }) in
-    entered_done s n from at request fresh (ask.Info pending (Ok came)) w sub world site legal distinct kept
+    entered_done s n from at request fresh (ask.Info pending (Ok came)) w sub world site legal distinct kept cause.alive
     (after_info s n from at request fresh w sub world site kept pending came legal (distinct_before x world distinct) unleaked unforged joined here_joined cause.enters)
 entering_done s n from at request fresh asked w sub world site legal distinct unleaked tight unforged clean joined here_joined kept cause = absurd cause.enters

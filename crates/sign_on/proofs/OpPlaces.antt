@@ -70,7 +70,7 @@ use Rattle.sso_places.specs.Agreement.{rows_of, SignsOn}
 use Rattle.sign_on.proofs.Lists.{all_rows, all_within, row_of-has, lives_some}
 use Rattle.sign_on.proofs.Invariant.{IsSetBy, IsDrawnText, IsKnownWish, IsSessionOwned, IsSessionAnswered, IsCodeAnswered, IsTokenAnswered, IsTokenBound, IsTokenSent, IsSentRow, AreSentApart, IsRedeemed, Agrees, Holds, IsKept}
 use Rattle.sso_places.proofs.Places.{fresh_is_word, legal_before, distinct_before}
-use Rattle.sign_on.proofs.Shared.{began_more, answered_more, events_more, redeemed_more, entered_more, tokens_more, code_more, each_more, op_place_more, op_place_one, text_more, texts_more, sent_more, logouts_more, bound_more, ended_more, answered_by_more}
+use Rattle.sign_on.proofs.Shared.{began_more, answered_more, events_more, redeemed_more, entered_more, tokens_more, code_more, each_more, op_place_more, op_place_one, text_more, texts_more, sent_more, logouts_more, bound_more, ended_more, answered_by_more, dead_more}
 use Rattle.sign_on.proofs.Texts.{issued_answered, issued_hashes, issued_unsent, token_where, token_written, logout_claims_are, logout_unanswered, logout_unbound}
 use Rattle.sign_on.proofs.OpSessions.{has_found, sessions_distinct, one_session}
 use Rattle.sign_on.proofs.OpOuts.{outs, with_sent, outs_run, outs_after, sent_before, sent_now, sent_all, sent_apart, all_before, all_map, told_is_rising, told_is_answered}
@@ -132,6 +132,8 @@ op_frame s from request p world site legal kept one two =
       redeemed = two.once;
       entered = entered_more s x world m.entered old.entered;
       ended = ended_more s x world m.ended old.ended;
+      dead = dead_more s x world m.dead old.dead;
+      dead_apart = old.dead_apart;
       sent = two.messages;
       sent_apart = two.apart;
       tokens = two.tokens;

@@ -6,12 +6,18 @@ use Rattle.std.proofs.lemmas.List.{append_assoc}
 use Rattle.std.specs.Str.{bytes_eq}
 use Rattle.std.specs.List.{AllByRecursion, list_any}
 use Rattle.sso_base.specs.Words.{Word, Text, word_text}
-use Rattle.sso_base.proofs.RowLaws.{bool_cases, option_cases, bytes_same, bytes_true}
+use Rattle.sso_base.proofs.RowLaws.{bool_cases, option_cases, bytes_same, bytes_true, row_of-more}
 use Rattle.sso_model.specs.Lists.{Has}
-use Rattle.sso_model.specs.Rows.{Began, Signed, Answered, Sent, Entered, Live}
+use Rattle.sso_model.specs.Rows.{Began, Signed, Answered, Sent, Entered, Dead, Live}
 use Rattle.sso_model.proofs.ListLaws.{all_weaker}
 use Rattle.op_answer.specs.Past.{OpPast}
-use Rattle.rp_answer.specs.Past.{RpPast}
+use Rattle.rp_answer.specs.Past.{RpPair, RpPast}
+use Rattle.rp_answer.specs.Deads.{deads, dead_made, dead_kept}
+use Rattle.rp_answer.proofs.KeptNames.{dead_names}
+use Rattle.rp_login.specs.declared.rows.DeadRow.{DeadRow}
+use Rattle.rp_login.specs.Rows.{dead_name}
+use Rattle.sso_base.specs.Rows.{row_of}
+use Rattle.sso_base.specs.Stands as stands
 use Rattle.client_registry.specs.Configuration.{Configuration}
 use Rattle.rp_login.specs.declared.rows.SessionRow.{SessionRow as VisitRow}
 use Rattle.code_grant.specs.declared.rows.SessionRow.{SessionRow}
@@ -30,7 +36,7 @@ use Rattle.sso_places.proofs.Lists.{any_none, any_some, any_has}
 use Rattle.sso_places.proofs.Places.{More, past_more, op_more, drawn_more}
 use Rattle.sso_places.proofs.Numbers.{place_at_before, place_at_low}
 use Rattle.sign_on.proofs.Lists.{each_weaker}
-use Rattle.sign_on.proofs.Invariant.{IsSetBy, IsDrawnText, IsDrawnNonce, IsSessionOwned, AnsweredBy, IsCodeAnswered, AnsweredAs, IsTokenAnswered, SentAs, IsTokenSent, IsSentRow, IsRedeemed, IsBegunAt, IsEnteredRow, IsEndedRow, Owns, HasReplied, IsTokenBound}
+use Rattle.sign_on.proofs.Invariant.{IsSetBy, IsDrawnText, IsDrawnNonce, IsSessionOwned, AnsweredBy, IsCodeAnswered, AnsweredAs, IsTokenAnswered, SentAs, IsTokenSent, IsSentRow, IsRedeemed, IsBegunAt, IsEnteredRow, IsEndedRow, IsDeadRow, Owns, HasReplied, IsTokenBound}
 
 -- ---- cookies
 
@@ -204,6 +210,40 @@ entered_one s x world row old =
 
 pub entered_more : (s : Site) (x : Place) (world : World) (rows : List Entered) → AllByRecursion (IsEnteredRow s world) rows → AllByRecursion (IsEnteredRow s (x ∷ world)) rows
 entered_more s x world rows all = all_weaker (IsEnteredRow s world) (IsEnteredRow s (x ∷ world)) rows (entered_one s x world) all
+
+-- a record of a session identifier stays, or a later one takes its place
+dead_next : (p : RpPair) (past : RpPast) (sid : Text) (row : DeadRow) → row_of dead_name sid (deads past) ≡ Some row → (after : DeadRow) × (row_of dead_name sid (deads (p ∷ past)) ≡ Some after)
+dead_next p past sid row found =
+    let made : Option DeadRow = dead_made (deads past) past p in
+    let held : Option DeadRow = option_and_then (dead_kept past p) (row_of dead_name sid (deads past)) in
+    let K : Option DeadRow → Option DeadRow = λ o. option_and_then (dead_kept past p) o in
+    let M : Option DeadRow → Option DeadRow = λ o. cond (stands.is_named dead_name sid o) o held in
+    let more : row_of dead_name sid (deads (p ∷ past)) ≡ M made = row_of-more dead_name dead_made dead_kept dead_names sid p past in
+    elim (option_cases made) [
+      | inl none ↦ (row, more ∙ ap M none ∙ ap K found)
+      | inr new ↦
+          (let C : Bool → Option DeadRow = λ b. cond b (Some new.0) held in
+          elim (bool_cases (stands.is_named dead_name sid (Some new.0))) [
+            | inl e ↦ (new.0, more ∙ ap M new.1 ∙ ap C e)
+            | inr e ↦ (row, more ∙ ap M new.1 ∙ ap C e ∙ ap K found)
+          ])
+    ]
+
+dead_later : (added past : RpPast) (sid : Text) (row : DeadRow) → row_of dead_name sid (deads past) ≡ Some row → (after : DeadRow) × (row_of dead_name sid (deads (added ++ past)) ≡ Some after)
+dead_later [] past sid row found = (row, found)
+dead_later (p ∷ added) past sid row found =
+    let before = dead_later added past sid row found in
+    dead_next p (added ++ past) sid before.0 before.1
+
+dead_one : (s : Site) (x : Place) (world : World) (row : Dead) → IsDeadRow s world row → IsDeadRow s (x ∷ world) row
+dead_one s x world row old =
+    let more : More old.n x world = past_more old.n x world in
+    let after = dead_later more.added (rp_past old.n world) row.sid old.dead old.remembered in
+    let D : RpPast → Option DeadRow = λ past. row_of dead_name row.sid (deads past) in
+    record { n = old.n; known = old.known; client = old.client; dead = after.0; remembered = ap D more.is ∙ after.1 }
+
+pub dead_more : (s : Site) (x : Place) (world : World) (rows : List Dead) → AllByRecursion (IsDeadRow s world) rows → AllByRecursion (IsDeadRow s (x ∷ world)) rows
+dead_more s x world rows all = all_weaker (IsDeadRow s world) (IsDeadRow s (x ∷ world)) rows (dead_one s x world) all
 
 -- an answer more
 answered_as_more : (c : Configuration) (row : Answered) (answered : List Answered) (t : TokenText) → IsTokenAnswered c answered t → IsTokenAnswered c (row ∷ answered) t

@@ -75,12 +75,12 @@ abbrev pub DeadApart : List Dead → Type 0
 DeadApart [] = Unit {0}
 DeadApart (row ∷ rows) = AllByRecursion (λ (x : Dead). x ≢ row) rows × DeadApart rows
 
-apart_filter : (test : Dead → Bool) (rows : List Dead) → DeadApart rows → DeadApart (filter test rows)
-apart_filter test [] apart = tt
-apart_filter test (row ∷ rows) apart =
+pub deads_filter : (test : Dead → Bool) (rows : List Dead) → DeadApart rows → DeadApart (filter test rows)
+deads_filter test [] apart = tt
+deads_filter test (row ∷ rows) apart =
     elim (test row) as (λ b. DeadApart (cond b (row ∷ filter test rows) (filter test rows))) [
-      | true ↦ (all_filter (λ (x : Dead). x ≢ row) test rows apart.0, apart_filter test rows apart.1)
-      | false ↦ apart_filter test rows apart.1
+      | true ↦ (all_filter (λ (x : Dead). x ≢ row) test rows apart.0, deads_filter test rows apart.1)
+      | false ↦ deads_filter test rows apart.1
     ]
 
 none_left : (row : Dead) (rows : List Dead) → AllByRecursion (λ (x : Dead). x ≢ row) (without_dead row rows)
@@ -98,9 +98,9 @@ none_left row (x ∷ rows) =
         let clash : false ≡ true = sym no ∙ here in
         cc
 
-with_apart : (only : Bool) (new : Dead) (rows : List Dead) → DeadApart rows → DeadApart (cond only (new ∷ without_dead new rows) rows)
-with_apart true new rows apart = (none_left new rows, apart_filter (λ other. not (is_dead new other)) rows apart)
-with_apart false new rows apart = apart
+pub deads_with : (only : Bool) (new : Dead) (rows : List Dead) → DeadApart rows → DeadApart (cond only (new ∷ without_dead new rows) rows)
+deads_with true new rows apart = (none_left new rows, deads_filter (λ other. not (is_dead new other)) rows apart)
+deads_with false new rows apart = apart
 
 apart_after : (m : Machine) (step : Step) → DeadApart m.dead → DeadApart (after m step).dead
 apart_after m (begin row) apart = apart
@@ -112,8 +112,8 @@ apart_after m (close sid) apart = apart
 apart_after m (enter row) apart = apart
 apart_after m (see event client browser user) apart = apart
 apart_after m (drop event client browser) apart = apart
-apart_after m (end message count) apart = with_apart message.only (dead_of message) m.dead apart
-apart_after m (forget row) apart = apart_filter (λ other. not (is_dead row other)) m.dead apart
+apart_after m (end message count) apart = deads_with message.only (dead_of message) m.dead apart
+apart_after m (forget row) apart = deads_filter (λ other. not (is_dead row other)) m.dead apart
 apart_after m (lapse event) apart = apart
 apart_after m unnamed apart = apart
 
@@ -176,7 +176,7 @@ without_passing test (row ∷ rows) apart =
 
 -- the dead session identifiers that pass a test may be forgotten, one after the other
 pub forgets_run : (m : Machine) (test : Dead → Bool) → DeadApart m.dead → IsRun m (map forget (filter test m.dead))
-forgets_run m test apart = forgets_are_run m (filter test m.dead) (apart_filter test m.dead apart) (filter_has test m.dead)
+forgets_run m test apart = forgets_are_run m (filter test m.dead) (deads_filter test m.dead apart) (filter_has test m.dead)
 
 -- what is left is the machine with the others
 pub forgets_after : (m : Machine) (test : Dead → Bool) → DeadApart m.dead → after_all m (map forget (filter test m.dead)) ≡ record m { dead = filter (λ row. not (test row)) m.dead }
