@@ -82,6 +82,7 @@ module _ (c : Configuration) (v : Visitor) where
                 asked = refl;
                 cookies = λ kept. next.cookies;
                 in_time = next.in_time;
+                alive = next.alive;
                 room = λ kept. next.room;
               });
         }
@@ -114,6 +115,7 @@ module _ (c : Configuration) (v : Visitor) where
                 asked = refl;
                 cookies = λ kept. next.cookies;
                 in_time = next.in_time;
+                alive = next.alive;
                 room = λ kept. next.room;
               });
         }
