@@ -1,5 +1,5 @@
--- Sealed texts of a client. A text is sealed for a client if it is sealed under one of its secrets. It is opened under the secret,
--- and under the old secret only if nothing but its MAC is wrong under the secret (our choice).
+-- Sealed texts of a client. A text is sealed for a client if it is sealed under one of its secrets. It is opened under the
+-- secret, and under the old secret only if nothing but its MAC is wrong under the secret (our choice).
 use Rattle.std.specs.Prelude.{◌≡◌, Bool, true, false, Option, Some, None, Result, Err, if◌then◌else◌}
 use Rattle.sso_base.specs.Words.{Text}
 use Rattle.jws_compact.specs.declared.no.JwsNo.{JwsNo}

@@ -82,8 +82,8 @@ pub record IsSecret (t : List ℕ) : Type 0 where
   pub name : is_name Visible 0 128 t ≡ true
   pub long : 32 ≤ length t
 
--- a client satisfies the rules of its row: it seals with its old secret only if it has one; its redirect URIs and its logout URI
--- satisfy the rule for URLs, and their stored parts are those of these URLs
+-- a client satisfies the rules of its row: it seals with its old secret only if it has one; its redirect URIs and its logout
+-- URI satisfy the rule for URLs, and their stored parts are those of these URLs
 pub record IsClient (k : Client) : Type 0 where
   pub id : is_name ClientId 1 64 k.id ≡ true
   pub secret : is_name Visible 0 128 k.secret ≡ true
@@ -156,8 +156,8 @@ pub record AreSubjectsBy (c : Configuration) (salt : List ℕ) : Type 0 where
 
 -- ---- the registry
 
--- the sizes of a registry; what is distinct in it: names, secrets (old ones included), redirect URIs, the clients of the parties, and the subjects
--- of the users at one client (OpenID Connect Core 1.0, 8); and the rules of its rows
+-- the sizes of a registry; what is distinct in it: names, secrets (old ones included), redirect URIs, the clients of the
+-- parties, and the subjects of the users at one client (OpenID Connect Core 1.0, 8); and the rules of its rows
 pub record IsRegistry (c : Configuration) : Type 0 where
   pub users : length c.users ≤ 512
   pub clients : length c.clients ≤ 128

@@ -13,8 +13,8 @@ ghost use Rattle.client_registry.specs.Configuration.{Configuration};
 ghost use Rattle.client_registry.specs.Registered.{IsRegistry};
 ghost use Rattle.client_registry.specs.Reading.{document_in, registry_read, refusals_of, IsDocument, HasVersion, IsAccepted, IsOtherVersion};
 
-/// A configuration that is not too long, is TOML and has version 1 or 2 is rejected if it has any error. The reported error has the
-/// smallest number of all its errors, and is the first with that number in the table's order.
+/// A configuration that is not too long, is TOML and has version 1 or 2 is rejected if it has any error. The reported error has
+/// the smallest number of all its errors, and is the first with that number in the table's order.
 pub fn refused_configurations_have_the_least()
     ensures too_long { (b : List ℕ) → 1048576 < length b → registry_read b ≡ Err no.TooLong }
     ensures not_toml { (b : List ℕ) → length b ≤ 1048576 → document_in b ≡ None → registry_read b ≡ Err no.NotToml }

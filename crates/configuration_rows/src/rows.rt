@@ -1,5 +1,5 @@
-// The keys of the configuration, each with its rule, row by row, in the order of its table. The second version has two keys of a
-// client more than the first.
+// The keys of the configuration, each with its rule, row by row, in the order of its table. The second version has two keys of
+// a client more than the first.
 
 ghost use Rattle.std.specs.Prelude.{◌≡◌, ◌++◌, map, OnOk};
 ghost use Rattle.toml.specs.Data.{table, no_members};

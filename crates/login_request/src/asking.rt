@@ -111,8 +111,8 @@ fn sent_params(
 ///
 /// The request has the party's response type, client, redirect URI, scope, `prompt` and `max_age`, and the texts of the two
 /// words as `state` and `nonce`. If the party's requests are signed, all of these are in a request object, sealed for the
-/// provider under the secret that its client seals with. Outside it are `response_type`, `client_id`, `redirect_uri` and the scope `openid` (OpenID
-/// Connect Core 1.0, 6.1).
+/// provider under the secret that its client seals with. Outside it are `response_type`, `client_id`, `redirect_uri` and the
+/// scope `openid` (OpenID Connect Core 1.0, 6.1).
 ///
 /// The issuer of the provider has at most 200 bytes. So the claims of a request object are never too long.
 #[tactic(auto, unfolding(crate::specs::Request::login_location))]

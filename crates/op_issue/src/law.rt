@@ -15,8 +15,8 @@ ghost use Rattle.op_issue.specs.ClientRules.{client_rules};
 ghost use Rattle.op_issue.specs.IdTokens.{id_claims, issued_id};
 ghost use Rattle.op_issue.specs.Issuing.{MayIssue};
 
-/// Reading an issued ID Token under the client's sealing secret returns the sealed claims. The claims are always short enough, and
-/// values of their types.
+/// Reading an issued ID Token under the client's sealing secret returns the sealed claims. The claims are always short enough,
+/// and values of their types.
 pub fn issued_tokens_are_read()
     ensures texts { (c : Configuration) (wish : Wish) (who : Authentication) (at : ℕ) (access code : Option Word) → MayIssue c wish who at → IsWishValue wish → HasTexts (id_claims c wish who at access code) }
     ensures sealable { (c : Configuration) (wish : Wish) (who : Authentication) (at : ℕ) (access code : Option Word) → MayIssue c wish who at → IsWishValue wish → IsSealable (id_claims c wish who at access code) }

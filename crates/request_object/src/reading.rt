@@ -105,8 +105,8 @@ fn opened(alloc: Global, client: &Client, issuer: &Text, text: &[u8]) -> Result<
 /// `claims` an object, which is read as its JSON text. An empty string is a value. `iss` and `aud` may be absent; `exp`,
 /// `iat`, `nbf`, `jti` and all other claims are ignored.
 ///
-/// Accepts exactly the request objects of this client for this issuer, sealed under either of its secrets. For any other text it returns the first error that
-/// applies, in the order of [`ObjNo`]. `NoMemory` is never wrapped in another error.
+/// Accepts exactly the request objects of this client for this issuer, sealed under either of its secrets. For any other text
+/// it returns the first error that applies, in the order of [`ObjNo`]. `NoMemory` is never wrapped in another error.
 pub fn unseal_request(
     alloc: Global,
     client: &Client,

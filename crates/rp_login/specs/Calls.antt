@@ -1,5 +1,5 @@
--- Sequences of calls that change the tables; and which calls add a row of a name, end one, or keep an accepted logout token or the
--- session identifier that it named.
+-- Sequences of calls that change the tables; and which calls add a row of a name, end one, or keep an accepted logout token or
+-- the session identifier that it named.
 use Rattle.std.specs.Prelude.{◌≡◌, ℕ, Bool, true, false, not, List, [], ◌∷◌, Option}
 use Rattle.std.specs.Str.{bytes_eq}
 use Rattle.std.specs.List.{AllByRecursion}
@@ -72,7 +72,8 @@ leaves_seen accepted call = true
 abbrev pub AllLeaveSeen : ℕ → List Call → Type 0
 AllLeaveSeen accepted calls = AllByRecursion (λ call. leaves_seen accepted call ≡ true) calls
 
--- a purge at which a session identifier that was named at this moment is still remembered, or any other call that does not end it
+-- a purge at which a session identifier that was named at this moment is still remembered, or any other call that does not end
+-- it
 abbrev pub leaves_dead : Text → ℕ → Call → Bool
 leaves_dead sid accepted (purge at) = lives seen_life accepted at
 leaves_dead sid accepted (end_dead ended) = not (bytes_eq ended sid)

@@ -56,8 +56,8 @@ AreDeads rows = IsHeld dead_name dead_begun AnyRow rows
 abbrev pub with_room : Tables → Tables
 with_room t = record t { reserved = record { logins = true; pendings = true; visits = true; seens = true; deads = true } }
 
--- the tables without the rows whose life has ended at the moment; a session identifier is remembered as long as the logout token
--- that named it
+-- the tables without the rows whose life has ended at the moment; a session identifier is remembered as long as the logout
+-- token that named it
 abbrev pub purged : ℕ → Tables → Tables
 purged at t = record t {
   logins = live_rows login_life login_begun at t.logins;

@@ -74,8 +74,8 @@ pub fn seen_tokens_are_remembered()
     ensures { (row : SeenRow) (steps : List calls.Call) (t : Tables) → row_of seen_name row.jti t.seens ≡ Some row → calls.AllLeaveSeen row.accepted steps → row_of seen_name row.jti (calls.after_all steps t).seens ≡ Some row }
 {}
 
-/// A session identifier that an accepted logout token named is found through all calls, except a purge 661 or more seconds later,
-/// until it is ended by its name. This is why no session of it begins meanwhile.
+/// A session identifier that an accepted logout token named is found through all calls, except a purge 661 or more seconds
+/// later, until it is ended by its name. This is why no session of it begins meanwhile.
 pub fn dead_sids_are_remembered()
     ensures { (row : DeadRow) (steps : List calls.Call) (t : Tables) → row_of dead_name row.sid t.deads ≡ Some row → calls.AllLeaveDead row.sid row.accepted steps → row_of dead_name row.sid (calls.after_all steps t).deads ≡ Some row }
 {}

@@ -1,6 +1,6 @@
-//! A relying party's tables: the logins that were begun, the exchanges that are waiting for a response, its sessions, the logout
-//! tokens that it has accepted, and the session identifiers that those named (OpenID Connect Core 1.0, 3.1.2.1 and 3.1.3; OpenID
-//! Connect Back-Channel Logout 1.0, 2.6 and 2.7).
+//! A relying party's tables: the logins that were begun, the exchanges that are waiting for a response, its sessions, the
+//! logout tokens that it has accepted, and the session identifiers that those named (OpenID Connect Core 1.0, 3.1.2.1 and
+//! 3.1.3; OpenID Connect Back-Channel Logout 1.0, 2.6 and 2.7).
 //!
 //! The model of each table is the list of its rows, in the order in which they were added. Only [`Logins::new`] and
 //! [`Logins::reserve`] allocate.

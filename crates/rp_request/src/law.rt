@@ -72,7 +72,8 @@ pub fn token_answers_are_read_for_their_exchange()
     ensures refuses { (c : Configuration) (n : ℕ) (pending : Word) (answer : Answered) (why : TokensNo) → tokens_read answer ≡ Err why → tokens_prepared c n pending answer ≡ ask.Tokens pending (Err why) None }
 {}
 
-/// The ID Token in a token response is read as its claims if and only if it is an ID Token under a secret of the party's client.
+/// The ID Token in a token response is read as its claims if and only if it is an ID Token under a secret of the party's
+/// client.
 pub fn token_answers_have_opened_id_tokens()
     ensures opened { (c : Configuration) (n : ℕ) (pending w : Word) (answer : Answered) (tokens : Tokens) (id : Option (Result IdClaims IdNo)) → tokens_prepared c n pending answer ≡ ask.Tokens w (Ok tokens) id → IsOpened (party_client c n) (Some tokens.id) id }
     ensures accepted { (c : Configuration) (n : ℕ) (pending w : Word) (answer : Answered) (tokens : Tokens) (id : Option (Result IdClaims IdNo)) (claims : IdClaims) → tokens_prepared c n pending answer ≡ ask.Tokens w (Ok tokens) id → IsIdTokenFor (party_client c n) tokens.id claims → id ≡ Some (Ok claims) }
@@ -86,8 +87,8 @@ pub fn info_answers_are_read_for_their_exchange()
     ensures refuses { (pending : Word) (answer : Answered) (why : InfoNo) → info_read answer ≡ Err why → info_prepared pending answer ≡ ask.Info pending (Err why) }
 {}
 
-/// A logout request is read as the logout token in its form. The result is the claims, if and only if it is a logout token under
-/// a secret of the party's client, or why it is none (OpenID Connect Back-Channel Logout 1.0, 2.5 and 2.6).
+/// A logout request is read as the logout token in its form. The result is the claims, if and only if it is a logout token
+/// under a secret of the party's client, or why it is none (OpenID Connect Back-Channel Logout 1.0, 2.5 and 2.6).
 pub fn logout_tokens_are_opened_by_a_secret()
     ensures reads { (c : Configuration) (n : ℕ) (request : Ask) → IsRegistry c → IsTo c n request endpoint.Logout → prepared c n request ≡ ask.Logout (logout_read_for (party_client c n) (logout_token_in (posted request.body))) }
     ensures opened { (c : Configuration) (n : ℕ) (request : Ask) (claims : Result LogoutClaims LogoutNo) → prepared c n request ≡ ask.Logout claims → IsLogoutOpened (party_client c n) (logout_token_in (posted request.body)) claims }

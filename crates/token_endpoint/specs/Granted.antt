@@ -48,8 +48,8 @@ pub record Authenticates (c : Configuration) (auth : Option (List ℕ)) (ps : Li
 
 -- ---- granted requests
 
--- the request is one of this client for a code: no parameter occurs twice, the client shows a secret of its own, and the grant type, the
--- code and the redirect URI are present
+-- the request is one of this client for a code: no parameter occurs twice, the client shows a secret of its own, and the grant
+-- type, the code and the redirect URI are present
 pub record IsGrant (c : Configuration) (auth body : Option (List ℕ)) (grant : Grant) : Type 0 where
   pub form : List ℕ
   pub there : body ≡ Some form

@@ -49,8 +49,8 @@ fn is_secret_of(client: &Client, secret: &Text) -> bool
     by_secret || by_old
 }
 
-// The number of the client that has this id and this secret, as its secret or its old one. For an id that no client has, the first
-// client's secrets are compared.
+// The number of the client that has this id and this secret, as its secret or its old one. For an id that no client has, the
+// first client's secrets are compared.
 #[tactic(auto, using(crate::proofs::Clients::place_within))]
 fn client_with(registry: &Registry, id: &Text, secret: &Text) -> Option<u32>
     ensures { result ≡ spec.client_with registry.now (record { id = id.now; secret = secret.now }) }

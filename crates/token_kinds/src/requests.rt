@@ -47,8 +47,8 @@ pub fn request_objects_are_no_logout_tokens()
 {}
 
 /// An ID Token of an issuer whose name differs from the client's id is no request object of that client, for any key of the
-/// token. If it is sealed under a secret of the client, and no request parameter is among its other claims, it is rejected for its
-/// issuer.
+/// token. If it is sealed under a secret of the client, and no request parameter is among its other claims, it is rejected for
+/// its issuer.
 pub fn id_tokens_are_no_request_objects()
     ensures apart { (client : Client) (issuer k t : List ℕ) (x : IdClaims) (p : Params) → ¬ (x.iss ≡ client.id) → IsIdToken k t x → IsRequestObject client issuer t p → ⊥ }
     ensures read { (client : Client) (issuer k t : List ℕ) (x : IdClaims) (p : Params) → ¬ (x.iss ≡ client.id) → id_read k t ≡ Ok x → request_read client issuer t ≡ Ok p → ⊥ }

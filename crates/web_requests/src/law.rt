@@ -72,9 +72,10 @@ pub fn mixed_locations_differ_in_one_name()
     ensures exactly { (name : Text) (location other : Location) → is_some (mixed name location other) ≡ (has_name name (form_pairs (form_of location)) && has_name name (form_pairs (form_of other))) }
 {}
 
-/// An ID Token that is forged with its own subject is the one with the same claims under the client's secret, and so unchanged if
-/// it is sealed under it. With another subject it is read, for the client, as the claims with that subject. The request that follows a forged answer goes to the party with the answer's redirect URI. The
-/// party reads the parameters of the answer, with this ID Token in place of the original one.
+/// An ID Token that is forged with its own subject is the one with the same claims under the client's secret, and so unchanged
+/// if it is sealed under it. With another subject it is read, for the client, as the claims with that subject. The request that
+/// follows a forged answer goes to the party with the answer's redirect URI. The party reads the parameters of the answer, with
+/// this ID Token in place of the original one.
 pub fn forged_tokens_differ_in_the_subject()
     ensures own { (client : Client) (secret : Text) (claims : IdClaims) → has_secret secret client ≡ true → IsSealable claims → forged_id claims.sub (id_text secret claims) client ≡ Some (id_text client.secret claims) }
     ensures other { (client : Client) (secret user : Text) (claims : IdClaims) (id : Text) → has_secret secret client ≡ true → HasTexts claims → IsSealable claims → forged_id user (id_text secret claims) client ≡ Some id → id_read_for client id ≡ Ok (record claims { sub = user }) }
