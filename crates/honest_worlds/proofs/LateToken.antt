@@ -163,8 +163,8 @@ answered_honestly =
     went_on shown shows asked answers
     (went_on asked asks [] shows
     (begun [] asks (record { jar = no_jar; asked = refl; room = λ kept. refl }))
-    (record { jar = no_jar; done = sent 1 to.Provider authorizes; called = follows; asked = refl; cookies = λ kept. tt; in_time = tt; room = λ kept. refl }))
-    (record { jar = first_jar; done = sent 1 to.Provider logs_in; called = fills_in; asked = refl; cookies = λ kept. refl; in_time = turn_in_time; room = λ kept. refl })
+    (record { jar = no_jar; done = sent 1 to.Provider authorizes; called = follows; asked = refl; cookies = λ kept. tt; in_time = tt; alive = tt; room = λ kept. refl }))
+    (record { jar = first_jar; done = sent 1 to.Provider logs_in; called = fills_in; asked = refl; cookies = λ kept. refl; in_time = turn_in_time; alive = tt; room = λ kept. refl })
 
 -- ---- the browser brings the answer, at 1360
 
