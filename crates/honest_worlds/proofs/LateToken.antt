@@ -73,6 +73,7 @@ use Rattle.honest_worlds.proofs.Building.{entry_then, TurnLives, LoginLives, of_
 use Rattle.honest_worlds.proofs.Growing.{Stands, provider_stands, party_stands}
 use Rattle.honest_worlds.proofs.FirstPlaces.{alice_may, first_jar, party_jar}
 use Rattle.honest_worlds.proofs.NewsRequest.{reader, news_query, news_wish, wish_is_value}
+use Rattle.honest_worlds.proofs.NoLogout.{not_named}
 
 reader_may : MayLogInBut (Some token_in_time) configuration reader
 unfolding parameter_words
@@ -270,6 +271,7 @@ late_token_fails =
       asked = refl;
       cookies = λ kept. refl;
       in_time = login_in_time;
+      alive = λ sid is kept. not_named (rp_past 1 answered) sid (refl, tt);
       room = λ kept. refl;
     })
     refl
