@@ -6,7 +6,7 @@ use Rattle.std.proofs.lemmas.List.Elements.{filter-append}
 use Rattle.form_urlencoded.specs.Form.{onto_first, split, split_pair, is_nonempty, raw_pairs}
 use Rattle.registered_url.specs.Query.{form_names}
 use Rattle.sso_base.specs.Texts.{has_text}
-use Rattle.configuration_rows.specs.Version1.{answer_names}
+use Rattle.configuration_rows.specs.Rows.{answer_names}
 use Rattle.request_params.specs.Form.{Pair, pair_of, form_pairs}
 use Rattle.auth_answer.specs.Reading.{names_part, heard_pairs, pairs_read, answer_read}
 

@@ -4,7 +4,7 @@ use Rattle.std.specs.List.{find, list_any}
 use Rattle.std.specs.Str.{bytes_eq}
 use Rattle.sso_base.specs.Words.{Text}
 use Rattle.sso_base.specs.Texts.{has_text}
-use Rattle.configuration_rows.specs.Version1.{answer_names}
+use Rattle.configuration_rows.specs.Rows.{answer_names}
 use Rattle.request_params.proofs.NameLaws.{same_text, found_passes}
 use Rattle.auth_answer.specs.declared.parts.PartName.{PartName}
 use Rattle.auth_answer.specs.declared.parts.PartName.TheVariants.{State, Error, Code, AccessToken, IdToken}

@@ -5,7 +5,7 @@ use Rattle.sso_base.proofs.Spelling.{IsBytes-from_all_bytes}
 use Rattle.std.specs.List.{list_any}
 use Rattle.registered_url.specs.Query.{form_names}
 use Rattle.sso_base.specs.Texts.{has_text}
-use Rattle.configuration_rows.specs.Version1.{answer_names}
+use Rattle.configuration_rows.specs.Rows.{answer_names}
 use Rattle.request_params.specs.Reading.{RepeatsFirst}
 use Rattle.oidc_words.specs.declared.errors.AuthError.TheVariants.{AccessDenied, Other}
 use Rattle.oidc_words.specs.declared.errors.Refusal.{Refusal}

@@ -5,7 +5,7 @@ use Rattle.std.specs.Str.{IsUtf8}
 use Rattle.sso_base.specs.Words.{Word, word_of_text}
 use Rattle.sso_base.specs.Texts.{has_text}
 use Rattle.registered_url.specs.Query.{form_names}
-use Rattle.configuration_rows.specs.Version1.{answer_names}
+use Rattle.configuration_rows.specs.Rows.{answer_names}
 use Rattle.auth_answer.specs.declared.answer.Answer.{Answer}
 use Rattle.auth_answer.specs.Printing.{answer_form}
 use Rattle.auth_answer.specs.Reading.{answer_read}

@@ -6,7 +6,7 @@ use Rattle.std.specs.Str.{IsUtf8}
 use Rattle.sso_base.specs.Lists.{Has}
 use Rattle.sso_base.specs.Words.{Word, Text, IsWord, word_text, word_of_text}
 use Rattle.sso_base.specs.Texts.{has_text}
-use Rattle.configuration_rows.specs.Version1.{answer_names}
+use Rattle.configuration_rows.specs.Rows.{answer_names}
 use Rattle.request_params.specs.Form.{Pair, form_pairs}
 use Rattle.request_params.specs.Reading.{value_of, first_repeated, unless_twice, StandOnce, RepeatsFirst}
 use Rattle.auth_answer.specs.declared.heard.Heard.{Heard}

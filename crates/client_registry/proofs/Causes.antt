@@ -1,5 +1,5 @@
 -- Why a configuration is refused: the least of all refusals is answered.
-use Rattle.std.proofs.Common.{◌≡◌, ◌≤◌, ◌<◌, ℕ, Bool, true, false, cond, List, [], ◌∷◌, ◌++◌, length, nat_lt, codes, Option, Some, None, Result, Ok, Err, refl, sym, ap, ◌∙◌, subst, arith, true≢false}
+use Rattle.std.proofs.Common.{◌≡◌, ◌≤◌, ◌<◌, ◌==◌, ◌⊎◌, inl, inr, ℕ, Bool, true, false, cond, List, [], ◌∷◌, ◌++◌, length, nat_lt, codes, Option, Some, None, Result, Ok, Err, refl, sym, ap, ◌∙◌, subst, arith}
 use Rattle.std.specs.Prelude.{IfSome}
 use Rattle.std.proofs.lemmas.Bool.{ltb-true, ltb-false}
 use Rattle.std.proofs.lemmas.Bool.Decides.{nat_tests}
@@ -7,15 +7,18 @@ use Rattle.toml.specs.Data.{Data}
 use Rattle.configuration_rows.specs.declared.no.RegNo.{RegNo}
 use Rattle.configuration_rows.specs.declared.no.RegNo.TheVariants as no
 use Rattle.configuration_rows.specs.Refusals.{number, least, IsLeast}
+use Rattle.configuration_rows.specs.declared.version.Version.{Version as KnownVersion}
+use Rattle.configuration_rows.specs.declared.version.Version.TheVariants.{First, Second}
 use Rattle.configuration_rows.specs.Values.{natural_at}
-use Rattle.configuration_rows.specs.Version1.{is_number, rows_refusals}
+use Rattle.configuration_rows.specs.Versions.{version_numbered, version_of}
+use Rattle.configuration_rows.specs.Rows.{rows_refusals}
 use Rattle.configuration_rows.proofs.Order.{least_is, empty_least}
 use Rattle.configuration_rows.proofs.Phases.{HaveAtMost, HaveAtLeast, least_from, least_of_two, is_least}
 use Rattle.configuration_rows.proofs.Numbers.{HaveNumbers, of_two, wider, at_most, at_least, of_rows}
 use Rattle.client_registry.specs.Records.{users_of, clients_of, parties_of}
 use Rattle.client_registry.specs.Rules.{records_refusals, subjects_refusals}
 use Rattle.client_registry.specs.Configuration.{Configuration, configuration_of, issuer_of, salt_of}
-use Rattle.client_registry.specs.Reading.{document_in, unless_refused, subjects_read, records_read, version1_read, document_read, registry_read, refusals_of, IsDocument, HasVersion1, IsAccepted, IsOtherVersion}
+use Rattle.client_registry.specs.Reading.{document_in, unless_refused, subjects_read, records_read, rows_read, versioned_read, document_read, registry_read, refusals_of, IsDocument, HasVersion, IsAccepted, IsOtherVersion}
 use Rattle.client_registry.proofs.Numbers.{of_records, of_subjects}
 
 -- ---- one list in place of three
@@ -40,9 +43,9 @@ of_all root =
     (wider 4 11 4 12 two (omega arith) (omega arith) (of_first_two root))
     (wider 12 12 4 12 subjects (omega arith) (omega arith) (of_subjects (salt_of root) (users_of root) (clients_of root)))
 
-pub version1_answer : (root : Data) → version1_read root ≡ unless_refused (least (refusals_of root)) (Ok (configuration_of root))
-unfolding version1_read records_read subjects_read
-version1_answer root =
+pub rows_answer : (root : Data) → rows_read root ≡ unless_refused (least (refusals_of root)) (Ok (configuration_of root))
+unfolding rows_read records_read subjects_read
+rows_answer root =
     let rows : List RegNo = rows_refusals root in
     let records : List RegNo = records_refusals (issuer_of root) (users_of root) (clients_of root) (parties_of root) in
     let subjects : List RegNo = subjects_refusals (salt_of root) (users_of root) (clients_of root) in
@@ -68,30 +71,44 @@ short_read b short = rw (not_less 1048576 (length b) short)
 pub not_toml : (b : List ℕ) → length b ≤ 1048576 → document_in b ≡ None → registry_read b ≡ Err no.NotToml
 not_toml b short none = short_read b short ∙ ap document_read none
 
-is_1 : (o : Option ℕ) → is_number 1 o ≡ true → o ≡ Some 1
-is_1 None h = absurd (true≢false (sym h))
-is_1 (Some n) h = let same : n ≡ 1 = grind (arith, nat_tests, h) in ap (λ k. Some k) same
+-- the number of a known version
+abbrev IsKnown : Option ℕ → Type 0
+IsKnown o = (o ≡ Some 1) ⊎ (o ≡ Some 2)
 
-judged : (root : Data) (t : Bool) → is_number 1 (natural_at (codes "version") root) ≡ t → document_read (Some root) ≡ cond t (version1_read root) (Err no.Version)
-judged root t is = rw is
+known_at : (n : ℕ) (a b : Bool) (v : KnownVersion) → (n == 1) ≡ a → (n == 2) ≡ b → cond a (Some First) (cond b (Some Second) None) ≡ Some v → IsKnown (Some n)
+known_at n true b v is_1 is_2 h = let same : n ≡ 1 = grind (arith, nat_tests, is_1) in inl (ap (λ k. Some k) same)
+known_at n false true v is_1 is_2 h = let same : n ≡ 2 = grind (arith, nat_tests, is_2) in inr (ap (λ k. Some k) same)
+known_at n false false v is_1 is_2 h = absurd (cc)
 
-other_version : (root : Data) (t : Bool) → is_number 1 (natural_at (codes "version") root) ≡ t → (HasVersion1 root → ⊥) → document_read (Some root) ≡ Err no.Version
-other_version root true is other = absurd (other (is_1 (natural_at (codes "version") root) is))
-other_version root false is other = judged root false is
+known : (o : Option ℕ) (v : KnownVersion) → version_numbered o ≡ Some v → IsKnown o
+known None v h = absurd (cc)
+known (Some n) v h = known_at n (n == 1) (n == 2) v refl refl h
+
+-- what is answered of a document by its version
+judged : (root : Data) (o : Option KnownVersion) → version_of root ≡ o → document_read (Some root) ≡ versioned_read o root
+judged root o is = ap (λ q. versioned_read q root) is
+
+known_read : (root : Data) → HasVersion root → document_read (Some root) ≡ rows_read root
+known_read root (inl is) = judged root (Some First) (ap version_numbered is)
+known_read root (inr is) = judged root (Some Second) (ap version_numbered is)
+
+other_version : (root : Data) (o : Option KnownVersion) → version_of root ≡ o → (HasVersion root → ⊥) → document_read (Some root) ≡ Err no.Version
+other_version root (Some v) is other = absurd (other (known (natural_at (codes "version") root) v is))
+other_version root None is other = judged root None is
 
 pub version : (b : List ℕ) → IsOtherVersion b → registry_read b ≡ Err no.Version
-version b v = short_read b v.document.short ∙ ap document_read v.document.toml ∙ other_version v.root (is_number 1 (natural_at (codes "version") v.root)) refl v.other
+version b v = short_read b v.document.short ∙ ap document_read v.document.toml ∙ other_version v.root (version_of v.root) refl v.other
 
--- what is answered of a document of the first version
-version1_of : (b : List ℕ) (root : Data) → IsDocument b root → HasVersion1 root → registry_read b ≡ unless_refused (least (refusals_of root)) (Ok (configuration_of root))
-version1_of b root d v = short_read b d.short ∙ ap document_read d.toml ∙ judged root true (ap (is_number 1) v) ∙ version1_answer root
+-- what is answered of a document of a known version
+answer_of : (b : List ℕ) (root : Data) → IsDocument b root → HasVersion root → registry_read b ≡ unless_refused (least (refusals_of root)) (Ok (configuration_of root))
+answer_of b root d v = short_read b d.short ∙ ap document_read d.toml ∙ known_read root v ∙ rows_answer root
 
-pub refused : (b : List ℕ) (root : Data) (e : RegNo) → IsDocument b root → HasVersion1 root → IsLeast e (refusals_of root) → registry_read b ≡ Err e
-refused b root e d v l = version1_of b root d v ∙ ap (λ o. unless_refused o (Ok (configuration_of root))) (is_least e (refusals_of root) l)
+pub refused : (b : List ℕ) (root : Data) (e : RegNo) → IsDocument b root → HasVersion root → IsLeast e (refusals_of root) → registry_read b ≡ Err e
+refused b root e d v l = answer_of b root d v ∙ ap (λ o. unless_refused o (Ok (configuration_of root))) (is_least e (refusals_of root) l)
 
 pub accepted : (b : List ℕ) (c : Configuration) → IsAccepted b c → registry_read b ≡ Ok c
 accepted b c a =
-    version1_of b a.root a.document a.version
+    answer_of b a.root a.document a.version
     ∙ ap (λ es. unless_refused (least es) (Ok (configuration_of a.root))) a.guiltless
     ∙ ap (λ k. Ok k) (sym a.says)
 
@@ -114,18 +131,18 @@ no_refusal (Some f) c k h = absurd (cc)
 some_from : (n : ℕ) (o : Option RegNo) (e : RegNo) → IfSome o (λ f. n ≤ number f) → o ≡ Some e → n ≤ number e
 some_from n o e h is = subst (λ p. IfSome p (λ f. n ≤ number f)) is h
 
-version1_number : (root : Data) (e : RegNo) → version1_read root ≡ Err e → 4 ≤ number e
-version1_number root e h =
+rows_number : (root : Data) (e : RegNo) → rows_read root ≡ Err e → 4 ≤ number e
+rows_number root e h =
     some_from 4 (least (refusals_of root)) e (least_from 4 (refusals_of root) (at_least 4 12 4 (refusals_of root) (omega arith) (of_all root)))
-    (the_refusal (least (refusals_of root)) (configuration_of root) e (sym (version1_answer root) ∙ h))
+    (the_refusal (least (refusals_of root)) (configuration_of root) e (sym (rows_answer root) ∙ h))
 
-root_number : (root : Data) (t : Bool) (e : RegNo) → cond t (version1_read root) (Err no.Version) ≡ Err e → 3 ≤ number e
-root_number root true e h = omega (arith, version1_number root e h)
-root_number root false e h = let same : no.Version ≡ e = cc in subst (λ f. 3 ≤ number f) same (omega arith)
+root_number : (root : Data) (o : Option KnownVersion) (e : RegNo) → versioned_read o root ≡ Err e → 3 ≤ number e
+root_number root (Some v) e h = omega (arith, rows_number root e h)
+root_number root None e h = let same : no.Version ≡ e = cc in subst (λ f. 3 ≤ number f) same (omega arith)
 
 document_number : (o : Option Data) (e : RegNo) → document_read o ≡ Err e → 2 ≤ number e
 document_number None e h = let same : no.NotToml ≡ e = cc in subst (λ f. 2 ≤ number f) same (omega arith)
-document_number (Some root) e h = omega (arith, root_number root (is_number 1 (natural_at (codes "version") root)) e h)
+document_number (Some root) e h = omega (arith, root_number root (version_of root) e h)
 
 long_at : (b : List ℕ) (t : Bool) → nat_lt 1048576 (length b) ≡ t → cond t (Err no.TooLong) (document_read (document_in b)) ≡ Err no.TooLong → 1048576 < length b
 long_at b true is h = ltb-true 1048576 (length b) is
@@ -144,7 +161,7 @@ short_of b r h other = short_at b r (nat_lt 1048576 (length b)) refl h other
 
 none_only : (o : Option Data) → document_read o ≡ Err no.NotToml → o ≡ None
 none_only None h = refl
-none_only (Some root) h = absurd (omega (arith, root_number root (is_number 1 (natural_at (codes "version") root)) no.NotToml h))
+none_only (Some root) h = absurd (omega (arith, root_number root (version_of root) no.NotToml h))
 
 error_same : (e f : RegNo) (r : Result Configuration RegNo) → r ≡ Err f → Err e ≡ r → e ≡ f
 error_same e f r h g = cc
@@ -158,36 +175,44 @@ not_toml_only b h =
 record Table (r : Result Configuration RegNo) (o : Option Data) : Type 0 where
   pub root : Data
   pub there : o ≡ Some root
-  pub answer : cond (is_number 1 (natural_at (codes "version") root)) (version1_read root) (Err no.Version) ≡ r
+  pub answer : versioned_read (version_of root) root ≡ r
 
 table_in : (o : Option Data) (r : Result Configuration RegNo) → document_read o ≡ r → (Err no.NotToml ≡ r → ⊥) → Table r o
 table_in None r h other = absurd (other h)
 table_in (Some root) r h other = record { root = root; there = refl; answer = h }
 
-other_only : (root : Data) (t : Bool) → is_number 1 (natural_at (codes "version") root) ≡ t → cond t (version1_read root) (Err no.Version) ≡ Err no.Version → HasVersion1 root → ⊥
-other_only root true is h v = absurd (omega (arith, version1_number root no.Version h))
-other_only root false is h v = true≢false (sym (ap (is_number 1) v) ∙ is)
+some_none : {A : Type 0} (a : A) → Some a ≡ None → ⊥
+some_none a h = cc h
+
+-- a known version is found
+not_known : (root : Data) → version_of root ≡ None → HasVersion root → ⊥
+not_known root none (inl is) = some_none First (sym (ap version_numbered is) ∙ none)
+not_known root none (inr is) = some_none Second (sym (ap version_numbered is) ∙ none)
+
+other_only : (root : Data) (o : Option KnownVersion) → version_of root ≡ o → versioned_read o root ≡ Err no.Version → HasVersion root → ⊥
+other_only root (Some v) is h known = absurd (omega (arith, rows_number root no.Version h))
+other_only root None is h known = not_known root is known
 
 pub version_only : (b : List ℕ) → registry_read b ≡ Err no.Version → IsOtherVersion b
 version_only b h =
     let s : (length b ≤ 1048576) × (document_read (document_in b) ≡ Err no.Version) = short_of b (Err no.Version) h (λ g. not_same no.TooLong no.Version (omega arith) (error_same _ _ (Err no.Version) refl g)) in
     let t : Table (Err no.Version) (document_in b) = table_in (document_in b) (Err no.Version) s.1 (λ g. not_same no.NotToml no.Version (omega arith) (error_same _ _ (Err no.Version) refl g)) in
-    record { root = t.root; document = record { short = s.0; toml = t.there }; other = other_only t.root (is_number 1 (natural_at (codes "version") t.root)) refl t.answer }
+    record { root = t.root; document = record { short = s.0; toml = t.there }; other = other_only t.root (version_of t.root) refl t.answer }
 
-pub least_only : (b : List ℕ) (root : Data) (e : RegNo) → IsDocument b root → HasVersion1 root → registry_read b ≡ Err e → IsLeast e (refusals_of root)
-least_only b root e d v h = least_is e (refusals_of root) (the_refusal (least (refusals_of root)) (configuration_of root) e (sym (version1_of b root d v) ∙ h))
+pub least_only : (b : List ℕ) (root : Data) (e : RegNo) → IsDocument b root → HasVersion root → registry_read b ≡ Err e → IsLeast e (refusals_of root)
+least_only b root e d v h = least_is e (refusals_of root) (the_refusal (least (refusals_of root)) (configuration_of root) e (sym (answer_of b root d v) ∙ h))
 
 no_error : (e : RegNo) (c : Configuration) → Err e ≡ Ok c → ⊥
 no_error e c h = cc h
 
-version1_at : (root : Data) (c : Configuration) (t : Bool) → is_number 1 (natural_at (codes "version") root) ≡ t → cond t (version1_read root) (Err no.Version) ≡ Ok c → HasVersion1 root × (version1_read root ≡ Ok c)
-version1_at root c true is h = (is_1 (natural_at (codes "version") root) is, h)
-version1_at root c false is h = absurd (no_error no.Version c h)
+version_at : (root : Data) (c : Configuration) (o : Option KnownVersion) → version_of root ≡ o → versioned_read o root ≡ Ok c → HasVersion root × (rows_read root ≡ Ok c)
+version_at root c (Some v) is h = (known (natural_at (codes "version") root) v is, h)
+version_at root c None is h = absurd (no_error no.Version c h)
 
 pub accepted_only : (b : List ℕ) (c : Configuration) → registry_read b ≡ Ok c → IsAccepted b c
 accepted_only b c h =
     let s : (length b ≤ 1048576) × (document_read (document_in b) ≡ Ok c) = short_of b (Ok c) h (no_error no.TooLong c) in
     let t : Table (Ok c) (document_in b) = table_in (document_in b) (Ok c) s.1 (no_error no.NotToml c) in
-    let v : HasVersion1 t.root × (version1_read t.root ≡ Ok c) = version1_at t.root c (is_number 1 (natural_at (codes "version") t.root)) refl t.answer in
-    let n : (least (refusals_of t.root) ≡ None) × (c ≡ configuration_of t.root) = no_refusal (least (refusals_of t.root)) (configuration_of t.root) c (sym (version1_answer t.root) ∙ v.1) in
+    let v : HasVersion t.root × (rows_read t.root ≡ Ok c) = version_at t.root c (version_of t.root) refl t.answer in
+    let n : (least (refusals_of t.root) ≡ None) × (c ≡ configuration_of t.root) = no_refusal (least (refusals_of t.root)) (configuration_of t.root) c (sym (rows_answer t.root) ∙ v.1) in
     record { root = t.root; document = record { short = s.0; toml = t.there }; version = v.0; guiltless = empty_least (refusals_of t.root) n.0; says = n.1 }

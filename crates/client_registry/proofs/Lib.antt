@@ -5,6 +5,7 @@ pub mod Guiltless
 pub mod KnownClaims
 pub mod HeldClaims
 pub mod SpelledBytes
+pub mod SecretFacts
 pub mod RowFacts
 pub mod RowRules
 pub mod SubjectFacts

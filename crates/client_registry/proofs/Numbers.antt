@@ -23,12 +23,18 @@ of_redirects : (clients : List Client) (i : ℕ) (uris : List (List ℕ)) → Of
 of_redirects clients i [] = tt
 of_redirects clients i (uri ∷ uris) = of_two 7 11 _ _ (of_note 7 11 _ _ (omega arith) (omega arith)) (of_redirects clients i uris)
 
+of_old : (clients : List Client) (i : ℕ) (k : Client) (o : Option (List ℕ)) → OfRecords (rule.old_twice clients i k o)
+of_old clients i k None = tt
+of_old clients i k (Some old) = of_note 7 11 _ _ (omega arith) (omega arith)
+
 of_client : (issuer : List ℕ) (clients : List Client) (i : ℕ) (k : Client) → OfRecords (rule.client_twice issuer clients i k)
 of_client issuer clients i k =
     of_two 7 11 _ _
     (of_two 7 11 _ _
+    (of_two 7 11 _ _
     (of_note 7 11 (rule.is_again i (client_place k.id clients) || bytes_eq k.id issuer) (no.Twice k.id) (omega arith) (omega arith))
     (of_note 7 11 (rule.is_again i (rule.secret_place k.secret clients)) (no.Twice k.id) (omega arith) (omega arith)))
+    (of_old clients i k k.old_secret))
     (of_redirects clients i k.redirects)
 
 of_use : (parties : List Party) (i n : ℕ) (o : Option Client) → OfRecords (rule.use_twice parties i n o)

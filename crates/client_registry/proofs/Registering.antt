@@ -18,13 +18,16 @@ use Rattle.client_registry.specs.Records.{no_url, without_slash, client_place, p
 use Rattle.client_registry.specs.Rules as rule
 use Rattle.client_registry.specs.Rules.{records_refusals, subjects_refusals}
 use Rattle.configuration_rows.specs.Values.{rows_at}
+use Rattle.configuration_rows.specs.Versions.{version_in}
+use Rattle.client_registry.specs.Secrets.{old_in, secrets, has_secret, all_secrets}
 use Rattle.client_registry.specs.Configuration.{configuration_of, provider_table, issuer_of, salt_of}
 use Rattle.client_registry.specs.Registered.{AreApart, NumbersAreApart, HasNoneOf, AreDisjoint, IsUser, AllHoldClaims, IsIssuerUrl, IsRegistry}
 use Rattle.registered_url.specs.declared.web_url.WebUrl.{WebUrl}
 use Rattle.registered_url.specs.Rule.{url_of}
-use Rattle.configuration_rows.specs.Version1.{rows_refusals}
+use Rattle.configuration_rows.specs.Rows.{rows_refusals}
 use Rattle.client_registry.proofs.SpelledBytes.{hex_is_bytes}
 use Rattle.client_registry.proofs.RowFacts.{ProviderKept, provider_kept}
+use Rattle.client_registry.proofs.SecretFacts.{IsOther, secrets_list}
 use Rattle.client_registry.proofs.PartyFacts.{parties_fit}
 use Rattle.client_registry.proofs.SubjectFacts.{rows_of_subjects}
 use Rattle.client_registry.proofs.RowRules.{RowsKeep, rows_keep_rules, users_keep, clients_keep, parties_keep}
@@ -77,17 +80,33 @@ record ClientOnce (issuer : List ℕ) (clients : List Client) (i : ℕ) (k : Cli
   pub id : rule.is_again i (client_place k.id clients) ≡ false
   pub other_issuer : bytes_eq k.id issuer ≡ false
   pub secret : rule.is_again i (rule.secret_place k.secret clients) ≡ false
+  pub old_secret : IfSome k.old_secret (λ old. rule.is_again i (rule.secret_place old clients) ≡ false)
+  pub other_secret : IsOther k.secret k.old_secret
   pub redirects : AllByRecursion (λ t. rule.is_again i (rule.redirect_place t clients) ≡ false) k.redirects
+
+old_once : (clients : List Client) (i : ℕ) (k : Client) (o : Option (List ℕ)) → rule.old_twice clients i k o ≡ [] → IfSome o (λ old. rule.is_again i (rule.secret_place old clients) ≡ false) × IsOther k.secret o
+old_once clients i k None h = (tt, tt)
+old_once clients i k (Some old) h = either_false (rule.is_again i (rule.secret_place old clients)) (bytes_eq k.secret old) (unmet _ (no.Twice k.id) h)
 
 client_once : (issuer : List ℕ) (clients : List Client) (i : ℕ) (k : Client) → rule.client_twice issuer clients i k ≡ [] → ClientOnce issuer clients i k
 client_once issuer clients i k h =
     let a : List RegNo = note_if (rule.is_again i (client_place k.id clients) || bytes_eq k.id issuer) (no.Twice k.id) in
     let b : List RegNo = note_if (rule.is_again i (rule.secret_place k.secret clients)) (no.Twice k.id) in
+    let o : List RegNo = rule.old_twice clients i k k.old_secret in
     let c : List RegNo = rule.redirects_twice clients i k.redirects in
-    let first : a ++ b ≡ [] = front_nil (a ++ b) c h in
+    let three : (a ++ b) ++ o ≡ [] = front_nil ((a ++ b) ++ o) c h in
+    let first : a ++ b ≡ [] = front_nil (a ++ b) o three in
+    let old = old_once clients i k k.old_secret (back_nil (a ++ b) o three) in
     let ids : (rule.is_again i (client_place k.id clients) ≡ false) × (bytes_eq k.id issuer ≡ false) =
     either_false (rule.is_again i (client_place k.id clients)) (bytes_eq k.id issuer) (unmet _ (no.Twice k.id) (front_nil a b first)) in
-    record { id = ids.0; other_issuer = ids.1; secret = unmet _ (no.Twice k.id) (back_nil a b first); redirects = redirects_once clients i k.redirects (back_nil (a ++ b) c h) }
+    record {
+      id = ids.0;
+      other_issuer = ids.1;
+      secret = unmet _ (no.Twice k.id) (back_nil a b first);
+      old_secret = old.0;
+      other_secret = old.1;
+      redirects = redirects_once clients i k.redirects (back_nil ((a ++ b) ++ o) c h);
+    }
 
 clients_once : (issuer : List ℕ) (clients : List Client) → each (rule.client_twice issuer clients) clients ≡ [] → AllFrom (ClientOnce issuer clients) 0 clients
 clients_once issuer clients h =
@@ -99,11 +118,18 @@ client_ids_apart issuer clients h =
     (apart (λ (k : Client). k.id ∷ []) (λ t k. bytes_eq k.id t) 0 clients
     (all_weaker (ClientOnce issuer clients) (Once (λ (k : Client). k.id ∷ []) (λ t k. bytes_eq k.id t) clients 0) 0 clients (λ i k le o. (o.id, tt)) h))
 
-secrets_apart : (issuer : List ℕ) (clients : List Client) → AllFrom (ClientOnce issuer clients) 0 clients → AreApart (map (λ (k : Client). k.secret) clients)
+-- each secret of a client is first the client's
+secrets_once : (clients : List Client) (i : ℕ) (secret : List ℕ) (o : Option (List ℕ)) → rule.is_again i (rule.secret_place secret clients) ≡ false → IfSome o (λ old. rule.is_again i (rule.secret_place old clients) ≡ false)
+    → AllByRecursion (λ t. rule.is_again i (rule.secret_place t clients) ≡ false) (secret ∷ old_in o)
+secrets_once clients i secret None h old = (h, tt)
+secrets_once clients i secret (Some t) h old = (h, (old, tt))
+
+secrets_apart : (issuer : List ℕ) (clients : List Client) → AllFrom (ClientOnce issuer clients) 0 clients → AreApart (all_secrets clients)
 secrets_apart issuer clients h =
-    texts_apart (λ (k : Client). k.secret) clients
-    (apart (λ (k : Client). k.secret ∷ []) (λ t k. bytes_eq k.secret t) 0 clients
-    (all_weaker (ClientOnce issuer clients) (Once (λ (k : Client). k.secret ∷ []) (λ t k. bytes_eq k.secret t) clients 0) 0 clients (λ i k le o. (o.secret, tt)) h))
+    secrets_list clients
+    (apart secrets has_secret 0 clients
+    (all_weaker (ClientOnce issuer clients) (Once secrets has_secret clients 0) 0 clients (λ i k le o. secrets_once clients i k.secret k.old_secret o.secret o.old_secret) h))
+    (all_rows (λ (k : Client). IsOther k.secret k.old_secret) 0 clients (all_weaker (ClientOnce issuer clients) (λ i k. IsOther k.secret k.old_secret) 0 clients (λ i k le o. o.other_secret) h))
 
 redirects_apart : (issuer : List ℕ) (clients : List Client) → AllFrom (ClientOnce issuer clients) 0 clients → AreDisjoint (map (λ (k : Client). k.redirects) clients)
 redirects_apart issuer clients h =
@@ -329,7 +355,7 @@ registered root f r h s =
       party_names = party_names_apart (parties_of root) ps;
       not_op = parties_not_op (parties_of root) (parties_of root) ps;
       known = known;
-      fitting = parties_fit (rows_at (codes "party") root) (rows_at (codes "client") root) w.clients w.parties known;
+      fitting = parties_fit (version_in root) (rows_at (codes "party") root) (rows_at (codes "client") root) w.clients w.parties known;
       one_party = uses_apart (parties_of root) ps;
       rows = length_mapped (rule.subjects_at (salt_of root) (users_of root)) (clients_of root);
       subjects = rows_apart (salt_of root) (users_of root) (clients_of root) s;
@@ -343,7 +369,7 @@ registered root f r h s =
       listen = i.listen;
       user_claims = f;
       user_rules = us;
-      client_rules = clients_keep (rows_at (codes "party") root) (rows_at (codes "client") root) w.clients g.short_secrets g.mixed_hosts;
+      client_rules = clients_keep (version_in root) (rows_at (codes "party") root) (rows_at (codes "client") root) w.clients g.short_secrets g.mixed_hosts;
       party_rules = parties_keep (clients_of root) (rows_at (codes "client") root) (rows_at (codes "party") root) w.parties;
     }
 

@@ -17,7 +17,7 @@ use Rattle.configuration_rows.specs.declared.kind.Breach.TheVariants.{WrongKind,
 use Rattle.configuration_rows.specs.Paths.{path_text}
 use Rattle.configuration_rows.specs.Values.{as_natural, as_texts, hex_bytes, text_at, text_or, natural_at, hex_at, texts_at, url_at}
 use Rattle.configuration_rows.specs.Kinds.{passes, unless, is_within, is_name, text_keeps, breach, are_urls, urls_breach, url_breach, issuer_breach, issuer_text_breach}
-use Rattle.configuration_rows.specs.Version1 as version
+use Rattle.configuration_rows.specs.Rows as keys
 use Rattle.client_registry.proofs.Guiltless.{front_nil, back_nil}
 
 no_cons : {A B : Type 0} (x : A) (xs : List A) → x ∷ xs ≡ [] → B
@@ -26,7 +26,7 @@ no_cons x xs h = absurd (cc)
 some_not_none : {A B : Type 0} (a : A) → Some a ≡ None → B
 some_not_none a h = absurd (cc)
 
-unbreached : (path : List ℕ) (o : Option Breach) → version.breached path o ≡ [] → o ≡ None
+unbreached : (path : List ℕ) (o : Option Breach) → keys.breached path o ≡ [] → o ≡ None
 unbreached path None h = refl
 unbreached path (Some WrongKind) h = no_cons _ _ h
 unbreached path (Some BadUrl) h = no_cons _ _ h
@@ -51,7 +51,7 @@ pub record Kept (k : Kind) (o : Option Data) : Type 0 where
   pub there : o ≡ Some value
   pub kept : breach k value ≡ None
 
-kept_at : (path : List ℕ) (k : Kind) (o : Option Data) → version.required_value path k o ≡ [] → Kept k o
+kept_at : (path : List ℕ) (k : Kind) (o : Option Data) → keys.required_value path k o ≡ [] → Kept k o
 kept_at path k None h = no_cons _ _ h
 kept_at path k (Some d) h = record { value = d; there = refl; kept = unbreached path (breach k d) h }
 
@@ -61,7 +61,7 @@ pub record KeptText (rule : TextRule) (key : List ℕ) (d : Data) : Type 0 where
   pub there : text_at key d ≡ Some value
   pub kept : text_keeps rule value ≡ true
 
-pub kept_text : (r : Row) (d : Data) (key : List ℕ) (rule : TextRule) → version.required r d key (kind.Text rule) ≡ [] → KeptText rule key d
+pub kept_text : (r : Row) (d : Data) (key : List ℕ) (rule : TextRule) → keys.required r d key (kind.Text rule) ≡ [] → KeptText rule key d
 kept_text r d key rule h =
     let k : Kept (kind.Text rule) (get key d) = kept_at (path_text r key) (kind.Text rule) (get key d) h in
     let p : Passing (text_keeps rule) (as_str k.value) = passing (text_keeps rule) (as_str k.value) (met (passes (text_keeps rule) (as_str k.value)) WrongKind k.kept) in
@@ -71,13 +71,13 @@ pub or_else : {A : Type 0} (o : Option A) (a b : A) → o ≡ Some a → unwrap_
 or_else o a b h = ap (λ q. unwrap_or q b) h
 
 -- a text that is needed keeps its rule, also as it stands in a record
-pub text_kept : (r : Row) (d : Data) (key : List ℕ) (rule : TextRule) → version.required r d key (kind.Text rule) ≡ [] → text_keeps rule (text_or key [] d) ≡ true
+pub text_kept : (r : Row) (d : Data) (key : List ℕ) (rule : TextRule) → keys.required r d key (kind.Text rule) ≡ [] → text_keeps rule (text_or key [] d) ≡ true
 text_kept r d key rule h =
     let k : KeptText rule key d = kept_text r d key rule h in
     ap (text_keeps rule) (or_else (text_at key d) k.value [] k.there) ∙ k.kept
 
 -- so do the bytes that it spells
-pub hex_kept : (r : Row) (d : Data) (key : List ℕ) (least most : ℕ) → version.required r d key (kind.Text (text.Hex least most)) ≡ [] → is_within least most (length (hex_at key d)) ≡ true
+pub hex_kept : (r : Row) (d : Data) (key : List ℕ) (least most : ℕ) → keys.required r d key (kind.Text (text.Hex least most)) ≡ [] → is_within least most (length (hex_at key d)) ≡ true
 hex_kept r d key least most h =
     let k : KeptText (text.Hex least most) key d = kept_text r d key (text.Hex least most) h in
     let p : Passing (λ bs. is_within least most (length bs)) (hex_bytes k.value) = passing (λ bs. is_within least most (length bs)) (hex_bytes k.value) k.kept in
@@ -89,7 +89,7 @@ hex_kept r d key least most h =
 pub number_in : (least most : ℕ) (d : Data) → breach (kind.Number least most) d ≡ None → Passing (is_within least most) (as_natural d)
 number_in least most d h = passing (is_within least most) (as_natural d) (met (passes (is_within least most) (as_natural d)) WrongKind h)
 
-pub number_kept : (r : Row) (d : Data) (key : List ℕ) (least most : ℕ) → version.required r d key (kind.Number least most) ≡ [] → Passing (is_within least most) (natural_at key d)
+pub number_kept : (r : Row) (d : Data) (key : List ℕ) (least most : ℕ) → keys.required r d key (kind.Number least most) ≡ [] → Passing (is_within least most) (natural_at key d)
 number_kept r d key least most h =
     let k : Kept (kind.Number least most) (get key d) = kept_at (path_text r key) (kind.Number least most) (get key d) h in
     let p : Passing (is_within least most) (as_natural k.value) = number_in least most k.value k.kept in
@@ -110,7 +110,7 @@ urls_there : (o : Option (List (List ℕ))) → urls_breach o ≡ None → KeptU
 urls_there None h = some_not_none WrongKind h
 urls_there (Some ts) h = urls_in (is_within 1 16 (length ts)) ts refl h
 
-pub urls_kept : (r : Row) (d : Data) (key : List ℕ) → version.required r d key kind.Urls ≡ [] → (is_within 1 16 (length (texts_at key d)) ≡ true) × (are_urls (texts_at key d) ≡ true)
+pub urls_kept : (r : Row) (d : Data) (key : List ℕ) → keys.required r d key kind.Urls ≡ [] → (is_within 1 16 (length (texts_at key d)) ≡ true) × (are_urls (texts_at key d) ≡ true)
 urls_kept r d key h =
     let k : Kept kind.Urls (get key d) = kept_at (path_text r key) kind.Urls (get key d) h in
     let u : KeptUrls (as_texts k.value) = urls_there (as_texts k.value) k.kept in
@@ -131,7 +131,7 @@ pub some_of : {A : Type 0} (o : Option A) (b : A) → is_some o ≡ true → o �
 some_of None b h = absurd (true≢false (sym h))
 some_of (Some a) b h = refl
 
-pub url_kept : (r : Row) (d : Data) (key : List ℕ) (other : WebUrl) → version.required r d key kind.Url ≡ [] → url_of (text_or key [] d) ≡ Some (unwrap_or (url_at key d) other)
+pub url_kept : (r : Row) (d : Data) (key : List ℕ) (other : WebUrl) → keys.required r d key kind.Url ≡ [] → url_of (text_or key [] d) ≡ Some (unwrap_or (url_at key d) other)
 url_kept r d key other h =
     let k : Kept kind.Url (get key d) = kept_at (path_text r key) kind.Url (get key d) h in
     let u : KeptUrl (as_str k.value) = url_there (as_str k.value) k.kept in
@@ -146,7 +146,7 @@ pub record UrlAt (key : List ℕ) (d : Data) : Type 0 where
   pub text_there : text_at key d ≡ Some text
   pub url_there : url_at key d ≡ Some url
 
-pub url_found : (r : Row) (d : Data) (key : List ℕ) (other : WebUrl) → version.required r d key kind.Url ≡ [] → UrlAt key d
+pub url_found : (r : Row) (d : Data) (key : List ℕ) (other : WebUrl) → keys.required r d key kind.Url ≡ [] → UrlAt key d
 url_found r d key other h =
     let k : Kept kind.Url (get key d) = kept_at (path_text r key) kind.Url (get key d) h in
     let u : KeptUrl (as_str k.value) = url_there (as_str k.value) k.kept in
@@ -154,17 +154,17 @@ url_found r d key other h =
     record { text = u.value; url = unwrap_or (url_of u.value) other; text_there = there; url_there = ap (option_and_then url_of) there ∙ some_of (url_of u.value) other u.url }
 
 -- a text that has a default
-optional_text_at : (path other : List ℕ) (rule : TextRule) (o : Option Data) → text_keeps rule other ≡ true → version.optional_value path (kind.Text rule) o ≡ [] → text_keeps rule (unwrap_or (option_and_then as_str o) other) ≡ true
+optional_text_at : (path other : List ℕ) (rule : TextRule) (o : Option Data) → text_keeps rule other ≡ true → keys.optional_value path (kind.Text rule) o ≡ [] → text_keeps rule (unwrap_or (option_and_then as_str o) other) ≡ true
 optional_text_at path other rule None fine h = fine
 optional_text_at path other rule (Some d) fine h =
     let p : Passing (text_keeps rule) (as_str d) = passing (text_keeps rule) (as_str d) (met (passes (text_keeps rule) (as_str d)) WrongKind (unbreached path (breach (kind.Text rule) d) h)) in
     ap (text_keeps rule) (or_else (as_str d) p.value other p.there) ∙ p.passed
 
-pub optional_text_kept : (r : Row) (d : Data) (key other : List ℕ) (rule : TextRule) → text_keeps rule other ≡ true → version.optional r d key (kind.Text rule) ≡ [] → text_keeps rule (text_or key other d) ≡ true
+pub optional_text_kept : (r : Row) (d : Data) (key other : List ℕ) (rule : TextRule) → text_keeps rule other ≡ true → keys.optional r d key (kind.Text rule) ≡ [] → text_keeps rule (text_or key other d) ≡ true
 optional_text_kept r d key other rule fine h = optional_text_at (path_text r key) other rule (get key d) fine h
 
 -- a value that is optional
-pub optional_at : (path : List ℕ) (k : Kind) (o : Option Data) → version.optional_value path k o ≡ [] → (o ≡ None) ⊎ Kept k o
+pub optional_at : (path : List ℕ) (k : Kind) (o : Option Data) → keys.optional_value path k o ≡ [] → (o ≡ None) ⊎ Kept k o
 optional_at path k None h = inl refl
 optional_at path k (Some d) h = inr (record { value = d; there = refl; kept = unbreached path (breach k d) h })
 
@@ -202,11 +202,11 @@ pub record ProviderKept (d : Data) : Type 0 where
   pub listen : is_name Visible 1 64 (text_or (codes "listen") [] d) ≡ true
   pub salt : is_within 16 64 (length (hex_at (codes "salt") d)) ≡ true
 
-pub provider_kept : (d : Data) → version.provider_row d ≡ [] → ProviderKept d
+pub provider_kept : (d : Data) → keys.provider_row d ≡ [] → ProviderKept d
 provider_kept d h =
-    let a : List RegNo = version.required row.Provider d (codes "issuer") kind.Issuer in
-    let b : List RegNo = version.required row.Provider d (codes "listen") (kind.Text (text.Name Visible 1 64)) in
-    let c : List RegNo = version.required row.Provider d (codes "salt") (kind.Text (text.Hex 16 64)) in
+    let a : List RegNo = keys.required row.Provider d (codes "issuer") kind.Issuer in
+    let b : List RegNo = keys.required row.Provider d (codes "listen") (kind.Text (text.Name Visible 1 64)) in
+    let c : List RegNo = keys.required row.Provider d (codes "salt") (kind.Text (text.Hex 16 64)) in
     let ab : a ++ b ≡ [] = front_nil (a ++ b) c h in
     let k : Kept kind.Issuer (get (codes "issuer") d) = kept_at (path_text row.Provider (codes "issuer")) kind.Issuer (get (codes "issuer") d) (front_nil a b ab) in
     let u = issuer_there (as_str k.value) k.kept in

@@ -28,27 +28,30 @@ use Rattle.configuration_rows.specs.declared.no.RegNo.{RegNo}
 use Rattle.configuration_rows.specs.declared.no.RegNo.TheVariants as no
 use Rattle.configuration_rows.specs.Refusals.{least, IsLeast, each_from, each}
 use Rattle.oidc_words.specs.Types.{spellings, types_of_number}
-use Rattle.configuration_rows.specs.Version1.{rows_refusals, lacks_type}
+use Rattle.configuration_rows.specs.declared.version.Version.TheVariants.{First, Second}
+use Rattle.configuration_rows.specs.Versions.{version_in}
+use Rattle.configuration_rows.specs.Rows.{rows_refusals, lacks_type}
 use Rattle.configuration_rows.proofs.Order.{least_is}
 use Rattle.client_registry.specs.declared.records.Provider.{Provider}
 use Rattle.client_registry.specs.declared.records.User.{User}
 use Rattle.client_registry.specs.declared.records.Client.{Client}
 use Rattle.client_registry.specs.declared.records.Party.{Party}
 use Rattle.client_registry.specs.Records.{without_slash, endpoint, provider_of, rounds_of, proof_of, user_of, types_of, client_of_row, client_place, client_number, party_of, users_of, clients_of, parties_of}
+use Rattle.client_registry.specs.Secrets.{secrets, sealing, has_secret, all_secrets}
 use Rattle.client_registry.specs.Rules.{is_again, user_twice, client_twice, party_twice, short_secret, user_size, mixed_hosts, unknown_client, has_two_hosts, sector_of, text_place, records_refusals, pairwise_subject, subject_of, clashes, subjects_refusals}
-use Rattle.client_registry.specs.Registered.{AreApart, NumbersAreApart, HasNoneOf, AreDisjoint, IsUser, HoldsClaims, AllHoldClaims, IsClient, IsParty, IsLogoutOf, FitsClient, IsSubject, IsIssuerUrl, AreSubjectsBy, IsRegistry}
+use Rattle.client_registry.specs.Registered.{AreApart, NumbersAreApart, HasNoneOf, AreDisjoint, IsUser, HoldsClaims, AllHoldClaims, IsSecret, IsClient, IsParty, IsLogoutOf, FitsClient, IsSubject, IsIssuerUrl, AreSubjectsBy, IsRegistry}
 use Rattle.client_registry.specs.ClaimKinds.{has_kind}
 use Rattle.client_registry.specs.Configuration.{Configuration, subject_at, configuration_of, provider_table, issuer_of, salt_of}
 use Rattle.client_registry.specs.ClientSets.{no_clients, has_client, with_client}
-use Rattle.client_registry.specs.Numbers.{user_at, client_at, party_at, is_client, client_id, client_secret}
-use Rattle.client_registry.specs.Reading.{document_in, unless_refused, subjects_read, records_read, version1_read, registry_read, refusals_of, IsAccepted, IsOtherVersion}
+use Rattle.client_registry.specs.Numbers.{user_at, client_at, party_at, is_client, client_id, client_sealing}
+use Rattle.client_registry.specs.Reading.{document_in, unless_refused, subjects_read, records_read, rows_read, registry_read, refusals_of, IsAccepted, IsOtherVersion}
 use Rattle.client_registry.proofs.Guiltless.{front_nil, back_nil}
 use Rattle.client_registry.proofs.HeldClaims.{holds}
 use Rattle.client_registry.proofs.SpelledBytes.{hex_is_bytes}
 use Rattle.client_registry.proofs.Registering.{registered}
 use Rattle.client_registry.proofs.Endpoints.{token_url, token_served}
 use Rattle.client_registry.proofs.SubjectFacts.{user_id_is_subject}
-use Rattle.client_registry.proofs.Causes.{version1_answer, too_long, accepted_only, version_only}
+use Rattle.client_registry.proofs.Causes.{rows_answer, too_long, accepted_only, version_only}
 
 abbrev at_host : List ℕ → WebUrl
 at_host host = record { secure = true; host = host; port = 443; path = codes "/"; query = None }
@@ -159,13 +162,45 @@ alice = alice_of (codes "{}")
 
 -- a client with this id, this secret and URIs at these hosts
 abbrev client : Bool → List ℕ → List ℕ → List WebUrl → Client
-client pairwise id secret urls = record { id = id; secret = secret; redirects = codes "https://a.b/cb" ∷ []; types = true ∷ false ∷ false ∷ false ∷ false ∷ false ∷ []; pairwise = pairwise; asks_consent = true; logout = None; logout_session = false; redirect_urls = urls; logout_url = None }
+client pairwise id secret urls = record { id = id; secret = secret; old_secret = None; seals_old = false; redirects = codes "https://a.b/cb" ∷ []; types = true ∷ false ∷ false ∷ false ∷ false ∷ false ∷ []; pairwise = pairwise; asks_consent = true; logout = None; logout_session = false; redirect_urls = urls; logout_url = None }
 
 abbrev long : List ℕ
 long = codes "01234567890123456789012345678901"
 
 abbrev shop : Client
 shop = client false (codes "shop") long (at_host (codes "a.b") ∷ [])
+
+-- another secret
+abbrev older : List ℕ
+older = codes "abcdefghijabcdefghijabcdefghijab"
+
+-- the shop with an old secret, and the same where that one seals
+abbrev changing : List ℕ → Client
+changing old = record shop { old_secret = Some old }
+
+abbrev sealing_old : Client
+sealing_old = record (changing older) { seals_old = true }
+
+secrets-of_one : secrets shop ≡ long ∷ []
+secrets-of_one = refl
+
+secrets-of_two : secrets (changing older) ≡ long ∷ older ∷ []
+secrets-of_two = refl
+
+secrets-of_all : all_secrets (changing older ∷ client false (codes "news") [] [] ∷ []) ≡ long ∷ older ∷ [] ∷ []
+secrets-of_all = refl
+
+has_secret-the_old_one : has_secret older (changing older) ≡ true
+has_secret-the_old_one = refl
+
+has_secret-no_other : has_secret (codes "x") (changing older) ≡ false
+has_secret-no_other = refl
+
+seals-with_its_secret : sealing (changing older) ≡ long
+seals-with_its_secret = refl
+
+seals-with_its_old_one : sealing sealing_old ≡ older
+seals-with_its_old_one = refl
 
 -- the party of this name, at a client and a path
 abbrev party : List ℕ → ℕ → List ℕ → Party
@@ -189,6 +224,19 @@ twice-a_user = refl
 twice-a_secret : client_twice [] (shop ∷ client false (codes "news") long [] ∷ []) 1 (client false (codes "news") long []) ≡ no.Twice (codes "news") ∷ no.Twice (codes "https://a.b/cb") ∷ []
 twice-a_secret = refl
 
+-- an old secret that is the secret, or the old secret, of an earlier client
+twice-an_old_secret : client_twice [] (shop ∷ record (changing long) { id = codes "news"; secret = older; redirects = [] } ∷ []) 1 (record (changing long) { id = codes "news"; secret = older; redirects = [] }) ≡ no.Twice (codes "news") ∷ []
+twice-an_old_secret = refl
+
+twice-the_old_secret_of_an_earlier_client : client_twice [] (changing older ∷ client false (codes "news") older [] ∷ []) 1 (client false (codes "news") older []) ≡ no.Twice (codes "news") ∷ no.Twice (codes "https://a.b/cb") ∷ []
+twice-the_old_secret_of_an_earlier_client = refl
+
+twice-its_own_secret : client_twice [] (changing long ∷ []) 0 (changing long) ≡ no.Twice (codes "shop") ∷ []
+twice-its_own_secret = refl
+
+twice-not_an_old_secret_of_its_own : client_twice [] (changing older ∷ []) 0 (changing older) ≡ []
+twice-not_an_old_secret_of_its_own = refl
+
 twice-not_one_client : client_twice (codes "https://a.b") (shop ∷ []) 0 shop ≡ []
 twice-not_one_client = refl
 
@@ -203,6 +251,12 @@ twice-a_party_named_op = refl
 
 short-of_31 : short_secret 0 (client false (codes "shop") (replicate 31 65) []) ≡ no.ShortSecret (codes "shop") ∷ []
 short-of_31 = refl
+
+short-of_an_old_secret_of_31 : short_secret 0 (changing (replicate 31 65)) ≡ no.ShortSecret (codes "shop") ∷ []
+short-of_an_old_secret_of_31 = refl
+
+short-not_of_an_old_secret_of_32 : short_secret 0 (changing older) ≡ []
+short-not_of_an_old_secret_of_32 = refl
 
 short-not_of_32 : short_secret 0 shop ≡ []
 short-not_of_32 = refl
@@ -267,6 +321,15 @@ not_a_user-of_a_proof_of_31_bytes h = let long : ◌≡◌ {A = ℕ} 31 32 = h.p
 not_a_client-of_a_short_secret : IsClient (client false (codes "shop") (codes "short") []) → ⊥
 not_a_client-of_a_short_secret h = absurd (omega (arith, h.long_secret))
 
+not_a_client-of_a_short_old_secret : IsClient (changing (codes "short")) → ⊥
+not_a_client-of_a_short_old_secret h = absurd (omega (arith, h.old_secret.long))
+
+not_a_client-that_seals_with_no_old_secret : IsClient (record shop { seals_old = true }) → ⊥
+not_a_client-that_seals_with_no_old_secret h = true≢false h.seals
+
+is_secret-of_32 : IsSecret older
+is_secret-of_32 = record { name = refl; long = omega arith }
+
 not_a_client-of_one_response_type : IsClient (record shop { types = true ∷ [] }) → ⊥
 not_a_client-of_one_response_type h = absurd (omega (arith, h.types))
 
@@ -305,7 +368,7 @@ not_a_party-of_an_age_of_a_thousand_million h = true≢false (sym h.age)
 fits-shop : FitsClient (party (codes "shop") 0 (codes "/cb")) shop
 fits-shop = record { redirect = refl; logout = refl; logout_of = tt; number = 0; types = refl; has_type = refl }
 
-not_fitting-another_redirection_uri : FitsClient (party (codes "shop") 0 (codes "/cb")) (record { id = codes "shop"; secret = long; redirects = []; types = []; pairwise = false; asks_consent = true; logout = None; logout_session = false; redirect_urls = []; logout_url = None }) → ⊥
+not_fitting-another_redirection_uri : FitsClient (party (codes "shop") 0 (codes "/cb")) (record { id = codes "shop"; secret = long; old_secret = None; seals_old = false; redirects = []; types = []; pairwise = false; asks_consent = true; logout = None; logout_session = false; redirect_urls = []; logout_url = None }) → ⊥
 not_fitting-another_redirection_uri h = true≢false (sym h.redirect)
 
 logout-of_the_party : IsLogoutOf (party (codes "shop") 0 (codes "/cb")) (at_shop 443 (codes "/logout"))
@@ -365,23 +428,23 @@ abbrev with_backslash : Data
 with_backslash = small_at (codes "https://a.b/op\\") long (codes "shop")
 
 guiltless : refusals_of good ≡ []
-unfolding rows_refusals records_refusals subjects_refusals party_of lacks_type spellings url_on_literals parts_of hex_on_literals claims_on_literals
+unfolding version_in rows_refusals records_refusals subjects_refusals party_of lacks_type spellings url_on_literals parts_of hex_on_literals claims_on_literals
 guiltless = refl
 
 guiltless_with_slash : refusals_of with_slash ≡ []
-unfolding rows_refusals records_refusals subjects_refusals party_of lacks_type spellings url_on_literals parts_of hex_on_literals claims_on_literals
+unfolding version_in rows_refusals records_refusals subjects_refusals party_of lacks_type spellings url_on_literals parts_of hex_on_literals claims_on_literals
 guiltless_with_slash = refl
 
 guiltless_with_backslash : refusals_of with_backslash ≡ []
-unfolding rows_refusals records_refusals subjects_refusals party_of lacks_type spellings url_on_literals parts_of hex_on_literals claims_on_literals
+unfolding version_in rows_refusals records_refusals subjects_refusals party_of lacks_type spellings url_on_literals parts_of hex_on_literals claims_on_literals
 guiltless_with_backslash = refl
 
 guilty-of_two : refusals_of (small (codes "short") (codes "news")) ≡ no.ShortSecret (codes "shop") ∷ no.UnknownClient (codes "shop") ∷ []
-unfolding rows_refusals records_refusals subjects_refusals party_of lacks_type spellings url_on_literals parts_of hex_on_literals claims_on_literals
+unfolding version_in rows_refusals records_refusals subjects_refusals party_of lacks_type spellings url_on_literals parts_of hex_on_literals claims_on_literals
 guilty-of_two = refl
 
-taken-by_the_definition : version1_read good ≡ Ok (configuration_of good)
-taken-by_the_definition = version1_answer good ∙ ap (λ es. unless_refused (least es) (Ok (configuration_of good))) guiltless
+taken-by_the_definition : rows_read good ≡ Ok (configuration_of good)
+taken-by_the_definition = rows_answer good ∙ ap (λ es. unless_refused (least es) (Ok (configuration_of good))) guiltless
 
 no_claims_held : AllHoldClaims (users_of good)
 unfolding AllHoldClaims
@@ -421,9 +484,22 @@ is_user-alice : IsUser (user_of user_row)
 unfolding configuration_of
 is_user-alice = good_registry.user_rules.0
 
-is_client-shop : IsClient (client_of_row (client_row long))
-unfolding configuration_of
+is_client-shop : IsClient (client_of_row First (client_row long))
+unfolding version_in configuration_of
 is_client-shop = good_registry.client_rules.0
+
+-- the keys of the second version
+abbrev changing_row : Data
+changing_row = table (member (codes "secret") (string long) (member (codes "old_secret") (string older) (member (codes "seals") (string (codes "old")) no_members)))
+
+sealing-of_version_2 : sealing (client_of_row Second changing_row) ≡ older
+sealing-of_version_2 = refl
+
+secrets-of_version_2 : secrets (client_of_row Second changing_row) ≡ long ∷ older ∷ []
+secrets-of_version_2 = refl
+
+secrets-of_version_1 : secrets (client_of_row First changing_row) ≡ long ∷ []
+secrets-of_version_1 = refl
 
 is_party-shop : IsParty (party_of (clients_of good) (party_row (codes "shop")))
 unfolding configuration_of
@@ -539,11 +615,11 @@ id-of_a_client = refl
 id-of_no_client : client_id at_work 1 ≡ []
 id-of_no_client = refl
 
-secret-of_a_client : client_secret at_work 0 ≡ long
-secret-of_a_client = refl
+sealing-of_a_client : client_sealing at_work 0 ≡ long
+sealing-of_a_client = refl
 
-secret-of_no_client : client_secret at_work 1 ≡ []
-secret-of_no_client = refl
+sealing-of_no_client : client_sealing at_work 1 ≡ []
+sealing-of_no_client = refl
 
 -- ---- sets of clients
 
@@ -628,8 +704,8 @@ endpoint-keeps_the_rule = token_url (configuration_of good) good_registry
 least-of_two_refusals : IsLeast (no.ShortSecret (codes "shop")) (refusals_of (small (codes "short") (codes "news")))
 least-of_two_refusals = least_is (no.ShortSecret (codes "shop")) _ (ap least guilty-of_two)
 
-refused-for_the_least : version1_read (small (codes "short") (codes "news")) ≡ refused (no.ShortSecret (codes "shop"))
-refused-for_the_least = version1_answer (small (codes "short") (codes "news")) ∙ ap (λ es. unless_refused (least es) (Ok (configuration_of (small (codes "short") (codes "news"))))) guilty-of_two
+refused-for_the_least : rows_read (small (codes "short") (codes "news")) ≡ refused (no.ShortSecret (codes "shop"))
+refused-for_the_least = rows_answer (small (codes "short") (codes "news")) ∙ ap (λ es. unless_refused (least es) (Ok (configuration_of (small (codes "short") (codes "news"))))) guilty-of_two
 
 -- ---- whole texts
 
@@ -648,18 +724,18 @@ unfolding document_in toml_on_literals is_utf8 chars
 document-not_of_a_key_alone = refl
 
 read-a_short_text : registry_read short_text ≡ Ok nobody
-unfolding document_in toml_on_literals version1_read records_read subjects_read rows_refusals records_refusals subjects_refusals configuration_of url_on_literals parts_of hex_on_literals is_utf8 chars
+unfolding document_in toml_on_literals rows_read records_read subjects_read rows_refusals records_refusals subjects_refusals configuration_of url_on_literals parts_of hex_on_literals is_utf8 chars
 read-a_short_text = refl
 
 accepted-a_short_text : IsAccepted short_text nobody
 accepted-a_short_text = accepted_only short_text nobody read-a_short_text
 
-refused-another_version : registry_read (codes "version = 2") ≡ refused no.Version
+refused-another_version : registry_read (codes "version = 3") ≡ refused no.Version
 unfolding document_in toml_on_literals is_utf8 chars
 refused-another_version = refl
 
-is_other-version_2 : IsOtherVersion (codes "version = 2")
-is_other-version_2 = version_only (codes "version = 2") refused-another_version
+is_other-version_3 : IsOtherVersion (codes "version = 3")
+is_other-version_3 = version_only (codes "version = 3") refused-another_version
 
 refused-no_toml : registry_read (codes "version =") ≡ refused no.NotToml
 unfolding document_in toml_on_literals is_utf8 chars
@@ -674,8 +750,12 @@ unfolding document_in toml_on_literals is_utf8 chars
 refused-an_empty_text = refl
 
 refused-where_the_issuer_is_missing : registry_read (codes "version = 1") ≡ refused (no.Missing (codes "provider.issuer"))
-unfolding document_in toml_on_literals version1_read rows_refusals is_utf8 chars
+unfolding document_in toml_on_literals rows_read rows_refusals is_utf8 chars
 refused-where_the_issuer_is_missing = refl
+
+refused-in_version_2_where_the_issuer_is_missing : registry_read (codes "version = 2") ≡ refused (no.Missing (codes "provider.issuer"))
+unfolding document_in toml_on_literals rows_read rows_refusals is_utf8 chars
+refused-in_version_2_where_the_issuer_is_missing = refl
 
 refused-a_long_text : (n : ℕ) → 1048576 < n → registry_read (replicate n 32) ≡ refused no.TooLong
 refused-a_long_text n long = too_long (replicate n 32) (omega (arith, length-replicate {A = ℕ} n 32, long))

@@ -1,4 +1,5 @@
 pub mod Records
+pub mod Secrets
 pub mod Rules
 pub mod Configuration
 pub mod Numbers

@@ -1,10 +1,11 @@
 -- Lookup by number: users, clients and parties are numbered from 0, in the order of the file. For an unknown number the result
 -- is empty.
-use Rattle.std.specs.Prelude.{ℕ, Bool, false, nat_lt, List, [], length, Option, Some, None, option_and_then, unwrap_or, slice_get}
+use Rattle.std.specs.Prelude.{ℕ, Bool, false, nat_lt, List, [], length, Option, Some, None, unwrap_or, slice_get}
 use Rattle.client_registry.specs.declared.records.User.{User}
 use Rattle.client_registry.specs.declared.records.Client.{Client}
 use Rattle.client_registry.specs.declared.records.Party.{Party}
 use Rattle.client_registry.specs.Records.{no_url}
+use Rattle.client_registry.specs.Secrets.{sealing}
 use Rattle.oidc_words.specs.Types.{types_of_number}
 use Rattle.client_registry.specs.Configuration.{Configuration}
 
@@ -34,12 +35,13 @@ id_in (Some client) = client.id
 abbrev pub client_id : Configuration → ℕ → List ℕ
 client_id c n = id_in (client_at c n)
 
-abbrev pub secret_in : Option Client → List ℕ
-secret_in None = []
-secret_in (Some client) = client.secret
+-- the secret under which tokens are sealed for the client
+abbrev pub sealing_in : Option Client → List ℕ
+sealing_in None = []
+sealing_in (Some client) = sealing client
 
-abbrev pub client_secret : Configuration → ℕ → List ℕ
-client_secret c n = secret_in (client_at c n)
+abbrev pub client_sealing : Configuration → ℕ → List ℕ
+client_sealing c n = sealing_in (client_at c n)
 
 -- ---- a party
 
@@ -54,16 +56,14 @@ party_name c n = name_in (party_at c n)
 abbrev pub client_of : Configuration → Party → Option Client
 client_of c party = client_at c party.client
 
--- the secret of the client of the party with a number
-abbrev pub party_secret : Configuration → ℕ → List ℕ
-party_secret c n = secret_in (option_and_then (client_of c) (party_at c n))
-
 -- ---- rows, with an empty default for an unknown number
 
 abbrev pub no_client : Client
 no_client = record {
   id = [];
   secret = [];
+  old_secret = None;
+  seals_old = false;
   redirects = [];
   types = [];
   pairwise = false;

@@ -18,7 +18,10 @@ use Rattle.configuration_rows.specs.Claims.{claims_in}
 use Rattle.oidc_words.specs.Paths.{authorize_path, token_path, userinfo_path}
 use Rattle.oidc_words.specs.Scopes.{openid_word}
 use Rattle.oidc_words.specs.Types.{code_word, types_of_number, type_number}
-use Rattle.configuration_rows.specs.Version1.{response_texts, has_type}
+use Rattle.configuration_rows.specs.declared.version.Version.{Version}
+use Rattle.configuration_rows.specs.declared.version.Version.TheVariants.{First, Second}
+use Rattle.configuration_rows.specs.Versions.{version_in}
+use Rattle.configuration_rows.specs.Rows.{seals_old, response_texts, has_type}
 
 -- ---- the provider
 
@@ -77,10 +80,21 @@ types_of ts = has_type 0 ts ∷ has_type 1 ts ∷ has_type 2 ts ∷ has_type 3 t
 abbrev pub urls_of : List (List ℕ) → List WebUrl
 urls_of ts = map (λ t. unwrap_or (url_of t) no_url) ts
 
-abbrev pub client_of_row : Data → Client
-client_of_row d = record {
+-- the old secret and which secret seals, in the second version
+abbrev pub old_secret_of : Version → Data → Option (List ℕ)
+old_secret_of First d = None
+old_secret_of Second d = text_at (codes "old_secret") d
+
+abbrev pub seals_old_of : Version → Data → Bool
+seals_old_of First d = false
+seals_old_of Second d = seals_old d
+
+abbrev pub client_of_row : Version → Data → Client
+client_of_row v d = record {
   id = text_or (codes "id") [] d;
   secret = text_or (codes "secret") [] d;
+  old_secret = old_secret_of v d;
+  seals_old = seals_old_of v d;
   redirects = texts_at (codes "redirect_uris") d;
   types = types_of (response_texts d);
   pairwise = bytes_eq (text_or (codes "subject") [] d) (codes "pairwise");
@@ -122,7 +136,7 @@ abbrev pub users_of : Data → List User
 users_of root = map user_of (rows_at (codes "user") root)
 
 abbrev pub clients_of : Data → List Client
-clients_of root = map client_of_row (rows_at (codes "client") root)
+clients_of root = map (client_of_row (version_in root)) (rows_at (codes "client") root)
 
 abbrev pub parties_of : Data → List Party
 parties_of root = map (party_of (clients_of root)) (rows_at (codes "party") root)

@@ -1,6 +1,6 @@
 -- The invariant of every registry.
 use Rattle.std.specs.Prelude.{◌≡◌, ◌≤◌, ◌<◌, ℕ, ◌==◌, ◌&&◌, Bool, true, false, List, [], ◌∷◌, length, map, codes, Option, Some, None, is_some, option_and_then}
-use Rattle.std.specs.Prelude.{slice_get, IfSome}
+use Rattle.std.specs.Prelude.{slice_get, IfSome, is_none}
 use Rattle.std.specs.List.{AllByRecursion, list_any}
 use Rattle.std.specs.Str.{bytes_eq, IsAscii}
 use Rattle.base64.specs.GeneralPurpose.{IsBytes}
@@ -17,8 +17,9 @@ use Rattle.sso_base.specs.Texts.{has_text}
 use Rattle.configuration_rows.specs.Kinds.{is_name, is_within, are_urls}
 use Rattle.oidc_words.specs.Scopes.{is_scope}
 use Rattle.oidc_words.specs.Prompts.{is_prompt}
-use Rattle.configuration_rows.specs.Version1.{own_paths, has_path, has_answer_name}
+use Rattle.configuration_rows.specs.Rows.{own_paths, has_path, has_answer_name}
 use Rattle.client_registry.specs.Records.{urls_of, without_slash, provider_of}
+use Rattle.client_registry.specs.Secrets.{all_secrets}
 use Rattle.oidc_words.specs.Paths.{leave_path}
 use Rattle.oidc_words.specs.Types.{types_of_number}
 use Rattle.client_registry.specs.Rules.{has_two_hosts, subjects_at}
@@ -77,12 +78,19 @@ abbrev pub is_url_or_none : Option (List ℕ) → Bool
 is_url_or_none None = true
 is_url_or_none (Some t) = is_some (url_of t)
 
--- a client satisfies the rules of its row: its redirect URIs and its logout URI satisfy the rule for URLs, and their stored
--- parts are those of these URLs
+-- a secret: from 32 to 128 characters of visible ASCII
+pub record IsSecret (t : List ℕ) : Type 0 where
+  pub name : is_name Visible 0 128 t ≡ true
+  pub long : 32 ≤ length t
+
+-- a client satisfies the rules of its row: it seals with its old secret only if it has one; its redirect URIs and its logout
+-- URI satisfy the rule for URLs, and their stored parts are those of these URLs
 pub record IsClient (k : Client) : Type 0 where
   pub id : is_name ClientId 1 64 k.id ≡ true
   pub secret : is_name Visible 0 128 k.secret ≡ true
   pub long_secret : 32 ≤ length k.secret
+  pub old_secret : IfSome k.old_secret IsSecret
+  pub seals : (k.seals_old && is_none k.old_secret) ≡ false
   pub redirects : is_within 1 16 (length k.redirects) ≡ true
   pub types : length k.types ≡ 6
   pub urls : are_urls k.redirects ≡ true
@@ -149,15 +157,15 @@ pub record AreSubjectsBy (c : Configuration) (salt : List ℕ) : Type 0 where
 
 -- ---- the registry
 
--- the sizes of a registry; what is distinct in it: names, secrets, redirect URIs, the clients of the parties, and the subjects
--- of the users at one client (OpenID Connect Core 1.0, 8); and the rules of its rows
+-- the sizes of a registry; what is distinct in it: names, secrets (old ones included), redirect URIs, the clients of the
+-- parties, and the subjects of the users at one client (OpenID Connect Core 1.0, 8); and the rules of its rows
 pub record IsRegistry (c : Configuration) : Type 0 where
   pub users : length c.users ≤ 512
   pub clients : length c.clients ≤ 128
   pub parties : length c.parties ≤ 64
   pub user_ids : AreApart (map (λ (u : User). u.id) c.users)
   pub client_ids : AreApart (map (λ (k : Client). k.id) c.clients)
-  pub secrets : AreApart (map (λ (k : Client). k.secret) c.clients)
+  pub secrets : AreApart (all_secrets c.clients)
   pub redirects : AreDisjoint (map (λ (k : Client). k.redirects) c.clients)
   pub issuer_apart : AllByRecursion (λ (k : Client). bytes_eq k.id c.provider.issuer ≡ false) c.clients
   pub party_names : AreApart (map (λ (p : Party). p.name) c.parties)

@@ -1,7 +1,7 @@
 -- Rules about the records of a configuration whose rows satisfy their own rules: names, secrets and redirect URIs that occur
 -- twice, sizes, hosts, and subjects.
 use Rattle.std.specs.Prelude.{ℕ, ◌==◌, ◌&&◌, ◌||◌, Bool, true, not, List, [], ◌∷◌, ◌++◌, length, nat_lt, codes, map, Option, Some, None, slice_get, unwrap_or}
-use Rattle.std.specs.Prelude.{if◌then◌else◌}
+use Rattle.std.specs.Prelude.{if◌then◌else◌, false}
 use Rattle.std.specs.List.{list_any, position_from}
 use Rattle.std.specs.Str.{bytes_eq}
 use Rattle.sha2.specs.Sha256.{sha256}
@@ -15,6 +15,7 @@ use Rattle.client_registry.specs.declared.records.Party.{Party}
 use Rattle.configuration_rows.specs.Refusals.{note_if, each}
 use Rattle.sso_base.specs.Texts.{has_text}
 use Rattle.client_registry.specs.Records.{client_place}
+use Rattle.client_registry.specs.Secrets.{has_secret}
 use Rattle.client_registry.specs.declared.reading.Rows.{Rows}
 
 -- ---- indices, counted from 0
@@ -22,8 +23,9 @@ use Rattle.client_registry.specs.declared.reading.Rows.{Rows}
 abbrev pub user_place : List ℕ → List User → Option ℕ
 user_place id users = position_from (λ (u : User). bytes_eq u.id id) 0 users
 
+-- the first client with this secret, as its secret or its old one
 abbrev pub secret_place : List ℕ → List Client → Option ℕ
-secret_place secret clients = position_from (λ (k : Client). bytes_eq k.secret secret) 0 clients
+secret_place secret clients = position_from (λ (k : Client). has_secret secret k) 0 clients
 
 -- the first client with this redirect URI
 abbrev pub redirect_place : List ℕ → List Client → Option ℕ
@@ -53,10 +55,16 @@ abbrev pub redirects_twice : List Client → ℕ → List (List ℕ) → List Re
 redirects_twice clients n [] = []
 redirects_twice clients n (uri ∷ uris) = note_if (is_again n (redirect_place uri clients)) (no.Twice uri) ++ redirects_twice clients n uris
 
+-- the old secret is a secret of an earlier client, or the client's own secret
+abbrev pub old_twice : List Client → ℕ → Client → Option (List ℕ) → List RegNo
+old_twice clients n k None = []
+old_twice clients n k (Some old) = note_if (is_again n (secret_place old clients) || bytes_eq k.secret old) (no.Twice k.id)
+
 abbrev pub client_twice : List ℕ → List Client → ℕ → Client → List RegNo
 client_twice issuer clients n k =
     note_if (is_again n (client_place k.id clients) || bytes_eq k.id issuer) (no.Twice k.id)
     ++ note_if (is_again n (secret_place k.secret clients)) (no.Twice k.id)
+    ++ old_twice clients n k k.old_secret
     ++ redirects_twice clients n k.redirects
 
 -- a party before the index n uses the client with this number
@@ -71,8 +79,16 @@ party_twice clients parties n p =
 
 -- ---- secrets, sizes, hosts and clients
 
+abbrev pub is_short : List ℕ → Bool
+is_short secret = nat_lt (length secret) 32
+
+abbrev pub is_short_old : Option (List ℕ) → Bool
+is_short_old None = false
+is_short_old (Some old) = is_short old
+
+-- a secret of the client, the old one included, has fewer than 32 characters
 abbrev pub short_secret : ℕ → Client → List RegNo
-short_secret n k = note_if (nat_lt (length k.secret) 32) (no.ShortSecret k.id)
+short_secret n k = note_if (is_short k.secret || is_short_old k.old_secret) (no.ShortSecret k.id)
 
 -- the 513th user is one too many; the claims of a user have at most 2,048 bytes
 abbrev pub user_size : ℕ → User → List RegNo

@@ -11,15 +11,15 @@ ghost use Rattle.client_registry.specs.Records.{endpoint};
 ghost use Rattle.client_registry.specs.ClientSets.{no_clients, has_client, with_client};
 ghost use Rattle.client_registry.specs.Configuration.{Configuration};
 ghost use Rattle.client_registry.specs.Registered.{IsRegistry};
-ghost use Rattle.client_registry.specs.Reading.{document_in, registry_read, refusals_of, IsDocument, HasVersion1, IsAccepted, IsOtherVersion};
+ghost use Rattle.client_registry.specs.Reading.{document_in, registry_read, refusals_of, IsDocument, HasVersion, IsAccepted, IsOtherVersion};
 
-/// A configuration that is not too long, is TOML and has version 1 is rejected if it has any error. The reported error has the
-/// smallest number of all its errors, and is the first with that number in the table's order.
+/// A configuration that is not too long, is TOML and has version 1 or 2 is rejected if it has any error. The reported error has
+/// the smallest number of all its errors, and is the first with that number in the table's order.
 pub fn refused_configurations_have_the_least()
     ensures too_long { (b : List ℕ) → 1048576 < length b → registry_read b ≡ Err no.TooLong }
     ensures not_toml { (b : List ℕ) → length b ≤ 1048576 → document_in b ≡ None → registry_read b ≡ Err no.NotToml }
     ensures version { (b : List ℕ) → IsOtherVersion b → registry_read b ≡ Err no.Version }
-    ensures refused { (b : List ℕ) (root : Data) (e : RegNo) → IsDocument b root → HasVersion1 root → IsLeast e (refusals_of root) → registry_read b ≡ Err e }
+    ensures refused { (b : List ℕ) (root : Data) (e : RegNo) → IsDocument b root → HasVersion root → IsLeast e (refusals_of root) → registry_read b ≡ Err e }
     ensures accepted { (b : List ℕ) (c : Configuration) → IsAccepted b c → registry_read b ≡ Ok c }
 {}
 
@@ -28,7 +28,7 @@ pub fn refusals_have_their_causes()
     ensures too_long { (b : List ℕ) → registry_read b ≡ Err no.TooLong → 1048576 < length b }
     ensures not_toml { (b : List ℕ) → registry_read b ≡ Err no.NotToml → (length b ≤ 1048576) × (document_in b ≡ None) }
     ensures version { (b : List ℕ) → registry_read b ≡ Err no.Version → IsOtherVersion b }
-    ensures refused { (b : List ℕ) (root : Data) (e : RegNo) → IsDocument b root → HasVersion1 root → registry_read b ≡ Err e → IsLeast e (refusals_of root) }
+    ensures refused { (b : List ℕ) (root : Data) (e : RegNo) → IsDocument b root → HasVersion root → registry_read b ≡ Err e → IsLeast e (refusals_of root) }
     ensures accepted { (b : List ℕ) (c : Configuration) → registry_read b ≡ Ok c → IsAccepted b c }
 {}
 

@@ -3,8 +3,10 @@
 ghost use Rattle.std.specs.Prelude.{◌≡◌, ◌<◌, length, IfSome};
 ghost use Rattle.sso_base.specs.Texts.{has_text};
 ghost use Rattle.client_registry.specs.Rules as spec;
+ghost use Rattle.client_registry.specs.Secrets as secrets;
 
 use crate::records::{Client, Party, User};
+use sso_base::Text;
 
 pub(crate) fn user_place(users: &[User], id: &[u8]) -> Option<usize>
     ensures value { result ≡ spec.user_place id.now users.now }
@@ -18,11 +20,21 @@ pub(crate) fn user_place(users: &[User], id: &[u8]) -> Option<usize>
     None
 }
 
+fn is_old(text: &str, old: &Option<Text>) -> bool
+    ensures { result ≡ secrets.is_old text.now old.now }
+{
+    match old {
+        Some(old) => old.as_str() == text,
+        None => false,
+    }
+}
+
+// The first client with this secret, as its secret or its old one.
 pub(crate) fn secret_place(clients: &[Client], secret: &str) -> Option<usize>
     ensures { result ≡ spec.secret_place secret.now clients.now }
 {
     for (place, client) in clients.iter().enumerate() {
-        if client.secret.as_str() == secret {
+        if client.secret.as_str() == secret || is_old(secret, &client.old_secret) {
             return Some(place);
         }
     }

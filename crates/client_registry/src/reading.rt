@@ -2,9 +2,10 @@
 
 ghost use Rattle.std.specs.Prelude.{◌≡◌, ◌⊎◌, [], map, Some, None, Ok, Err, IfOk, IfErr};
 ghost use Rattle.toml.specs.View.{view};
-ghost use Rattle.client_registry.specs.Reading.{document_in, registry_read, version1_read, records_read};
+ghost use Rattle.client_registry.specs.Reading.{document_in, registry_read, rows_read, records_read};
 ghost use Rattle.client_registry.specs.Configuration.{provider_table, configuration_of, salt_of};
-ghost use Rattle.configuration_rows.specs.Version1.{rows_refusals};
+ghost use Rattle.configuration_rows.specs.Rows.{rows_refusals};
+ghost use Rattle.configuration_rows.specs.Versions.{version_in};
 ghost use Rattle.client_registry.specs.Records as spec;
 ghost use Rattle.client_registry.specs.Rules.{subjects_refusals, subjects_at, rows_broken};
 ghost use Rattle.configuration_rows.specs.Refusals.{least};
@@ -17,8 +18,9 @@ use crate::rules::judge_records;
 use crate::subjects::{Subjects, subjects_of};
 use configuration_rows::RegNo;
 use configuration_rows::refusals::Refusals;
-use configuration_rows::values::{hex_at, natural_at, rows_at, table_at, text_or};
-use configuration_rows::version1::judge_rows;
+use configuration_rows::rows::judge_rows;
+use configuration_rows::values::{hex_at, rows_at, table_at, text_or};
+use configuration_rows::version::{Version, version_of};
 use sso_base::{NoMemory, Text};
 use std::alloc::Global;
 use toml::{Table, Value};
@@ -64,14 +66,15 @@ struct Rows {
     parties: Vec<Party>,
 }
 
-fn rows_of(alloc: Global, root: &Value) -> Result<Rows, NoMemory>
+fn rows_of(alloc: Global, version: Version, root: &Value) -> Result<Rows, NoMemory>
+    requires { version ≡ version_in (view root.now) }
     ensures users { IfOk result (λ r. r.users.items ≡ spec.users_of (view root.now)) }
     ensures claims { IfOk result (λ r. AllHoldClaims r.users.items) }
     ensures clients { IfOk result (λ r. r.clients.items ≡ spec.clients_of (view root.now)) }
     ensures parties { IfOk result (λ r. r.parties.items ≡ spec.parties_of (view root.now)) }
 {
     let users = users_of(alloc, rows_at(root, "user"))?;
-    let clients = clients_of(alloc, rows_at(root, "client"))?;
+    let clients = clients_of(alloc, version, rows_at(root, "client"))?;
     let parties = parties_of(alloc, &clients, rows_at(root, "party"))?;
     Ok(Rows {
         users,
@@ -139,30 +142,37 @@ fn registry_of(
 
 // The registry of a configuration whose rows keep their rules.
 #[tactic(auto, using(crate::proofs::Registering::registered), unfolding(crate::specs::Reading::records_read, crate::specs::Reading::subjects_read))]
-fn records(alloc: Global, root: &Value, provider: &Value) -> Result<Registry, RegNo>
+fn records(
+    alloc: Global,
+    version: Version,
+    root: &Value,
+    provider: &Value,
+) -> Result<Registry, RegNo>
+    requires version { version ≡ version_in (view root.now) }
     requires provider { view provider.now ≡ provider_table (view root.now) }
     requires guiltless { rows_refusals (view root.now) ≡ [] }
     ensures ok { IfOk result (λ r. records_read (view root.now) ≡ Ok r) }
     ensures err { IfErr result (λ e. (e ≡ RegNo.NoMemory) ⊎ (records_read (view root.now) ≡ Err e)) }
 {
-    let rows = rows_of(alloc, root)?;
+    let rows = rows_of(alloc, version, root)?;
     judge_rules(alloc, text_or(provider, "issuer", ""), &rows)?;
     let salt = hex_at(alloc, provider, "salt")?;
     let subjects = judged_subjects(alloc, &salt, &rows)?;
     Ok(registry_of(alloc, root, provider, rows, subjects)?)
 }
 
-// The registry of a configuration of the first version.
-#[tactic(auto, unfolding(crate::specs::Reading::version1_read))]
-fn version1(alloc: Global, root: &Value) -> Result<Registry, RegNo>
-    ensures ok { IfOk result (λ r. version1_read (view root.now) ≡ Ok r) }
-    ensures err { IfErr result (λ e. (e ≡ RegNo.NoMemory) ⊎ (version1_read (view root.now) ≡ Err e)) }
+// The registry of a configuration of this version.
+#[tactic(auto, unfolding(crate::specs::Reading::rows_read))]
+fn configured(alloc: Global, version: Version, root: &Value) -> Result<Registry, RegNo>
+    requires { version ≡ version_in (view root.now) }
+    ensures ok { IfOk result (λ r. rows_read (view root.now) ≡ Ok r) }
+    ensures err { IfErr result (λ e. (e ≡ RegNo.NoMemory) ⊎ (rows_read (view root.now) ≡ Err e)) }
 {
     let empty = Value::Table(Table::new(alloc));
     let mut refusals = Refusals::new(alloc);
-    judge_rows(&mut refusals, root, &empty)?;
+    judge_rows(&mut refusals, version, root, &empty)?;
     unless_guilty(refusals)?;
-    records(alloc, root, table_at(root, "provider", &empty))
+    records(alloc, version, root, table_at(root, "provider", &empty))
 }
 
 /// Reads a configuration, in TOML.
@@ -178,8 +188,8 @@ pub fn read_registry(alloc: Global, bytes: &[u8]) -> Result<Registry, RegNo>
         return Err(RegNo::TooLong);
     }
     let root = document(alloc, bytes)?;
-    if natural_at(&root, "version") != Some(1) {
-        return Err(RegNo::Version);
+    match version_of(&root) {
+        Some(version) => configured(alloc, version, &root),
+        None => Err(RegNo::Version),
     }
-    version1(alloc, &root)
 }

@@ -1,6 +1,7 @@
 // What a configuration states about the provider, its users, its clients and their relying parties.
 
 ghost use Rattle.std.specs.Prelude.{◌≡◌, IfOk};
+ghost use Rattle.client_registry.specs.Secrets.{sealing};
 
 use oidc_words::Types;
 use registered_url::{WebUrl, WebUrls};
@@ -42,6 +43,10 @@ pub struct Client {
     pub id: Text,
     /// From 32 to 128 characters of visible ASCII.
     pub secret: Text,
+    /// Another secret, while the secret is changed: of the same length and characters. Both are accepted.
+    pub old_secret: Option<Text>,
+    /// Whether the old secret seals. Only a client that has one seals with it.
+    pub seals_old: bool,
     /// From 1 to 16 redirect URIs.
     pub redirects: Texts,
     /// Which response types it has, in the order `code`, `id_token`, `id_token token`, `code id_token`, `code token`,
@@ -135,6 +140,8 @@ impl Client {
         Ok(Client {
             id: self.id.copy(alloc)?,
             secret: self.secret.copy(alloc)?,
+            old_secret: copied_text(alloc, &self.old_secret)?,
+            seals_old: self.seals_old,
             redirects: self.redirects.copy(alloc)?,
             types: self.types,
             pairwise: self.pairwise,
@@ -144,6 +151,20 @@ impl Client {
             redirect_urls: self.redirect_urls.copy(alloc)?,
             logout_url: copied_url(alloc, &self.logout_url)?,
         })
+    }
+
+    /// The secret under which tokens are sealed for the client, and with which it logs in at the token endpoint: the old secret
+    /// if that one seals, otherwise the secret.
+    pub fn sealing(&self) -> &Text
+        ensures { result.now ≡ sealing self.now }
+    {
+        if !self.seals_old {
+            return &self.secret;
+        }
+        match &self.old_secret {
+            Some(old) => old,
+            None => &self.secret,
+        }
     }
 }
 

@@ -10,6 +10,7 @@ use crate::records::{Client, Party, Provider, User};
 use claim_set::{ClaimSet, write_claims};
 use configuration_rows::claims::claims_of;
 use configuration_rows::party_rules::{has_type, response_texts};
+use configuration_rows::version::Version;
 use configuration_rows::values::{
     flag_at, hex_at, natural_at, text_at, text_or, texts_at, url_at, url_of,
 };
@@ -178,14 +179,36 @@ fn types_of(texts: &[Text]) -> [bool; 6]
     ]
 }
 
-fn client_of(alloc: Global, row: &Value) -> Result<Client, NoMemory>
-    ensures { IfOk result (λ c. c ≡ spec.client_of_row (view row.now)) }
+// The old secret of a client, in the second version.
+fn old_secret_of(alloc: Global, version: Version, row: &Value) -> Result<Option<Text>, NoMemory>
+    ensures { IfOk result (λ o. o ≡ spec.old_secret_of version (view row.now)) }
+{
+    match version {
+        Version::First => Ok(None),
+        Version::Second => text_of(alloc, text_at(row, "old_secret")),
+    }
+}
+
+// Whether a client seals with its old secret, in the second version.
+fn seals_old_of(version: Version, row: &Value) -> bool
+    ensures { result ≡ spec.seals_old_of version (view row.now) }
+{
+    match version {
+        Version::First => false,
+        Version::Second => text_or(row, "seals", "") == "old",
+    }
+}
+
+fn client_of(alloc: Global, version: Version, row: &Value) -> Result<Client, NoMemory>
+    ensures { IfOk result (λ c. c ≡ spec.client_of_row version (view row.now)) }
 {
     let redirects = texts_at(alloc, row, "redirect_uris")?;
     let types = response_texts(alloc, row)?;
     Ok(Client {
         id: Text::new(alloc, text_or(row, "id", ""))?,
         secret: Text::new(alloc, text_or(row, "secret", ""))?,
+        old_secret: old_secret_of(alloc, version, row)?,
+        seals_old: seals_old_of(version, row),
         redirects: list_of(alloc, &redirects)?,
         types: types_of(&types),
         pairwise: text_or(row, "subject", "") == "pairwise",
@@ -254,12 +277,16 @@ pub(crate) fn users_of(alloc: Global, rows: &[Value]) -> Result<Vec<User>, NoMem
     Ok(users)
 }
 
-pub(crate) fn clients_of(alloc: Global, rows: &[Value]) -> Result<Vec<Client>, NoMemory>
-    ensures { IfOk result (λ v. v.items ≡ map spec.client_of_row (map view rows.now)) }
+pub(crate) fn clients_of(
+    alloc: Global,
+    version: Version,
+    rows: &[Value],
+) -> Result<Vec<Client>, NoMemory>
+    ensures { IfOk result (λ v. v.items ≡ map (spec.client_of_row version) (map view rows.now)) }
 {
     let mut clients = Vec::new(alloc);
     for row in rows {
-        clients.push(client_of(alloc, row)?)?;
+        clients.push(client_of(alloc, version, row)?)?;
     }
     Ok(clients)
 }

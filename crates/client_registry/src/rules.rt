@@ -62,6 +62,26 @@ fn redirects_twice(
     Ok(())
 }
 
+// Notes that the old secret of a client is a secret of an earlier client, or the client's own secret, if it is.
+fn old_twice(
+    refusals: &mut Refusals,
+    clients: &[Client],
+    place: usize,
+    client: &Client,
+) -> Result<(), NoMemory>
+    ensures { OnOk result (refusals.new ≡ refusals.old ++ spec.old_twice clients.now place client.now client.now.old_secret) }
+{
+    match &client.old_secret {
+        Some(old) => {
+            let old = old.as_str();
+            let first = secret_place(clients, old);
+            let twice = is_again(place, first) || client.secret.as_str() == old;
+            note_twice(refusals, client.id.as_str(), twice)
+        }
+        None => Ok(()),
+    }
+}
+
 fn client_twice(
     refusals: &mut Refusals,
     issuer: &str,
@@ -76,6 +96,7 @@ fn client_twice(
     note_twice(refusals, id, is_again(place, first) || id == issuer)?;
     let first_secret = secret_place(clients, client.secret.as_str());
     note_twice(refusals, id, is_again(place, first_secret))?;
+    old_twice(refusals, clients, place, client)?;
     redirects_twice(refusals, clients, place, &client.redirects)
 }
 
@@ -135,11 +156,26 @@ fn parties_twice(
     Ok(())
 }
 
+fn is_short(secret: &Text) -> bool
+    ensures { result ≡ spec.is_short secret.now }
+{
+    secret.as_str().len() < 32
+}
+
+fn is_short_old(old: &Option<Text>) -> bool
+    ensures { result ≡ spec.is_short_old old.now }
+{
+    match old {
+        Some(old) => is_short(old),
+        None => false,
+    }
+}
+
 fn short_secrets(refusals: &mut Refusals, clients: &[Client]) -> Result<(), NoMemory>
     ensures { OnOk result (refusals.new ≡ refusals.old ++ each spec.short_secret clients.now) }
 {
     for client in clients {
-        if client.secret.as_str().len() < 32 {
+        if is_short(&client.secret) || is_short_old(&client.old_secret) {
             let id = client.id.copy(refusals.alloc())?;
             refusals.note(RegNo::ShortSecret(id))?;
         }

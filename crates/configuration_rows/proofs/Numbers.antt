@@ -12,12 +12,15 @@ use Rattle.configuration_rows.specs.declared.kind.Kind.{Kind}
 use Rattle.configuration_rows.specs.declared.kind.Kind.TheVariants as kind
 use Rattle.configuration_rows.specs.declared.kind.Breach.{Breach}
 use Rattle.configuration_rows.specs.declared.kind.Breach.TheVariants.{WrongKind, BadUrl}
+use Rattle.configuration_rows.specs.declared.version.Version.{Version}
+use Rattle.configuration_rows.specs.declared.version.Version.TheVariants as version
+use Rattle.configuration_rows.specs.Versions.{version_in}
 use Rattle.configuration_rows.specs.Refusals.{number, note_if, each_from}
 use Rattle.configuration_rows.specs.Paths.{path_text}
 use Rattle.configuration_rows.specs.Values.{text_at, text_or, url_at, rows_at, table_at}
 use Rattle.configuration_rows.specs.Kinds.{breach}
-use Rattle.configuration_rows.specs.Version1 as version
-use Rattle.configuration_rows.specs.Version1.{rows_refusals}
+use Rattle.configuration_rows.specs.Rows as keys
+use Rattle.configuration_rows.specs.Rows.{rows_refusals}
 use Rattle.configuration_rows.proofs.Phases.{HaveAtMost, HaveAtLeast}
 
 -- each number is within these bounds
@@ -63,32 +66,32 @@ note b e l h = of_note 4 6 b e l h
 each : (f : ℕ → Data → List RegNo) (rows : List Data) → ((i : ℕ) (d : Data) → OfRow (f i d)) → OfRow (each_from f 0 rows)
 each f rows h = of_each 4 6 f 0 rows h
 
-of_breached : (path : List ℕ) (o : Option Breach) → OfRow (version.breached path o)
+of_breached : (path : List ℕ) (o : Option Breach) → OfRow (keys.breached path o)
 of_breached path None = tt
 of_breached path (Some WrongKind) = ((omega arith, omega arith), tt)
 of_breached path (Some BadUrl) = ((omega arith, omega arith), tt)
 
-of_required_value : (path : List ℕ) (k : Kind) (o : Option Data) → OfRow (version.required_value path k o)
+of_required_value : (path : List ℕ) (k : Kind) (o : Option Data) → OfRow (keys.required_value path k o)
 of_required_value path k None = ((omega arith, omega arith), tt)
 of_required_value path k (Some d) = of_breached path (breach k d)
 
-of_optional_value : (path : List ℕ) (k : Kind) (o : Option Data) → OfRow (version.optional_value path k o)
+of_optional_value : (path : List ℕ) (k : Kind) (o : Option Data) → OfRow (keys.optional_value path k o)
 of_optional_value path k None = tt
 of_optional_value path k (Some d) = of_breached path (breach k d)
 
-of_required : (r : Row) (d : Data) (key : List ℕ) (k : Kind) → OfRow (version.required r d key k)
+of_required : (r : Row) (d : Data) (key : List ℕ) (k : Kind) → OfRow (keys.required r d key k)
 of_required r d key k = of_required_value (path_text r key) k (get key d)
 
-of_optional : (r : Row) (d : Data) (key : List ℕ) (k : Kind) → OfRow (version.optional r d key k)
+of_optional : (r : Row) (d : Data) (key : List ℕ) (k : Kind) → OfRow (keys.optional r d key k)
 of_optional r d key k = of_optional_value (path_text r key) k (get key d)
 
-of_array_value : (key : List ℕ) (o : Option Data) → OfRow (version.array_value key o)
+of_array_value : (key : List ℕ) (o : Option Data) → OfRow (keys.array_value key o)
 of_array_value key None = tt
 of_array_value key (Some d) = note (not (is_some (as_array d))) (no.WrongKind key) (omega arith) (omega arith)
 
 -- ---- rows
 
-of_provider : (d : Data) → OfRow (version.provider_row d)
+of_provider : (d : Data) → OfRow (keys.provider_row d)
 of_provider d =
     both _ _
     (both _ _
@@ -96,7 +99,7 @@ of_provider d =
     (of_required Provider d (codes "listen") (kind.Text (text.Name Visible 1 64))))
     (of_required Provider d (codes "salt") (kind.Text (text.Hex 16 64)))
 
-of_user : (i : ℕ) (d : Data) → OfRow (version.user_row i d)
+of_user : (i : ℕ) (d : Data) → OfRow (keys.user_row i d)
 of_user i d =
     both _ _
     (both _ _
@@ -108,20 +111,30 @@ of_user i d =
     (of_required (User i) d (codes "proof") (kind.Text (text.Hex 32 32))))
     (of_optional (User i) d (codes "claims") kind.Claims)
 
-of_client_names : (r : Row) (d : Data) → OfRow (version.client_names r d)
-of_client_names r d =
+of_old_secret : (b : Bool) (r : Row) (d : Data) → OfRow (keys.old_secret_rule b r d)
+of_old_secret true r d = of_required r d (codes "old_secret") (kind.Text (text.Name Visible 0 128))
+of_old_secret false r d = of_optional r d (codes "old_secret") (kind.Text (text.Name Visible 0 128))
+
+of_old_secret_keys : (v : Version) (r : Row) (d : Data) → OfRow (keys.old_secret_keys v r d)
+of_old_secret_keys version.First r d = tt
+of_old_secret_keys version.Second r d = both _ _ (of_old_secret (keys.seals_old d) r d) (of_optional r d (codes "seals") (kind.Text text.Seals))
+
+of_client_names : (v : Version) (r : Row) (d : Data) → OfRow (keys.client_names v r d)
+of_client_names v r d =
     both _ _
+    (both _ _
     (both _ _
     (both _ _
     (of_required r d (codes "id") (kind.Text (text.Name ClientId 1 64)))
     (of_required r d (codes "secret") (kind.Text (text.Name Visible 0 128))))
+    (of_old_secret_keys v r d))
     (of_required r d (codes "redirect_uris") kind.Urls))
     (of_optional r d (codes "response_types") kind.ResponseTypes)
 
-of_logout_rule : (parties : List Data) (r : Row) (d : Data) → OfRow (version.logout_rule parties r d)
-of_logout_rule parties r d = note (version.misplaced parties (text_at (codes "id") d) (url_at (codes "logout_uri") d)) (no.WrongKind (path_text r (codes "logout_uri"))) (omega arith) (omega arith)
+of_logout_rule : (parties : List Data) (r : Row) (d : Data) → OfRow (keys.logout_rule parties r d)
+of_logout_rule parties r d = note (keys.misplaced parties (text_at (codes "id") d) (url_at (codes "logout_uri") d)) (no.WrongKind (path_text r (codes "logout_uri"))) (omega arith) (omega arith)
 
-of_client_settings : (parties : List Data) (r : Row) (d : Data) → OfRow (version.client_settings parties r d)
+of_client_settings : (parties : List Data) (r : Row) (d : Data) → OfRow (keys.client_settings parties r d)
 of_client_settings parties r d =
     both _ _
     (both _ _
@@ -133,17 +146,17 @@ of_client_settings parties r d =
     (of_logout_rule parties r d))
     (of_optional r d (codes "logout_session") kind.Flag)
 
-of_client : (parties : List Data) (i : ℕ) (d : Data) → OfRow (version.client_row parties i d)
-of_client parties i d = both _ _ (of_client_names (Client i) d) (of_client_settings parties (Client i) d)
+of_client : (v : Version) (parties : List Data) (i : ℕ) (d : Data) → OfRow (keys.client_row v parties i d)
+of_client v parties i d = both _ _ (of_client_names v (Client i) d) (of_client_settings parties (Client i) d)
 
-of_redirect_rule : (clients : List Data) (r : Row) (d : Data) → OfRow (version.redirect_rule clients r d)
+of_redirect_rule : (clients : List Data) (r : Row) (d : Data) → OfRow (keys.redirect_rule clients r d)
 of_redirect_rule clients r d =
-    note (version.misdirects (version.client_of clients d) (text_at (codes "redirect_uri") d) (url_at (codes "redirect_uri") d)) (no.BadUrl (path_text r (codes "redirect_uri"))) (omega arith) (omega arith)
+    note (keys.misdirects (keys.client_of clients d) (text_at (codes "redirect_uri") d) (url_at (codes "redirect_uri") d)) (no.BadUrl (path_text r (codes "redirect_uri"))) (omega arith) (omega arith)
 
-of_type_rule : (clients : List Data) (r : Row) (d : Data) → OfRow (version.type_rule clients r d)
-of_type_rule clients r d = note (version.lacks_type (version.client_of clients d) (text_or (codes "response_type") (codes "code") d)) (no.WrongKind (path_text r (codes "response_type"))) (omega arith) (omega arith)
+of_type_rule : (clients : List Data) (r : Row) (d : Data) → OfRow (keys.type_rule clients r d)
+of_type_rule clients r d = note (keys.lacks_type (keys.client_of clients d) (text_or (codes "response_type") (codes "code") d)) (no.WrongKind (path_text r (codes "response_type"))) (omega arith) (omega arith)
 
-of_party_names : (clients : List Data) (r : Row) (d : Data) → OfRow (version.party_names clients r d)
+of_party_names : (clients : List Data) (r : Row) (d : Data) → OfRow (keys.party_names clients r d)
 of_party_names clients r d =
     both _ _
     (both _ _
@@ -155,7 +168,7 @@ of_party_names clients r d =
     (of_redirect_rule clients r d))
     (of_required r d (codes "listen") (kind.Text (text.Name Visible 1 64)))
 
-of_party_request : (clients : List Data) (r : Row) (d : Data) → OfRow (version.party_request clients r d)
+of_party_request : (clients : List Data) (r : Row) (d : Data) → OfRow (keys.party_request clients r d)
 of_party_request clients r d =
     both _ _
     (both _ _
@@ -167,20 +180,20 @@ of_party_request clients r d =
     (of_optional r d (codes "prompt") (kind.Text text.Prompt)))
     (of_optional r d (codes "max_age") (kind.Number 0 999999999))
 
-of_party_settings : (r : Row) (d : Data) → OfRow (version.party_settings r d)
+of_party_settings : (r : Row) (d : Data) → OfRow (keys.party_settings r d)
 of_party_settings r d = both _ _ (of_optional r d (codes "userinfo") kind.Flag) (of_optional r d (codes "signed") kind.Flag)
 
-of_party : (clients : List Data) (i : ℕ) (d : Data) → OfRow (version.party_row clients i d)
+of_party : (clients : List Data) (i : ℕ) (d : Data) → OfRow (keys.party_row clients i d)
 of_party clients i d = both _ _ (both _ _ (of_party_names clients (Party i) d) (of_party_request clients (Party i) d)) (of_party_settings (Party i) d)
 
-of_users : (root : Data) → OfRow (version.users_rows root)
-of_users root = both _ _ (of_array_value (codes "user") (get (codes "user") root)) (each version.user_row (rows_at (codes "user") root) of_user)
+of_users : (root : Data) → OfRow (keys.users_rows root)
+of_users root = both _ _ (of_array_value (codes "user") (get (codes "user") root)) (each keys.user_row (rows_at (codes "user") root) of_user)
 
-of_clients : (root : Data) → OfRow (version.clients_rows root)
-of_clients root = both _ _ (of_array_value (codes "client") (get (codes "client") root)) (each (version.client_row (rows_at (codes "party") root)) (rows_at (codes "client") root) (of_client (rows_at (codes "party") root)))
+of_clients : (root : Data) → OfRow (keys.clients_rows root)
+of_clients root = both _ _ (of_array_value (codes "client") (get (codes "client") root)) (each (keys.client_row (version_in root) (rows_at (codes "party") root)) (rows_at (codes "client") root) (of_client (version_in root) (rows_at (codes "party") root)))
 
-of_parties : (root : Data) → OfRow (version.parties_rows root)
-of_parties root = both _ _ (of_array_value (codes "party") (get (codes "party") root)) (each (version.party_row (rows_at (codes "client") root)) (rows_at (codes "party") root) (of_party (rows_at (codes "client") root)))
+of_parties : (root : Data) → OfRow (keys.parties_rows root)
+of_parties root = both _ _ (of_array_value (codes "party") (get (codes "party") root)) (each (keys.party_row (rows_at (codes "client") root)) (rows_at (codes "party") root) (of_party (rows_at (codes "client") root)))
 
 pub of_rows : (root : Data) → HaveNumbers 4 6 (rows_refusals root)
 unfolding rows_refusals

@@ -18,14 +18,16 @@ use Rattle.configuration_rows.specs.declared.kind.TextRule.TheVariants as text
 use Rattle.configuration_rows.specs.declared.kind.Kind.TheVariants as kind
 use Rattle.configuration_rows.specs.declared.kind.Breach.{Breach}
 use Rattle.configuration_rows.specs.declared.kind.Breach.TheVariants.{WrongKind, BadUrl}
+use Rattle.configuration_rows.specs.declared.version.Version.TheVariants.{First, Second}
 use Rattle.configuration_rows.specs.Refusals.{number, sooner, least, IsLeast, note_if, each}
 use Rattle.configuration_rows.specs.Paths.{path_text}
 use Rattle.configuration_rows.specs.Values.{as_natural, as_texts, hex_bytes, text_at, text_or, natural_at, flag_at, hex_at, texts_at, url_at, rows_at, table_at}
 use Rattle.configuration_rows.specs.Claims.{claims_in, claim_value, Puts}
 use Rattle.oidc_words.specs.Claims.{flag_claims, seconds_claims, is_claim_of, profile_claims, email_claims, address_claims, phone_claims}
 use Rattle.configuration_rows.specs.Kinds.{allows, is_within, is_name, breach}
+use Rattle.configuration_rows.specs.Versions.{version_of, version_in}
 use Rattle.oidc_words.specs.Types.{spellings}
-use Rattle.configuration_rows.specs.Version1.{required, optional, array_rule, uses, logout_rule, client_of, redirect_rule, response_texts, has_type, lacks_type, type_rule, user_row, client_row, party_row, rows_refusals}
+use Rattle.configuration_rows.specs.Rows.{required, optional, array_rule, uses, logout_rule, client_of, redirect_rule, response_texts, has_type, lacks_type, type_rule, seals_old, old_secret_keys, user_row, client_row, party_row, rows_refusals}
 use Rattle.configuration_rows.proofs.Phases.{is_least}
 
 abbrev none : Option Breach
@@ -363,6 +365,50 @@ array-of_rows = refl
 array-not_of_a_table : array_rule (codes "user") (one (codes "user") (table no_members)) ≡ no.WrongKind (codes "user") ∷ []
 array-not_of_a_table = refl
 
+-- ---- versions
+
+version-of_1 : version_of (one (codes "version") (integer (pos 1))) ≡ Some First
+version-of_1 = refl
+
+version-of_2 : version_of (one (codes "version") (integer (pos 2))) ≡ Some Second
+version-of_2 = refl
+
+version-not_of_3 : version_of (one (codes "version") (integer (pos 3))) ≡ None
+version-not_of_3 = refl
+
+version-not_of_a_text : version_of (one (codes "version") (string (codes "2"))) ≡ None
+version-not_of_a_text = refl
+
+keys-of_version_2 : version_in (one (codes "version") (integer (pos 2))) ≡ Second
+unfolding version_in
+keys-of_version_2 = refl
+
+-- ---- the old secret of a client
+
+seals-with_the_old : breach (kind.Text text.Seals) (string (codes "old")) ≡ none
+seals-with_the_old = refl
+
+seals-with_the_new : breach (kind.Text text.Seals) (string (codes "new")) ≡ none
+seals-with_the_new = refl
+
+seals-with_no_other : breach (kind.Text text.Seals) (string (codes "both")) ≡ Some WrongKind
+seals-with_no_other = refl
+
+seals-is_new_by_default : seals_old (table no_members) ≡ false
+seals-is_new_by_default = refl
+
+old_secret-may_be_absent : old_secret_keys Second (Client 0) (one (codes "seals") (string (codes "new"))) ≡ []
+old_secret-may_be_absent = refl
+
+old_secret-is_needed_to_seal_with_it : old_secret_keys Second (Client 0) (one (codes "seals") (string (codes "old"))) ≡ no.Missing (path_text (Client 0) (codes "old_secret")) ∷ []
+old_secret-is_needed_to_seal_with_it = refl
+
+old_secret-of_another_kind : old_secret_keys Second (Client 0) (one (codes "old_secret") (integer (pos 1))) ≡ no.WrongKind (path_text (Client 0) (codes "old_secret")) ∷ []
+old_secret-of_another_kind = refl
+
+old_secret-is_ignored_in_version_1 : old_secret_keys First (Client 0) (one (codes "seals") (string (codes "old"))) ≡ []
+old_secret-is_ignored_in_version_1 = refl
+
 -- ---- rules over several rows
 
 abbrev shop_types : Data
@@ -466,7 +512,7 @@ user-of_nothing : user_row 0 (table no_members) ≡ no.Missing (codes "user[0].i
 unfolding digits
 user-of_nothing = refl
 
-client-of_nothing : client_row [] 1 (table no_members) ≡ no.Missing (codes "client[1].id") ∷ no.Missing (codes "client[1].secret") ∷ no.Missing (codes "client[1].redirect_uris") ∷ []
+client-of_nothing : client_row First [] 1 (table no_members) ≡ no.Missing (codes "client[1].id") ∷ no.Missing (codes "client[1].secret") ∷ no.Missing (codes "client[1].redirect_uris") ∷ []
 unfolding digits
 client-of_nothing = refl
 

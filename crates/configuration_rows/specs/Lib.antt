@@ -2,5 +2,6 @@ pub mod Refusals
 pub mod Paths
 pub mod Values
 pub mod Claims
+pub mod Versions
 pub mod Kinds
-pub mod Version1
+pub mod Rows

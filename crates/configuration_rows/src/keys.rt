@@ -4,7 +4,7 @@ ghost use Rattle.std.specs.Prelude.{◌≡◌, ◌++◌, OnOk};
 ghost use Rattle.toml.specs.View.{view};
 ghost use Rattle.configuration_rows.specs.Paths.{path_text};
 ghost use Rattle.configuration_rows.specs.Kinds.{breach as breach_in};
-ghost use Rattle.configuration_rows.specs.Version1.{breached, required as required_in, optional as optional_in, array_rule};
+ghost use Rattle.configuration_rows.specs.Rows.{breached, required as required_in, optional as optional_in, array_rule};
 
 use crate::kind::{Breach, Kind, breach_of};
 use crate::no::RegNo;

@@ -56,6 +56,8 @@ pub enum TextRule {
     Subject,
     /// `ask` or `given`.
     Consent,
+    /// `new` or `old`.
+    Seals,
     /// Words of `scope`, with `openid` among them.
     Scope,
     /// Words of `prompt` (OpenID Connect Core 1.0, 3.1.2.1).
@@ -160,6 +162,7 @@ fn keeps(alloc: Global, rule: TextRule, text: &str) -> Result<bool, NoMemory>
         TextRule::ResponseType => Ok(number_of_type(text).is_some()),
         TextRule::Subject => Ok(is_one_of(text, &["public", "pairwise"])),
         TextRule::Consent => Ok(is_one_of(text, &["ask", "given"])),
+        TextRule::Seals => Ok(is_one_of(text, &["new", "old"])),
         TextRule::Scope => is_scope(alloc, text),
         TextRule::Prompt => is_prompt(alloc, text),
     }

@@ -1,12 +1,13 @@
 //! The rows of a configuration file: its keys, each with its rule, and the errors of the rows.
 //!
-//! A configuration is TOML. The keys of its first version are in one module, row by row, in the order in which errors of one
-//! kind are reported. Another version would have its own keys.
+//! A configuration is TOML. Its keys are in one module, row by row, in the order in which errors of one kind are reported. The
+//! second version has two keys of a client more than the first.
 //!
 //! | Module | What it has |
 //! |---|---|
 //! | `no` | [`RegNo`], why a configuration is rejected |
 //! | `refusals` | errors in their order, and the one that is reported |
+//! | `version` | [`version::Version`], the versions of a configuration |
 //! | `row` | the rows, and the paths of their keys |
 //! | `values` | values at keys, each of the requested kind |
 //! | `claims` | a user's claims |
@@ -14,7 +15,7 @@
 //! | `keys` | the errors of a row at one key |
 //! | `logout_rule`, `party_rules` | rules about a client and the parties that use it |
 //! | `law` | the error that is reported, stated as a law |
-//! | `version1` | the keys of the first version |
+//! | `rows` | the keys of both versions |
 #![tactic(auto)]
 
 pub mod claims;
@@ -26,8 +27,9 @@ mod no;
 pub mod party_rules;
 pub mod refusals;
 pub mod row;
+pub mod rows;
 pub mod values;
-pub mod version1;
+pub mod version;
 
 pub use law::the_least_is_answered;
 pub use no::RegNo;

@@ -4,8 +4,8 @@ ghost use Rattle.std.specs.Prelude.{◌≡◌, ◌++◌, map, codes, IfOk, OnOk}
 ghost use Rattle.std.specs.List.{list_any};
 ghost use Rattle.toml.specs.View.{view};
 ghost use Rattle.configuration_rows.specs.Values.{text_at as text_in, url_at as url_in};
-ghost use Rattle.configuration_rows.specs.Version1.{uses as uses_in, is_elsewhere as is_elsewhere_in, is_apart as is_apart_in, misplaced};
-ghost use Rattle.configuration_rows.specs.Version1.{logout_rule as logout_rule_in};
+ghost use Rattle.configuration_rows.specs.Rows.{uses as uses_in, is_elsewhere as is_elsewhere_in, is_apart as is_apart_in, misplaced};
+ghost use Rattle.configuration_rows.specs.Rows.{logout_rule as logout_rule_in};
 
 use crate::no::RegNo;
 use crate::refusals::Refusals;

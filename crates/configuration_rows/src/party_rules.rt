@@ -7,7 +7,7 @@ ghost use Rattle.toml.specs.View.{view};
 ghost use Rattle.sso_base.specs.Texts.{has_text};
 ghost use Rattle.configuration_rows.specs.Kinds.{passes};
 ghost use Rattle.configuration_rows.specs.Values.{text_at as text_in};
-ghost use Rattle.configuration_rows.specs.Version1 as spec;
+ghost use Rattle.configuration_rows.specs.Rows as spec;
 
 use crate::no::RegNo;
 use crate::refusals::Refusals;
@@ -181,7 +181,7 @@ pub fn has_type(number: usize, texts: &[Text]) -> bool
     false
 }
 
-#[tactic(auto, unfolding(crate::specs::Version1::lacks_type))]
+#[tactic(auto, unfolding(crate::specs::Rows::lacks_type))]
 fn lacks_type(alloc: Global, clients: &[Value], party: &Value) -> Result<bool, NoMemory>
     ensures { IfOk result (λ b. b ≡ spec.party_lacks_type (map view clients.now) (view party.now)) }
 {

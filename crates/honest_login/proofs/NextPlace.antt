@@ -26,7 +26,7 @@ use Rattle.honest_places.specs.InTime.{IsRpInTime, IsInTime}
 use Rattle.sso_places.specs.Premises.{last_at}
 use Rattle.honest_places.specs.Outcome.{is_login_form, gives_password}
 use Rattle.honest_places.proofs.Standing.{AtProvider}
-use Rattle.honest_party.proofs.Steps.{WasRoom}
+use Rattle.honest_party.proofs.Steps.{WasFree}
 use Rattle.honest_login.proofs.Thread.{Knows, is_in}
 use Rattle.sso_places.proofs.Places.{party_legal}
 use Rattle.honest_places.specs.Conditions.{last_cookies, free_rows, party_may_ask}
@@ -57,8 +57,8 @@ module _ {c : Configuration} {v : Visitor} {world : World} {last : Place} {earli
   pub free : is_full (reply_at x) ≡ false
   free = demanded free_rows (is_full (reply_at x) ≡ false) g.step.room
 
-  pub room : WasRoom x
-  room table full = absurd (true≢false (sym (ap is_full full) ∙ free))
+  pub room : WasFree c world x
+  room = record { room = λ table full. absurd (true≢false (sym (ap is_full full) ∙ free)); alive = g.step.alive }
 
   pub silent : wants_none c v.party ≡ false
   silent = demanded party_may_ask (wants_none c v.party ≡ false) g.may.may_ask

@@ -13,9 +13,12 @@ use Rattle.claim_set.specs.Reading.{claims_text}
 use Rattle.claim_set.proofs.PlainTexts.{IsUtf8-plain}
 use Rattle.oidc_words.specs.declared.response_types.Types.{Types}
 use Rattle.oidc_words.specs.Types.{types_of_number}
+use Rattle.client_registry.specs.declared.records.Client.{Client}
 use Rattle.client_registry.specs.declared.records.Party.{Party}
 use Rattle.client_registry.specs.Configuration.{Configuration}
-use Rattle.client_registry.specs.Numbers.{client_at, client_of, party_row, party_client, party_secret, client_secret, secret_in, no_client, no_party}
+use Rattle.client_registry.specs.Numbers.{client_at, party_row, party_client, client_sealing, sealing_in, no_client}
+use Rattle.client_registry.specs.Secrets.{sealing, has_secret}
+use Rattle.client_registry.proofs.SecretFacts.{seals_with_its_own}
 use Rattle.client_registry.specs.Registered.{IsRegistry}
 use Rattle.auth_request.specs.declared.wish.Wish.{Wish}
 use Rattle.auth_request.specs.Values.{IsWishValue}
@@ -25,7 +28,6 @@ use Rattle.auth_answer.specs.Sent.{answer_heard}
 use Rattle.id_token.specs.declared.claims.IdClaims.{IdClaims}
 use Rattle.id_token.specs.declared.no.IdNo.{IdNo}
 use Rattle.id_token.specs.Claims.{id_members}
-use Rattle.id_token.specs.Reading.{id_read}
 use Rattle.id_token.specs.Sealing.{id_text}
 use Rattle.jws_compact.specs.declared.sealing.Typ.TheVariants.{Jwt}
 use Rattle.token_endpoint.specs.Request.{token_message}
@@ -40,6 +42,8 @@ use Rattle.op_exchange.specs.declared.reply.OpReply.TheVariants as op
 use Rattle.rp_exchange.specs.declared.ask.RpAsk.{RpAsk}
 use Rattle.rp_exchange.specs.declared.ask.RpAsk.TheVariants as rp_ask
 use Rattle.rp_exchange.specs.declared.reply.RpReply.TheVariants as rp
+use Rattle.rp_request.specs.Opened.{id_read_for}
+use Rattle.rp_request.proofs.Opened.{id_alike}
 use Rattle.sso_places.specs.declared.types.Jar.{Jar}
 use Rattle.sso_places.specs.declared.types.To.TheVariants as to
 use Rattle.sso_places.specs.declared.types.WorldReply.TheVariants.{Provider as ProviderReply, Party as PartyReply}
@@ -58,7 +62,7 @@ use Rattle.web_requests.proofs.CarriedMessages.{token_request_read, tokens_hande
 pub issued_utf8 : (c : Configuration) (wish : Wish) (who : Authentication) (at : ℕ) (access code : Option Word) → IsUtf8 (issued_id c wish who at access code)
 unfolding issued_id id_text
 issued_utf8 c wish who at access code =
-    let key : Text = client_secret c wish.client in
+    let key : Text = client_sealing c wish.client in
     let payload : Text = claims_text (id_members (id_claims c wish who at access code)) in
     IsUtf8-are_ascii (issued_id c wish who at access code) (sealed_ascii key payload Jwt)
 
@@ -69,17 +73,20 @@ module _ (c : Configuration) (n : ℕ) (r : IsRegistry c) (low : n < length c.pa
   rules : KeepRules party (party_client c n)
   rules = rows_keep_rules c n r low
 
-  secret_is : party_secret c n ≡ client_secret c party.client
-  secret_is = ap (λ o. secret_in (option_and_then (client_of c) o)) (some_row c.parties n no_party low)
-
   client_there : client_at c party.client ≡ Some (party_client c n)
   client_there = some_row c.clients party.client no_client (client_is_known c n r low)
 
+  -- what is sealed for the party's client is sealed under a secret of it
+  sealed_own : (client : ℕ) → client ≡ party.client → has_secret (client_sealing c client) (party_client c n) ≡ true
+  sealed_own client is =
+      let key : client_sealing c client ≡ sealing (party_client c n) = ap (client_sealing c) is ∙ ap sealing_in client_there in
+      ap (λ t. has_secret t (party_client c n)) key ∙ seals_with_its_own (party_client c n)
+
   pub issued_is_read : (wish : Wish) (who : Authentication) (at : ℕ) (access code : Option Word) → wish.client ≡ party.client → MayIssue c wish who at → IsWishValue wish
-      → id_read (party_secret c n) (issued_id c wish who at access code) ≡ Ok (id_claims c wish who at access code)
+      → id_read_for (party_client c n) (issued_id c wish who at access code) ≡ Ok (id_claims c wish who at access code)
   issued_is_read wish who at access code client may value =
-      ap (λ k. id_read k (issued_id c wish who at access code)) (secret_is ∙ sym (ap (client_secret c) client))
-      ∙ is_read_back c wish who at access code may value
+      id_alike (party_client c n) (client_sealing c wish.client) (issued_id c wish who at access code) (id_claims c wish who at access code)
+      (sealed_own wish.client client) (is_read_back c wish who at access code may value)
 
   -- ---- an answer
 
@@ -108,9 +115,9 @@ module _ (c : Configuration) (n : ℕ) (r : IsRegistry c) (low : n < length c.pa
   id_of_flag true t h = h
   id_of_flag false t h = tt
 
-  read_of_flag : (flag : Bool) (key t : Text) (x : IdClaims) → id_read key t ≡ Ok x → option_map (id_read key) (if_wished flag t) ≡ if_wished flag (Ok x)
-  read_of_flag true key t x h = ap (λ (o : Result IdClaims IdNo). Some o) h
-  read_of_flag false key t x h = refl
+  read_of_flag : (flag : Bool) (client : Client) (t : Text) (x : IdClaims) → id_read_for client t ≡ Ok x → option_map (id_read_for client) (if_wished flag t) ≡ if_wished flag (Ok x)
+  read_of_flag true client t x h = ap (λ (o : Result IdClaims IdNo). Some o) h
+  read_of_flag false client t x h = refl
 
   -- what a party hears of the answer to a wish
   abbrev pub heard_of : Wish → Authentication → ℕ → List Word → Word → Heard
@@ -138,11 +145,11 @@ module _ (c : Configuration) (n : ℕ) (r : IsRegistry c) (low : n < length c.pa
       let text : Text = issued_id c wish who at (issued_access wish fresh) (issued_code wish fresh) in
       let flags : (wish.types.code || (wish.types.token || wish.types.id_token)) ≡ true = ap (λ (t : Types). t.code || (t.token || t.id_token)) own.types ∙ has_flag in
       let word : option_and_then word_of_text wish.state ≡ Some state = ap (option_and_then word_of_text) own.state ∙ word_of_text-word_text state own.word in
-      let read : option_map (id_read (party_secret c n)) answer.id ≡ if_wished wish.types.id_token (Ok (claims_of wish who at fresh)) =
-      read_of_flag wish.types.id_token (party_secret c n) text (claims_of wish who at fresh) (issued_is_read wish who at (issued_access wish fresh) (issued_code wish fresh) own.client may value) in
+      let read : option_map (id_read_for (party_client c n)) answer.id ≡ if_wished wish.types.id_token (Ok (claims_of wish who at fresh)) =
+      read_of_flag wish.types.id_token (party_client c n) text (claims_of wish who at fresh) (issued_is_read wish who at (issued_access wish fresh) (issued_code wish fresh) own.client may value) in
       let A : RpAsk → Type 0 = λ a. AsksParty c from n (reply_followed c from (ProviderReply (op.Answered answer given)) jar) a in
       subst A
-      (ap (λ o. rp_ask.Callback (Ok (answer_heard answer o)) (option_map (id_read (party_secret c n)) answer.id) jar.first) word
+      (ap (λ o. rp_ask.Callback (Ok (answer_heard answer o)) (option_map (id_read_for (party_client c n)) answer.id) jar.first) word
       ∙ ap (λ i. rp_ask.Callback (Ok (answer_heard answer (Some state))) i jar.first) read)
       (answer_followed_read c n r low from given jar answer (sym own.redirect)
       (parts_of_flags wish.types.code wish.types.token wish.types.id_token (fresh_word fresh 2) (fresh_word fresh 3) text flags)

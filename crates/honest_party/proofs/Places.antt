@@ -28,6 +28,7 @@ use Rattle.rp_answer.specs.Asked.{if_wanted, claims_read, sub_in}
 use Rattle.rp_answer.specs.Logins.{live_login}
 use Rattle.rp_answer.specs.Pendings.{pending_started, live_pending}
 use Rattle.rp_answer.specs.Replies.{begin, front_access, front_code, part_missing, exchange, info_endpoint, fetched, entered, fetch_or_enter, exchange_or_enter}
+use Rattle.rp_answer.specs.Alive.{dead_for}
 use Rattle.rp_answer.specs.Answering.{rp_reply, rp_answer}
 use Rattle.honest_party.proofs.OwnParty.{IsOwnParty, HasRoom, InTime}
 use Rattle.honest_party.proofs.Judged.{front_good, back_good}
@@ -86,7 +87,7 @@ fetches s e w None sub (Some endpoint) is = refl
 fetches s e w (Some access) sub None is = inr refl
 fetches s e w (Some access) sub (Some endpoint) is = inl (record { endpoint = endpoint; endpoint_is = is; reply_is = refl })
 
-module _ (s : PartySetup) (own : IsOwnParty s) (past : RpPast) (e : Entry RpAsk) (room : HasRoom s past e) where
+module _ (s : PartySetup) (own : IsOwnParty s) (past : RpPast) (e : Entry RpAsk) (room : HasRoom s past e) (alive : dead_for (party_of s).types past e.at e.ask ≡ None) where
   abbrev c : Configuration
   c = s.configuration
 
@@ -94,7 +95,7 @@ module _ (s : PartySetup) (own : IsOwnParty s) (past : RpPast) (e : Entry RpAsk)
   n = s.number
 
   as_asked : (asked : RpAsk) → e.ask ≡ asked → is_prepared asked ≡ true → rp_answer s past e ≡ rp_reply s past e asked
-  as_asked asked is prepared = replied s past e (ap is_prepared is ∙ prepared) room ∙ ap (rp_reply s past e) is
+  as_asked asked is prepared = replied s past e (ap is_prepared is ∙ prepared) alive room ∙ ap (rp_reply s past e) is
 
   -- ---- the begin
 

@@ -20,12 +20,15 @@ use Rattle.rp_answer.specs.Past.{RpPast}
 use Rattle.rp_answer.specs.Setup.{PartySetup, party_of}
 use Rattle.rp_answer.specs.Asked.{if_wanted}
 use Rattle.rp_answer.specs.Logins.{live_login}
-use Rattle.rp_answer.specs.Replies.{front_code, front_rules, back_rules, part_missing, info_endpoint, fetch_or_enter, exchange_or_enter, entered, front_judged, front_read, response_parts, response_error, response_of, response_to, back_judged, back_read, back_accepted, tokens, info}
+use Rattle.rp_answer.specs.Replies.{front_code, front_rules, back_rules, part_missing, info_endpoint, fetch_or_enter, exchange_or_enter, entered, front_judged}
+use Rattle.rp_answer.specs.Replies.{front_read, response_parts, response_error, response_of, response_to, back_judged, back_read, back_accepted, tokens, info}
+use Rattle.rp_answer.specs.Alive.{dead_for, unless_dead}
 use Rattle.rp_answer.specs.Room.{table_lacking, unless_lacking}
-use Rattle.rp_answer.specs.Answering.{rp_reply, rp_answer}
+use Rattle.rp_login.specs.declared.rows.DeadRow.{DeadRow}
+use Rattle.rp_answer.specs.Answering.{rp_reply, rp_told, rp_answer}
 use Rattle.honest_party.proofs.OwnParty.{HasRoom}
 
--- ---- if there is room, the reply is the one that there would be
+-- ---- if there is room, and no logout came first, the reply is the one that there would be
 
 unless_told : (prepared : Bool) (lacking : Option RpTable) (reply : RpReply) → prepared ≡ true → ((table : RpTable) → ¬ (cond prepared (unless_lacking reply lacking) NotHere ≡ Refused (no.Full table)))
     → cond prepared (unless_lacking reply lacking) NotHere ≡ reply
@@ -33,11 +36,16 @@ unless_told false lacking reply is room = absurd (cc)
 unless_told true None reply is room = refl
 unless_told true (Some table) reply is room = absurd (room table refl)
 
-pub replied : (s : PartySetup) (past : RpPast) (e : Entry RpAsk) → is_prepared e.ask ≡ true → HasRoom s past e → rp_answer s past e ≡ rp_reply s past e e.ask
+unless_none : (reply : RpReply) → unless_dead reply None ≡ reply
+unless_none (Entered w sub) = refl
+unless_none reply = refl
+
+pub replied : (s : PartySetup) (past : RpPast) (e : Entry RpAsk) → is_prepared e.ask ≡ true → dead_for (party_of s).types past e.at e.ask ≡ None → HasRoom s past e → rp_answer s past e ≡ rp_reply s past e e.ask
 unfolding rp_answer
-replied s past e is room =
-    let first : RpReply = rp_reply s past e e.ask in
-    unless_told (is_prepared e.ask) (table_lacking (party_of s).types past e first) first is room
+replied s past e is alive room =
+    let first : RpReply = rp_told s past e e.ask in
+    let D : Option DeadRow → RpReply = λ o. unless_dead (rp_reply s past e e.ask) o in
+    unless_told (is_prepared e.ask) (table_lacking (party_of s).types past e first) first is room ∙ (ap D alive ∙ unless_none (rp_reply s past e e.ask))
 
 -- ---- an authorization response
 

@@ -1,11 +1,11 @@
 -- The places of an honest login at its party, in a world: the last reply of the login called for what was sent there, and the
 -- party replies as it must. The party's pending rows exist after the place.
-use Rattle.std.proofs.Common.{◌≡◌, ◌<◌, ◌+◌, not, ℕ, Bool, true, false, cond, List, ◌∷◌, length, Option, Some, None, Result, Ok, refl, sym, ap, ◌∙◌, subst, arith}
+use Rattle.std.proofs.Common.{◌≡◌, ◌<◌, ◌+◌, not, ℕ, Bool, true, false, cond, List, ◌∷◌, length, Option, Some, None, Result, Ok, refl, sym, ap, ◌∙◌, subst, arith, option_and_then, inl, inr}
 use Rattle.sso_base.specs.Words.{Word, Text, IsWord, is_word, fresh_word, word_text}
-use Rattle.sso_base.specs.Rows.{row_of}
+use Rattle.sso_base.specs.Rows.{row_of, if_lives}
 use Rattle.sso_base.specs.declared.history.Entry.{Entry}
 use Rattle.sso_base.specs.declared.message.Message.{Message}
-use Rattle.sso_base.proofs.RowLaws.{bytes_true}
+use Rattle.sso_base.proofs.RowLaws.{bytes_true, option_cases, row_has_name}
 use Rattle.oidc_words.specs.Words.{parameter_words}
 use Rattle.oidc_words.specs.Prompts.{none_word}
 use Rattle.oidc_words.specs.Lives.{login_life, pending_life}
@@ -41,7 +41,7 @@ use Rattle.rp_login.specs.declared.rows.PendingRow.{PendingRow}
 use Rattle.rp_login.specs.declared.rows.Stage.{Stage}
 use Rattle.rp_login.specs.declared.rows.Stage.TheVariants as stage
 use Rattle.rp_login.specs.declared.table.RpTable.{RpTable}
-use Rattle.rp_login.specs.Rows.{login_name, pending_name}
+use Rattle.rp_login.specs.Rows.{login_name, pending_name, dead_name, dead_begun}
 use Rattle.rp_exchange.specs.declared.ask.RpAsk.{RpAsk}
 use Rattle.rp_exchange.specs.declared.ask.RpAsk.TheVariants as ask
 use Rattle.rp_exchange.specs.declared.no.RpNo.TheVariants as no
@@ -52,7 +52,11 @@ use Rattle.rp_answer.specs.Setup.{PartySetup, party_of}
 use Rattle.rp_answer.specs.Logins.{logins}
 use Rattle.rp_answer.specs.Pendings.{pending_started, pending_followed, pendings}
 use Rattle.rp_answer.specs.Replies.{login_browser, exchange, fetched, entered}
-use Rattle.rp_answer.specs.Legal.{IsLegalRp}
+use Rattle.rp_answer.specs.Legal.{IsLegalRp, NamedBy}
+use Rattle.rp_answer.specs.Alive.{sid_judged, dead_for}
+use Rattle.rp_answer.specs.Deads.{deads, live_dead}
+use Rattle.rp_answer.proofs.NamedSids.{sids_were_named}
+use Rattle.rp_login.specs.declared.rows.DeadRow.{DeadRow}
 use Rattle.sso_places.specs.declared.types.Jar.{Jar}
 use Rattle.sso_places.specs.declared.types.To.TheVariants as to
 use Rattle.sso_places.specs.declared.types.WorldAsk.{WorldAsk}
@@ -71,6 +75,9 @@ use Rattle.web_requests.proofs.PostedForms.{begin_read}
 use Rattle.web_requests.proofs.FollowedRequests.{request_followed_read}
 use Rattle.web_requests.proofs.CarriedMessages.{info_request_read, info_handed}
 use Rattle.honest_places.specs.OwnWish.{own_wish}
+use Rattle.honest_places.specs.Alive.{IsNotNamed, IsAlive}
+use Rattle.honest_places.specs.Conditions.{no_logout}
+use Rattle.honest_places.proofs.Conditions.{demanded}
 use Rattle.honest_party.proofs.OwnParty.{IsOwnParty, HasRoom, InTime}
 use Rattle.honest_places.specs.Login.{sent_at}
 use Rattle.honest_places.proofs.OwnWish.{own_wish_granted}
@@ -94,6 +101,28 @@ pub record PendingStands (types : Types) (past : RpPast) (w : Word) (waits : Sta
 abbrev pub WasRoom : Place → Type 0
 WasRoom x = (table : RpTable) → ¬ (reply_at x ≡ reply.Party (rp.Refused (no.Full table)))
 
+-- and the party had accepted no logout token with the `sid` of the ID Token
+pub record WasFree (c : Configuration) (world : World) (x : Place) : Type 0 where
+  pub room : WasRoom x
+  pub alive : IsAlive None c world x
+
+-- a session identifier that no token named is not remembered
+unnamed_is_gone : (past : RpPast) (at : ℕ) (sid : Text) → IsNotNamed past sid → live_dead past at sid ≡ None
+unnamed_is_gone past at sid none =
+    let L : Option DeadRow → Option DeadRow = λ o. option_and_then (if_lives 661 dead_begun at) o in
+    elim (option_cases (row_of dead_name sid (deads past))) [
+      | inl gone ↦ ap L gone
+      | inr found ↦
+          (let by : NamedBy past found.0 = sids_were_named past sid found.0 found.1 in
+          let name : found.0.sid ≡ sid = row_has_name dead_name sid (deads past) found.0 found.1 in
+          let S : Text → Option Text = λ t. Some t in
+          absurd (none by.later by.earlier by.maker by.claims by.parts (record { asked = by.asked; count = by.count; replied = by.replied }) (by.sid_is ∙ ap S name)))
+    ]
+
+not_named : (past : RpPast) (at : ℕ) (sid : Option Text) → ((t : Text) → sid ≡ Some t → IsNotNamed past t) → option_and_then (live_dead past at) sid ≡ None
+not_named past at None none = refl
+not_named past at (Some sid) none = unnamed_is_gone past at sid (none sid refl)
+
 module _ (c : Configuration) (n : ℕ) (r : IsRegistry c) (low : n < length c.parties) where
   abbrev s : PartySetup
   s = setup_at (own_site c) n
@@ -107,19 +136,23 @@ module _ (c : Configuration) (n : ℕ) (r : IsRegistry c) (low : n < length c.pa
     pub past : rp_past n (x ∷ world) ≡ p ∷ rp_past n world
     pub legal : IsLegalRp s (p ∷ rp_past n world)
     pub room : HasRoom s (rp_past n world) p.entry
+    pub alive : dead_for (party_of s).types (rp_past n world) p.entry.at p.entry.ask ≡ None
 
-  went_at : (world : World) (from : ℕ) (request : WorldAsk) (p : RpPair) → IsLegalWorld (own_site c) (Party n from request p ∷ world) → WasRoom (Party n from request p) → Went world (Party n from request p) p
-  went_at world from request p legal room =
+  went_at : (world : World) (from : ℕ) (request : WorldAsk) (p : RpPair) → IsLegalWorld (own_site c) (Party n from request p ∷ world) → WasFree c world (Party n from request p) → Went world (Party n from request p) p
+  went_at world from request p legal free =
       let own_legal : IsLegalRp s (p ∷ rp_past n world) = party_legal (own_site c) n from request p world legal in
       record {
         past = past_own n from request p world;
         legal = own_legal;
-        room = λ table full. room table (ap (λ (k : RpReply). reply.Party k) (own_legal.3 ∙ full));
+        room = λ table full. free.room table (ap (λ (k : RpReply). reply.Party k) (own_legal.3 ∙ full));
+        alive =
+            not_named (rp_past n world) p.entry.at (sid_judged (party_of s).types (rp_past n world) p.entry.at p.entry.ask)
+            (λ sid is. demanded no_logout (IsNotNamed (rp_past n world) sid) (free.alive sid is));
       }
 
-  went : (world : World) (from : ℕ) (asked : RpAsk) (x : Place) → (at : AtParty n from asked x) → IsLegalWorld (own_site c) (x ∷ world) → WasRoom x → Went world x at.pair
+  went : (world : World) (from : ℕ) (asked : RpAsk) (x : Place) → (at : AtParty n from asked x) → IsLegalWorld (own_site c) (x ∷ world) → WasFree c world x → Went world x at.pair
   went world from asked x at legal room =
-      let W : Place → Type 0 = λ y. IsLegalWorld (own_site c) (y ∷ world) → WasRoom y → Went world y at.pair in
+      let W : Place → Type 0 = λ y. IsLegalWorld (own_site c) (y ∷ world) → WasFree c world y → Went world y at.pair in
       subst W (sym at.place) (λ legal room. went_at world from at.request at.pair legal room) legal room
 
   -- ---- the begin
@@ -142,13 +175,20 @@ module _ (c : Configuration) (n : ℕ) (r : IsRegistry c) (low : n < length c.pa
   begins world x from jar legal room is =
       let at : AtParty n from (ask.Begin jar.first) x = party_stands c x (Some (login_begun from n jar)) is legal.asked.0 from n (ask.Begin jar.first) (begin_read c from jar n r low) in
       let p : RpPair = at.pair in
-      let w : Went world x p = went world from (ask.Begin jar.first) x at legal room in
+      let B : Place → Type 0 = λ y. IsAlive None c world y in
+      -- the begin of a login has no ID Token
+      let alive : B x =
+      subst B (sym at.place) (λ sid judged.
+      (let A : RpAsk → Option Text = λ a. sid_judged (party_row c n).types (rp_past n world) p.entry.at a in
+      let never : None ≡ Some sid = sym (ap A at.ask) ∙ judged in
+      absurd (cc))) in
+      let w : Went world x p = went world from (ask.Begin jar.first) x at legal (record { room = room; alive = alive }) in
       let past : RpPast = rp_past n world in
       let browser : Word = login_browser past p.entry jar.first in
       let state_word : IsWord (fresh_word p.entry.fresh 1) = drawn_word p.entry.fresh 1 w.legal.1.words (omega (arith, w.legal.1.four)) in
       let nonce_word : IsWord (fresh_word p.entry.fresh 2) = drawn_word p.entry.fresh 2 w.legal.1.words (omega (arith, w.legal.1.four)) in
       let told : p.reply ≡ rp.Ask (login_location (party_client c n) (party_row c n) c.provider (fresh_word p.entry.fresh 1) (fresh_word p.entry.fresh 2)) browser =
-      w.legal.3 ∙ begin_asks s own past p.entry w.room jar.first at.ask in
+      w.legal.3 ∙ begin_asks s own past p.entry w.room w.alive jar.first at.ask in
       record {
         request = at.request;
         pair = p;
@@ -199,7 +239,7 @@ module _ (c : Configuration) (n : ℕ) (r : IsRegistry c) (low : n < length c.pa
       pub waits : (access : Word) → Fetches s (fresh_word pair.entry.fresh 0) access pair.reply
           → PendingStands (party_of s).types (rp_past n (x ∷ world)) (fresh_word pair.entry.fresh 0) stage.Info login.nonce login.begun pair.entry.at sub
 
-    module _ (world : World) (x : Place) (from : ℕ) (jar : Jar) (login : LoginRow) (legal : IsLegalWorld (own_site c) (x ∷ world)) (room : WasRoom x)
+    module _ (world : World) (x : Place) (from : ℕ) (jar : Jar) (login : LoginRow) (legal : IsLegalWorld (own_site c) (x ∷ world)) (room : WasFree c world x)
         (is : sent_at x ≡ reply_followed c from (reply.Provider (op.Answered (issued c wish who at fresh) given)) jar) where
       pub there : AtParty n from (ask.Callback (Ok heard) id jar.first) x
       there = party_stands c x (reply_followed c from (reply.Provider (op.Answered (issued c wish who at fresh) given)) jar) is legal.asked.0 from n (ask.Callback (Ok heard) id jar.first)
@@ -225,7 +265,7 @@ module _ (c : Configuration) (n : ℕ) (r : IsRegistry c) (low : n < length c.pa
           place = there.place;
           exchanges = λ code.
               (let told : p.reply ≡ exchange s p.entry (word_text (fresh_word fresh 2)) =
-              w.legal.3 ∙ callback_exchanges s own past p.entry w.room wish who at fresh state jar.first login partys time (login_lives past p.entry.at state login stands soon) same there.ask code in (
+              w.legal.3 ∙ callback_exchanges s own past p.entry w.room w.alive wish who at fresh state jar.first login partys time (login_lives past p.entry.at state login stands soon) same there.ask code in (
                 told,
                 record {
                   row = pending_started (party_of s).types p.entry.at (ask.Callback (Ok heard) id jar.first) (fresh_word p.entry.fresh 0) stage.Tokens login;
@@ -236,12 +276,12 @@ module _ (c : Configuration) (n : ℕ) (r : IsRegistry c) (low : n < length c.pa
                   nonce = refl;
                   begun = refl;
                   since = refl;
-                  subject = front_subject s own past p.entry w.room wish who at fresh state jar.first login partys time (login_lives past p.entry.at state login stands soon) same there.ask (fresh_word p.entry.fresh 0);
+                  subject = front_subject s own past p.entry w.room w.alive wish who at fresh state jar.first login partys time (login_lives past p.entry.at state login stands soon) same there.ask (fresh_word p.entry.fresh 0);
                 },
               ));
           enters = λ code id_token.
               subst (FetchesOrEnters s p.entry (fresh_word p.entry.fresh 0) (issued_access wish fresh) sub) (sym w.legal.3)
-              (callback_enters s own past p.entry w.room wish who at fresh state jar.first login partys time (login_lives past p.entry.at state login stands soon) same there.ask code id_token);
+              (callback_enters s own past p.entry w.room w.alive wish who at fresh state jar.first login partys time (login_lives past p.entry.at state login stands soon) same there.ask code id_token);
           waits = λ access fetches. record {
             row = pending_started (party_of s).types p.entry.at (ask.Callback (Ok heard) id jar.first) (fresh_word p.entry.fresh 0) stage.Info login;
             found = ap (λ l. row_of pending_name (fresh_word p.entry.fresh 0) (pendings (party_of s).types l)) w.past
@@ -251,7 +291,7 @@ module _ (c : Configuration) (n : ℕ) (r : IsRegistry c) (low : n < length c.pa
             nonce = refl;
             begun = refl;
             since = refl;
-            subject = front_subject s own past p.entry w.room wish who at fresh state jar.first login partys time (login_lives past p.entry.at state login stands soon) same there.ask (fresh_word p.entry.fresh 0);
+            subject = front_subject s own past p.entry w.room w.alive wish who at fresh state jar.first login partys time (login_lives past p.entry.at state login stands soon) same there.ask (fresh_word p.entry.fresh 0);
           };
         }
 
@@ -273,7 +313,7 @@ module _ (c : Configuration) (n : ℕ) (r : IsRegistry c) (low : n < length c.pa
     pub waits : Fetches s w access pair.reply → PendingStands (party_of s).types (rp_past n (x ∷ world)) w stage.Info nonce begun pair.entry.at sub
 
   module _ (wish : Wish) (who : Authentication) (at : ℕ) (w access nonce : Word) (begun since : ℕ) (message : Message) (client : wish.client ≡ (party_row c n).client) (may : MayIssue c wish who at) (value : IsWishValue wish)
-      (world : World) (x : Place) (from : ℕ) (legal : IsLegalWorld (own_site c) (x ∷ world)) (room : WasRoom x)
+      (world : World) (x : Place) (from : ℕ) (legal : IsLegalWorld (own_site c) (x ∷ world)) (room : WasFree c world x)
       (is : sent_at x ≡ handed_back c from (to.Party n) (reply.Party (rp.Exchange w message)) to.Provider (reply.Provider (op.Tokens access (issued_id c wish who at (Some access) None)))) where
     abbrev came : Tokens
     came = record { access = word_text access; id = issued_id c wish who at (Some access) None }
@@ -306,7 +346,7 @@ module _ (c : Configuration) (n : ℕ) (r : IsRegistry c) (low : n < length c.pa
           request = tokens_there.request;
           pair = p;
           place = tokens_there.place;
-          enters = subst F (sym t.legal.3) (tokens_enter s own past p.entry t.room wish who at w access stands.row came time live stands.word refl stands.subject tokens_there.ask);
+          enters = subst F (sym t.legal.3) (tokens_enter s own past p.entry t.room t.alive wish who at w access stands.row came time live stands.word refl stands.subject tokens_there.ask);
           waits = λ fetches. record {
             row = pending_followed (party_of s).types p.entry.at (ask.Tokens w (Ok came) (Some (Ok claims))) w stands.row;
             found = ap (λ l. row_of pending_name w (pendings (party_of s).types l)) t.past
@@ -340,7 +380,7 @@ module _ (c : Configuration) (n : ℕ) (r : IsRegistry c) (low : n < length c.pa
     pub place : x ≡ Party n from request pair
     pub enters : pair.reply ≡ entered pair.entry sub
 
-  module _ (user : ℕ) (w nonce : Word) (begun since : ℕ) (message : Message) (scopes : Scopes) (asked : List Text) (world : World) (x : Place) (from : ℕ) (legal : IsLegalWorld (own_site c) (x ∷ world)) (room : WasRoom x)
+  module _ (user : ℕ) (w nonce : Word) (begun since : ℕ) (message : Message) (scopes : Scopes) (asked : List Text) (world : World) (x : Place) (from : ℕ) (legal : IsLegalWorld (own_site c) (x ∷ world)) (room : WasFree c world x)
       (is : sent_at x ≡ handed_back c from (to.Party n) (reply.Party (rp.Fetch w message)) to.Provider (reply.Provider (op.Info (claims_text (info_members c (party_row c n).client user scopes asked))))) where
     abbrev told_sub : Text
     told_sub = subject_at c (party_row c n).client user
@@ -361,5 +401,5 @@ module _ (c : Configuration) (n : ℕ) (r : IsRegistry c) (low : n < length c.pa
           request = info_there.request;
           pair = p;
           place = info_there.place;
-          enters = t.legal.3 ∙ info_enters s own past p.entry t.room w stands.row told_sub live stands.subject info_there.ask;
+          enters = t.legal.3 ∙ info_enters s own past p.entry t.room t.alive w stands.row told_sub live stands.subject info_there.ask;
         }

@@ -20,6 +20,8 @@ pub data Condition : Type 0 where
   token_in_time : Condition
   -- at a consent the user's last sign-in is not older than the party allows
   recent_sign_in : Condition
+  -- the party has accepted no logout token with the `sid` of the login's last ID Token
+  no_logout : Condition
   -- no table is full
   free_rows : Condition
 

@@ -1,5 +1,6 @@
 pub mod Conditions
 pub mod InTime
+pub mod Alive
 pub mod Login
 pub mod Outcome
 pub mod OwnWish

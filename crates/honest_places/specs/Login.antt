@@ -32,6 +32,7 @@ use Rattle.web_requests.specs.Carrying.{carried}
 use Rattle.web_requests.specs.Handing.{handed_back}
 use Rattle.honest_places.specs.Conditions.{Condition, party_may_ask, right_password, last_cookies, own_words, free_rows, Unless}
 use Rattle.honest_places.specs.InTime.{IsInTime}
+use Rattle.honest_places.specs.Alive.{IsAlive}
 use Rattle.honest_places.specs.Shown.{shown_at, words_of}
 
 -- ---- the visitor
@@ -130,6 +131,7 @@ pub record Continues (left_out : Option Condition) (c : Configuration) (v : Visi
   pub asked : sent_at x ≡ Some done
   pub cookies : Unless left_out last_cookies (FitsJar jar (jar_after done.to (last ∷ earlier)))
   pub in_time : IsInTime left_out c world x
+  pub alive : IsAlive left_out c world x
   pub room : Unless left_out free_rows (is_full (reply_at x) ≡ false)
 
 -- the place presents no word of the login

@@ -22,6 +22,9 @@ use Rattle.sso_places.specs.World.{Place, Provider, Party, op_past, rp_past, rep
 use Rattle.web_requests.specs.declared.sent.Sent.{Sent}
 use Rattle.web_requests.specs.Asked.{AsksProvider, AsksParty}
 use Rattle.web_requests.specs.Sending.{sent}
+use Rattle.rp_answer.specs.Alive.{sid_judged}
+use Rattle.sso_base.specs.Words.{Text}
+use Rattle.honest_places.specs.Alive.{IsNotNamed}
 use Rattle.honest_places.specs.InTime.{IsOpInTime, IsRpInTime}
 use Rattle.honest_places.specs.Login.{Visitor, called_for, jar_after, FitsJar, is_full, IsHonest, went_on}
 use Rattle.honest_worlds.proofs.Growing.{Stands, ProviderReplies, provider_stands, PartyReplies, party_stands}
@@ -82,6 +85,7 @@ module _ (c : Configuration) (v : Visitor) where
                 asked = refl;
                 cookies = λ kept. next.cookies;
                 in_time = next.in_time;
+                alive = tt;
                 room = λ kept. next.room;
               });
         }
@@ -93,6 +97,7 @@ module _ (c : Configuration) (v : Visitor) where
       pub cookies : FitsJar jar (jar_after (to.Party n) L)
       pub replies : PartyReplies c L n request p
       pub in_time : IsRpInTime None (party_row c n).types (rp_past n L) p.entry.at p.entry.ask
+      pub alive : (sid : Text) → sid_judged (party_row c n).types (rp_past n L) p.entry.at p.entry.ask ≡ Some sid → IsNotNamed (rp_past n L) sid
       pub room : is_full (reply.Party p.reply) ≡ false
       pub unforged : forges (own_site c) L (Party n from request p) ≡ false
       pub unleaked : leaks L (Party n from request p) ≡ false
@@ -114,6 +119,7 @@ module _ (c : Configuration) (v : Visitor) where
                 asked = refl;
                 cookies = λ kept. next.cookies;
                 in_time = next.in_time;
+                alive = λ sid is kept. next.alive sid is;
                 room = λ kept. next.room;
               });
         }

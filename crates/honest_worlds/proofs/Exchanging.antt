@@ -59,6 +59,7 @@ use Rattle.honest_worlds.proofs.Alone.{provider_reads_it, KeepsAll, provider_nex
 use Rattle.honest_worlds.proofs.AnyType.{Wants, with_code, every_type, registered, is_registry, visitor, code_is, ours, ours_value, may_issue, claims_are_values}
 use Rattle.honest_worlds.proofs.UpToAnswer.{past_begin}
 use Rattle.honest_worlds.proofs.Responding.{token_there, not_forged, callback_entry, four, responded, responding}
+use Rattle.honest_worlds.proofs.NoLogout.{not_named}
 
 -- the number of the place that holds a question
 abbrev pub from_there : Option Place → ℕ
@@ -224,6 +225,7 @@ module _ (id token info : Bool) where
           answered = is;
         };
         in_time = λ row is kept. sym (ap pending_in_time is);
+        alive = λ sid is. not_named (rp_past 0 (six wants)) sid (refl, (refl, tt));
         room = room;
         unforged = unforged told;
         unleaked = refl;

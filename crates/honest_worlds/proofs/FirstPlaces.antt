@@ -213,19 +213,19 @@ module _ (left_out : Option Condition) where
   pub shown_honestly : (password : Text) → IsHonestBut left_out configuration (typing password) shown shown
   shown_honestly password =
       went_on asked asks [] shows (asked_honestly password)
-      (record { jar = no_jar; done = sent 1 to.Provider authorizes; called = follows password; asked = refl; cookies = λ kept. tt; in_time = tt; room = λ kept. refl })
+      (record { jar = no_jar; done = sent 1 to.Provider authorizes; called = follows password; asked = refl; cookies = λ kept. tt; in_time = tt; alive = tt; room = λ kept. refl })
 
   wanted_honestly : IsHonestBut left_out configuration alice wanted wanted
   wanted_honestly =
       went_on shown shows asked wants (shown_honestly (codes "password"))
-      (record { jar = first_jar; done = sent 1 to.Provider logs_in; called = fills_in first_jar; asked = refl; cookies = λ kept. refl; in_time = turn_in_time left_out; room = λ kept. refl })
+      (record { jar = first_jar; done = sent 1 to.Provider logs_in; called = fills_in first_jar; asked = refl; cookies = λ kept. refl; in_time = turn_in_time left_out; alive = tt; room = λ kept. refl })
 
   answered_honestly : IsHonestBut left_out configuration alice answered answered
   answered_honestly =
       went_on wanted wants shown answers wanted_honestly
-      (record { jar = second_jar; done = sent 1 to.Provider consents; called = says_yes; asked = refl; cookies = λ kept. refl; in_time = consent_in_time left_out; room = λ kept. refl })
+      (record { jar = second_jar; done = sent 1 to.Provider consents; called = says_yes; asked = refl; cookies = λ kept. refl; in_time = consent_in_time left_out; alive = tt; room = λ kept. refl })
 
   pub exchanged_honestly : IsHonestBut left_out configuration alice exchanged exchanged
   exchanged_honestly =
       went_on answered answers wanted exchanges answered_honestly
-      (record { jar = party_jar; done = sent 1 (to.Party 0) brings_code; called = brings; asked = refl; cookies = λ kept. refl; in_time = response_in_time left_out; room = λ kept. refl })
+      (record { jar = party_jar; done = sent 1 (to.Party 0) brings_code; called = brings; asked = refl; cookies = λ kept. refl; in_time = response_in_time left_out; alive = λ sid is. absurd (cc); room = λ kept. refl })

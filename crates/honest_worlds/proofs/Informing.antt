@@ -55,6 +55,7 @@ use Rattle.honest_places.specs.Login.{jar_shown, jar_after, FitsJar}
 use Rattle.honest_worlds.proofs.Alone.{provider_reads_it, KeepsAll, provider_next, party_next}
 use Rattle.honest_worlds.proofs.AnyType.{Wants, types_of, registered, is_registry, visitor}
 use Rattle.honest_worlds.proofs.Exchanging.{from_there}
+use Rattle.honest_worlds.proofs.NoLogout.{HasNoLogout, not_named}
 
 abbrev endpoint : Text
 endpoint = codes "http://127.0.0.1:8080/userinfo"
@@ -104,6 +105,7 @@ module _ (wants : Wants) (access : Word) (request : WorldAsk) (e : Entry RpAsk) 
     pub known : op_answer c (op_past earlier) (info_entry access) ≡ told
     pub token_in_time : (row : TokenRow) → access_token_of (op_past earlier) access ≡ Some row → lives access_life row.issued 1000 ≡ true
     pub waits_in_time : (row : PendingRow) → pending_of (types_of wants) (asking ∷ rp_past 0 earlier) (word 17) ≡ Some row → lives pending_life row.since 1000 ≡ true
+    pub quiet : HasNoLogout (asking ∷ rp_past 0 earlier)
     pub enters : rp_answer (setup_at (own_site c) 0) (asking ∷ rp_past 0 earlier) told_entry ≡ entered (word 34)
 
   -- ---- the UserInfo request gets claims
@@ -166,6 +168,7 @@ module _ (wants : Wants) (access : Word) (request : WorldAsk) (e : Entry RpAsk) 
           answered = needs.enters;
         };
         in_time = λ row is kept. needs.waits_in_time row is;
+        alive = λ sid is. not_named (asking ∷ rp_past 0 earlier) sid needs.quiet;
         room = refl;
         unforged = refl;
         unleaked = refl;

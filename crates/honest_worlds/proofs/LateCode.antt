@@ -52,6 +52,7 @@ late_code_fails =
       asked = refl;
       cookies = λ kept. refl;
       in_time = λ row is kept. absurd (kept refl);
+      alive = tt;
       room = λ kept. refl;
     })
     refl

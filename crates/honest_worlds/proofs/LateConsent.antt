@@ -233,7 +233,7 @@ shown_honestly : IsHonestBut (Some recent_sign_in) strict alice shown (shows ∷
 shown_honestly =
     went_on asked asks [] shows
     (begun before asks (record { jar = party_jar; asked = refl; room = λ kept. refl }))
-    (record { jar = second_jar; done = sent 1 to.Provider authorizes; called = follows; asked = refl; cookies = λ kept. tt; in_time = tt; room = λ kept. refl })
+    (record { jar = second_jar; done = sent 1 to.Provider authorizes; called = follows; asked = refl; cookies = λ kept. tt; in_time = tt; alive = tt; room = λ kept. refl })
 
 -- ---- alice consents at 1061
 
@@ -292,6 +292,7 @@ late_consent_fails =
       asked = refl;
       cookies = λ kept. refl;
       in_time = turn_in_time;
+      alive = tt;
       room = λ kept. refl;
     })
     refl

@@ -73,6 +73,7 @@ use Rattle.honest_worlds.proofs.Building.{entry_then, TurnLives, LoginLives, of_
 use Rattle.honest_worlds.proofs.Growing.{Stands, provider_stands, party_stands}
 use Rattle.honest_worlds.proofs.FirstPlaces.{alice_may, first_jar, party_jar}
 use Rattle.honest_worlds.proofs.NewsRequest.{reader, news_query, news_wish, wish_is_value}
+use Rattle.honest_worlds.proofs.NoLogout.{not_named}
 
 reader_may : MayLogInBut (Some token_in_time) configuration reader
 unfolding parameter_words
@@ -163,8 +164,8 @@ answered_honestly =
     went_on shown shows asked answers
     (went_on asked asks [] shows
     (begun [] asks (record { jar = no_jar; asked = refl; room = λ kept. refl }))
-    (record { jar = no_jar; done = sent 1 to.Provider authorizes; called = follows; asked = refl; cookies = λ kept. tt; in_time = tt; room = λ kept. refl }))
-    (record { jar = first_jar; done = sent 1 to.Provider logs_in; called = fills_in; asked = refl; cookies = λ kept. refl; in_time = turn_in_time; room = λ kept. refl })
+    (record { jar = no_jar; done = sent 1 to.Provider authorizes; called = follows; asked = refl; cookies = λ kept. tt; in_time = tt; alive = tt; room = λ kept. refl }))
+    (record { jar = first_jar; done = sent 1 to.Provider logs_in; called = fills_in; asked = refl; cookies = λ kept. refl; in_time = turn_in_time; alive = tt; room = λ kept. refl })
 
 -- ---- the browser brings the answer, at 1360
 
@@ -270,6 +271,7 @@ late_token_fails =
       asked = refl;
       cookies = λ kept. refl;
       in_time = login_in_time;
+      alive = λ sid is kept. not_named (rp_past 1 answered) sid (refl, tt);
       room = λ kept. refl;
     })
     refl

@@ -11,6 +11,7 @@ pub mod LateToken
 pub mod LateTurn
 pub mod Needed
 pub mod NewsRequest
+pub mod NoLogout
 pub mod OtherCookie
 pub mod Responding
 pub mod Sessions

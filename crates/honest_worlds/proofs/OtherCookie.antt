@@ -64,6 +64,7 @@ other_cookie_fails =
       asked = refl;
       cookies = λ kept. absurd (kept refl);
       in_time = turn_in_time (Some last_cookies);
+      alive = tt;
       room = λ kept. refl;
     })
     refl

@@ -49,6 +49,7 @@ use Rattle.honest_party.proofs.Followed.{answer_arrives, issued_utf8}
 use Rattle.honest_worlds.proofs.Alone.{party_reads_it, KeepsAll, party_next}
 use Rattle.honest_worlds.proofs.AnyType.{Wants, types_of, is_registry, visitor, word_2, registered, ours, ours_value, may_issue, claims_are_values}
 use Rattle.honest_worlds.proofs.UpToAnswer.{past_begin, answer, answered, consents_there, three, answered_alone}
+use Rattle.honest_worlds.proofs.NoLogout.{not_named}
 
 -- ---- what a response has where its type has it
 
@@ -201,6 +202,7 @@ module _ (wants : Wants) where
           answered = is;
         };
         in_time = in_time;
+        alive = λ sid is. not_named (past_begin wants) sid (refl, tt);
         room = room;
         unforged = unforged told;
         unleaked = unleaked told;

@@ -100,5 +100,5 @@ silent_party_fails =
     (let may = alice_may (Some party_may_ask) in
     record { party = omega arith; may_ask = λ kept. absurd (kept refl); id_text = may.id_text; password_text = may.password_text; right = may.right })
     (begun [] asks (record { jar = no_jar; asked = refl; room = λ kept. refl }))
-    (record { jar = no_jar; done = sent 1 to.Provider authorizes; called = follows; asked = refl; cookies = λ kept. tt; in_time = tt; room = λ kept. refl })
+    (record { jar = no_jar; done = sent 1 to.Provider authorizes; called = follows; asked = refl; cookies = λ kept. tt; in_time = tt; alive = tt; room = λ kept. refl })
     refl

@@ -93,6 +93,7 @@ spent_code_fails =
       asked = refl;
       cookies = λ kept. refl;
       in_time = in_time;
+      alive = tt;
       room = λ kept. refl;
     })
     refl

@@ -184,6 +184,7 @@ front_needs =
       known = front_known;
       token_in_time = λ row is. sym (ap access_in_time is) ∙ front_in_time;
       waits_in_time = λ row is. sym (ap pending_in_time is);
+      quiet = (refl, (refl, tt));
       enters = front_informed;
     }
 
@@ -291,6 +292,7 @@ code_needs id token =
       known = code_known id token;
       token_in_time = λ row is. sym (ap access_in_time is) ∙ code_in_time id token;
       waits_in_time = λ row is. sym (ap pending_in_time is);
+      quiet = (refl, (refl, (refl, tt)));
       enters = code_informed id token;
     }
 

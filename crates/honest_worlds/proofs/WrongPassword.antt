@@ -74,6 +74,7 @@ wrong_password_fails =
       asked = refl;
       cookies = λ kept. refl;
       in_time = turn_in_time (Some right_password);
+      alive = tt;
       room = λ kept. refl;
     })
     refl

@@ -11,6 +11,7 @@ use Rattle.jws_compact.specs.declared.sealing.Typ.{Typ}
 use Rattle.jws_compact.proofs.Ascii.{sealed_ascii}
 use Rattle.hmac256.specs.Hmac.{hmac_of}
 use Rattle.client_registry.specs.declared.records.Client.{Client}
+use Rattle.client_registry.specs.Secrets.{sealing}
 use Rattle.client_registry.specs.Configuration.{Configuration}
 use Rattle.client_registry.specs.Numbers.{party_row, party_client}
 use Rattle.request_params.specs.declared.params.Params.{Params}
@@ -41,11 +42,11 @@ sealed_filled k p typ h = dotted_filled (signing_input (header_bytes typ) p) (b6
 
 object_utf8 : (client : Client) (issuer : Text) (p : Params) → IsUtf8 (request_text client issuer p)
 unfolding request_text
-object_utf8 client issuer p = IsUtf8-are_ascii (request_text client issuer p) (sealed_ascii client.secret (claims_text (request_members client issuer p)) _)
+object_utf8 client issuer p = IsUtf8-are_ascii (request_text client issuer p) (sealed_ascii (sealing client) (claims_text (request_members client issuer p)) _)
 
 object_filled : (client : Client) (issuer : Text) (p : Params) → ¬ (request_text client issuer p ≡ [])
 unfolding request_text
-object_filled client issuer p = sealed_filled client.secret (claims_text (request_members client issuer p)) _
+object_filled client issuer p = sealed_filled (sealing client) (claims_text (request_members client issuer p)) _
 
 -- ---- parameters that are there or not
 

@@ -42,6 +42,8 @@ shop =
     record {
       id = codes "shop";
       secret = codes "01234567890123456789012345678901";
+      old_secret = None;
+      seals_old = false;
       redirects = codes "https://a.b/cb" ∷ [];
       types = true ∷ false ∷ false ∷ false ∷ false ∷ false ∷ [];
       pairwise = false;
@@ -57,6 +59,8 @@ mail =
     record {
       id = codes "mail";
       secret = codes "12345678901234567890123456789012";
+      old_secret = None;
+      seals_old = false;
       redirects = codes "https://c.d/cb" ∷ [];
       types = false ∷ false ∷ false ∷ true ∷ false ∷ false ∷ [];
       pairwise = false;
@@ -114,11 +118,11 @@ small =
 
 shop_is_client : IsClient shop
 unfolding url_on_literals parts_of
-shop_is_client = record { id = refl; secret = refl; long_secret = omega arith; redirects = refl; types = refl; urls = refl; kept = refl; logout = refl; logout_kept = refl; one_host = refl }
+shop_is_client = record { id = refl; secret = refl; long_secret = omega arith; old_secret = tt; seals = refl; redirects = refl; types = refl; urls = refl; kept = refl; logout = refl; logout_kept = refl; one_host = refl }
 
 mail_is_client : IsClient mail
 unfolding url_on_literals parts_of
-mail_is_client = record { id = refl; secret = refl; long_secret = omega arith; redirects = refl; types = refl; urls = refl; kept = refl; logout = refl; logout_kept = refl; one_host = refl }
+mail_is_client = record { id = refl; secret = refl; long_secret = omega arith; old_secret = tt; seals = refl; redirects = refl; types = refl; urls = refl; kept = refl; logout = refl; logout_kept = refl; one_host = refl }
 
 shop_is_party : IsParty shop_party
 unfolding url_on_literals parts_of

@@ -51,7 +51,7 @@ outer_params client party request =
       registration = None;
     }
 
--- the request object of a login: its parameters, sealed under the client's secret for this issuer (Core 6.1)
+-- the request object of a login: its parameters, sealed under the secret that the client seals with, for this issuer (Core 6.1)
 abbrev pub login_object : Client → Party → Text → Word → Word → Text
 login_object client party issuer state nonce = request_text client issuer (login_params client party state nonce)
 

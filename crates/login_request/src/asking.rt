@@ -61,8 +61,8 @@ fn request_for(
     seal_request(alloc, client, issuer, &params)
 }
 
-/// The request object for a login of a party of the registry: its parameters, sealed under its client's secret for this issuer
-/// (OpenID Connect Core 1.0, 6.1).
+/// The request object for a login of a party of the registry: its parameters, sealed for this issuer under the secret that its
+/// client seals with (OpenID Connect Core 1.0, 6.1).
 ///
 /// The issuer has at most 200 bytes. So the claims are never too long.
 pub fn login_object(
@@ -110,9 +110,9 @@ fn sent_params(
 /// 4.1.1).
 ///
 /// The request has the party's response type, client, redirect URI, scope, `prompt` and `max_age`, and the texts of the two
-/// words as `state` and `nonce`. If the party's requests are signed, all of these are in a request object, sealed under its
-/// client's secret for the provider. Outside it are `response_type`, `client_id`, `redirect_uri` and the scope `openid` (OpenID
-/// Connect Core 1.0, 6.1).
+/// words as `state` and `nonce`. If the party's requests are signed, all of these are in a request object, sealed for the
+/// provider under the secret that its client seals with. Outside it are `response_type`, `client_id`, `redirect_uri` and the
+/// scope `openid` (OpenID Connect Core 1.0, 6.1).
 ///
 /// The issuer of the provider has at most 200 bytes. So the claims of a request object are never too long.
 #[tactic(auto, unfolding(crate::specs::Request::login_location))]

@@ -9,13 +9,12 @@ use Rattle.sso_base.specs.declared.http.HttpReply.{HttpReply}
 use Rattle.sso_base.specs.declared.message.Message.{Message}
 use Rattle.sso_model.specs.Lists.{Has}
 use Rattle.sso_model.proofs.ListLaws.{has_append_right}
+use Rattle.client_registry.specs.declared.records.Client.{Client}
 use Rattle.client_registry.specs.Configuration.{Configuration}
-use Rattle.client_registry.specs.Numbers.{party_secret}
+use Rattle.client_registry.specs.Numbers.{party_client}
 use Rattle.client_registry.specs.Registered.{IsRegistry}
 use Rattle.id_token.specs.declared.claims.IdClaims.{IdClaims}
 use Rattle.id_token.specs.declared.no.IdNo.{IdNo}
-use Rattle.id_token.specs.Reading.{id_read}
-use Rattle.id_token.proofs.Tokens.{token-id_read}
 use Rattle.token_endpoint.specs.declared.reading.Tokens.{Tokens}
 use Rattle.token_endpoint.specs.Answer.{tokens_read}
 use Rattle.token_endpoint.proofs.Responses.{has_read}
@@ -26,7 +25,10 @@ use Rattle.op_answer.specs.Legal.{IsLegalOp}
 use Rattle.rp_exchange.specs.declared.ask.RpAsk.{RpAsk}
 use Rattle.rp_exchange.specs.declared.ask.RpAsk.TheVariants as ask
 use Rattle.rp_exchange.specs.declared.reply.RpReply.TheVariants as rp
+use Rattle.client_keys.specs.Opening.{opening}
+use Rattle.rp_request.specs.Opened.{id_read_for}
 use Rattle.rp_request.specs.Requests.{IsOpened}
+use Rattle.rp_request.proofs.Opened.{token-id_read_for}
 use Rattle.rp_request.proofs.TokenAnswers.{has_tokens, tokens_opened}
 use Rattle.rp_response.specs.Telling.{http_of as rp_http}
 use Rattle.rp_answer.specs.Asked.{claims_read, claims_judged}
@@ -116,13 +118,13 @@ tokens_were_given c world x told came registry legal has is read =
 
 -- ---- an ID Token of a token response
 
--- what was read of it, under the party's secret
-opened_claims : (secret text : Text) (id : Option (Result IdClaims IdNo)) (claims : IdClaims) → IsOpened secret (Some text) id → claims_read id ≡ Some claims → id_read secret text ≡ Ok claims
-opened_claims secret text None claims opened read = absurd opened
-opened_claims secret text (Some (Err why)) claims opened read = absurd (cc)
-opened_claims secret text (Some (Ok x)) claims opened read =
-    let R : IdClaims → Type 0 = λ y. id_read secret text ≡ Ok y in
-    subst R (same_Some x claims read) (token-id_read secret text x opened)
+-- what was read of it, for the party's client
+opened_claims : (client : Client) (text : Text) (id : Option (Result IdClaims IdNo)) (claims : IdClaims) → IsOpened client (Some text) id → claims_read id ≡ Some claims → id_read_for client text ≡ Ok claims
+opened_claims client text None claims opened read = absurd opened
+opened_claims client text (Some (Err why)) claims opened read = absurd (cc)
+opened_claims client text (Some (Ok x)) claims opened read =
+    let R : IdClaims → Type 0 = λ y. id_read_for client text ≡ Ok y in
+    subst R (same_Some x claims read) (token-id_read_for client text x opened)
 
 module _ (c : Configuration) (seed : List ℕ) (registry : IsRegistry c) (n from : ℕ) (request : WorldAsk) (p : RpPair) (at : StoodAt c seed n from request p) where
   back_hash : (pending : Word) (came : Tokens) (id : Option (Result IdClaims IdNo)) (claims : IdClaims) → p.entry.ask ≡ ask.Tokens pending (Ok came) id → claims_read id ≡ Some claims → is_some claims.at_hash ≡ true
@@ -132,9 +134,9 @@ module _ (c : Configuration) (seed : List ℕ) (registry : IsRegistry c) (n from
       let was : WasPrinted c at.earlier answer.answer = subst P answer.came_is at.place.printed in
       let given : tokens_read answer.answer ≡ Ok came = has_read answer.answer came (has_tokens c n pending answer.answer pending came id answer.asked_is).1 in
       let by : GivenBy c was.place came = given_by c at.earlier was.place was.told came registry at.legal was.has was.printed_is (ap tokens_read was.answer_is ∙ given) in
-      let own : id_read (party_secret c n) came.id ≡ Ok claims = opened_claims (party_secret c n) came.id id claims (tokens_opened c n pending answer.answer pending came id answer.asked_is) read in
-      let R : Text → Type 0 = λ t. id_read (party_secret c n) t ≡ Ok claims in
-      tokens_have_hash c by.after.past by.pair registry by.after.legal by.gave.access by.gave.id (party_secret c n) claims by.gave.reply_is (subst R (sym by.gave.id_is) own)
+      let own : id_read_for (party_client c n) came.id ≡ Ok claims = opened_claims (party_client c n) came.id id claims (tokens_opened c n pending answer.answer pending came id answer.asked_is) read in
+      let R : Text → Type 0 = λ t. id_read_for (party_client c n) t ≡ Ok claims in
+      tokens_have_hash c by.after.past by.pair registry by.after.legal by.gave.access by.gave.id (opening (party_client c n) by.gave.id) claims by.gave.reply_is (subst R (sym by.gave.id_is) own)
 
 -- ---- the last ID Token of a login that requests UserInfo
 

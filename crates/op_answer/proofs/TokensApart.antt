@@ -7,7 +7,7 @@ use Rattle.serde_json.specs.Find.{get_member}
 use Rattle.oidc_words.specs.Claims.{is_claim_of, profile_claims, email_claims, address_claims, phone_claims}
 use Rattle.sso_base.specs.Words.{Word, Text}
 use Rattle.client_registry.specs.Configuration.{Configuration}
-use Rattle.client_registry.specs.Numbers.{client_at, client_secret}
+use Rattle.client_registry.specs.Numbers.{client_at, client_sealing}
 use Rattle.client_registry.specs.Registered.{IsRegistry}
 use Rattle.client_registry.specs.declared.records.Client.{Client}
 use Rattle.request_params.specs.declared.params.Params.{Params}
@@ -36,7 +36,7 @@ pub logout_is_no_id : (c : Configuration) (client : ℕ) (out : SignOut) (key : 
     → IsGoodIdToken rules x at → ⊥
 unfolding issued_logout
 logout_is_no_id c client out key x rules at m read good =
-    sealed_logout_no_id_token (client_secret c client) key (logout_claims c client out) x rules at (sealable c client out m) read good
+    sealed_logout_no_id_token (client_sealing c client) key (logout_claims c client out) x rules at (sealable c client out m) read good
 
 no_jti : (c : Configuration) (wish : Wish) (who : Authentication) (at : ℕ) (access code : Option Word) → get_member (codes "jti") (id_claims c wish who at access code).more ≡ None
 unfolding id_claims is_claim_of profile_claims email_claims address_claims phone_claims
@@ -46,7 +46,7 @@ pub id_is_no_logout : (c : Configuration) (wish : Wish) (who : Authentication) (
     → logout_read key (issued_id c wish who at access code) ≡ Ok y → ⊥
 unfolding issued_id
 id_is_no_logout c wish who at access code key y m value read =
-    sealed_id_no_logout_token (client_secret c wish.client) key (id_claims c wish who at access code) y (ids.sealable c wish who at access code m value) (no_jti c wish who at access code) read
+    sealed_id_no_logout_token (client_sealing c wish.client) key (id_claims c wish who at access code) y (ids.sealable c wish who at access code m value) (no_jti c wish who at access code) read
 
 -- ---- no request object: the issuer is the id of no client
 
@@ -68,10 +68,10 @@ pub logout_is_no_request : (c : Configuration) (client : ℕ) (out : SignOut) (n
     → request_read k issuer (issued_logout c client out) ≡ Ok p → ⊥
 unfolding issued_logout logout_claims
 logout_is_no_request c client out n k issuer p m is read =
-    sealed_logout_no_request k issuer (client_secret c client) (logout_claims c client out) p (issuer_is_no_client c n k m.registry is) (sealable c client out m) read
+    sealed_logout_no_request k issuer (client_sealing c client) (logout_claims c client out) p (issuer_is_no_client c n k m.registry is) (sealable c client out m) read
 
 pub id_is_no_request : (c : Configuration) (wish : Wish) (who : Authentication) (at : ℕ) (access code : Option Word) (n : ℕ) (k : Client) (issuer : Text) (p : Params) → MayIssue c wish who at → IsWishValue wish
     → client_at c n ≡ Some k → request_read k issuer (issued_id c wish who at access code) ≡ Ok p → ⊥
 unfolding issued_id id_claims
 id_is_no_request c wish who at access code n k issuer p m value is read =
-    sealed_id_no_request k issuer (client_secret c wish.client) (id_claims c wish who at access code) p (issuer_is_no_client c n k m.registry is) (ids.sealable c wish who at access code m value) read
+    sealed_id_no_request k issuer (client_sealing c wish.client) (id_claims c wish who at access code) p (issuer_is_no_client c n k m.registry is) (ids.sealable c wish who at access code m value) read

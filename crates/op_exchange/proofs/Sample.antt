@@ -40,6 +40,8 @@ shop_client =
     record {
       id = codes "shop-client";
       secret = codes "shop-secret-shop-secret-shop-secret";
+      old_secret = None;
+      seals_old = false;
       redirects = callback_uri ∷ [];
       types = true ∷ false ∷ false ∷ false ∷ false ∷ false ∷ [];
       pairwise = false;

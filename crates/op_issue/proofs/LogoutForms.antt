@@ -8,7 +8,7 @@ use Rattle.jws_compact.proofs.Ascii.{sealed_ascii}
 use Rattle.claim_set.specs.Reading.{claims_text}
 use Rattle.logout_token.specs.LogoutToken.{logout_members, logout_text}
 use Rattle.client_registry.specs.Configuration.{Configuration}
-use Rattle.client_registry.specs.Numbers.{client_secret}
+use Rattle.client_registry.specs.Numbers.{client_sealing}
 use Rattle.request_params.specs.Form.{form_pairs, form_text}
 use Rattle.request_params.proofs.Forms.{AreTextPairs, form_pairs-form_text}
 use Rattle.op_issue.specs.declared.sign_out.SignOut.{SignOut}
@@ -17,7 +17,7 @@ use Rattle.op_issue.specs.LogoutMessages.{logout_pairs}
 
 pub token_ascii : (c : Configuration) (client : ℕ) (out : SignOut) → is_ascii (issued_logout c client out) ≡ true
 unfolding issued_logout logout_text
-token_ascii c client out = sealed_ascii (client_secret c client) (claims_text (logout_members (logout_claims c client out))) LogoutJwt
+token_ascii c client out = sealed_ascii (client_sealing c client) (claims_text (logout_members (logout_claims c client out))) LogoutJwt
 
 -- ---- the form
 

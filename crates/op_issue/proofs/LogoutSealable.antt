@@ -18,7 +18,7 @@ use Rattle.logout_token.specs.Fitting.{HasTexts, IsSealable}
 use Rattle.logout_token.proofs.Fitting.{fits-logout_members}
 use Rattle.logout_token.proofs.Written.{logout_read-logout_text}
 use Rattle.client_registry.specs.Configuration.{Configuration, subject_at}
-use Rattle.client_registry.specs.Numbers.{client_at, client_id, client_secret}
+use Rattle.client_registry.specs.Numbers.{client_at, client_id, client_sealing}
 use Rattle.op_issue.specs.Issued.{if_wished}
 use Rattle.op_issue.proofs.RegistryRows.{issuer_is_plain, client_id_is_short, subject_is_one, subject_is_short}
 use Rattle.op_issue.proofs.SpelledTexts.{b64u_is_plain}
@@ -135,6 +135,6 @@ module _ (c : Configuration) (client : ℕ) (out : SignOut) (m : MayEnd c client
   pub as_issued : (x : LogoutClaims) → x ≡ logout_claims c client out → IsSealable x
   as_issued x is = subst IsSealable (sym is) sealable
 
-  pub is_read_back : logout_read (client_secret c client) (issued_logout c client out) ≡ Ok (logout_claims c client out)
+  pub is_read_back : logout_read (client_sealing c client) (issued_logout c client out) ≡ Ok (logout_claims c client out)
   unfolding issued_logout
-  is_read_back = logout_read-logout_text (client_secret c client) (logout_claims c client out) sealable
+  is_read_back = logout_read-logout_text (client_sealing c client) (logout_claims c client out) sealable

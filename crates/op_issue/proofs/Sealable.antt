@@ -18,7 +18,7 @@ use Rattle.hmac256.proofs.Facts.{all_bytes-sha256}
 use Rattle.claim_set.specs.Building.{HasNone}
 use Rattle.claim_set.specs.Reading.{claims_text}
 use Rattle.client_registry.specs.Configuration.{Configuration, subject_at}
-use Rattle.client_registry.specs.Numbers.{client_id, client_secret}
+use Rattle.client_registry.specs.Numbers.{client_id, client_sealing}
 use Rattle.oidc_words.specs.declared.scopes.Scopes.{Scopes}
 use Rattle.oidc_words.specs.Claims.{is_claim_of, profile_claims, email_claims, address_claims, phone_claims}
 use Rattle.auth_request.specs.declared.wish.Wish.{Wish}
@@ -235,6 +235,6 @@ module _ (c : Configuration) (wish : Wish) (who : Authentication) (at : ℕ) (ac
         short = s.short;
       }
 
-  pub is_read_back : IsWishValue wish → id_read (client_secret c wish.client) (issued_id c wish who at access code) ≡ Ok (id_claims c wish who at access code)
+  pub is_read_back : IsWishValue wish → id_read (client_sealing c wish.client) (issued_id c wish who at access code) ≡ Ok (id_claims c wish who at access code)
   unfolding issued_id
-  is_read_back w = id_read-id_text (client_secret c wish.client) (id_claims c wish who at access code) (sealable w)
+  is_read_back w = id_read-id_text (client_sealing c wish.client) (id_claims c wish who at access code) (sealable w)

@@ -1,5 +1,5 @@
 -- A small registry with one user and one client, and the login of that user, to try the definitions on.
-use Rattle.std.proofs.Common.{◌≡◌, ℕ, ◌+◌, ◌++◌, true, false, List, [], ◌∷◌, replicate, codes, Some, refl, arith}
+use Rattle.std.proofs.Common.{◌≡◌, ℕ, ◌+◌, ◌++◌, true, false, List, [], ◌∷◌, replicate, codes, Some, None, refl, arith}
 use Rattle.json.specs.Print.{escape_byte}
 use Rattle.json.proofs.Printed.Utf8.{IsUtf8-are_ascii}
 use Rattle.serde_json.specs.Data.{string, Members, no_members, member}
@@ -47,6 +47,8 @@ shop =
     record {
       id = codes "shop";
       secret = secret;
+      old_secret = None;
+      seals_old = false;
       redirects = codes "https://a.b/cb" ∷ [];
       types = true ∷ true ∷ true ∷ false ∷ false ∷ false ∷ [];
       pairwise = false;
@@ -94,7 +96,7 @@ alice_is_user = record { id = refl; salt = refl; salt_bytes = IsBytes-from_all_b
 
 shop_is_client : IsClient shop
 unfolding url_on_literals parts_of
-shop_is_client = record { id = refl; secret = refl; long_secret = omega arith; redirects = refl; types = refl; urls = refl; kept = refl; logout = refl; logout_kept = refl; one_host = refl }
+shop_is_client = record { id = refl; secret = refl; long_secret = omega arith; old_secret = tt; seals = refl; redirects = refl; types = refl; urls = refl; kept = refl; logout = refl; logout_kept = refl; one_host = refl }
 
 pub small_registry : IsRegistry small
 unfolding url_on_literals parts_of

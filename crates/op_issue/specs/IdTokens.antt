@@ -3,7 +3,7 @@ use Rattle.std.specs.Prelude.{ℕ, ◌+◌, Bool, not, ◌&&◌, [], ◌∷◌, 
 use Rattle.sso_base.specs.Words.{Word, Text, word_text}
 use Rattle.oidc_words.specs.declared.response_types.Types.{Types}
 use Rattle.client_registry.specs.Configuration.{Configuration, subject_at}
-use Rattle.client_registry.specs.Numbers.{client_id, client_secret}
+use Rattle.client_registry.specs.Numbers.{client_id, client_sealing}
 use Rattle.oidc_words.specs.declared.scopes.Scopes.{Scopes}
 use Rattle.oidc_words.specs.Scopes.{no_scopes}
 use Rattle.oidc_words.specs.Lives.{id_token_life}
@@ -44,4 +44,4 @@ id_claims c wish who at access code =
 
 -- the sealed ID Token of a wish
 unfoldable pub issued_id : Configuration → Wish → Authentication → ℕ → Option Word → Option Word → Text
-issued_id c wish who at access code = id_text (client_secret c wish.client) (id_claims c wish who at access code)
+issued_id c wish who at access code = id_text (client_sealing c wish.client) (id_claims c wish who at access code)

@@ -2,7 +2,7 @@
 use Rattle.std.specs.Prelude.{◌≡◌, ◌≤◌, ◌<◌, ◌+◌, ℕ, Option, Some, Ok}
 use Rattle.sso_base.specs.Words.{Word, Text}
 use Rattle.client_registry.specs.Configuration.{Configuration}
-use Rattle.client_registry.specs.Numbers.{client_id, client_secret}
+use Rattle.client_registry.specs.Numbers.{client_id, client_sealing}
 use Rattle.auth_request.specs.declared.wish.Wish.{Wish}
 use Rattle.id_token.specs.declared.rules.IdRules.{IdRules}
 use Rattle.id_token.specs.Judging.{IsInAge, IsGoodIdToken}
@@ -30,7 +30,7 @@ abbrev pub IssuedTokensAreReadBack : Type 0
 IssuedTokensAreReadBack =
     (c : Configuration) (wish : Wish) (who : Authentication) (at : ℕ) (access code : Option Word) → MayIssue c wish who at
     → IsWishValue wish
-    → id_read (client_secret c wish.client) (issued_id c wish who at access code) ≡ Ok (id_claims c wish who at access code)
+    → id_read (client_sealing c wish.client) (issued_id c wish who at access code) ≡ Ok (id_claims c wish who at access code)
 
 -- ---- verification
 

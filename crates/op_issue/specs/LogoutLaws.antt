@@ -4,7 +4,7 @@ use Rattle.sso_base.specs.Lists.{Has}
 use Rattle.sso_base.specs.Words.{Text}
 use Rattle.sso_base.specs.declared.message.Message.{Message}
 use Rattle.client_registry.specs.Configuration.{Configuration}
-use Rattle.client_registry.specs.Numbers.{client_id, client_secret}
+use Rattle.client_registry.specs.Numbers.{client_id, client_sealing}
 use Rattle.request_params.specs.Form.{form_pairs, form_text}
 use Rattle.logout_token.specs.LogoutToken.{logout_read}
 use Rattle.logout_token.specs.Judging.{IsGoodLogoutToken}
@@ -19,7 +19,7 @@ use Rattle.op_issue.specs.Told.{TellsAt, Tells}
 abbrev pub LogoutTokensAreReadBack : Type 0
 LogoutTokensAreReadBack =
     (c : Configuration) (client : ℕ) (out : SignOut) → MayEnd c client out
-    → logout_read (client_secret c client) (issued_logout c client out) ≡ Ok (logout_claims c client out)
+    → logout_read (client_sealing c client) (issued_logout c client out) ≡ Ok (logout_claims c client out)
 
 abbrev pub LogoutFormsAreReadBack : Type 0
 LogoutFormsAreReadBack =

@@ -4,7 +4,7 @@ use Rattle.sso_base.specs.Words.{Word, Text, word_text}
 use Rattle.oidc_words.specs.Lives.{logout_token_life}
 use Rattle.client_registry.specs.declared.records.Client.{Client}
 use Rattle.client_registry.specs.Configuration.{Configuration, subject_at}
-use Rattle.client_registry.specs.Numbers.{client_at, client_id, client_secret}
+use Rattle.client_registry.specs.Numbers.{client_at, client_id, client_sealing}
 use Rattle.logout_token.specs.declared.claims.LogoutClaims.{LogoutClaims}
 use Rattle.logout_token.specs.LogoutToken.{logout_text}
 use Rattle.op_issue.specs.Issued.{if_wished}
@@ -34,4 +34,4 @@ logout_claims c client out =
 
 -- the sealed logout token
 unfoldable pub issued_logout : Configuration → ℕ → SignOut → Text
-issued_logout c client out = logout_text (client_secret c client) (logout_claims c client out)
+issued_logout c client out = logout_text (client_sealing c client) (logout_claims c client out)

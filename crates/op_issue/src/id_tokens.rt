@@ -105,7 +105,7 @@ fn bounds_of(registry: &Registry, wish: &Wish, who: &Authentication, at: Moment)
     let _at = at.seconds();
 }
 
-/// The ID Token for a wish and the user who logged in, sealed under the client's secret (OpenID Connect Core 1.0, 2 and
+/// The ID Token for a wish and the user who logged in, sealed under the client's sealing secret (OpenID Connect Core 1.0, 2 and
 /// 3.1.3.6). It is valid for 300 seconds from the moment. It has the half digests of the access token and of the code issued
 /// with it, if there are any, and the user's claims that are requested by name. If it is issued alone, it also has those of the
 /// scope values (5.4).
@@ -128,6 +128,6 @@ pub fn id_token_for(
 {
     bounds_of(registry, wish, who, at);
     let claims = claims_for(alloc, registry, wish, who, at, access, code)?;
-    let secret = registry.client(wish.client).secret.as_str();
+    let secret = registry.client(wish.client).sealing().as_str();
     seal_id(alloc, secret.as_bytes(), &claims)
 }

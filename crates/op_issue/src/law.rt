@@ -3,8 +3,8 @@
 ghost use Rattle.op_issue.specs.Laws.{IssuedClaimsHaveTexts, IssuedClaimsAreSealable, IssuedTokensAreReadBack, IssuedTokensAreGood, GoodTokensHaveTheirIssuer};
 ghost use Rattle.op_issue.specs.Laws.{GoodTokensHaveTheirClient, GoodTokensHaveTheirNonce, GoodTokensAreAlive};
 
-/// Reading an issued ID Token under the client's secret returns the sealed claims. The claims are always short enough, and
-/// values of their types.
+/// Reading an issued ID Token under the client's sealing secret returns the sealed claims. The claims are always short enough,
+/// and values of their types.
 pub fn issued_tokens_are_read()
     ensures texts { IssuedClaimsHaveTexts }
     ensures sealable { IssuedClaimsAreSealable }

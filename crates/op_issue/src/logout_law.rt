@@ -10,8 +10,8 @@ ghost use Rattle.op_issue.specs.Ending.{MayEnd};
 ghost use Rattle.op_issue.specs.LogoutLaws.{LogoutTokensAreReadBack, LogoutFormsAreReadBack, IssuedLogoutTokensAreGood, GoodLogoutTokensHaveTheirIssuer};
 ghost use Rattle.op_issue.specs.LogoutLaws.{GoodLogoutTokensHaveTheirClient, GoodLogoutTokensAreAlive, AnsweredClientsAreNotified, MessagesAreInOrder};
 
-/// Reading an issued logout token under the client's secret returns the sealed claims. The claims are always short enough, and
-/// values of their types. Reading the form of a logout request returns its token.
+/// Reading an issued logout token under the client's sealing secret returns the sealed claims. The claims are always short
+/// enough, and values of their types. Reading the form of a logout request returns its token.
 pub fn logout_tokens_are_read()
     ensures texts { (c : Configuration) (client : ℕ) (out : SignOut) → MayEnd c client out → HasTexts (logout_claims c client out) }
     ensures sealable { (c : Configuration) (client : ℕ) (out : SignOut) → MayEnd c client out → IsSealable (logout_claims c client out) }

@@ -79,9 +79,9 @@ fn bounds_of(registry: &Registry, client: u32, out: &SignOut)
     let _at = out.at.seconds();
 }
 
-/// The logout token for a client, sealed under the client's secret (OpenID Connect Back-Channel Logout 1.0, 2.4). It is valid
-/// for 120 seconds from the moment of the sign-out. It names the user by the subject at the client, and the session if the
-/// client requires it. Its own identifier is the text of the word of the sign-out, a dot and the number of the client.
+/// The logout token for a client, sealed under the client's sealing secret (OpenID Connect Back-Channel Logout 1.0, 2.4). It is
+/// valid for 120 seconds from the moment of the sign-out. It names the user by the subject at the client, and the session if
+/// the client requires it. Its own identifier is the text of the word of the sign-out, a dot and the number of the client.
 ///
 /// The client and the user are in the registry. So the claims are never too long.
 #[tactic(auto, unfolding(crate::specs::LogoutTokens::issued_logout))]
@@ -97,6 +97,6 @@ pub fn logout_token_for(
 {
     bounds_of(registry, client, out);
     let claims = claims_for(alloc, registry, client, out)?;
-    let secret = registry.client(client).secret.as_str();
+    let secret = registry.client(client).sealing().as_str();
     seal_logout(alloc, secret.as_bytes(), &claims)
 }

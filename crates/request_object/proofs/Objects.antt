@@ -8,9 +8,9 @@ use Rattle.claim_set.specs.Reading.{Reads, claims_read}
 use Rattle.claim_set.specs.declared.no.ClaimNo.{ClaimNo}
 use Rattle.claim_set.proofs.Parsing.{read_reads, reads_read}
 use Rattle.jws_compact.specs.declared.no.JwsNo.{JwsNo}
-use Rattle.jws_compact.specs.Jws.{Sealed, verdict}
-use Rattle.jws_compact.proofs.Opening.{verdict_sealed, sealed_verdict}
 use Rattle.client_registry.specs.declared.records.Client.{Client}
+use Rattle.client_keys.specs.Opening.{SealedFor, verdict_for}
+use Rattle.client_keys.proofs.Opened.{sealed_opens, opened_is_sealed}
 use Rattle.request_params.specs.declared.params.Params.{Params}
 use Rattle.request_object.specs.declared.no.ObjNo.{ObjNo}
 use Rattle.request_object.specs.declared.no.ObjNo.TheVariants.{NoMemory, Jws, Claims}
@@ -23,33 +23,33 @@ module _ (client : Client) (issuer : List ℕ) where
   pub request_read-object : (t : List ℕ) (p : Params) → request_read client issuer t ≡ Ok p → IsRequestObject client issuer t p
   unfolding request_read
   request_read-object t p h =
-      let u = and_then_as_ok Jws (verdict client.secret t) _ p h in
+      let u = and_then_as_ok Jws (verdict_for client t) _ p h in
       let ms = and_then_as_ok Claims (claims_read u.0.payload) (request_of client issuer) p u.2 in
-      let opens = verdict_sealed client.secret t u.0 u.1 in
+      let opens = opened_is_sealed client t u.0 u.1 in
       record { header = opens.0; payload = u.0.payload; claims = ms.0; sealed = opens.1; reads = read_reads u.0.payload ms.0 ms.1; has = has-request_of client issuer ms.0 p ms.2 }
 
   -- what is read of a sealed text, and of the claims in it
-  sealed_read : (h p t : List ℕ) → Sealed client.secret h p t → request_read client issuer t ≡ and_then_as Claims (claims_read p) (request_of client issuer)
+  sealed_read : (h p t : List ℕ) → SealedFor client h p t → request_read client issuer t ≡ and_then_as Claims (claims_read p) (request_of client issuer)
   unfolding request_read
-  sealed_read h p t s = rw (sealed_verdict client.secret h p t s)
+  sealed_read h p t s = rw (sealed_opens client h p t s)
 
-  pub sealed_claims : (h p t : List ℕ) (ms : Members) → Sealed client.secret h p t → Reads p ms → request_read client issuer t ≡ request_of client issuer ms
+  pub sealed_claims : (h p t : List ℕ) (ms : Members) → SealedFor client h p t → Reads p ms → request_read client issuer t ≡ request_of client issuer ms
   sealed_claims h p t ms s r = sealed_read h p t s ∙ rw (reads_read p ms r)
 
   pub object-request_read : (t : List ℕ) (p : Params) → IsRequestObject client issuer t p → request_read client issuer t ≡ Ok p
   object-request_read t p i = sealed_claims i.header i.payload t i.claims i.sealed i.reads ∙ request_of-has client issuer i.claims p i.has
 
-  pub unopened : (t : List ℕ) (e : JwsNo) → verdict client.secret t ≡ Err e → request_read client issuer t ≡ Err (Jws e)
+  pub unopened : (t : List ℕ) (e : JwsNo) → verdict_for client t ≡ Err e → request_read client issuer t ≡ Err (Jws e)
   unfolding request_read
   unopened t e h = rw (h)
 
-  pub unread : (h p t : List ℕ) (e : ClaimNo) → Sealed client.secret h p t → claims_read p ≡ Err e → request_read client issuer t ≡ Err (Claims e)
+  pub unread : (h p t : List ℕ) (e : ClaimNo) → SealedFor client h p t → claims_read p ≡ Err e → request_read client issuer t ≡ Err (Claims e)
   unread h p t e s r = sealed_read h p t s ∙ rw (r)
 
-  pub refused : (h p t : List ℕ) (ms : Members) (e : ObjNo) → Sealed client.secret h p t → Reads p ms → first_refusal (request_refusals client issuer ms) ≡ Err e → request_read client issuer t ≡ Err e
+  pub refused : (h p t : List ℕ) (ms : Members) (e : ObjNo) → SealedFor client h p t → Reads p ms → first_refusal (request_refusals client issuer ms) ≡ Err e → request_read client issuer t ≡ Err e
   refused h p t ms e s r f = sealed_claims h p t ms s r ∙ request_of-refused client issuer ms e f
 
-  pub accepted : (h p t : List ℕ) (ms : Members) → Sealed client.secret h p t → Reads p ms → first_refusal (request_refusals client issuer ms) ≡ Ok tt → IsOk (request_read client issuer t)
+  pub accepted : (h p t : List ℕ) (ms : Members) → SealedFor client h p t → Reads p ms → first_refusal (request_refusals client issuer ms) ≡ Ok tt → IsOk (request_read client issuer t)
   accepted h p t ms s r f = rw (sealed_claims h p t ms s r) (request_of-accepted client issuer ms f)
 
   -- ---- what the call answers

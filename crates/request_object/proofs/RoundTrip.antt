@@ -7,8 +7,11 @@ use Rattle.claim_set.proofs.Building.{get-put_all}
 use Rattle.claim_set.proofs.KindLaws.{or_else_none}
 use Rattle.jws_compact.specs.Jws.{Sealed, seal_text}
 use Rattle.jws_compact.specs.declared.sealing.Typ.TheVariants.{Jwt}
-use Rattle.jws_compact.proofs.Opening.{sealed_verdict}
 use Rattle.client_registry.specs.declared.records.Client.{Client}
+use Rattle.client_registry.specs.Secrets.{sealing}
+use Rattle.client_registry.proofs.SecretFacts.{seals_with_its_own}
+use Rattle.client_keys.specs.Opening.{SealedFor}
+use Rattle.client_keys.proofs.Opened.{sealed_opens}
 use Rattle.request_params.specs.declared.params.Params.{Params}
 use Rattle.request_object.specs.Request.{request_entries, request_members, request_text}
 use Rattle.request_object.specs.Reading.{digits_in, object_text, request_read}
@@ -39,16 +42,16 @@ module _ (client : Client) (issuer : List ℕ) (p : Params) (request : p.request
     request_uri = request_uri;
   }
 
-  pub request_read-sealed : (h q t : List ℕ) → Sealed client.secret h q t → claims_read q ≡ Ok (request_members client issuer p) → request_read client issuer t ≡ Ok p
+  pub request_read-sealed : (h q t : List ℕ) → SealedFor client h q t → claims_read q ≡ Ok (request_members client issuer p) → request_read client issuer t ≡ Ok p
   unfolding request_read
-  request_read-sealed h q t sealed reads = rw (sealed_verdict client.secret h q t sealed, reads) (request_of-has client issuer (request_members client issuer p) p has-request_members)
+  request_read-sealed h q t sealed reads = rw (sealed_opens client h q t sealed, reads) (request_of-has client issuer (request_members client issuer p) p has-request_members)
 
--- ---- what `seal_request` answers, where the key is the client's secret
+-- ---- what `seal_request` answers, where the key is the secret that the client seals with
 
-pub text_of_payload : (client : Client) (issuer : List ℕ) (p : Params) (k q t : List ℕ) → k ≡ client.secret → q ≡ claims_text (request_members client issuer p) → t ≡ seal_text k Jwt q → t ≡ request_text client issuer p
+pub text_of_payload : (client : Client) (issuer : List ℕ) (p : Params) (k q t : List ℕ) → k ≡ sealing client → q ≡ claims_text (request_members client issuer p) → t ≡ seal_text k Jwt q → t ≡ request_text client issuer p
 unfolding request_text
 text_of_payload client issuer p k q t key payload text = rw (text, key, payload)
 
-pub read_of_payload : (client : Client) (issuer : List ℕ) (p : Params) → p.request ≡ None → p.request_uri ≡ None → p.registration ≡ None → (k h q t : List ℕ) → k ≡ client.secret → claims_read q ≡ Ok (request_members client issuer p) → Sealed k h q t
+pub read_of_payload : (client : Client) (issuer : List ℕ) (p : Params) → p.request ≡ None → p.request_uri ≡ None → p.registration ≡ None → (k h q t : List ℕ) → k ≡ sealing client → claims_read q ≡ Ok (request_members client issuer p) → Sealed k h q t
     → request_read client issuer t ≡ Ok p
-read_of_payload client issuer p request request_uri registration k h q t key reads sealed = request_read-sealed client issuer p request request_uri registration h q t (rw (key) at sealed) reads
+read_of_payload client issuer p request request_uri registration k h q t key reads sealed = request_read-sealed client issuer p request request_uri registration h q t (record { secret = sealing client; own = seals_with_its_own client; sealed = rw (key) at sealed }) reads

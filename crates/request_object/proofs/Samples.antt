@@ -12,12 +12,13 @@ use Rattle.claim_set.specs.Reading.{claims_read, claims_text}
 use Rattle.claim_set.specs.declared.no.ClaimNo.TheVariants.{NotObject, WrongKind}
 use Rattle.claim_set.proofs.OnLiterals.{claims_on_literals}
 use Rattle.claim_set.proofs.Parsing.{read_reads}
-use Rattle.jws_compact.specs.Jws.{Sealed, header_bytes, seal_text}
+use Rattle.jws_compact.specs.Jws.{header_bytes, seal_text}
 use Rattle.jws_compact.specs.declared.sealing.Typ.TheVariants.{Jwt}
 use Rattle.jws_compact.specs.declared.no.JwsNo.TheVariants.{BadMac}
 use Rattle.jws_compact.specs.declared.no.JwsNo.TheVariants as jws
 use Rattle.jws_compact.proofs.OnLiterals.{jws_on_literals}
 use Rattle.client_registry.specs.declared.records.Client.{Client}
+use Rattle.client_keys.specs.Opening.{SealedFor, opening}
 use Rattle.request_params.specs.declared.params.Params.{Params}
 use Rattle.request_object.specs.declared.no.ObjNo.{ObjNo}
 use Rattle.request_object.specs.declared.no.ObjNo.TheVariants.{Jws, Claims, Issuer, Audience, Nested}
@@ -33,7 +34,7 @@ use Rattle.jws_compact.proofs.Written.{written_sealed}
 use Rattle.sso_base.proofs.Spelling.{IsBytes-from_all_bytes}
 
 abbrev shop : Client
-shop = record { id = codes "c"; secret = codes "key"; redirects = []; types = []; pairwise = false; asks_consent = false; logout = None; logout_session = false; redirect_urls = []; logout_url = None }
+shop = record { id = codes "c"; secret = codes "key"; old_secret = None; seals_old = false; redirects = []; types = []; pairwise = false; asks_consent = false; logout = None; logout_session = false; redirect_urls = []; logout_url = None }
 
 -- a request with a scope, an age and, where there is one, another request inside
 abbrev asking : Option (List ℕ) → Params
@@ -162,7 +163,7 @@ abbrev literal : List ℕ
 literal = seal_text (codes "key") Jwt (codes "{\"scope\":\"openid\",\"iss\":\"c\",\"aud\":[\"x\",\"i\"],\"max_age\":10, \"response_type\":\"code\",\"client_id\":\"c\",\"state\":\"\",\"exp\":1}")
 
 read-a_literal : request_read shop (codes "i") literal ≡ Ok plain
-unfolding jws_on_literals claims_on_literals request_read request_of first_in last_in judged
+unfolding jws_on_literals claims_on_literals opening request_read request_of first_in last_in judged
 read-a_literal = refl
 
 is_an_object : IsRequestObject shop (codes "i") literal plain
@@ -172,15 +173,27 @@ abbrev forged : List ℕ
 forged = seal_text (codes "yek") Jwt (codes "{}")
 
 read-under_another_key : request_read shop (codes "i") forged ≡ refused (Jws BadMac)
-unfolding jws_on_literals claims_on_literals request_read request_of first_in last_in judged
+unfolding jws_on_literals claims_on_literals opening request_read request_of first_in last_in judged
 read-under_another_key = refl
+
+-- the client with an old secret, under which that text is sealed; and the same where the old secret seals
+abbrev changing : Client
+changing = record shop { old_secret = Some (codes "yek") }
+
+read-under_the_old_secret : request_read changing (codes "i") forged ≡ Ok nothing
+unfolding jws_on_literals claims_on_literals opening request_read request_of first_in last_in judged
+read-under_the_old_secret = refl
+
+text-under_the_secret_that_seals : request_text (record changing { seals_old = true }) (codes "i") plain ≡ seal_text (codes "yek") Jwt (claims_text (request_members shop (codes "i") plain))
+unfolding request_text request_members
+text-under_the_secret_that_seals = refl
 
 no_object-under_another_key : IsRequestObject shop (codes "i") forged nothing → ⊥
 no_object-under_another_key h = let read = sym (object-request_read shop (codes "i") forged nothing h) ∙ read-under_another_key in cc read
 
 -- the premises of the laws on refusals are met: a payload that is no object, and a request inside
-sealed_as : (p : List ℕ) → list_all (λ b. nat_lt b 256) p ≡ true → length p ≤ 6000 → Sealed (codes "key") (header_bytes Jwt) p (seal_text (codes "key") Jwt p)
-sealed_as p bytes short = written_sealed (codes "key") p Jwt (IsBytes-from_all_bytes p bytes) short
+sealed_as : (p : List ℕ) → list_all (λ b. nat_lt b 256) p ≡ true → length p ≤ 6000 → SealedFor shop (header_bytes Jwt) p (seal_text (codes "key") Jwt p)
+sealed_as p bytes short = record { secret = codes "key"; own = refl; sealed = written_sealed (codes "key") p Jwt (IsBytes-from_all_bytes p bytes) short }
 
 not_an_object : claims_read (codes "[]") ≡ Err NotObject
 unfolding claims_on_literals

@@ -1,13 +1,13 @@
--- What a request object is, in the standard's words: a sealed claim set that contains the parameters of an authorization
--- request (OpenID Connect Core 1.0, 6.1). Then the errors for other texts, in order.
+-- What a request object is, in the standard's words: a claim set, sealed under a secret of the client, that contains the
+-- parameters of an authorization request (OpenID Connect Core 1.0, 6.1). Then the errors for other texts, in order.
 use Rattle.std.specs.Prelude.{◌≡◌, ◌⊎◌, ℕ, List, [], ◌∷◌, Bool, ◌||◌, Option, Some, None, option_map, option_and_then, is_some, codes, IsTrue, IfSome}
 use Rattle.sso_base.specs.Texts.{has_text, is_other}
 use Rattle.serde_json.specs.Data.{Data, string, Members}
 use Rattle.serde_json.specs.Find.{get_member, as_str}
 use Rattle.claim_set.specs.Kinds.{data_texts, another_kind}
 use Rattle.claim_set.specs.Reading.{Reads}
-use Rattle.jws_compact.specs.Jws.{Sealed}
 use Rattle.client_registry.specs.declared.records.Client.{Client}
+use Rattle.client_keys.specs.Opening.{SealedFor}
 use Rattle.request_params.specs.declared.params.Params.{Params}
 use Rattle.request_object.specs.declared.no.ObjNo.{ObjNo}
 use Rattle.request_object.specs.declared.no.ObjNo.TheVariants.{Claims, Issuer, Audience, Nested}
@@ -49,7 +49,7 @@ pub record IsRequestObject (client : Client) (issuer t : List ℕ) (p : Params) 
   pub header : List ℕ
   pub payload : List ℕ
   pub claims : Members
-  pub sealed : Sealed client.secret header payload t
+  pub sealed : SealedFor client header payload t
   pub reads : Reads payload claims
   pub has : HasRequest client issuer claims p
 

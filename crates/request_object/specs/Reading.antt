@@ -11,8 +11,8 @@ use Rattle.claim_set.specs.declared.no.ClaimNo.{ClaimNo}
 use Rattle.claim_set.specs.declared.no.ClaimNo.TheVariants as claims
 use Rattle.jws_compact.specs.declared.no.JwsNo.TheVariants as jws
 use Rattle.jws_compact.specs.declared.unsealing.Unsealed.{Unsealed}
-use Rattle.jws_compact.specs.Jws.{verdict}
 use Rattle.client_registry.specs.declared.records.Client.{Client}
+use Rattle.client_keys.specs.Opening.{verdict_for}
 use Rattle.request_params.specs.declared.params.Params.{Params}
 use Rattle.request_object.specs.declared.raw.FirstClaims.{FirstClaims}
 use Rattle.request_object.specs.declared.raw.LastClaims.{LastClaims}
@@ -107,7 +107,7 @@ request_of client issuer ms = and_then_as Claims (raw_in ms) (judged client issu
 -- the parameters in a text as a request object of the client for the issuer, or the first error that applies
 unfoldable pub request_read : Client → List ℕ → List ℕ → Result Params ObjNo
 request_read client issuer t =
-    and_then_as Jws (verdict client.secret t) (λ (o : Unsealed). and_then_as Claims (claims_read o.payload) (request_of client issuer))
+    and_then_as Jws (verdict_for client t) (λ (o : Unsealed). and_then_as Claims (claims_read o.payload) (request_of client issuer))
 
 -- `NoMemory` is wrapped in another error
 abbrev pub hides_memory : ObjNo → Bool

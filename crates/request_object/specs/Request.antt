@@ -7,6 +7,7 @@ use Rattle.claim_set.specs.Reading.{claims_text}
 use Rattle.jws_compact.specs.declared.sealing.Typ.TheVariants.{Jwt}
 use Rattle.jws_compact.specs.Jws.{seal_text}
 use Rattle.client_registry.specs.declared.records.Client.{Client}
+use Rattle.client_registry.specs.Secrets.{sealing}
 use Rattle.request_params.specs.declared.params.Params.{Params}
 
 -- the claims, by name, in the order of their names
@@ -35,6 +36,6 @@ request_entries client issuer p = first_entries client issuer p ++ last_entries 
 unfoldable pub request_members : Client → List ℕ → Params → Members
 request_members client issuer p = put_all (request_entries client issuer p) no_members
 
--- the text of a request object: its claim set, sealed under the client's secret
+-- the text of a request object: its claim set, sealed under the secret that the client seals with
 unfoldable pub request_text : Client → List ℕ → Params → List ℕ
-request_text client issuer p = seal_text client.secret Jwt (claims_text (request_members client issuer p))
+request_text client issuer p = seal_text (sealing client) Jwt (claims_text (request_members client issuer p))

@@ -3,8 +3,8 @@
 ghost use Rattle.std.specs.Prelude.{◌≡◌, ℕ, List, Ok, Err};
 ghost use Rattle.claim_set.specs.Fitting.{ClaimsFit};
 ghost use Rattle.jws_compact.specs.declared.no.JwsNo.{JwsNo};
-ghost use Rattle.jws_compact.specs.Jws.{verdict};
 ghost use Rattle.client_registry.specs.declared.records.Client.{Client};
+ghost use Rattle.client_keys.specs.Opening.{SealedFor, verdict_for};
 ghost use Rattle.request_params.specs.declared.params.Params.{Params};
 ghost use Rattle.request_object.specs.declared.no.ObjNo.TheVariants as no;
 ghost use Rattle.request_object.specs.Request.{request_members, request_text};
@@ -13,17 +13,17 @@ ghost use Rattle.request_object.specs.Reading.{request_read};
 ghost use Rattle.request_object.specs.Object.{IsRequestObject};
 ghost use Rattle.request_object.specs.Laws.{UnreadableClaimsAreRefused, RefusedObjectsHaveTheFirstReason, ObjectsWithoutReasonAreAccepted};
 
-/// A text is accepted if and only if it is a request object of the client for the issuer: a claim set, sealed under the
-/// client's secret, that contains the parameters (OpenID Connect Core 1.0, 6.1).
+/// A text is accepted if and only if it is a request object of the client for the issuer: a claim set, sealed under a
+/// secret of the client, that contains the parameters (OpenID Connect Core 1.0, 6.1).
 pub fn read_objects_are_request_objects()
     ensures object { (client : Client) (issuer t : List ℕ) (p : Params) → request_read client issuer t ≡ Ok p → IsRequestObject client issuer t p }
     ensures read { (client : Client) (issuer t : List ℕ) (p : Params) → IsRequestObject client issuer t p → request_read client issuer t ≡ Ok p }
 {}
 
-/// A text that is no request object is rejected for the first of these reasons. It is not sealed under the client's secret; its
-/// payload is no claim set; or a condition of `request_refusals` is true, the first of which counts.
+/// A text that is no request object is rejected for the first of these reasons. It is sealed under no secret of the client;
+/// its payload is no claim set; or a condition of `request_refusals` is true, the first of which counts.
 pub fn refused_objects_have_the_first_reason()
-    ensures unopened { (client : Client) (issuer t : List ℕ) (e : JwsNo) → verdict client.secret t ≡ Err e → request_read client issuer t ≡ Err (no.Jws e) }
+    ensures unopened { (client : Client) (issuer t : List ℕ) (e : JwsNo) → verdict_for client t ≡ Err e → request_read client issuer t ≡ Err (no.Jws e) }
     ensures unread { UnreadableClaimsAreRefused }
     ensures refused { RefusedObjectsHaveTheFirstReason }
     ensures accepted { ObjectsWithoutReasonAreAccepted }
@@ -34,7 +34,7 @@ pub fn parameters_of_their_types_fit()
     ensures { (client : Client) (issuer : List ℕ) (p : Params) → HasTexts client issuer p → ClaimsFit (request_members client issuer p) }
 {}
 
-/// Reading the text that is written for parameters, with the same client's secret and for the same issuer, returns these
+/// Reading the text that is written for parameters, of the same client and for the same issuer, returns these
 /// parameters.
 pub fn sealed_requests_are_read()
     ensures { (client : Client) (issuer : List ℕ) (p : Params) → IsSealable client issuer p → request_read client issuer (request_text client issuer p) ≡ Ok p }

@@ -1,6 +1,6 @@
 //! Request objects: authorization requests whose parameters are signed by the client (OpenID Connect Core 1.0, 6.1).
 //!
-//! A request object is a sealed text (RFC 7515, 3.1) under the client's secret. Its payload is a claim set that contains the
+//! A request object is a sealed text (RFC 7515, 3.1) under a secret of the client. Its payload is a claim set that contains the
 //! parameters of the request by name, with the client as `iss` and the provider's issuer as `aud`.
 //!
 //! | Module | What it has |

@@ -9,6 +9,7 @@ ghost use Rattle.request_object.specs.Reading.{lacks as lacks_text, judged, requ
 use crate::no::ObjNo;
 use crate::raw::{RawRequest, raw_claims};
 use claim_set::{ClaimSet, read_claims};
+use client_keys::opening_key;
 use client_registry::Client;
 use jws_compact::unseal;
 use request_params::Params;
@@ -92,7 +93,8 @@ fn opened(alloc: Global, client: &Client, issuer: &Text, text: &[u8]) -> Result<
     ensures refuses { IfErr result (λ e. (e ≡ ObjNo.NoMemory) ⊎ (request_read client.now issuer.now text.now ≡ Err e)) }
     ensures memory_is_outermost { IfErr result (λ e. IsFalse (hides_memory e)) }
 {
-    let opened = unseal(alloc, client.secret.as_str().as_bytes(), text)?;
+    let key = opening_key(alloc, client, text)?;
+    let opened = unseal(alloc, key.as_str().as_bytes(), text)?;
     let claims = read_claims(alloc, opened.payload.as_bytes())?;
     request_in(alloc, client, issuer, &claims)
 }
@@ -104,8 +106,8 @@ fn opened(alloc: Global, client: &Client, issuer: &Text, text: &[u8]) -> Result<
 /// `claims` an object, which is read as its JSON text. An empty string is a value. `iss` and `aud` may be absent; `exp`,
 /// `iat`, `nbf`, `jti` and all other claims are ignored.
 ///
-/// Accepts exactly the request objects of this client for this issuer. For any other text it returns the first error that
-/// applies, in the order of [`ObjNo`]. `NoMemory` is never wrapped in another error.
+/// Accepts exactly the request objects of this client for this issuer, sealed under either of its secrets. For any other text
+/// it returns the first error that applies, in the order of [`ObjNo`]. `NoMemory` is never wrapped in another error.
 pub fn unseal_request(
     alloc: Global,
     client: &Client,

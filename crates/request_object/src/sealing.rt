@@ -1,4 +1,4 @@
-// Writing a request object: the parameters as a claim set, sealed under the client's secret.
+// Writing a request object: the parameters as a claim set, sealed under the secret that the client seals with.
 
 ghost use Rattle.std.specs.Prelude.{◌≡◌, ◌≤◌, IfOk, OnOk, Ok, None, length};
 ghost use Rattle.claim_set.specs.Building.{put_all};
@@ -72,8 +72,8 @@ pub fn written_len(
 }
 
 /// The request object with these parameters, of the client for the provider with this issuer. Its claims are `iss`, the
-/// client's identifier, `aud`, the issuer, and each parameter that is present, as a string. It is sealed under the client's
-/// secret (OpenID Connect Core 1.0, 6.1). Reading it returns the same parameters.
+/// client's identifier, `aud`, the issuer, and each parameter that is present, as a string. It is sealed under the
+/// secret that the client seals with (OpenID Connect Core 1.0, 6.1). Reading it returns the same parameters.
 ///
 /// The written claims have at most 6,000 bytes; [`written_len`] tests this. `request`, `request_uri` and `registration` are
 /// absent.
@@ -91,6 +91,6 @@ pub fn seal_request(
     ensures reads_back { IfOk result (λ t. request_read client.now issuer.now t ≡ Ok params.now) }
 {
     let payload = write_claims(&request_set(alloc, client, issuer, params)?)?;
-    let key = client.secret.as_str();
+    let key = client.sealing().as_str();
     jws_compact::seal(alloc, key.as_bytes(), Typ::Jwt, payload.as_bytes())
 }

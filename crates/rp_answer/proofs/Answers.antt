@@ -4,22 +4,25 @@ use Rattle.sso_base.specs.Words.{Word, Text}
 use Rattle.sso_base.specs.declared.history.Entry.{Entry}
 use Rattle.sso_base.specs.declared.message.Message.{Message}
 use Rattle.auth_answer.specs.declared.no.AnswerNo.TheVariants as answer_no
+use Rattle.rp_login.specs.declared.rows.DeadRow.{DeadRow}
 use Rattle.rp_login.specs.declared.rows.SessionRow.{SessionRow}
 use Rattle.rp_login.specs.declared.rows.Stage.TheVariants as stage
 use Rattle.rp_exchange.specs.declared.ask.RpAsk.{RpAsk}
 use Rattle.rp_exchange.specs.declared.ask.RpAsk.TheVariants as ask
+use Rattle.rp_exchange.specs.declared.no.RpNo.TheVariants as no
 use Rattle.rp_exchange.specs.declared.reply.RpReply.{RpReply}
-use Rattle.rp_exchange.specs.declared.reply.RpReply.TheVariants.{Ask, Fragment, Exchange, Fetch, Entered, User, Nobody, Left, Ended}
+use Rattle.rp_exchange.specs.declared.reply.RpReply.TheVariants.{Ask, Fragment, Exchange, Fetch, Entered, User, Nobody, Left, Ended, Refused}
 use Rattle.rp_exchange.specs.Asks.{is_prepared}
 use Rattle.rp_answer.specs.Past.{RpPast}
 use Rattle.rp_answer.specs.Setup.{PartySetup, party_of}
 use Rattle.rp_answer.specs.Pendings.{live_pending}
 use Rattle.rp_answer.specs.Visits.{live_visit}
 use Rattle.rp_answer.specs.Replies.{visited}
-use Rattle.rp_answer.specs.Answering.{rp_reply, rp_answer}
+use Rattle.rp_answer.specs.Alive.{dead_for, unless_dead}
+use Rattle.rp_answer.specs.Answering.{rp_reply, rp_told, rp_answer}
 use Rattle.rp_answer.specs.Causes.{is_own, AskCause, FragmentCause, ExchangeCause, FetchCause, EnteredCause, UserCause, NobodyCause, LeftCause, EndedCause}
 use Rattle.rp_answer.proofs.Stood.{own_replies_stand}
-use Rattle.rp_answer.proofs.Caused.{Caused}
+use Rattle.rp_answer.proofs.Caused.{Caused, ToldCaused}
 use Rattle.rp_answer.proofs.Responses.{responses_caused}
 use Rattle.rp_answer.proofs.TokenResponses.{tokens_caused}
 use Rattle.rp_answer.proofs.InfoResponses.{infos_caused}
@@ -43,12 +46,23 @@ module _ (s : PartySetup) (past : RpPast) (e : Entry RpAsk) where
   replies_caused (ask.Logout claims) prepared = logouts_caused s past e claims
   replies_caused ask.NotHere prepared = tt
 
+  -- a session begins where no logout came first, and is refused where one did
+  told_by : (asked : RpAsk) (reply : RpReply) (found : Option DeadRow) → dead_for (party_of s).types past e.at asked ≡ found → Caused s past e asked reply → ToldCaused s past e asked (unless_dead reply found)
+  told_by asked (Entered w sub) None is cause = record { enters = cause; alive = is }
+  told_by asked (Entered w sub) (Some row) is cause = record { word = w; sub = sub; enters = cause; dead = row; remembered = is; place_is = refl }
+  told_by asked (Refused (no.Full table)) found is cause = absurd cause
+  told_by asked (Refused (no.EndedSid place)) found is cause = absurd cause
+  told_by asked reply found is cause = cause
+
+  pub told_caused : (asked : RpAsk) → is_prepared asked ≡ true → ToldCaused s past e asked (rp_told s past e asked)
+  told_caused asked prepared = told_by asked (rp_reply s past e asked) (dead_for (party_of s).types past e.at asked) refl (replies_caused asked prepared)
+
   -- a reply that is the relying party's own has its cause
-  pub own_replies_caused : (reply : RpReply) → is_own reply ≡ true → rp_answer s past e ≡ reply → Caused s past e e.ask reply
+  pub own_replies_caused : (reply : RpReply) → is_own reply ≡ true → rp_answer s past e ≡ reply → ToldCaused s past e e.ask reply
   own_replies_caused reply own h =
       let stood = own_replies_stand s past e reply own h in
-      let C : RpReply → Type 0 = Caused s past e e.ask in
-      subst C stood.reply_is (replies_caused e.ask stood.prepared)
+      let C : RpReply → Type 0 = ToldCaused s past e e.ask in
+      subst C stood.reply_is (told_caused e.ask stood.prepared)
 
   pub asks_have_a_cause : (to : Text) (browser : Word) → rp_answer s past e ≡ Ask to browser → AskCause s past e e.ask to browser
   asks_have_a_cause to browser h = own_replies_caused (Ask to browser) refl h

@@ -110,7 +110,7 @@ no_code_is_exchanged : (w : Word) (message : Message) → ExchangeCause shop_set
 no_code_is_exchanged w message h = h
 
 nobody_enters : (w : Word) (sub : Text) → EnteredCause shop_setup [] begin_entry (ask.Visit None) w sub → ⊥
-nobody_enters w sub h = h
+nobody_enters w sub h = h.enters
 
 nothing_is_refused : (why : RpNo) → RefusedCause shop_setup [] begin_entry (ask.Visit None) why → ⊥
 nothing_is_refused why h = h

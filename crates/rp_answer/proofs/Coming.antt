@@ -11,7 +11,7 @@ use Rattle.rp_exchange.specs.Asks.{is_prepared}
 use Rattle.rp_answer.specs.Past.{RpPast}
 use Rattle.rp_answer.specs.Setup.{PartySetup, party_of}
 use Rattle.rp_answer.specs.Room.{table_lacking}
-use Rattle.rp_answer.specs.Answering.{rp_reply, rp_answer}
+use Rattle.rp_answer.specs.Answering.{rp_told, rp_answer}
 use Rattle.rp_answer.specs.Causes.{is_own, Stood, Comes}
 use Rattle.rp_answer.specs.FullTables.{LacksPlace}
 use Rattle.rp_answer.proofs.Stood.{own_replies_stand, standing_is_the_answer}
@@ -27,7 +27,7 @@ module _ (s : PartySetup) (past : RpPast) (e : Entry RpAsk) where
   has_place : (told : RpReply) → Stood s past e told → (found : RpTable) → Lacks told found → ⊥
   has_place told stood found none = (let k : Some found ≡ None = sym (place_lacks s past e told found stood.prepared stood.reply_is none) ∙ stood.room in cc)
 
-  room_by : (told : RpReply) (found : Option RpTable) → lacking told ≡ found → is_prepared e.ask ≡ true → rp_reply s past e e.ask ≡ told → ((t : RpTable) → Lacks told t → ⊥) → lacking told ≡ None
+  room_by : (told : RpReply) (found : Option RpTable) → lacking told ≡ found → is_prepared e.ask ≡ true → rp_told s past e e.ask ≡ told → ((t : RpTable) → Lacks told t → ⊥) → lacking told ≡ None
   room_by told (Some found) is prepared told_is placed = absurd (placed found (lacks_place s past e told found prepared told_is is))
   room_by told None is prepared told_is placed = is
 
@@ -36,7 +36,7 @@ module _ (s : PartySetup) (past : RpPast) (e : Entry RpAsk) where
       let stood = own_replies_stand s past e told own h in
       record { prepared = stood.prepared; placed = has_place told stood; why = leads h }
 
-  pub came : (told : RpReply) (Cause : Type 0) → (Cause → rp_reply s past e e.ask ≡ told) → Comes s past e told Cause → rp_answer s past e ≡ told
+  pub came : (told : RpReply) (Cause : Type 0) → (Cause → rp_told s past e e.ask ≡ told) → Comes s past e told Cause → rp_answer s past e ≡ told
   came told Cause leads h =
       let told_is = leads h.why in
       standing_is_the_answer s past e told (record { prepared = h.prepared; room = room_by told (lacking told) refl h.prepared told_is h.placed; reply_is = told_is })

@@ -24,7 +24,7 @@ use Rattle.rp_answer.specs.Setup.{PartySetup, party_of}
 use Rattle.rp_answer.specs.Pendings.{pending_of}
 use Rattle.rp_answer.specs.Visits.{nonce_by, visit_of, visit_after, visit_by}
 use Rattle.rp_answer.specs.Answering.{rp_answer}
-use Rattle.rp_answer.specs.Causes.{EnteredCause}
+use Rattle.rp_answer.specs.Causes.{MayEnter}
 use Rattle.rp_answer.specs.Legal.{IsLegalRp, JudgedFor, LoginEntered, login_entered_by, place_of_login, place_of_pending}
 use Rattle.rp_answer.proofs.Answers.{entered_have_a_cause}
 use Rattle.rp_answer.proofs.Sending.{login_found, pending_found, pending_waits, stage_same}
@@ -74,7 +74,7 @@ module _ (s : PartySetup) (past : RpPast) (e : Entry RpAsk) where
   types = (party_of s).types
 
   entered_at_once : (heard : Heard) (id : Option (Result IdClaims IdNo)) (browser : Option Word) (w : Word) (sub : Text) → e.ask ≡ ask.Callback (Ok heard) id browser
-      → EnteredCause s past e (ask.Callback (Ok heard) id browser) w sub → LoginEntered s past e w sub
+      → MayEnter s past e (ask.Callback (Ok heard) id browser) w sub → LoginEntered s past e w sub
   entered_at_once heard id browser w sub is cause =
       let token = front_token s e cause.login heard id browser cause.claims is cause.accepted in
       let J : RpAsk → Option IdClaims = judged_of s in
@@ -93,7 +93,7 @@ module _ (s : PartySetup) (past : RpPast) (e : Entry RpAsk) where
       }
 
   entered_after_exchange : IsLegalRp s past → (pending : Word) (came : Tokens) (id : Option (Result IdClaims IdNo)) (w : Word) (sub : Text) → e.ask ≡ ask.Tokens pending (Ok came) id
-      → EnteredCause s past e (ask.Tokens pending (Ok came) id) w sub → LoginEntered s past e w sub
+      → MayEnter s past e (ask.Tokens pending (Ok came) id) w sub → LoginEntered s past e w sub
   entered_after_exchange legal pending came id w sub is cause =
       let exchange : PendingRow = cause.exchange in
       let there : pending_of types past pending ≡ Some exchange = pending_found types past e.at pending stage.Tokens exchange cause.live in
@@ -116,7 +116,7 @@ module _ (s : PartySetup) (past : RpPast) (e : Entry RpAsk) where
       }
 
   entered_after_info : IsLegalRp s past → (pending : Word) (came : Text) (w : Word) (sub : Text) → e.ask ≡ ask.Info pending (Ok came)
-      → EnteredCause s past e (ask.Info pending (Ok came)) w sub → LoginEntered s past e w sub
+      → MayEnter s past e (ask.Info pending (Ok came)) w sub → LoginEntered s past e w sub
   entered_after_info legal pending came w sub is cause =
       let exchange : PendingRow = cause.exchange in
       let there : pending_of types past pending ≡ Some exchange = pending_found types past e.at pending stage.Info exchange cause.live in
@@ -145,7 +145,7 @@ module _ (s : PartySetup) (past : RpPast) (e : Entry RpAsk) where
             ∙ visit_left e.at w by.login.nonce sub by.claims.sid exchange by.nonce_is (by.sub_is ∙ ap (λ (t : Text). Some t) name) by.sid_is;
       }
 
-  entered_by : IsLegalRp s past → (asked : RpAsk) (w : Word) (sub : Text) → e.ask ≡ asked → EnteredCause s past e asked w sub → LoginEntered s past e w sub
+  entered_by : IsLegalRp s past → (asked : RpAsk) (w : Word) (sub : Text) → e.ask ≡ asked → MayEnter s past e asked w sub → LoginEntered s past e w sub
   entered_by legal (ask.Callback (Ok heard) id browser) w sub is cause = entered_at_once heard id browser w sub is cause
   entered_by legal (ask.Tokens pending (Ok came) id) w sub is cause = entered_after_exchange legal pending came id w sub is cause
   entered_by legal (ask.Info pending (Ok came)) w sub is cause = entered_after_info legal pending came w sub is cause
@@ -154,4 +154,4 @@ module _ (s : PartySetup) (past : RpPast) (e : Entry RpAsk) where
 pub sessions_need_a_login : (s : PartySetup) (later earlier : RpPast) (p : RpPair) (w : Word) (sub : Text) → IsLegalRp s (later ++ p ∷ earlier)
     → p.reply ≡ reply.Entered w sub → LoginEntered s earlier p.entry w sub
 sessions_need_a_login s later earlier p w sub legal replied =
-    entered_by s earlier p.entry (earlier_is_legal IsRpAsk (rp_answer s) later (p ∷ earlier) legal).0 p.entry.ask w sub refl (entered_have_a_cause s earlier p.entry w sub (sym (legal_reply IsRpAsk (rp_answer s) later earlier p legal) ∙ replied))
+    entered_by s earlier p.entry (earlier_is_legal IsRpAsk (rp_answer s) later (p ∷ earlier) legal).0 p.entry.ask w sub refl (entered_have_a_cause s earlier p.entry w sub (sym (legal_reply IsRpAsk (rp_answer s) later earlier p legal) ∙ replied)).enters

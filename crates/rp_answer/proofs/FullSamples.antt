@@ -19,7 +19,7 @@ use Rattle.rp_answer.specs.FullTables.{NoLoginPlace, NoPendingPlace, NoSessionPl
 use Rattle.rp_answer.specs.Answering.{rp_answer}
 use Rattle.rp_answer.proofs.Answers.{asks_have_a_cause}
 use Rattle.rp_answer.proofs.Coming.{comes, came}
-use Rattle.rp_answer.proofs.Leading.{ask_leads}
+use Rattle.rp_answer.proofs.Told.{ask_leads}
 use Rattle.rp_answer.proofs.FullTables.{full_has_a_cause, cause_makes_full}
 use Rattle.rp_answer.proofs.Sample.{word, entry_at, op, only_code, shop_client, shop, shop_uri, shop_setup, news_setup}
 use Rattle.rp_answer.proofs.FirstVisit.{begin_entry, asked, begin_asks, past_begin, callback_entry, exchange, past_callback, tokens_entry}

@@ -22,12 +22,12 @@ use Rattle.rp_answer.specs.Pendings.{live_pendings}
 use Rattle.rp_answer.specs.Visits.{live_visits}
 use Rattle.rp_answer.specs.Seens.{live_seens}
 use Rattle.rp_answer.specs.Room.{if_full, beside_answered, seen_lacking, table_lacking, unless_lacking}
-use Rattle.rp_answer.specs.Answering.{rp_reply, rp_answer}
-use Rattle.rp_answer.specs.Causes.{ExchangeCause, EnteredCause}
+use Rattle.rp_answer.specs.Answering.{rp_told, rp_answer}
+use Rattle.rp_answer.specs.Causes.{ExchangeCause, MayEnter}
 use Rattle.rp_answer.specs.FullTables.{LacksPlace, FullCause}
 use Rattle.rp_answer.proofs.Stood.{full_or_replied}
-use Rattle.rp_answer.proofs.Caused.{Caused}
-use Rattle.rp_answer.proofs.Answers.{replies_caused}
+use Rattle.rp_answer.proofs.Caused.{ToldCaused}
+use Rattle.rp_answer.proofs.Answers.{told_caused}
 
 -- a table that lacks room is this one, and is full
 lacks : (this found : RpTable) (full : Bool) → if_full this full ≡ Some found → (this ≡ found) × (full ≡ true)
@@ -46,8 +46,8 @@ module _ (s : PartySetup) (past : RpPast) (e : Entry RpAsk) where
 
   -- ---- what the replies that make a row are to
 
-  caused : (told : RpReply) → is_prepared e.ask ≡ true → rp_reply s past e e.ask ≡ told → Caused s past e e.ask told
-  caused told prepared h = let C : RpReply → Type 0 = Caused s past e e.ask in subst C h (replies_caused s past e e.ask prepared)
+  caused : (told : RpReply) → is_prepared e.ask ≡ true → rp_told s past e e.ask ≡ told → ToldCaused s past e e.ask told
+  caused told prepared h = let C : RpReply → Type 0 = ToldCaused s past e e.ask in subst C h (told_caused s past e e.ask prepared)
 
   -- a code is exchanged on an authorization response, which ends no exchange
   none_answered : (asked : RpAsk) (w : Word) (message : Message) → ExchangeCause s past e asked w message → beside_answered asked rows_pending ≡ rows_pending
@@ -55,7 +55,7 @@ module _ (s : PartySetup) (past : RpPast) (e : Entry RpAsk) where
   none_answered other w message cause = absurd cause
 
   -- the word of a session is drawn
-  enters_drawn : (asked : RpAsk) (w : Word) (sub : Text) → EnteredCause s past e asked w sub → w ≡ fresh_word e.fresh 1
+  enters_drawn : (asked : RpAsk) (w : Word) (sub : Text) → MayEnter s past e asked w sub → w ≡ fresh_word e.fresh 1
   enters_drawn (ask.Callback (Ok heard) id browser) w sub cause = sym cause.drawn
   enters_drawn (ask.Tokens pending (Ok came) id) w sub cause = sym cause.drawn
   enters_drawn (ask.Info pending (Ok came)) w sub cause = sym cause.drawn
@@ -70,7 +70,7 @@ module _ (s : PartySetup) (past : RpPast) (e : Entry RpAsk) where
       subst L full.0 (record { claims = claims; asked = is; count = count; accepted = refl; full = no_place seen_name claims.jti (live_seens past e.at) full.1 })
   seen_place asked count found is h = cc
 
-  pub lacks_place : (told : RpReply) (found : RpTable) → is_prepared e.ask ≡ true → rp_reply s past e e.ask ≡ told → lacking told ≡ Some found → Lacks told found
+  pub lacks_place : (told : RpReply) (found : RpTable) → is_prepared e.ask ≡ true → rp_told s past e e.ask ≡ told → lacking told ≡ Some found → Lacks told found
   lacks_place (Ask to browser) found prepared is h =
       let full = lacks table.Logins found (is_full most_rows login_name (fresh_word e.fresh 1) (live_logins past e.at)) h in
       let L : RpTable → Type 0 = λ t. Lacks (Ask to browser) t in
@@ -88,7 +88,7 @@ module _ (s : PartySetup) (past : RpPast) (e : Entry RpAsk) where
   lacks_place (Entered w sub) found prepared is h =
       let rows = live_visits (party_of s).types past e.at in
       let full = lacks table.Sessions found (is_full most_rows visit_name w rows) h in
-      let drawn = enters_drawn e.ask w sub (caused (Entered w sub) prepared is) in
+      let drawn = enters_drawn e.ask w sub (caused (Entered w sub) prepared is).enters in
       let N : Word → RpReply = λ v. Entered v sub in
       let F : Word → Bool = λ v. is_full most_rows visit_name v rows in
       let L : RpTable → Type 0 = λ t. Lacks (Entered w sub) t in
@@ -98,7 +98,7 @@ module _ (s : PartySetup) (past : RpPast) (e : Entry RpAsk) where
 
   -- ---- and the other way round
 
-  pub place_lacks : (told : RpReply) (found : RpTable) → is_prepared e.ask ≡ true → rp_reply s past e e.ask ≡ told → Lacks told found → lacking told ≡ Some found
+  pub place_lacks : (told : RpReply) (found : RpTable) → is_prepared e.ask ≡ true → rp_told s past e e.ask ≡ told → Lacks told found → lacking told ≡ Some found
   place_lacks told table.Logins prepared is none =
       let F : Bool → Option RpTable = λ b. if_full table.Logins b in
       ap lacking none.begins ∙ ap F (full_by login_name (fresh_word e.fresh 1) (live_logins past e.at) none.full)
@@ -124,22 +124,22 @@ module _ (s : PartySetup) (past : RpPast) (e : Entry RpAsk) where
 
   -- a reply without regard to room is never Full
   lacks_room : (found : RpTable) → is_prepared e.ask ≡ true
-      → (lacking (rp_reply s past e e.ask) ≡ Some found) ⊎ (rp_reply s past e e.ask ≡ Refused (no.Full found)) → lacking (rp_reply s past e e.ask) ≡ Some found
+      → (lacking (rp_told s past e e.ask) ≡ Some found) ⊎ (rp_told s past e e.ask ≡ Refused (no.Full found)) → lacking (rp_told s past e e.ask) ≡ Some found
   lacks_room found prepared (inl h) = h
   lacks_room found prepared (inr h) = absurd (caused (Refused (no.Full found)) prepared h)
 
-  pub full_lacks : (found : RpTable) → rp_answer s past e ≡ Refused (no.Full found) → (is_prepared e.ask ≡ true) × (lacking (rp_reply s past e e.ask) ≡ Some found)
+  pub full_lacks : (found : RpTable) → rp_answer s past e ≡ Refused (no.Full found) → (is_prepared e.ask ≡ true) × (lacking (rp_told s past e e.ask) ≡ Some found)
   full_lacks found h = let told = full_or_replied s past e found h in (told.0, lacks_room found told.0 told.1)
 
   pub full_has_a_cause : (found : RpTable) → rp_answer s past e ≡ Refused (no.Full found) → FullCause s past e found
   full_has_a_cause found h =
       let told = full_lacks found h in
-      record { prepared = told.0; no_place = lacks_place (rp_reply s past e e.ask) found told.0 refl told.1 }
+      record { prepared = told.0; no_place = lacks_place (rp_told s past e e.ask) found told.0 refl told.1 }
 
   pub cause_makes_full : (found : RpTable) → FullCause s past e found → rp_answer s past e ≡ Refused (no.Full found)
   unfolding rp_answer
   cause_makes_full found cause =
-      let told : RpReply = rp_reply s past e e.ask in
+      let told : RpReply = rp_told s past e e.ask in
       let P : Bool → RpReply = λ b. cond b (unless_lacking told (lacking told)) NotHere in
       let U : Option RpTable → RpReply = λ o. unless_lacking told o in
       ap P cause.prepared ∙ ap U (place_lacks told found cause.prepared refl cause.no_place)

@@ -7,13 +7,15 @@ use Rattle.rp_login.specs.declared.rows.LoginRow.{LoginRow}
 use Rattle.rp_login.specs.declared.rows.PendingRow.{PendingRow}
 use Rattle.rp_login.specs.declared.rows.SessionRow.{SessionRow}
 use Rattle.rp_login.specs.declared.rows.SeenRow.{SeenRow}
-use Rattle.rp_login.specs.Rows.{login_name, pending_name, visit_name, seen_name}
+use Rattle.rp_login.specs.declared.rows.DeadRow.{DeadRow}
+use Rattle.rp_login.specs.Rows.{login_name, pending_name, visit_name, seen_name, dead_name}
 use Rattle.rp_answer.specs.Asked.{state_named, token_accepted}
 use Rattle.rp_answer.specs.Past.{RpPair, RpPast}
 use Rattle.rp_answer.specs.Logins.{login_kept, ends_login}
 use Rattle.rp_answer.specs.Pendings.{pending_kept, answer_named, is_answered, ends_pending}
 use Rattle.rp_answer.specs.Visits.{session_left, is_named, visit_kept}
 use Rattle.rp_answer.specs.Seens.{seen_kept}
+use Rattle.rp_answer.specs.Deads.{dead_kept}
 
 -- what is inside
 pub some_same : {R : Type 0} (r s : R) → Some r ≡ Some s → r ≡ s
@@ -35,6 +37,9 @@ visit_same past p row after h = dropped_same (is_word (session_left p.entry.ask 
 pub seen_same : (past : RpPast) (p : RpPair) (row after : SeenRow) → seen_kept past p row ≡ Some after → after ≡ row
 seen_same past p row after h = sym (some_same row after h)
 
+pub dead_same : (past : RpPast) (p : RpPair) (row after : DeadRow) → dead_kept past p row ≡ Some after → after ≡ row
+dead_same past p row after h = sym (some_same row after h)
+
 pub login_names : KeepsNames login_name login_kept
 login_names past p row after h = ap login_name (login_same past p row after h)
 
@@ -46,6 +51,9 @@ visit_names past p row after h = ap visit_name (visit_same past p row after h)
 
 pub seen_names : KeepsNames seen_name seen_kept
 seen_names past p row after h = ap seen_name (seen_same past p row after h)
+
+pub dead_names : KeepsNames dead_name dead_kept
+dead_names past p row after h = ap dead_name (dead_same past p row after h)
 
 -- ---- a row that no pair changes is as it was made
 

@@ -1,4 +1,4 @@
--- What each cause leads to: the reply that there is, were there always room.
+-- What each cause leads to: the reply that there is, were there always room and had no logout come first.
 use Rattle.std.proofs.Common.{◌≡◌, ℕ, Bool, true, false, cond, Option, Some, None, Result, Ok, Err, refl, sym, ◌∙◌, ap, inl, inr}
 use Rattle.sso_base.specs.Words.{Word, Text, fresh_word}
 use Rattle.sso_base.specs.Texts.{is_other}
@@ -33,7 +33,7 @@ use Rattle.rp_answer.specs.Logins.{live_login}
 use Rattle.rp_answer.specs.Pendings.{live_pending}
 use Rattle.rp_answer.specs.Replies.{front_access, front_code, front_rules, back_rules, part_missing, info_endpoint, exchange, entered, fetch_or_enter, exchange_or_enter, front_judged, front_read, response_parts, response_error, response_of, response_to, back_accepted, back_judged, back_read, tokens, info, visited, logout_new, logout_good, logout}
 use Rattle.rp_answer.specs.Answering.{rp_reply}
-use Rattle.rp_answer.specs.Causes.{is_own, OwnLogin, WholeResponse, GoodClaims, IdRefused, IfGood, NotFetched, AskCause, FragmentCause, ExchangeCause, FetchCause, EnteredCause, UserCause, NobodyCause, LeftCause, EndedCause, ResponseRefused, TokensRefused, InfoRefused, LogoutRefused, RefusedCause}
+use Rattle.rp_answer.specs.Causes.{OwnLogin, WholeResponse, GoodClaims, IdRefused, IfGood, NotFetched, AskCause, FragmentCause, ExchangeCause, FetchCause, MayEnter, UserCause, NobodyCause, LeftCause, EndedCause, ResponseRefused, TokensRefused, InfoRefused, LogoutRefused, RefusedCause}
 
 -- ---- replies with equal parts are equal
 
@@ -48,6 +48,12 @@ same_fetch p q = cc
 
 same_entered : {w v : Word} {x y : Text} → w ≡ v → x ≡ y → Entered w x ≡ Entered v y
 same_entered p q = cc
+
+-- a refusal that is neither Full nor EndedSid
+abbrev pub is_plain : RpNo → Bool
+is_plain (no.Full table) = false
+is_plain (no.EndedSid place) = false
+is_plain other = true
 
 module _ (s : PartySetup) (past : RpPast) (e : Entry RpAsk) where
   -- UserInfo is not asked for
@@ -105,7 +111,7 @@ module _ (s : PartySetup) (past : RpPast) (e : Entry RpAsk) where
     front_refused login why (Some (Err read)) bad = let R : IdNo → RpReply = λ x. Refused (no.Id x) in ap R bad
     front_refused login why (Some (Ok claims)) bad = let J : Result (Unit {0}) IdNo → RpReply = λ j. front_judged s e heard claims j in ap J bad.judged
 
-    response_refused : (why : RpNo) → is_own (Refused why) ≡ true → ResponseRefused s past e heard id browser why → reply_to ≡ Refused why
+    response_refused : (why : RpNo) → is_plain why ≡ true → ResponseRefused s past e heard id browser why → reply_to ≡ Refused why
     response_refused no.NoState own cause = let R : Option Word → RpReply = λ o. response_to s past e heard id browser o in ap R cause
     response_refused no.StaleLogin own cause =
         let R : Option Word → RpReply = λ o. response_to s past e heard id browser o in
@@ -123,6 +129,7 @@ module _ (s : PartySetup) (past : RpPast) (e : Entry RpAsk) where
         let M : Part → RpReply = λ x. Refused (no.Missing x) in
         whole_response cause.login cause.response ∙ (ap F cause.no_id ∙ (ap C cause.no_code ∙ ap M (sym cause.part_is)))
     response_refused (no.Id why) own cause = whole_response cause.login cause.response ∙ front_refused cause.login why wanted_id cause.refused
+    response_refused (no.EndedSid place) own cause = cc
     response_refused (no.Full table) own cause = cc
     response_refused other own cause = absurd cause
 
@@ -148,7 +155,7 @@ module _ (s : PartySetup) (past : RpPast) (e : Entry RpAsk) where
     back_refused pending why (Some (Err read)) bad = let R : IdNo → RpReply = λ x. Refused (no.Id x) in ap R bad
     back_refused pending why (Some (Ok claims)) bad = let J : Result (Unit {0}) IdNo → RpReply = λ j. back_judged s e pending came claims j in ap J bad.judged
 
-  tokens_refused : (w : Word) (came : Result Tokens TokensNo) (id : Option (Result IdClaims IdNo)) (why : RpNo) → is_own (Refused why) ≡ true → TokensRefused s past e w came id why
+  tokens_refused : (w : Word) (came : Result Tokens TokensNo) (id : Option (Result IdClaims IdNo)) (why : RpNo) → is_plain why ≡ true → TokensRefused s past e w came id why
       → tokens s e (live_pending (party_of s).types past e.at w stage.Tokens) came id ≡ Refused why
   tokens_refused w came id no.StalePending own cause = let L : Option PendingRow → RpReply = λ o. tokens s e o came id in ap L cause
   tokens_refused w (Err came) id (no.Tokens why) own cause =
@@ -157,6 +164,7 @@ module _ (s : PartySetup) (past : RpPast) (e : Entry RpAsk) where
       ap L cause.live ∙ ap T cause.failed
   tokens_refused w (Ok came) id (no.Id why) own cause = back_answered w came id cause.exchange cause.live ∙ back_refused w came id cause.exchange why id cause.refused
   tokens_refused w (Ok came) id no.SubjectDiffers own cause = back_good w came id cause.exchange cause.claims true cause.live cause.accepted cause.other
+  tokens_refused w came id (no.EndedSid place) own cause = cc
   tokens_refused w came id (no.Full table) own cause = cc
   tokens_refused w came id other own cause = absurd cause
 
@@ -169,7 +177,7 @@ module _ (s : PartySetup) (past : RpPast) (e : Entry RpAsk) where
       let B : Bool → RpReply = λ b. cond b (Refused no.SubjectDiffers) (entered e sub) in
       ap L live ∙ ap B is
 
-  info_refused : (w : Word) (came : Result Text InfoNo) (why : RpNo) → is_own (Refused why) ≡ true → InfoRefused s past e w came why
+  info_refused : (w : Word) (came : Result Text InfoNo) (why : RpNo) → is_plain why ≡ true → InfoRefused s past e w came why
       → info e (live_pending (party_of s).types past e.at w stage.Info) came ≡ Refused why
   info_refused w came no.StalePending own cause = let L : Option PendingRow → RpReply = λ o. info e o came in ap L cause
   info_refused w (Err came) (no.Info why) own cause =
@@ -177,12 +185,13 @@ module _ (s : PartySetup) (past : RpPast) (e : Entry RpAsk) where
       let I : InfoNo → RpReply = λ x. Refused (no.Info x) in
       ap L cause.live ∙ ap I cause.failed
   info_refused w (Ok came) no.SubjectDiffers own cause = info_answered w came cause.exchange true cause.live cause.other
+  info_refused w came (no.EndedSid place) own cause = cc
   info_refused w came (no.Full table) own cause = cc
   info_refused w came other own cause = absurd cause
 
   -- ---- logout requests
 
-  logout_refused : (claims : Result LogoutClaims LogoutNo) (why : RpNo) → is_own (Refused why) ≡ true → LogoutRefused s past e claims why → logout s past e claims ≡ Refused why
+  logout_refused : (claims : Result LogoutClaims LogoutNo) (why : RpNo) → is_plain why ≡ true → LogoutRefused s past e claims why → logout s past e claims ≡ Refused why
   logout_refused (Err read) (no.Logout why) own cause = let R : LogoutNo → RpReply = λ x. Refused (no.Logout x) in ap R cause
   logout_refused (Ok claims) (no.Logout why) own cause = let G : Result (Unit {0}) LogoutNo → RpReply = λ j. logout_good s past e claims j in ap G cause.judged
   logout_refused (Ok claims) (no.Seen place) own cause =
@@ -195,69 +204,69 @@ module _ (s : PartySetup) (past : RpPast) (e : Entry RpAsk) where
 
   -- ---- each reply
 
-  pub ask_leads : (asked : RpAsk) (to : Text) (browser : Word) → AskCause s past e asked to browser → rp_reply s past e asked ≡ Ask to browser
-  ask_leads (ask.Begin presented) to browser cause = same_ask cause.location cause.browser_is
-  ask_leads other to browser cause = absurd cause
+  pub ask_replied : (asked : RpAsk) (to : Text) (browser : Word) → AskCause s past e asked to browser → rp_reply s past e asked ≡ Ask to browser
+  ask_replied (ask.Begin presented) to browser cause = same_ask cause.location cause.browser_is
+  ask_replied other to browser cause = absurd cause
 
-  pub fragment_leads : (asked : RpAsk) → FragmentCause asked → rp_reply s past e asked ≡ Fragment
-  fragment_leads ask.Fragment cause = refl
-  fragment_leads other cause = absurd cause
+  pub fragment_replied : (asked : RpAsk) → FragmentCause asked → rp_reply s past e asked ≡ Fragment
+  fragment_replied ask.Fragment cause = refl
+  fragment_replied other cause = absurd cause
 
-  pub exchange_leads : (asked : RpAsk) (w : Word) (message : Message) → ExchangeCause s past e asked w message → rp_reply s past e asked ≡ Exchange w message
-  exchange_leads (ask.Callback (Ok heard) id browser) w message cause =
+  pub exchange_replied : (asked : RpAsk) (w : Word) (message : Message) → ExchangeCause s past e asked w message → rp_reply s past e asked ≡ Exchange w message
+  exchange_replied (ask.Callback (Ok heard) id browser) w message cause =
       whole_response heard id browser cause.login cause.response ∙
       (code_exchanged heard id browser cause.login cause.code (if_wanted (party_of s).types.id_token id) cause.accepted cause.code_is ∙ same_exchange cause.drawn cause.message_is)
-  exchange_leads other w message cause = absurd cause
+  exchange_replied other w message cause = absurd cause
 
-  pub fetch_leads : (asked : RpAsk) (w : Word) (message : Message) → FetchCause s past e asked w message → rp_reply s past e asked ≡ Fetch w message
-  fetch_leads (ask.Callback (Ok heard) id browser) w message cause =
+  pub fetch_replied : (asked : RpAsk) (w : Word) (message : Message) → FetchCause s past e asked w message → rp_reply s past e asked ≡ Fetch w message
+  fetch_replied (ask.Callback (Ok heard) id browser) w message cause =
       let E : Option Text → RpReply = λ o. fetch_or_enter e o (front_access s heard) (fresh_word e.fresh 0) cause.claims.sub in
       let A : Option Text → RpReply = λ o. fetch_or_enter e (Some cause.endpoint) o (fresh_word e.fresh 0) cause.claims.sub in
       good_claims heard id browser cause.login cause.claims cause.response cause.accepted cause.no_code ∙ (ap E cause.endpoint_is ∙ (ap A cause.access_is ∙ same_fetch cause.drawn cause.message_is))
-  fetch_leads (ask.Tokens pending (Ok came) id) w message cause =
+  fetch_replied (ask.Tokens pending (Ok came) id) w message cause =
       let E : Option Text → RpReply = λ o. fetch_or_enter e o (Some came.access) cause.exchange.word cause.claims.sub in
       back_good pending came id cause.exchange cause.claims false cause.live cause.accepted cause.same_subject ∙ (ap E cause.endpoint_is ∙ same_fetch cause.word_kept cause.message_is)
-  fetch_leads other w message cause = absurd cause
+  fetch_replied other w message cause = absurd cause
 
-  pub entered_leads : (asked : RpAsk) (w : Word) (sub : Text) → EnteredCause s past e asked w sub → rp_reply s past e asked ≡ Entered w sub
-  entered_leads (ask.Callback (Ok heard) id browser) w sub cause =
+  pub entered_replied : (asked : RpAsk) (w : Word) (sub : Text) → MayEnter s past e asked w sub → rp_reply s past e asked ≡ Entered w sub
+  entered_replied (ask.Callback (Ok heard) id browser) w sub cause =
       good_claims heard id browser cause.login cause.claims cause.response cause.accepted cause.no_code ∙
       (enters (info_endpoint s) (front_access s heard) (fresh_word e.fresh 0) cause.claims.sub cause.not_fetched ∙ same_entered cause.drawn cause.sub_is)
-  entered_leads (ask.Tokens pending (Ok came) id) w sub cause =
+  entered_replied (ask.Tokens pending (Ok came) id) w sub cause =
       let E : Option Text → RpReply = λ o. fetch_or_enter e o (Some came.access) cause.exchange.word cause.claims.sub in
       back_good pending came id cause.exchange cause.claims false cause.live cause.accepted cause.same_subject ∙ (ap E cause.not_fetched ∙ same_entered cause.drawn cause.sub_is)
-  entered_leads (ask.Info pending (Ok came)) w sub cause = info_answered pending came cause.exchange false cause.live cause.same_subject ∙ same_entered cause.drawn cause.sub_is
-  entered_leads other w sub cause = absurd cause
+  entered_replied (ask.Info pending (Ok came)) w sub cause = info_answered pending came cause.exchange false cause.live cause.same_subject ∙ same_entered cause.drawn cause.sub_is
+  entered_replied other w sub cause = absurd cause
 
-  pub user_leads : (asked : RpAsk) (sub : Text) → UserCause s past e asked sub → rp_reply s past e asked ≡ User sub
-  user_leads (ask.Visit session) sub cause =
+  pub user_replied : (asked : RpAsk) (sub : Text) → UserCause s past e asked sub → rp_reply s past e asked ≡ User sub
+  user_replied (ask.Visit session) sub cause =
       let V : Option SessionRow → RpReply = λ o. visited o in
       let U : Text → RpReply = λ t. User t in
       ap V cause.live ∙ ap U cause.sub_is
-  user_leads other sub cause = absurd cause
+  user_replied other sub cause = absurd cause
 
-  pub nobody_leads : (asked : RpAsk) → NobodyCause s past e asked → rp_reply s past e asked ≡ Nobody
-  nobody_leads (ask.Visit session) cause = let V : Option SessionRow → RpReply = λ o. visited o in ap V cause
-  nobody_leads other cause = absurd cause
+  pub nobody_replied : (asked : RpAsk) → NobodyCause s past e asked → rp_reply s past e asked ≡ Nobody
+  nobody_replied (ask.Visit session) cause = let V : Option SessionRow → RpReply = λ o. visited o in ap V cause
+  nobody_replied other cause = absurd cause
 
-  pub left_leads : (asked : RpAsk) (ended : Bool) → LeftCause s past e asked ended → rp_reply s past e asked ≡ Left ended
-  left_leads (ask.Leave session) ended cause = let L : Bool → RpReply = λ b. Left b in ap L cause
-  left_leads other ended cause = absurd cause
+  pub left_replied : (asked : RpAsk) (ended : Bool) → LeftCause s past e asked ended → rp_reply s past e asked ≡ Left ended
+  left_replied (ask.Leave session) ended cause = let L : Bool → RpReply = λ b. Left b in ap L cause
+  left_replied other ended cause = absurd cause
 
-  pub ended_leads : (asked : RpAsk) (count : ℕ) → EndedCause s past e asked count → rp_reply s past e asked ≡ Ended count
-  ended_leads (ask.Logout (Ok claims)) count cause =
+  pub ended_replied : (asked : RpAsk) (count : ℕ) → EndedCause s past e asked count → rp_reply s past e asked ≡ Ended count
+  ended_replied (ask.Logout (Ok claims)) count cause =
       let G : Result (Unit {0}) LogoutNo → RpReply = λ j. logout_good s past e claims j in
       let N : Option SeenRow → RpReply = λ o. logout_new s past e claims o in
       let E : ℕ → RpReply = λ n. Ended n in
       ap G cause.judged ∙ (ap N cause.unseen ∙ ap E cause.count_is)
-  ended_leads other count cause = absurd cause
+  ended_replied other count cause = absurd cause
 
-  -- a refusal other than Full
-  pub refusal_leads : (asked : RpAsk) (why : RpNo) → is_own (Refused why) ≡ true → RefusedCause s past e asked why → rp_reply s past e asked ≡ Refused why
-  refusal_leads (ask.Begin presented) (no.Full table) own cause = cc
-  refusal_leads (ask.Callback (Err (answer_no.Twice name)) id browser) why own cause = let R : RpNo → RpReply = λ x. Refused x in ap R (sym cause)
-  refusal_leads (ask.Callback (Ok heard) id browser) why own cause = response_refused heard id browser why own cause
-  refusal_leads (ask.Tokens w came id) why own cause = tokens_refused w came id why own cause
-  refusal_leads (ask.Info w came) why own cause = info_refused w came why own cause
-  refusal_leads (ask.Logout claims) why own cause = logout_refused claims why own cause
-  refusal_leads other why own cause = absurd cause
+  -- a refusal other than Full and EndedSid
+  pub refusal_replied : (asked : RpAsk) (why : RpNo) → is_plain why ≡ true → RefusedCause s past e asked why → rp_reply s past e asked ≡ Refused why
+  refusal_replied (ask.Begin presented) (no.Full table) own cause = cc
+  refusal_replied (ask.Callback (Err (answer_no.Twice name)) id browser) why own cause = let R : RpNo → RpReply = λ x. Refused x in ap R (sym cause)
+  refusal_replied (ask.Callback (Ok heard) id browser) why own cause = response_refused heard id browser why own cause
+  refusal_replied (ask.Tokens w came id) why own cause = tokens_refused w came id why own cause
+  refusal_replied (ask.Info w came) why own cause = info_refused w came why own cause
+  refusal_replied (ask.Logout claims) why own cause = logout_refused claims why own cause
+  refusal_replied other why own cause = absurd cause

@@ -9,6 +9,7 @@ pub mod FullTables
 pub mod Refusals
 pub mod Coming
 pub mod Leading
+pub mod Told
 pub mod RefusalsCome
 pub mod Sample
 pub mod FirstVisit
@@ -18,6 +19,7 @@ pub mod RowSamples
 pub mod Fetching
 mod FetchSamples
 pub mod LoggedOut
+mod Overtaken
 mod ReplySamples
 pub mod Legality
 mod MailLogin
@@ -30,9 +32,11 @@ pub mod Exchanges
 pub mod Entering
 pub mod Sessions
 pub mod Accepted
+pub mod NamedSids
 pub mod VisitEnds
 pub mod VisitsLive
 pub mod TokensOnce
+pub mod FewDeads
 mod EndSamples
 pub mod Hashes
 pub mod Counting

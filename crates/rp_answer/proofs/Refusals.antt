@@ -1,7 +1,8 @@
 -- What the refusals say of the past and of the ask that led to them.
-use Rattle.std.proofs.Common.{◌≡◌, Option, Some, None, Ok, Err, refl}
+use Rattle.std.proofs.Common.{◌≡◌, ℕ, Option, Some, None, Ok, Err, refl}
 use Rattle.sso_base.specs.declared.history.Entry.{Entry}
 use Rattle.auth_answer.specs.declared.no.AnswerNo.TheVariants as answer_no
+use Rattle.rp_login.specs.declared.rows.DeadRow.{DeadRow}
 use Rattle.rp_login.specs.declared.rows.SessionRow.{SessionRow}
 use Rattle.rp_login.specs.declared.table.RpTable.{RpTable}
 use Rattle.rp_exchange.specs.declared.ask.RpAsk.{RpAsk}
@@ -14,9 +15,10 @@ use Rattle.rp_answer.specs.Past.{RpPast}
 use Rattle.rp_answer.specs.Setup.{PartySetup, party_of}
 use Rattle.rp_answer.specs.Visits.{live_visit}
 use Rattle.rp_answer.specs.Replies.{visited}
+use Rattle.rp_answer.specs.Alive.{dead_for, unless_dead}
 use Rattle.rp_answer.specs.Room.{table_lacking}
-use Rattle.rp_answer.specs.Answering.{rp_reply, rp_answer}
-use Rattle.rp_answer.specs.Causes.{RefusedCause}
+use Rattle.rp_answer.specs.Answering.{rp_told, rp_answer}
+use Rattle.rp_answer.specs.Causes.{SidEnded, RefusedCause}
 use Rattle.rp_answer.specs.FullTables.{FullCause}
 use Rattle.rp_answer.proofs.Answers.{own_replies_caused}
 use Rattle.rp_answer.proofs.FullTables.{full_lacks, full_has_a_cause}
@@ -26,12 +28,12 @@ module _ (s : PartySetup) (past : RpPast) (e : Entry RpAsk) where
   lacking reply = table_lacking (party_of s).types past e reply
 
   -- who is logged in adds no row
-  visit_adds_none : (found : Option SessionRow) → lacking (visited found) ≡ None
-  visit_adds_none None = refl
-  visit_adds_none (Some visit) = refl
+  visit_adds_none : (found : Option SessionRow) (dead : Option DeadRow) → lacking (unless_dead (visited found) dead) ≡ None
+  visit_adds_none None dead = refl
+  visit_adds_none (Some visit) dead = refl
 
   -- the asks that add a row to a table
-  full_asked : (asked : RpAsk) (table : RpTable) → FullCause s past e table → lacking (rp_reply s past e asked) ≡ Some table → RefusedCause s past e asked (no.Full table)
+  full_asked : (asked : RpAsk) (table : RpTable) → FullCause s past e table → lacking (rp_told s past e asked) ≡ Some table → RefusedCause s past e asked (no.Full table)
   full_asked (ask.Begin presented) table room h = room
   full_asked ask.Fragment table room h = cc
   full_asked (ask.Callback (Err (answer_no.Twice name)) id browser) table room h = cc
@@ -41,11 +43,33 @@ module _ (s : PartySetup) (past : RpPast) (e : Entry RpAsk) where
   full_asked (ask.Tokens w (Ok came) id) table room h = room
   full_asked (ask.Info w (Err why)) table room h = room
   full_asked (ask.Info w (Ok sub)) table room h = room
-  full_asked (ask.Visit session) table room h = let none = visit_adds_none (live_visit (party_of s).types past e.at session) in cc
+  full_asked (ask.Visit session) table room h =
+      let none = visit_adds_none (live_visit (party_of s).types past e.at session) (dead_for (party_of s).types past e.at (ask.Visit session)) in cc
   full_asked (ask.Leave session) table room h = cc
   full_asked (ask.Logout (Err why)) table room h = cc
   full_asked (ask.Logout (Ok claims)) table room h = room
   full_asked ask.NotHere table room h = cc
+
+  -- ---- the asks that may begin a session
+
+  sid_refused : (asked : RpAsk) (place : ℕ) → SidEnded s past e asked place → RefusedCause s past e asked (no.EndedSid place)
+  sid_refused (ask.Callback (Ok heard) id browser) place cause = cause
+  sid_refused (ask.Tokens w (Err why) id) place cause = cause
+  sid_refused (ask.Tokens w (Ok came) id) place cause = cause
+  sid_refused (ask.Info w (Err why)) place cause = cause
+  sid_refused (ask.Info w (Ok sub)) place cause = cause
+  sid_refused other place cause = absurd cause.enters
+
+  pub refused_sid : (asked : RpAsk) (place : ℕ) → RefusedCause s past e asked (no.EndedSid place) → SidEnded s past e asked place
+  refused_sid (ask.Callback (Err (answer_no.Twice name)) id browser) place cause = cc
+  refused_sid (ask.Callback (Ok heard) id browser) place cause = cause
+  refused_sid (ask.Tokens w (Err why) id) place cause = cause
+  refused_sid (ask.Tokens w (Ok came) id) place cause = cause
+  refused_sid (ask.Info w (Err why)) place cause = cause
+  refused_sid (ask.Info w (Ok sub)) place cause = cause
+  refused_sid (ask.Logout (Err why)) place cause = absurd cause
+  refused_sid (ask.Logout (Ok claims)) place cause = absurd cause
+  refused_sid other place cause = absurd cause
 
   pub refusals_have_a_cause : (why : RpNo) → rp_answer s past e ≡ Refused why → RefusedCause s past e e.ask why
   refusals_have_a_cause (no.Full table) h = full_asked e.ask table (full_has_a_cause s past e table h) (full_lacks s past e table h).1
@@ -62,3 +86,4 @@ module _ (s : PartySetup) (past : RpPast) (e : Entry RpAsk) where
   refusals_have_a_cause no.SubjectDiffers h = own_replies_caused s past e (Refused no.SubjectDiffers) refl h
   refusals_have_a_cause (no.Logout cause) h = own_replies_caused s past e (Refused (no.Logout cause)) refl h
   refusals_have_a_cause (no.Seen place) h = own_replies_caused s past e (Refused (no.Seen place)) refl h
+  refusals_have_a_cause (no.EndedSid place) h = sid_refused e.ask place (own_replies_caused s past e (Refused (no.EndedSid place)) refl h)

@@ -12,13 +12,14 @@ use Rattle.rp_exchange.specs.Asks.{is_prepared}
 use Rattle.rp_answer.specs.Past.{RpPast}
 use Rattle.rp_answer.specs.Setup.{PartySetup}
 use Rattle.rp_answer.specs.Answering.{rp_answer}
-use Rattle.rp_answer.specs.Causes.{is_own, Comes, RefusedCause}
+use Rattle.rp_answer.specs.Causes.{Comes, RefusedCause}
 use Rattle.rp_answer.specs.FullTables.{FullCause}
 use Rattle.rp_answer.proofs.Stood.{own_replies_stand}
 use Rattle.rp_answer.proofs.FullTables.{full_has_a_cause, cause_makes_full}
-use Rattle.rp_answer.proofs.Refusals.{refusals_have_a_cause}
+use Rattle.rp_answer.proofs.Refusals.{refused_sid, refusals_have_a_cause}
 use Rattle.rp_answer.proofs.Coming.{came, refused_has_place}
-use Rattle.rp_answer.proofs.Leading.{refusal_leads}
+use Rattle.rp_answer.proofs.Leading.{is_plain}
+use Rattle.rp_answer.proofs.Told.{refusal_leads, sid_leads}
 
 module _ (s : PartySetup) (past : RpPast) (e : Entry RpAsk) where
   -- whatever the ask, the cause of Full is that a table is full
@@ -40,9 +41,11 @@ module _ (s : PartySetup) (past : RpPast) (e : Entry RpAsk) where
   pub refusals_come : (why : RpNo) → rp_answer s past e ≡ Refused why → Comes s past e (Refused why) (RefusedCause s past e e.ask why)
   refusals_come why h = record { prepared = prepared_by why h; placed = refused_has_place s past e why; why = refusals_have_a_cause s past e why h }
 
-  own_refusals_came : (why : RpNo) → is_own (Refused why) ≡ true → Comes s past e (Refused why) (RefusedCause s past e e.ask why) → rp_answer s past e ≡ Refused why
-  own_refusals_came why own h = came s past e (Refused why) (RefusedCause s past e e.ask why) (refusal_leads s past e e.ask why own) h
+  plain_refusals_came : (why : RpNo) → is_plain why ≡ true → Comes s past e (Refused why) (RefusedCause s past e e.ask why) → rp_answer s past e ≡ Refused why
+  plain_refusals_came why own h = came s past e (Refused why) (RefusedCause s past e e.ask why) (refusal_leads s past e e.ask why own) h
 
   pub refusals_came : (why : RpNo) → Comes s past e (Refused why) (RefusedCause s past e e.ask why) → rp_answer s past e ≡ Refused why
   refusals_came (no.Full found) h = cause_makes_full s past e found (full_cause e.ask found h.why)
-  refusals_came why h = own_refusals_came why refl h
+  refusals_came (no.EndedSid place) h =
+      came s past e (Refused (no.EndedSid place)) (RefusedCause s past e e.ask (no.EndedSid place)) (λ cause. sid_leads s past e e.ask place (refused_sid s past e e.ask place cause)) h
+  refusals_came why h = plain_refusals_came why refl h

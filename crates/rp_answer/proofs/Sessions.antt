@@ -17,7 +17,7 @@ use Rattle.rp_answer.specs.Past.{RpPast}
 use Rattle.rp_answer.specs.Setup.{PartySetup, party_of}
 use Rattle.rp_answer.specs.Visits.{visits, visit_by, visit_made, visit_kept}
 use Rattle.rp_answer.specs.Answering.{rp_answer}
-use Rattle.rp_answer.specs.Causes.{EnteredCause}
+use Rattle.rp_answer.specs.Causes.{MayEnter}
 use Rattle.rp_answer.specs.Legal.{IsLegalRp, LoginEntered, EnteredBy}
 use Rattle.rp_answer.proofs.Answers.{entered_have_a_cause}
 use Rattle.rp_answer.proofs.KeptNames.{some_same, carried_same, visit_same, visit_names}
@@ -34,7 +34,7 @@ pub let_in : (types : Types) (at : ℕ) (past : RpPast) (asked : RpAsk) (told : 
 let_in types at past asked (reply.Entered w sub) visit h = record { w = w; sub = sub; replied = refl; made = h }
 let_in types at past asked told visit h = cc
 
-drawn_by : (s : PartySetup) (past : RpPast) (e : Entry RpAsk) (asked : RpAsk) (w : Word) (sub : Text) → EnteredCause s past e asked w sub → fresh_word e.fresh 1 ≡ w
+drawn_by : (s : PartySetup) (past : RpPast) (e : Entry RpAsk) (asked : RpAsk) (w : Word) (sub : Text) → MayEnter s past e asked w sub → fresh_word e.fresh 1 ≡ w
 drawn_by s past e (ask.Callback (Ok heard) id browser) w sub cause = cause.drawn
 drawn_by s past e (ask.Tokens pending (Ok came) id) w sub cause = cause.drawn
 drawn_by s past e (ask.Info pending (Ok came)) w sub cause = cause.drawn
@@ -75,5 +75,5 @@ visits_are_drawn s past w visit legal h =
     let cause = entered_have_a_cause s stood.earlier e made.w made.sub (sym answered ∙ made.replied) in
     let entered = sessions_need_a_login s stood.later stood.earlier stood.maker made.w made.sub whole made.replied in
     let row : SessionRow = record { word = made.w; nonce = entered.login.nonce; sub = made.sub; sid = entered.claims.sid; entered = e.at } in
-    entered_as s past stood.later stood.earlier e stood.maker.reply visit made.w made.sub stood.parts made.replied (drawn_by s stood.earlier e e.ask made.w made.sub cause) entered
+    entered_as s past stood.later stood.earlier e stood.maker.reply visit made.w made.sub stood.parts made.replied (drawn_by s stood.earlier e e.ask made.w made.sub cause.enters) entered
     (some_same row visit (sym entered.visit_is ∙ made.made))

@@ -11,7 +11,7 @@ use Rattle.rp_exchange.specs.Asks.{is_prepared}
 use Rattle.rp_answer.specs.Past.{RpPast}
 use Rattle.rp_answer.specs.Setup.{PartySetup, party_of}
 use Rattle.rp_answer.specs.Room.{table_lacking, unless_lacking}
-use Rattle.rp_answer.specs.Answering.{rp_reply, rp_answer}
+use Rattle.rp_answer.specs.Answering.{rp_told, rp_answer}
 use Rattle.rp_answer.specs.Causes.{is_own, Stood}
 
 record Passed (prepared : Bool) (lacking : Option RpTable) (reply told : RpReply) : Type 0 where
@@ -28,7 +28,7 @@ passed true None reply told own h = record { gives = refl; has_room = refl; same
 pub own_replies_stand : (s : PartySetup) (past : RpPast) (e : Entry RpAsk) (reply : RpReply) → is_own reply ≡ true → rp_answer s past e ≡ reply → Stood s past e reply
 unfolding rp_answer
 own_replies_stand s past e reply own h =
-    let first : RpReply = rp_reply s past e e.ask in
+    let first : RpReply = rp_told s past e e.ask in
     let told = passed (is_prepared e.ask) (table_lacking (party_of s).types past e first) first reply own h in
     let L : RpReply → Type 0 = λ r. table_lacking (party_of s).types past e r ≡ None in
     record { prepared = told.gives; room = subst L told.same told.has_room; reply_is = told.same }
@@ -37,7 +37,7 @@ own_replies_stand s past e reply own h =
 pub standing_is_the_answer : (s : PartySetup) (past : RpPast) (e : Entry RpAsk) (reply : RpReply) → Stood s past e reply → rp_answer s past e ≡ reply
 unfolding rp_answer
 standing_is_the_answer s past e reply stood =
-    let first : RpReply = rp_reply s past e e.ask in
+    let first : RpReply = rp_told s past e e.ask in
     let P : Bool → RpReply = λ b. cond b (unless_lacking first (table_lacking (party_of s).types past e first)) NotHere in
     let L : RpReply → RpReply = λ r. unless_lacking r (table_lacking (party_of s).types past e r) in
     let F : Option RpTable → RpReply = λ o. unless_lacking reply o in
@@ -53,8 +53,8 @@ overfull true None reply table h = (refl, inr h)
 -- where the ask is one that a request gives, as it is then
 pub full_or_replied : (s : PartySetup) (past : RpPast) (e : Entry RpAsk) (table : RpTable) → rp_answer s past e ≡ Refused (no.Full table)
     → (is_prepared e.ask ≡ true) ×
-    ((table_lacking (party_of s).types past e (rp_reply s past e e.ask) ≡ Some table) ⊎ (rp_reply s past e e.ask ≡ Refused (no.Full table)))
+    ((table_lacking (party_of s).types past e (rp_told s past e e.ask) ≡ Some table) ⊎ (rp_told s past e e.ask ≡ Refused (no.Full table)))
 unfolding rp_answer
 full_or_replied s past e table h =
-    let first : RpReply = rp_reply s past e e.ask in
+    let first : RpReply = rp_told s past e e.ask in
     overfull (is_prepared e.ask) (table_lacking (party_of s).types past e first) first table h

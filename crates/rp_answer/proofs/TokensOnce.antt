@@ -37,7 +37,7 @@ record SeenSince (past : RpPast) (jti : Text) (at : ℕ) : Type 0 where
 no_sooner : (n : ℕ) → n ≤ n
 no_sooner n = omega arith
 
-in_order : (a b c : ℕ) → a ≤ b → b ≤ c → a ≤ c
+pub in_order : (a b c : ℕ) → a ≤ b → b ≤ c → a ≤ c
 in_order a b c first second = omega (arith, first, second)
 
 far_apart : (a b c n : ℕ) → a ≤ b → b + n ≤ c → a + n ≤ c
@@ -109,11 +109,11 @@ dead : (b : Bool) (row : SeenRow) → cond b (Some row) None ≡ None → b ≡ 
 dead true row h = cc
 dead false row h = refl
 
-over : (life : ℕ) (row : SeenRow) (at : ℕ) → if_lives life seen_begun at row ≡ None → row.accepted + life ≤ at
+pub over : (life : ℕ) (row : SeenRow) (at : ℕ) → if_lives life seen_begun at row ≡ None → row.accepted + life ≤ at
 over life row at h = above_false (row.accepted + life) at (dead (nat_lt at (row.accepted + life)) row h)
 
 -- a pair of a legal past that accepts one has the cause of that
-cause_of : (s : PartySetup) (past : RpPast) (p : RpPair) (claims : LogoutClaims) → p.reply ≡ rp_answer s past p.entry → (accepts : Accepts p claims) → LogoutAccepted s past p.entry claims accepts.count
+pub cause_of : (s : PartySetup) (past : RpPast) (p : RpPair) (claims : LogoutClaims) → p.reply ≡ rp_answer s past p.entry → (accepts : Accepts p claims) → LogoutAccepted s past p.entry claims accepts.count
 cause_of s past p claims answered accepts =
     let C : RpAsk → Type 0 = λ a. EndedCause s past p.entry a accepts.count in
     subst C accepts.asked (ended_has_a_cause s past p.entry accepts.count (sym answered ∙ accepts.replied))

@@ -24,6 +24,7 @@ use Rattle.rp_login.specs.declared.rows.LoginRow.{LoginRow}
 use Rattle.rp_login.specs.declared.rows.PendingRow.{PendingRow}
 use Rattle.rp_login.specs.declared.rows.SessionRow.{SessionRow}
 use Rattle.rp_login.specs.declared.rows.SeenRow.{SeenRow}
+use Rattle.rp_login.specs.declared.rows.DeadRow.{DeadRow}
 use Rattle.rp_login.specs.declared.rows.Stage.TheVariants as stage
 use Rattle.rp_login.specs.declared.table.RpTable.{RpTable}
 use Rattle.rp_exchange.specs.declared.ask.RpAsk.{RpAsk}
@@ -43,8 +44,9 @@ use Rattle.rp_answer.specs.Pendings.{live_pending}
 use Rattle.rp_answer.specs.Visits.{live_visits, live_visit}
 use Rattle.rp_answer.specs.Seens.{live_seen}
 use Rattle.rp_answer.specs.Replies.{login_browser, front_access, front_code, front_rules, back_rules, part_missing, info_endpoint, meant_count}
+use Rattle.rp_answer.specs.Alive.{dead_for}
 use Rattle.rp_answer.specs.Room.{table_lacking}
-use Rattle.rp_answer.specs.Answering.{rp_reply}
+use Rattle.rp_answer.specs.Answering.{rp_told}
 use Rattle.rp_answer.specs.FullTables.{LacksPlace, FullCause}
 
 -- ---- every reply but NotHere and the refusal Full: a request gives the ask, and there was room
@@ -57,7 +59,7 @@ is_own other = true
 pub record Stood (s : PartySetup) (past : RpPast) (e : Entry RpAsk) (reply : RpReply) : Type 0 where
   pub prepared : is_prepared e.ask ≡ true
   pub room : table_lacking (party_of s).types past e reply ≡ None
-  pub reply_is : rp_reply s past e e.ask ≡ reply
+  pub reply_is : rp_told s past e e.ask ≡ reply
 
 -- A request gives the ask, the row that the reply makes has a place in its table, and this is why it comes.
 pub record Comes (s : PartySetup) (past : RpPast) (e : Entry RpAsk) (reply : RpReply) (Cause : Type 0) : Type 0 where
@@ -206,11 +208,26 @@ pub record EnteredAfterInfo (s : PartySetup) (past : RpPast) (e : Entry RpAsk) (
   pub drawn : fresh_word e.fresh 1 ≡ w
   pub sub_is : came ≡ sub
 
-abbrev pub EnteredCause : PartySetup → RpPast → Entry RpAsk → RpAsk → Word → Text → Type 0
-EnteredCause s past e (ask.Callback (Ok heard) id browser) w sub = EnteredAtOnce s past e heard id browser w sub
-EnteredCause s past e (ask.Tokens pending (Ok came) id) w sub = EnteredAfterExchange s past e pending came id w sub
-EnteredCause s past e (ask.Info pending (Ok came)) w sub = EnteredAfterInfo s past e pending came w sub
-EnteredCause s past e other w sub = ⊥
+-- a session would begin, unless its logout came first
+abbrev pub MayEnter : PartySetup → RpPast → Entry RpAsk → RpAsk → Word → Text → Type 0
+MayEnter s past e (ask.Callback (Ok heard) id browser) w sub = EnteredAtOnce s past e heard id browser w sub
+MayEnter s past e (ask.Tokens pending (Ok came) id) w sub = EnteredAfterExchange s past e pending came id w sub
+MayEnter s past e (ask.Info pending (Ok came)) w sub = EnteredAfterInfo s past e pending came w sub
+MayEnter s past e other w sub = ⊥
+
+-- it begins: no `sid` that a logout token named is that of the last ID Token
+pub record EnteredCause (s : PartySetup) (past : RpPast) (e : Entry RpAsk) (asked : RpAsk) (w : Word) (sub : Text) : Type 0 where
+  pub enters : MayEnter s past e asked w sub
+  pub alive : dead_for (party_of s).types past e.at asked ≡ None
+
+-- it does not: a logout token named the `sid` of the last ID Token, and was accepted by the pair with this number
+pub record SidEnded (s : PartySetup) (past : RpPast) (e : Entry RpAsk) (asked : RpAsk) (place : ℕ) : Type 0 where
+  pub word : Word
+  pub sub : Text
+  pub enters : MayEnter s past e asked word sub
+  pub dead : DeadRow
+  pub remembered : dead_for (party_of s).types past e.at asked ≡ Some dead
+  pub place_is : dead.place ≡ place
 
 -- ---- who is logged in
 
@@ -293,6 +310,7 @@ ResponseRefused s past e heard id browser no.WrongBrowser = OtherBrowser past e 
 ResponseRefused s past e heard id browser (no.Provider code) = ProviderRefused past e heard browser code
 ResponseRefused s past e heard id browser (no.Missing missing) = PartMissing s past e heard browser missing ⊎ NothingToEnterBy s past e heard id browser missing
 ResponseRefused s past e heard id browser (no.Id why) = FrontTokenRefused s past e heard id browser why
+ResponseRefused s past e heard id browser (no.EndedSid place) = SidEnded s past e (ask.Callback (Ok heard) id browser) place
 ResponseRefused s past e heard id browser (no.Full table) = FullCause s past e table
 ResponseRefused s past e heard id browser other = ⊥
 
@@ -323,6 +341,7 @@ TokensRefused s past e pending came id no.StalePending = live_pending (party_of 
 TokensRefused s past e pending (Err came) id (no.Tokens why) = ExchangeFailed s past e pending came why
 TokensRefused s past e pending (Ok came) id (no.Id why) = BackTokenRefused s past e pending came id why
 TokensRefused s past e pending (Ok came) id no.SubjectDiffers = AnotherSubject s past e pending came id
+TokensRefused s past e pending came id (no.EndedSid place) = SidEnded s past e (ask.Tokens pending came id) place
 TokensRefused s past e pending came id (no.Full table) = FullCause s past e table
 TokensRefused s past e pending came id other = ⊥
 
@@ -342,6 +361,7 @@ abbrev pub InfoRefused : PartySetup → RpPast → Entry RpAsk → Word → Resu
 InfoRefused s past e pending came no.StalePending = live_pending (party_of s).types past e.at pending stage.Info ≡ None
 InfoRefused s past e pending (Err came) (no.Info why) = InfoFailed s past e pending came why
 InfoRefused s past e pending (Ok came) no.SubjectDiffers = InfoOfAnother s past e pending came
+InfoRefused s past e pending came (no.EndedSid place) = SidEnded s past e (ask.Info pending came) place
 InfoRefused s past e pending came (no.Full table) = FullCause s past e table
 InfoRefused s past e pending came other = ⊥
 

@@ -23,7 +23,7 @@ use Rattle.rp_answer.specs.Pendings.{live_pendings}
 use Rattle.rp_answer.specs.Visits.{live_visits}
 use Rattle.rp_answer.specs.Seens.{live_seens}
 use Rattle.rp_answer.specs.Room.{beside_answered}
-use Rattle.rp_answer.specs.Answering.{rp_reply}
+use Rattle.rp_answer.specs.Answering.{rp_told}
 
 -- a login begins, under the state that was drawn
 pub record NoLoginPlace (past : RpPast) (e : Entry RpAsk) (told : RpReply) : Type 0 where
@@ -61,4 +61,4 @@ LacksPlace types past e told table.Seen = NoSeenPlace past e told
 
 pub record FullCause (s : PartySetup) (past : RpPast) (e : Entry RpAsk) (table : RpTable) : Type 0 where
   pub prepared : is_prepared e.ask ≡ true
-  pub no_place : LacksPlace (party_of s).types past e (rp_reply s past e e.ask) table
+  pub no_place : LacksPlace (party_of s).types past e (rp_told s past e e.ask) table

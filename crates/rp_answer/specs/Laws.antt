@@ -21,7 +21,8 @@ use Rattle.rp_login.specs.declared.rows.PendingRow.{PendingRow}
 use Rattle.rp_login.specs.declared.rows.SessionRow.{SessionRow}
 use Rattle.rp_login.specs.declared.table.RpTable.{RpTable}
 use Rattle.rp_login.specs.declared.rows.SeenRow.{SeenRow}
-use Rattle.rp_login.specs.Rows.{login_name, pending_name, visit_name, seen_name}
+use Rattle.rp_login.specs.declared.rows.DeadRow.{DeadRow}
+use Rattle.rp_login.specs.Rows.{login_name, pending_name, visit_name, seen_name, dead_name}
 use Rattle.rp_exchange.specs.declared.ask.RpAsk.{RpAsk}
 use Rattle.rp_exchange.specs.declared.no.RpNo.{RpNo}
 use Rattle.rp_exchange.specs.declared.no.RpNo.TheVariants as no
@@ -32,6 +33,7 @@ use Rattle.rp_answer.specs.Logins.{logins, login_made, login_kept}
 use Rattle.rp_answer.specs.Pendings.{pendings, pending_made, pending_kept}
 use Rattle.rp_answer.specs.Visits.{visits, live_visit, visit_made, visit_kept}
 use Rattle.rp_answer.specs.Seens.{seens, seen_made, seen_kept}
+use Rattle.rp_answer.specs.Deads.{deads, dead_made, dead_kept}
 use Rattle.rp_answer.specs.Answering.{rp_answer}
 use Rattle.rp_answer.specs.Causes.{Comes, AskCause, FragmentCause, ExchangeCause, FetchCause, EnteredCause, UserCause, NobodyCause, LeftCause, EndedCause}
 use Rattle.rp_answer.specs.Causes.{RefusedCause}
@@ -62,6 +64,11 @@ abbrev pub SeenLogoutTokensStand : Type 0
 SeenLogoutTokensStand =
     (past : RpPast) (jti : Text) (row : SeenRow)
     → (row_of seen_name jti (seens past) ≡ Some row) ↔ Stands seen_name seen_made seen_kept past jti row
+
+abbrev pub DeadSidsStand : Type 0
+DeadSidsStand =
+    (past : RpPast) (sid : Text) (row : DeadRow)
+    → (row_of dead_name sid (deads past) ≡ Some row) ↔ Stands dead_name dead_made dead_kept past sid row
 
 -- ---- why each reply comes
 

@@ -17,6 +17,7 @@ use Rattle.rp_login.specs.declared.rows.LoginRow.{LoginRow}
 use Rattle.rp_login.specs.declared.rows.PendingRow.{PendingRow}
 use Rattle.rp_login.specs.declared.rows.SessionRow.{SessionRow}
 use Rattle.rp_login.specs.declared.rows.SeenRow.{SeenRow}
+use Rattle.rp_login.specs.declared.rows.DeadRow.{DeadRow}
 use Rattle.logout_token.specs.declared.claims.LogoutClaims.{LogoutClaims}
 use Rattle.rp_login.specs.declared.rows.Stage.{Stage}
 use Rattle.rp_login.specs.declared.rows.Stage.TheVariants as stage
@@ -201,6 +202,20 @@ pub record AcceptedBy (past : RpPast) (seen : SeenRow) : Type 0 where
   pub jti_is : seen.jti ≡ claims.jti
   pub accepted_then : seen.accepted ≡ maker.entry.at
   pub place : seen.place ≡ length earlier + 1
+
+-- a pair accepted a logout token that has this `sid`; its number in the history, counted from 1, is this one
+pub record NamedBy (past : RpPast) (dead : DeadRow) : Type 0 where
+  pub later : RpPast
+  pub maker : RpPair
+  pub earlier : RpPast
+  pub parts : past ≡ later ++ maker ∷ earlier
+  pub claims : LogoutClaims
+  pub asked : maker.entry.ask ≡ ask.Logout (Ok claims)
+  pub count : ℕ
+  pub replied : maker.reply ≡ reply.Ended count
+  pub sid_is : claims.sid ≡ Some dead.sid
+  pub accepted_then : dead.accepted ≡ maker.entry.at
+  pub place : dead.place ≡ length earlier + 1
 
 -- ---- the login that gives a session, by the index of the pair that began it, counted from 0
 

@@ -5,7 +5,9 @@ pub mod Logins
 pub mod Pendings
 pub mod Visits
 pub mod Seens
+pub mod Deads
 pub mod Replies
+pub mod Alive
 pub mod Room
 pub mod Answering
 pub mod FullTables

@@ -1,4 +1,4 @@
--- A relying party's replies, if none of its tables were full.
+-- A relying party's replies, if none of its tables were full and no logout came before its login.
 use Rattle.std.specs.Prelude.{ℕ, ◌&&◌, List, length, filter, Option, Some, None, is_some, is_none, Result, Ok, Err, if◌then◌else◌}
 use Rattle.sso_base.specs.Words.{Word, Text, is_word, fresh_word, word_text}
 use Rattle.sso_base.specs.Texts.{is_other}

@@ -7,16 +7,18 @@ ghost use Rattle.sso_base.specs.Journal.{most_pairs};
 ghost use Rattle.sso_base.specs.declared.history.Entry.{Entry};
 ghost use Rattle.rp_login.specs.declared.rows.LoginRow.{LoginRow};
 ghost use Rattle.rp_login.specs.declared.rows.SeenRow.{SeenRow};
-ghost use Rattle.rp_login.specs.Rows.{login_name, seen_name};
+ghost use Rattle.rp_login.specs.declared.rows.DeadRow.{DeadRow};
+ghost use Rattle.rp_login.specs.Rows.{login_name, seen_name, dead_name};
 ghost use Rattle.rp_exchange.specs.declared.ask.RpAsk.{RpAsk};
 ghost use Rattle.rp_exchange.specs.declared.reply.RpReply.{RpReply};
 ghost use Rattle.rp_answer.specs.Past.{RpPair, RpPast};
 ghost use Rattle.rp_answer.specs.Setup.{PartySetup};
 ghost use Rattle.rp_answer.specs.Logins.{logins};
-ghost use Rattle.rp_answer.specs.Seens.{seens};
+ghost use Rattle.rp_answer.specs.Seens.{seens, live_seens};
+ghost use Rattle.rp_answer.specs.Deads.{deads, live_deads, dead_made, dead_kept};
 ghost use Rattle.rp_answer.specs.Answering.{rp_answer};
 ghost use Rattle.rp_answer.specs.Causes.{is_own, Stood};
-ghost use Rattle.rp_answer.specs.Legal.{IsLegalHistory, BegunBy, AcceptedBy};
+ghost use Rattle.rp_answer.specs.Legal.{IsLegalHistory, BegunBy, AcceptedBy, NamedBy};
 ghost use Rattle.rp_answer.specs.Laws.{LoginsStand, PendingExchangesStand, SessionsStand, SeenLogoutTokensStand, AuthorizationRequestsHaveACause};
 ghost use Rattle.rp_answer.specs.Laws.{TokenRequestsHaveACause, FragmentPagesHaveACause, UserInfoRequestsHaveACause, LoginsHaveACause, UserPagesHaveACause};
 ghost use Rattle.rp_answer.specs.Laws.{EmptyVisitsHaveACause, SignOutsHaveACause, LogoutsHaveACause, RefusalsHaveACause, FullTablesHaveACause};
@@ -31,6 +33,7 @@ pub fn rows_stand()
     ensures pendings { PendingExchangesStand }
     ensures visits { SessionsStand }
     ensures seens { SeenLogoutTokensStand }
+    ensures deads { DeadSidsStand }
 {}
 
 /// Why each reply of a relying party comes. A reply with these parts comes exactly where a request gives the ask, the row that
@@ -84,6 +87,18 @@ pub fn logins_enter_once()
 /// Back-Channel Logout 1.0, 2.6, step 8).
 pub fn seen_tokens_were_accepted()
     ensures { (past : RpPast) (jti : Text) (seen : SeenRow) → row_of seen_name jti (seens past) ≡ Some seen → AcceptedBy past seen }
+{}
+
+/// A session identifier is remembered where a pair accepted a logout token that has it, with the moment and the place of that
+/// pair (our choice).
+pub fn dead_sids_were_named()
+    ensures { (past : RpPast) (sid : Text) (dead : DeadRow) → row_of dead_name sid (deads past) ≡ Some dead → NamedBy past dead }
+{}
+
+/// In any legal past, at most as many session identifiers are remembered at the moment of the next pair as logout tokens. So a
+/// logout token for which there is room has room for its `sid` (our choice).
+pub fn dead_sids_are_few()
+    ensures { (s : PartySetup) (past : RpPast) (p : RpPair) → IsLegalRp s (p ∷ past) → length (live_deads past p.entry.at) ≤ length (live_seens past p.entry.at) }
 {}
 
 /// A session is no longer found exactly where its browser leaves, or a logout token is accepted that means it (OpenID Connect

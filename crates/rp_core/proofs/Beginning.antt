@@ -8,8 +8,8 @@ use Rattle.rp_core.specs.Agreeing.{KeepsPast, Keeps}
 none_kept : (s : PartySetup) → KeepsPast (party_of s).types [] no_tables
 none_kept s =
     record {
-      agrees = record { logins = refl; pendings = refl; visits = refl; seens = refl };
-      begun = record { logins = refl; pendings = refl; visits = refl; seens = refl };
+      agrees = record { logins = refl; pendings = refl; visits = refl; seens = refl; deads = refl };
+      begun = record { logins = refl; pendings = refl; visits = refl; seens = refl; deads = refl };
     }
 
 pub begins : (s : PartySetup) (history : List RpPair) (t : Tables) → history ≡ [] → t ≡ no_tables → Keeps s history t

@@ -8,7 +8,8 @@ use Rattle.rp_login.specs.declared.rows.LoginRow.{LoginRow}
 use Rattle.rp_login.specs.declared.rows.PendingRow.{PendingRow}
 use Rattle.rp_login.specs.declared.rows.SessionRow.{SessionRow}
 use Rattle.rp_login.specs.declared.rows.SeenRow.{SeenRow}
-use Rattle.rp_login.specs.Rows.{login_name, login_begun, pending_name, pending_begun, visit_name, visit_begun, seen_name, seen_begun}
+use Rattle.rp_login.specs.declared.rows.DeadRow.{DeadRow}
+use Rattle.rp_login.specs.Rows.{login_name, login_begun, pending_name, pending_begun, visit_name, visit_begun, seen_name, seen_begun, dead_name, dead_begun}
 use Rattle.oidc_words.specs.Lives.{login_life, pending_life, visit_life, seen_life}
 use Rattle.rp_login.specs.Tables.{Tables}
 use Rattle.rp_exchange.specs.declared.ask.RpAsk.{RpAsk}
@@ -20,8 +21,9 @@ use Rattle.rp_answer.specs.Asked.{claims_judged, token_accepted}
 use Rattle.rp_answer.specs.Logins.{logins, login_started, login_made, login_kept}
 use Rattle.rp_answer.specs.Pendings.{pendings, pending_of, pending_made, pending_kept}
 use Rattle.rp_answer.specs.Seens.{seens, seen_of, seen_made, seen_kept}
+use Rattle.rp_answer.specs.Deads.{deads, dead_at, dead_of, dead_made, dead_kept}
 use Rattle.rp_answer.specs.Visits.{visits, nonce_by, visit_of, visit_of_pending, visit_after, visit_for, visit_by, visit_made, visit_kept}
-use Rattle.rp_answer.proofs.KeptNames.{some_same, login_same, pending_same, visit_same, seen_same}
+use Rattle.rp_answer.proofs.KeptNames.{some_same, login_same, pending_same, visit_same, seen_same, dead_same}
 use Rattle.rp_answer.proofs.Sending.{Sent, sent}
 use Rattle.held_rows.proofs.Added.{rows_carried, begun_carried}
 use Rattle.rp_core.specs.Agreeing.{Agrees, IsBegun}
@@ -94,6 +96,20 @@ seen_of_begun before at (Some claims) row h = ap seen_begun (sym (some_same (see
 pub seen_made_begun : (held : List SeenRow) (past : RpPast) (p : RpPair) (row : SeenRow) → seen_made held past p ≡ Some row → seen_begun row ≡ p.entry.at
 seen_made_begun held past p row h = seen_of_begun (length past) p.entry.at (token_accepted p.entry.ask p.reply) row h
 
+pub dead_begun_kept : (past : RpPast) (p : RpPair) (row after : DeadRow) → dead_kept past p row ≡ Some after → dead_begun after ≡ dead_begun row
+dead_begun_kept past p row after h = ap dead_begun (dead_same past p row after h)
+
+dead_at_begun : (before at : ℕ) (sid : Option Text) (row : DeadRow) → option_map (dead_at before at) sid ≡ Some row → dead_begun row ≡ at
+dead_at_begun before at None row h = cc
+dead_at_begun before at (Some sid) row h = ap dead_begun (sym (some_same (dead_at before at sid) row h))
+
+dead_of_begun : (before at : ℕ) (claims : Option LogoutClaims) (row : DeadRow) → option_and_then (dead_of before at) claims ≡ Some row → dead_begun row ≡ at
+dead_of_begun before at None row h = cc
+dead_of_begun before at (Some claims) row h = dead_at_begun before at claims.sid row h
+
+pub dead_made_begun : (held : List DeadRow) (past : RpPast) (p : RpPair) (row : DeadRow) → dead_made held past p ≡ Some row → dead_begun row ≡ p.entry.at
+dead_made_begun held past p row h = dead_of_begun (length past) p.entry.at (token_accepted p.entry.ask p.reply) row h
+
 -- ---- the tables
 
 pub agrees_carried : (types : Types) (t u : Tables) (past : RpPast) (p : RpPair) (before : ℕ) → before ≤ p.entry.at → Agrees types t past before → IsUpdate types t u past p → Agrees types u (p ∷ past) p.entry.at
@@ -106,6 +122,7 @@ agrees_carried types t u past p before order agrees follows =
           (pendings types past) agrees.pendings follows.pendings_are;
       visits = rows_carried visit_name visit_life visit_begun before at (visit_kept past p) (visit_made types (visits types past) past p) t.visits u.visits order (visit_begun_kept past p) (visits types past) agrees.visits follows.visits_are;
       seens = rows_carried seen_name seen_life seen_begun before at (seen_kept past p) (seen_made (seens past) past p) t.seens u.seens order (seen_begun_kept past p) (seens past) agrees.seens follows.seens_are;
+      deads = rows_carried dead_name seen_life dead_begun before at (dead_kept past p) (dead_made (deads past) past p) t.deads u.deads order (dead_begun_kept past p) (deads past) agrees.deads follows.deads_are;
     }
 
 pub is_begun_carried : (types : Types) (t u : Tables) (past : RpPast) (p : RpPair) (before : ℕ) → before ≤ p.entry.at → IsBegun t before → IsUpdate types t u past p → IsBegun u p.entry.at
@@ -124,4 +141,7 @@ is_begun_carried types t u past p before order low follows =
       seens =
           begun_carried seen_name seen_life seen_begun before at (seen_kept past p) (seen_made (seens past) past p) t.seens u.seens order (seen_begun_kept past p)
           (seen_made_begun (seens past) past p) low.seens follows.seens_are;
+      deads =
+          begun_carried dead_name seen_life dead_begun before at (dead_kept past p) (dead_made (deads past) past p) t.deads u.deads order (dead_begun_kept past p)
+          (dead_made_begun (deads past) past p) low.deads follows.deads_are;
     }

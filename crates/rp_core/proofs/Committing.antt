@@ -7,12 +7,14 @@ use Rattle.rp_login.specs.declared.rows.LoginRow.{LoginRow}
 use Rattle.rp_login.specs.declared.rows.PendingRow.{PendingRow}
 use Rattle.rp_login.specs.declared.rows.SessionRow.{SessionRow}
 use Rattle.rp_login.specs.declared.rows.SeenRow.{SeenRow}
+use Rattle.rp_login.specs.declared.rows.DeadRow.{DeadRow}
 use Rattle.rp_login.specs.Tables.{Tables, with_room}
 use Rattle.rp_exchange.specs.Values.{IsRpAsk}
 use Rattle.rp_exchange.specs.Weight.{ask_weight}
 use Rattle.rp_answer.specs.Past.{RpPair, RpPast}
 use Rattle.rp_answer.specs.Setup.{PartySetup, party_of}
 use Rattle.rp_answer.specs.Answering.{rp_answer}
+use Rattle.rp_answer.proofs.FewDeads.{few_deads}
 use Rattle.sso_base.proofs.Histories.{longer_is_legal, past_more}
 use Rattle.rp_core.specs.Relying.{Relying, past_of}
 use Rattle.rp_core.specs.Agreeing.{KeepsPast, Keeps}
@@ -24,28 +26,28 @@ use Rattle.rp_core.proofs.Carried.{agrees_carried, is_begun_carried}
 with_room_keeps : (types : Types) (past : RpPast) (t : Tables) → KeepsPast types past t → KeepsPast types past (with_room t)
 with_room_keeps types past t k =
     record {
-      agrees = record { logins = k.agrees.logins; pendings = k.agrees.pendings; visits = k.agrees.visits; seens = k.agrees.seens };
-      begun = record { logins = k.begun.logins; pendings = k.begun.pendings; visits = k.begun.visits; seens = k.begun.seens };
+      agrees = record { logins = k.agrees.logins; pendings = k.agrees.pendings; visits = k.agrees.visits; seens = k.agrees.seens; deads = k.agrees.deads };
+      begun = record { logins = k.begun.logins; pendings = k.begun.pendings; visits = k.begun.visits; seens = k.begun.seens; deads = k.begun.deads };
     }
 
-module _ (s : PartySetup) (history items : List RpPair) (more : ℕ) (t u : Tables) (p : RpPair) (login : Option LoginRow) (pending : Option PendingRow) (visit : Option SessionRow) (seen : Option SeenRow) where
+module _ (s : PartySetup) (history items : List RpPair) (more : ℕ) (t u : Tables) (p : RpPair) (login : Option LoginRow) (pending : Option PendingRow) (visit : Option SessionRow) (seen : Option SeenRow) (dead : Option DeadRow) where
   -- what the step has shown when it takes the pair up, of the party as a value
   abbrev pub Shown : Relying → Type 0
   Shown r =
       (last_moment (past_of r) ≤ p.entry.at)
       × (p.reply ≡ rp_answer r.setup (past_of r) p.entry)
-      × MakesRows (party_of r.setup).types (past_of r) p login pending visit seen
+      × MakesRows (party_of r.setup).types (past_of r) p login pending visit seen dead
       × (history_weight ask_weight r.history + more ≤ most_weight)
 
   abbrev pub Follows : Type 0
-  Follows = (d : PartySetup) (past : RpPast) (before : ℕ) → MayUpdate d past before (with_room t) p login pending visit seen → IsUpdate (party_of d).types (with_room t) u past p
+  Follows = (d : PartySetup) (past : RpPast) (before : ℕ) → MayUpdate d past before (with_room t) p login pending visit seen dead → IsUpdate (party_of d).types (with_room t) u past p
 
   committed : Keeps s history t → IsEntry IsRpAsk p.entry → more ≡ ask_weight p.entry.ask → items ≡ history ++ p ∷ [] → Follows
       → Shown (record { setup = s; history = history; tables = t }) → Keeps s items u
   committed keeps entry more_is items_are follows shown =
       let past : RpPast = reverse history in
       let kept : KeepsPast (party_of s).types past (with_room t) = with_room_keeps (party_of s).types past t keeps.tables in
-      let up : MayUpdate s past (last_moment past) (with_room t) p login pending visit seen = record { order = shown.0; agrees = kept.agrees; begun = kept.begun; reply_is = shown.1; rows = shown.2 } in
+      let up : MayUpdate s past (last_moment past) (with_room t) p login pending visit seen dead = record { order = shown.0; agrees = kept.agrees; begun = kept.begun; reply_is = shown.1; rows = shown.2; few = few_deads s past p (keeps.legal.past, entry, shown.0, shown.1) } in
       let one : IsUpdate (party_of s).types (with_room t) u past p = follows s past (last_moment past) up in
       let K : RpPast → Type 0 = λ q. KeepsPast (party_of s).types q u in
       let I : List RpPair → Type 0 = λ x. Keeps s x u in

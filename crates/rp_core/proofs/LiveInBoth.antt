@@ -12,18 +12,20 @@ use Rattle.rp_login.specs.declared.rows.LoginRow.{LoginRow}
 use Rattle.rp_login.specs.declared.rows.PendingRow.{PendingRow}
 use Rattle.rp_login.specs.declared.rows.SessionRow.{SessionRow}
 use Rattle.rp_login.specs.declared.rows.SeenRow.{SeenRow}
-use Rattle.rp_login.specs.Rows.{login_name, login_begun, pending_name, pending_begun, visit_name, visit_begun, seen_name, seen_begun}
+use Rattle.rp_login.specs.declared.rows.DeadRow.{DeadRow}
+use Rattle.rp_login.specs.Rows.{login_name, login_begun, pending_name, pending_begun, visit_name, visit_begun, seen_name, seen_begun, dead_name, dead_begun}
 use Rattle.oidc_words.specs.Lives.{login_life, pending_life, visit_life, seen_life}
 use Rattle.held_rows.specs.Held.{most_rows, has_room_for_one}
-use Rattle.rp_login.specs.Tables.{Tables, AreLogins, ArePendings, AreVisits, AreSeens, live_named_count}
+use Rattle.rp_login.specs.Tables.{Tables, AreLogins, ArePendings, AreVisits, AreSeens, AreDeads, live_named_count}
 use Rattle.rp_answer.specs.Past.{RpPair, RpPast}
 use Rattle.rp_answer.specs.Setup.{PartySetup, party_of}
 use Rattle.rp_answer.specs.Logins.{logins, login_made, login_kept, live_logins, live_login, has_login_browser}
 use Rattle.rp_answer.specs.Pendings.{pendings, pending_made, pending_kept, live_pendings, any_live_pending}
 use Rattle.rp_answer.specs.Seens.{seens, seen_made, seen_kept, live_seens, live_seen}
+use Rattle.rp_answer.specs.Deads.{deads, dead_made, dead_kept, live_dead}
 use Rattle.rp_answer.specs.Replies.{meant_count}
 use Rattle.rp_answer.specs.Visits.{visits, visit_made, visit_kept, live_visits, live_visit}
-use Rattle.rp_answer.proofs.KeptNames.{login_names, pending_names, visit_names, seen_names}
+use Rattle.rp_answer.proofs.KeptNames.{login_names, pending_names, visit_names, seen_names, dead_names}
 use Rattle.rp_core.specs.Relying.{Relying, past_of}
 use Rattle.rp_core.specs.Agreeing.{KeepsPast}
 use Rattle.held_rows.proofs.HeldLaws.{filter_short}
@@ -113,6 +115,13 @@ module _ (s : PartySetup) (history : List RpPair) (t : Tables) (keeps : KeepsPas
 
   pub seens_room : has_room_for_one seen_life seen_begun at t.seens ≡ nat_lt (length (live_seens (past_of r) at)) most_rows
   seens_room = let N : List SeenRow → Bool = λ rows. nat_lt (length rows) most_rows in ap N seens_live
+
+  pub dead_live : (sid : Text) → AreDeads t.deads → option_and_then (if_lives seen_life dead_begun at) (row_of dead_name sid t.deads) ≡ live_dead (past_of r) at sid
+  dead_live sid held =
+      let L : Relying → Option DeadRow = λ x. live_dead (past_of x) at sid in
+      found_in_both dead_name seen_life dead_begun (last_moment (reverse history)) at in_order sid t.deads (deads (reverse history)) held.distinct
+      (rows_distinct dead_name dead_made dead_kept dead_names (reverse history)) keeps.agrees.deads
+      ∙ ap L view
 
   -- so many sessions does a logout token name
   pub meant_live : (claims : LogoutClaims) (sub sid : Option Text) → sub ≡ claims.sub → sid ≡ claims.sid → live_named_count sub sid at t ≡ meant_count claims (live_visits (types_of r) (past_of r) at)

@@ -9,6 +9,7 @@ use Rattle.rp_login.specs.declared.rows.LoginRow.{LoginRow}
 use Rattle.rp_login.specs.declared.rows.PendingRow.{PendingRow}
 use Rattle.rp_login.specs.declared.rows.SessionRow.{SessionRow}
 use Rattle.rp_login.specs.declared.rows.SeenRow.{SeenRow}
+use Rattle.rp_login.specs.declared.rows.DeadRow.{DeadRow}
 use Rattle.rp_login.specs.declared.rows.Stage.{Stage}
 use Rattle.rp_login.specs.declared.rows.Stage.TheVariants as stage
 use Rattle.rp_login.specs.Rows.{pending_name}
@@ -23,8 +24,9 @@ use Rattle.rp_answer.specs.Logins.{login_started, login_of, live_login}
 use Rattle.rp_answer.specs.Pendings.{if_stage, pending_started, pending_followed, fetched_by, pending_by, pendings, pending_of, live_pending}
 use Rattle.rp_answer.specs.Visits.{nonce_by, visit_of, visit_after, visit_for, visit_by}
 use Rattle.rp_answer.specs.Seens.{seen_by}
+use Rattle.rp_answer.specs.Deads.{dead_by}
 use Rattle.rp_answer.specs.Answering.{rp_answer}
-use Rattle.rp_answer.specs.Causes.{ExchangeCause, FetchCause, EnteredCause}
+use Rattle.rp_answer.specs.Causes.{ExchangeCause, FetchCause, MayEnter}
 use Rattle.rp_answer.proofs.Answers.{exchanges_have_a_cause, fetches_have_a_cause, entered_have_a_cause}
 use Rattle.rp_answer.proofs.Sending as found
 use Rattle.rp_core.specs.Making.{fetched_found, pending_found, nonce_found, visit_judged, visit_in, visit_found, MakesRows}
@@ -73,7 +75,7 @@ module _ (s : PartySetup) (past : RpPast) (e : Entry RpAsk) where
       let M : Option Word → Option SessionRow = λ o. option_and_then (λ nonce. option_map (visit_of e.at w nonce) (claims_judged (party_of s).types asked)) o in
       ap M same
 
-  entered_nonce : (asked : RpAsk) (w : Word) (sub : Text) → EnteredCause s past e asked w sub → nonce_found (party_of s).types past e asked ≡ nonce_by (party_of s).types past asked
+  entered_nonce : (asked : RpAsk) (w : Word) (sub : Text) → MayEnter s past e asked w sub → nonce_found (party_of s).types past e asked ≡ nonce_by (party_of s).types past asked
   entered_nonce (ask.Callback (Ok heard) id browser) w sub cause =
       let M : Option LoginRow → Option Word = λ o. option_map (λ (login : LoginRow). login.nonce) o in
       ap M (cause.response.own.live ∙ sym (found.login_found past e.at heard.state cause.login cause.response.own.live))
@@ -83,7 +85,7 @@ module _ (s : PartySetup) (past : RpPast) (e : Entry RpAsk) where
   entered_nonce (ask.Info pending (Ok came)) w sub cause = refl
   entered_nonce asked w sub cause = absurd cause
 
-  entered_same : (asked : RpAsk) (w : Word) (sub : Text) → EnteredCause s past e asked w sub → visit_in (party_of s).types past e w asked ≡ visit_for (party_of s).types e.at past w asked
+  entered_same : (asked : RpAsk) (w : Word) (sub : Text) → MayEnter s past e asked w sub → visit_in (party_of s).types past e w asked ≡ visit_for (party_of s).types e.at past w asked
   entered_same (ask.Info pending (Ok came)) w sub cause =
       let V : Option PendingRow → Option SessionRow = λ o. option_and_then (visit_after e.at w) o in
       ap V (cause.live ∙ sym (found.pending_found (party_of s).types past e.at pending stage.Info cause.exchange cause.live))
@@ -92,11 +94,11 @@ module _ (s : PartySetup) (past : RpPast) (e : Entry RpAsk) where
   entered_same asked w sub cause = absurd cause
 
   pub visit_same : (told : RpReply) → told ≡ rp_answer s past e → visit_found (party_of s).types past e told ≡ visit_by (party_of s).types e.at past e.ask told
-  visit_same (reply.Entered w sub) answered = entered_same e.ask w sub (entered_have_a_cause s past e w sub (sym answered))
+  visit_same (reply.Entered w sub) answered = entered_same e.ask w sub (entered_have_a_cause s past e w sub (sym answered)).enters
   visit_same told answered = refl
 
-  pub makes_rows : (told : RpReply) (login : Option LoginRow) (pending : Option PendingRow) (visit : Option SessionRow) (seen : Option SeenRow) → told ≡ rp_answer s past e
+  pub makes_rows : (told : RpReply) (login : Option LoginRow) (pending : Option PendingRow) (visit : Option SessionRow) (seen : Option SeenRow) (dead : Option DeadRow) → told ≡ rp_answer s past e
       → login ≡ login_started (length past) e.at e.fresh e.ask told → pending ≡ pending_found (party_of s).types past e told → visit ≡ visit_found (party_of s).types past e told
-      → seen ≡ seen_by (length past) e.at e.ask told → MakesRows (party_of s).types past (record { entry = e; reply = told }) login pending visit seen
-  makes_rows told login pending visit seen answered one two three four =
-      record { login_is = one; pending_is = two ∙ pending_same told answered; visit_is = three ∙ visit_same told answered; seen_is = four }
+      → seen ≡ seen_by (length past) e.at e.ask told → dead ≡ dead_by (length past) e.at e.ask told → MakesRows (party_of s).types past (record { entry = e; reply = told }) login pending visit seen dead
+  makes_rows told login pending visit seen dead answered one two three four five =
+      record { login_is = one; pending_is = two ∙ pending_same told answered; visit_is = three ∙ visit_same told answered; seen_is = four; dead_is = five }

@@ -16,6 +16,7 @@ use Rattle.rp_login.specs.declared.rows.LoginRow.{LoginRow}
 use Rattle.rp_login.specs.declared.rows.PendingRow.{PendingRow}
 use Rattle.rp_login.specs.declared.rows.SessionRow.{SessionRow}
 use Rattle.rp_login.specs.declared.rows.SeenRow.{SeenRow}
+use Rattle.rp_login.specs.declared.rows.DeadRow.{DeadRow}
 use Rattle.rp_login.specs.declared.table.RpTable.{RpTable}
 use Rattle.rp_login.specs.declared.table.RpTable.TheVariants as table
 use Rattle.held_rows.specs.Held.{most_rows, is_full}
@@ -34,6 +35,7 @@ use Rattle.rp_answer.specs.Asked.{state_named, claims_judged}
 use Rattle.rp_answer.specs.Logins.{login_started, login_of, live_logins}
 use Rattle.rp_answer.specs.Pendings.{if_stage, pending_made, pending_kept, answer_named, ends_pending, pendings, pending_of, live_pendings}
 use Rattle.rp_answer.specs.Seens.{seen_of, seen_by, live_seens}
+use Rattle.rp_answer.specs.Deads.{dead_by}
 use Rattle.rp_answer.specs.Visits.{nonce_by, visit_of, visit_of_pending, visit_after, visit_for, visit_by, live_visits}
 use Rattle.rp_answer.specs.Room.{if_full, beside_answered, seen_lacking}
 use Rattle.rp_answer.specs.Answering.{rp_answer}
@@ -165,3 +167,10 @@ module _ (s : PartySetup) (past : RpPast) (e : Entry RpAsk) where
       ap F (sym (some_same (seen_of before e.at claims) row h))
       ∙ not_full table.Seen (is_full most_rows seen_name claims.jti (live_seens past e.at)) (sym (ap L is) ∙ (own_replies_stand s past e (reply.Ended count) refl (sym answered)).room)
   seen_fits before asked told row is answered h = cc
+
+  -- a session identifier comes with a logout token, for which there is room
+  pub dead_fits : (before : ℕ) (asked : RpAsk) (told : RpReply) (row : DeadRow) → e.ask ≡ asked → told ≡ rp_answer s past e → dead_by before e.at asked told ≡ Some row
+      → length (live_seens past e.at) < most_rows
+  dead_fits before (ask.Logout (Ok claims)) (reply.Ended count) row is answered h =
+      few_there most_rows seen_name claims.jti (live_seens past e.at) (seen_fits before (ask.Logout (Ok claims)) (reply.Ended count) (seen_of before e.at claims) is answered refl)
+  dead_fits before asked told row is answered h = cc

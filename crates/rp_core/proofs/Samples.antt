@@ -51,16 +51,16 @@ the_newest_pair_comes_first = refl
 -- ---- tables that agree with the past
 
 they_agree : Agrees only_code with_login_begun past_begin 1000
-they_agree = record { logins = refl; pendings = refl; visits = refl; seens = refl }
+they_agree = record { logins = refl; pendings = refl; visits = refl; seens = refl; deads = refl }
 
 a_login_that_is_over_may_be_gone : Agrees only_code no_tables past_begin 1600
-a_login_that_is_over_may_be_gone = record { logins = refl; pendings = refl; visits = refl; seens = refl }
+a_login_that_is_over_may_be_gone = record { logins = refl; pendings = refl; visits = refl; seens = refl; deads = refl }
 
 one_that_lives_may_not : Agrees only_code no_tables past_begin 1599 → ⊥
 one_that_lives_may_not agrees = (let k : [] ≡ login ∷ [] = agrees.logins in cc)
 
 they_are_begun : IsBegun with_login_begun 1000
-they_are_begun = record { logins = refl; pendings = refl; visits = refl; seens = refl }
+they_are_begun = record { logins = refl; pendings = refl; visits = refl; seens = refl; deads = refl }
 
 not_begun_one_second_before : IsBegun with_login_begun 999 → ⊥
 not_begun_one_second_before begun = (let k : false ≡ true = begun.logins in cc)
@@ -77,10 +77,10 @@ abbrev past_over : RpPast
 past_over = pair_of (entry_at 1600 5 ask.NotHere) NotHere ∷ past_begin
 
 it_may_be_held : KeepsPast only_code past_over with_login_begun
-it_may_be_held = record { agrees = record { logins = refl; pendings = refl; visits = refl; seens = refl }; begun = record { logins = refl; pendings = refl; visits = refl; seens = refl } }
+it_may_be_held = record { agrees = record { logins = refl; pendings = refl; visits = refl; seens = refl; deads = refl }; begun = record { logins = refl; pendings = refl; visits = refl; seens = refl; deads = refl } }
 
 it_may_be_purged : KeepsPast only_code past_over (purged 1600 with_login_begun)
-it_may_be_purged = record { agrees = record { logins = refl; pendings = refl; visits = refl; seens = refl }; begun = record { logins = refl; pendings = refl; visits = refl; seens = refl } }
+it_may_be_purged = record { agrees = record { logins = refl; pendings = refl; visits = refl; seens = refl; deads = refl }; begun = record { logins = refl; pendings = refl; visits = refl; seens = refl; deads = refl } }
 
 a_purge_makes_other_tables : purged 1600 with_login_begun ≡ with_login_begun → ⊥
 a_purge_makes_other_tables same = (let L : Tables → List LoginRow = λ t. t.logins in let k : [] ≡ login ∷ [] = ap L same in cc)
@@ -124,16 +124,16 @@ late_ones_let_none_in t = refl
 refused_ones_let_none_in : (t : Text) → visit_found only_code past_callback (tokens_entry 1119 t) (Refused no.SubjectDiffers) ≡ None
 refused_ones_let_none_in t = refl
 
-begin_brings_a_login : MakesRows only_code [] begin_pair (Some login) None None None
-begin_brings_a_login = record { login_is = refl; pending_is = refl; visit_is = refl; seen_is = refl }
+begin_brings_a_login : MakesRows only_code [] begin_pair (Some login) None None None None
+begin_brings_a_login = record { login_is = refl; pending_is = refl; visit_is = refl; seen_is = refl; dead_is = refl }
 
-a_callback_brings_an_exchange : MakesRows only_code past_begin callback_pair None (Some waiting) None None
-a_callback_brings_an_exchange = record { login_is = refl; pending_is = refl; visit_is = refl; seen_is = refl }
+a_callback_brings_an_exchange : MakesRows only_code past_begin callback_pair None (Some waiting) None None None
+a_callback_brings_an_exchange = record { login_is = refl; pending_is = refl; visit_is = refl; seen_is = refl; dead_is = refl }
 
-tokens_bring_a_session : (t : Text) → MakesRows only_code past_callback (tokens_pair t) None None (Some visit) None
-tokens_bring_a_session t = record { login_is = refl; pending_is = refl; visit_is = refl; seen_is = refl }
+tokens_bring_a_session : (t : Text) → MakesRows only_code past_callback (tokens_pair t) None None (Some visit) None None
+tokens_bring_a_session t = record { login_is = refl; pending_is = refl; visit_is = refl; seen_is = refl; dead_is = refl }
 
-a_callback_does_not_bring_nothing : MakesRows only_code past_begin callback_pair None None None None → ⊥
+a_callback_does_not_bring_nothing : MakesRows only_code past_begin callback_pair None None None None None → ⊥
 a_callback_does_not_bring_nothing rows = (let k : None ≡ Some waiting = rows.pending_is in cc)
 
 -- ---- rows that are put
@@ -156,7 +156,7 @@ a_login_is_put_at_the_end = refl
 no_login_is_put : login_put None with_login_begun ≡ with_login_begun
 no_login_is_put = refl
 
-an_exchange_uses_its_room : (pending_put (Some waiting) (with_room no_tables)).reserved ≡ record { logins = true; pendings = false; visits = true; seens = true }
+an_exchange_uses_its_room : (pending_put (Some waiting) (with_room no_tables)).reserved ≡ record { logins = true; pendings = false; visits = true; seens = true; deads = true }
 an_exchange_uses_its_room = refl
 
 no_exchange_is_put : pending_put None with_exchange ≡ with_exchange
@@ -171,23 +171,23 @@ no_session_is_put = refl
 -- ---- one more pair
 
 the_callback_is_followed : IsUpdate only_code with_login_begun with_exchange past_begin callback_pair
-the_callback_is_followed = record { logins_are = refl; pendings_are = refl; visits_are = refl; seens_are = refl }
+the_callback_is_followed = record { logins_are = refl; pendings_are = refl; visits_are = refl; seens_are = refl; deads_are = refl }
 
 its_login_does_not_stay : IsUpdate only_code with_login_begun (record with_exchange { logins = login ∷ [] }) past_begin callback_pair → ⊥
 its_login_does_not_stay follows = (let k : login ∷ [] ≡ [] = follows.logins_are in cc)
 
 the_tokens_are_followed : (t : Text) → IsUpdate only_code with_exchange with_session past_callback (tokens_pair t)
-the_tokens_are_followed t = record { logins_are = refl; pendings_are = refl; visits_are = refl; seens_are = refl }
+the_tokens_are_followed t = record { logins_are = refl; pendings_are = refl; visits_are = refl; seens_are = refl; deads_are = refl }
 
 their_exchange_does_not_stay : (t : Text) → IsUpdate only_code with_exchange (record with_session { pendings = waiting ∷ [] }) past_callback (tokens_pair t) → ⊥
 their_exchange_does_not_stay t follows = (let k : waiting ∷ [] ≡ [] = follows.pendings_are in cc)
 
-the_callback_is_taken_up : MayUpdate shop_setup past_begin 1000 with_login_begun callback_pair None (Some waiting) None None
+the_callback_is_taken_up : MayUpdate shop_setup past_begin 1000 with_login_begun callback_pair None (Some waiting) None None None
 the_callback_is_taken_up =
-    record { order = omega arith; agrees = they_agree; begun = they_are_begun; reply_is = sym callback_exchanges_at_once; rows = a_callback_brings_an_exchange }
+    record { order = omega arith; agrees = they_agree; begun = they_are_begun; reply_is = sym callback_exchanges_at_once; rows = a_callback_brings_an_exchange; few = omega arith }
 
-not_without_its_exchange : MayUpdate shop_setup past_begin 1000 with_login_begun callback_pair None None None None → ⊥
+not_without_its_exchange : MayUpdate shop_setup past_begin 1000 with_login_begun callback_pair None None None None None → ⊥
 not_without_its_exchange up = (let k : None ≡ Some waiting = up.rows.pending_is in cc)
 
-not_before_the_moment_of_the_tables : MayUpdate shop_setup past_begin 1001 with_login_begun callback_pair None (Some waiting) None None → ⊥
+not_before_the_moment_of_the_tables : MayUpdate shop_setup past_begin 1001 with_login_begun callback_pair None (Some waiting) None None None → ⊥
 not_before_the_moment_of_the_tables up = (let k : 1001 ≤ 1000 = up.order in absurd (omega arith))

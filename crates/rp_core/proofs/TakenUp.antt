@@ -1,13 +1,15 @@
 -- What a step updates: its calls may be made, and after them the tables are those after the pair.
-use Rattle.std.proofs.Common.{◌≡◌, ◌≤◌, ℕ, Bool, true, false, List, length, filter_map, Option, Some, None, Ok, IfSome, refl, sym, ◌∙◌, ap, subst}
+use Rattle.std.proofs.Common.{◌≡◌, ◌≤◌, ◌<◌, ℕ, Bool, true, false, nat_le, List, length, filter_map, Option, Some, None, Ok, IfSome, refl, sym, ◌∙◌, ap, subst, arith}
 use Rattle.sso_base.specs.Words.{Word}
-use Rattle.sso_base.specs.Rows.{put, live_rows}
+use Rattle.sso_base.specs.Rows.{without, put, live_rows}
+use Rattle.sso_base.proofs.RowLaws.{row_of-without_same}
 use Rattle.rp_login.specs.declared.rows.LoginRow.{LoginRow}
 use Rattle.rp_login.specs.declared.rows.PendingRow.{PendingRow}
 use Rattle.rp_login.specs.declared.rows.SessionRow.{SessionRow}
 use Rattle.rp_login.specs.declared.rows.SeenRow.{SeenRow}
+use Rattle.rp_login.specs.declared.rows.DeadRow.{DeadRow}
 use Rattle.rp_login.specs.declared.table.Reserved.{Reserved}
-use Rattle.rp_login.specs.Rows.{login_name, login_begun, pending_name, pending_begun, visit_name, visit_begun, seen_name, seen_begun}
+use Rattle.rp_login.specs.Rows.{login_name, login_begun, pending_name, pending_begun, visit_name, visit_begun, seen_name, seen_begun, dead_name, dead_begun}
 use Rattle.oidc_words.specs.Lives.{login_life, pending_life, visit_life, seen_life}
 use Rattle.held_rows.specs.Held.{most_rows, none_after, is_full, MayAddRow}
 use Rattle.rp_login.specs.Tables.{Tables, purged}
@@ -21,24 +23,26 @@ use Rattle.rp_answer.specs.Setup.{PartySetup, party_of}
 use Rattle.rp_answer.specs.Logins.{logins, login_made, login_kept}
 use Rattle.rp_answer.specs.Pendings.{pendings, pending_made, pending_kept}
 use Rattle.rp_answer.specs.Visits.{visits, visit_made, visit_kept}
-use Rattle.rp_answer.specs.Seens.{seens, seen_made, seen_kept}
+use Rattle.rp_answer.specs.Seens.{seens, seen_made, seen_kept, live_seens}
+use Rattle.rp_answer.specs.Deads.{deads, dead_made, dead_kept, live_deads}
 use Rattle.rp_answer.specs.Asked.{token_accepted}
 use Rattle.rp_answer.specs.Answering.{rp_answer}
 use Rattle.rp_answer.specs.Causes.{is_own}
 use Rattle.rp_answer.proofs.Stood.{own_replies_stand}
 use Rattle.rp_answer.proofs.KeptNames.{login_names, visit_names, seen_names}
-use Rattle.held_rows.proofs.Kept.{all_kept, put_pushes}
-use Rattle.held_rows.proofs.Added.{MayAdd, may_add, few_there, unnamed_there, kept_latest}
+use Rattle.rp_answer.proofs.FewDeads.{fewer}
+use Rattle.held_rows.proofs.Kept.{all_kept, all_without, put_pushes}
+use Rattle.held_rows.proofs.Added.{MayAdd, may_add, few_there, unnamed_there, kept_short, kept_latest}
 use Rattle.held_rows.proofs.Found.{same_later}
-use Rattle.rp_core.specs.Keeping.{MayUpdate, IsUpdate, NamesSomebody, login_put, pending_put, visit_put, seen_put}
-use Rattle.rp_core.proofs.Carried.{login_begun_kept, pending_begun_kept, visit_begun_kept, seen_begun_kept, login_made_begun, pending_made_begun, visit_made_begun, seen_made_begun}
+use Rattle.rp_core.specs.Keeping.{MayUpdate, IsUpdate, NamesSomebody, login_put, pending_put, visit_put, seen_put, dead_put}
+use Rattle.rp_core.proofs.Carried.{login_begun_kept, pending_begun_kept, visit_begun_kept, seen_begun_kept, dead_begun_kept, login_made_begun, pending_made_begun, visit_made_begun, seen_made_begun, dead_made_begun}
 use Rattle.rp_core.proofs.KeptTables.{with_logins, with_pendings, with_visits}
-use Rattle.rp_core.proofs.RoomFor.{login_fits, pending_fits, visit_fits, seen_fits}
+use Rattle.rp_core.proofs.RoomFor.{login_fits, pending_fits, visit_fits, seen_fits, dead_fits}
 
 -- ---- a row that may be added is put
 
 abbrev pub all_reserved : Reserved
-all_reserved = record { logins = true; pendings = true; visits = true; seens = true }
+all_reserved = record { logins = true; pendings = true; visits = true; seens = true; deads = true }
 
 -- what holds of a row, if there is one
 if_made : {R : Type 0} (P : R → Type 0) (m : Option R) → ((r : R) → m ≡ Some r → P r) → IfSome m P
@@ -58,6 +62,23 @@ may_add_kept {R} most name life begun k before at order held same low rows agree
     let here : is_full most name (name row) kept ≡ false = subst F (sym (same_later name life begun before at order held rows agrees)) room in
     record { few = few_there most name (name row) kept here; unnamed = unnamed_there most name (name row) kept here; latest = kept_latest most name life begun k before at order held same low row now }
 
+-- a session identifier may be added when its earlier record has gone, where fewer live than the table may hold
+may_add_ended : (k : DeadRow → Option DeadRow) (before at : ℕ) → before ≤ at → (held : List DeadRow) → ((r s : DeadRow) → k r ≡ Some s → dead_begun s ≡ dead_begun r)
+    → none_after dead_begun before held ≡ true → (rows : List DeadRow) → live_rows seen_life dead_begun before held ≡ live_rows seen_life dead_begun before rows → (row : DeadRow) → dead_begun row ≡ at
+    → length (live_rows seen_life dead_begun at rows) < most_rows
+    → MayAdd most_rows dead_name dead_begun (without dead_name row.sid (filter_map k (live_rows seen_life dead_begun at held))) row
+may_add_ended k before at order held same low rows agrees row now room =
+    let live : List DeadRow = live_rows seen_life dead_begun at held in
+    let kept : List DeadRow = filter_map k live in
+    let as_many : length live ≡ length (live_rows seen_life dead_begun at rows) = ap length (same_later dead_name seen_life dead_begun before at order held rows agrees) in
+    let short : length kept ≤ length live = kept_short k live in
+    let less : length (without dead_name row.sid kept) ≤ length kept = fewer dead_name row.sid kept in
+    record {
+      few = omega (arith, as_many, short, less, room);
+      unnamed = row_of-without_same dead_name row.sid kept;
+      latest = all_without (λ (r : DeadRow). nat_le (dead_begun r) (dead_begun row)) dead_name row.sid kept (kept_latest most_rows dead_name seen_life dead_begun k before at order held same low row now);
+    }
+
 logins_put : (m : Option LoginRow) (t : Tables) → IfSome m (λ r. MayAddRow login_name login_begun t.reserved.logins t.logins r) → (login_put m t).logins ≡ put login_name m t.logins
 logins_put None t may = refl
 logins_put (Some row) t may = put_pushes login_name row t.logins may.unnamed
@@ -74,48 +95,70 @@ seens_put : (m : Option SeenRow) (t : Tables) → IfSome m (λ r. MayAddRow seen
 seens_put None t may = refl
 seens_put (Some row) t may = put_pushes seen_name row t.seens may.unnamed
 
+deads_put : (m : Option DeadRow) (t : Tables) → (dead_put m t).deads ≡ put dead_name m t.deads
+deads_put None t = refl
+deads_put (Some row) t = refl
+
 -- what putting one kind leaves of the others
 record Leaves (t u : Tables) : Type 0 where
   pub pendings : u.pendings ≡ t.pendings
   pub visits : u.visits ≡ t.visits
   pub seens : u.seens ≡ t.seens
+  pub deads : u.deads ≡ t.deads
   pub reserved_pendings : u.reserved.pendings ≡ t.reserved.pendings
   pub reserved_visits : u.reserved.visits ≡ t.reserved.visits
   pub reserved_seens : u.reserved.seens ≡ t.reserved.seens
+  pub reserved_deads : u.reserved.deads ≡ t.reserved.deads
 
 login_leaves : (m : Option LoginRow) (t : Tables) → Leaves t (login_put m t)
-login_leaves None t = record { pendings = refl; visits = refl; seens = refl; reserved_pendings = refl; reserved_visits = refl; reserved_seens = refl }
-login_leaves (Some row) t = record { pendings = refl; visits = refl; seens = refl; reserved_pendings = refl; reserved_visits = refl; reserved_seens = refl }
+login_leaves None t = record { pendings = refl; visits = refl; seens = refl; deads = refl; reserved_pendings = refl; reserved_visits = refl; reserved_seens = refl; reserved_deads = refl }
+login_leaves (Some row) t = record { pendings = refl; visits = refl; seens = refl; deads = refl; reserved_pendings = refl; reserved_visits = refl; reserved_seens = refl; reserved_deads = refl }
 
 record LeavesMore (t u : Tables) : Type 0 where
   pub logins : u.logins ≡ t.logins
   pub visits : u.visits ≡ t.visits
   pub seens : u.seens ≡ t.seens
+  pub deads : u.deads ≡ t.deads
   pub reserved_visits : u.reserved.visits ≡ t.reserved.visits
   pub reserved_seens : u.reserved.seens ≡ t.reserved.seens
+  pub reserved_deads : u.reserved.deads ≡ t.reserved.deads
 
 pending_leaves : (m : Option PendingRow) (t : Tables) → LeavesMore t (pending_put m t)
-pending_leaves None t = record { logins = refl; visits = refl; seens = refl; reserved_visits = refl; reserved_seens = refl }
-pending_leaves (Some row) t = record { logins = refl; visits = refl; seens = refl; reserved_visits = refl; reserved_seens = refl }
+pending_leaves None t = record { logins = refl; visits = refl; seens = refl; deads = refl; reserved_visits = refl; reserved_seens = refl; reserved_deads = refl }
+pending_leaves (Some row) t = record { logins = refl; visits = refl; seens = refl; deads = refl; reserved_visits = refl; reserved_seens = refl; reserved_deads = refl }
 
 record LeavesRest (t u : Tables) : Type 0 where
   pub logins : u.logins ≡ t.logins
   pub pendings : u.pendings ≡ t.pendings
   pub seens : u.seens ≡ t.seens
+  pub deads : u.deads ≡ t.deads
   pub reserved_seens : u.reserved.seens ≡ t.reserved.seens
+  pub reserved_deads : u.reserved.deads ≡ t.reserved.deads
 
 visit_leaves : (m : Option SessionRow) (t : Tables) → LeavesRest t (visit_put m t)
-visit_leaves None t = record { logins = refl; pendings = refl; seens = refl; reserved_seens = refl }
-visit_leaves (Some row) t = record { logins = refl; pendings = refl; seens = refl; reserved_seens = refl }
+visit_leaves None t = record { logins = refl; pendings = refl; seens = refl; deads = refl; reserved_seens = refl; reserved_deads = refl }
+visit_leaves (Some row) t = record { logins = refl; pendings = refl; seens = refl; deads = refl; reserved_seens = refl; reserved_deads = refl }
 
 record LeavesAll (t u : Tables) : Type 0 where
   pub logins : u.logins ≡ t.logins
   pub pendings : u.pendings ≡ t.pendings
   pub visits : u.visits ≡ t.visits
+  pub deads : u.deads ≡ t.deads
+  pub reserved_deads : u.reserved.deads ≡ t.reserved.deads
 
 seen_leaves : (m : Option SeenRow) (t : Tables) → LeavesAll t (seen_put m t)
-seen_leaves None t = record { logins = refl; pendings = refl; visits = refl }
-seen_leaves (Some row) t = record { logins = refl; pendings = refl; visits = refl }
+seen_leaves None t = record { logins = refl; pendings = refl; visits = refl; deads = refl; reserved_deads = refl }
+seen_leaves (Some row) t = record { logins = refl; pendings = refl; visits = refl; deads = refl; reserved_deads = refl }
+
+record LeavesOld (t u : Tables) : Type 0 where
+  pub logins : u.logins ≡ t.logins
+  pub pendings : u.pendings ≡ t.pendings
+  pub visits : u.visits ≡ t.visits
+  pub seens : u.seens ≡ t.seens
+
+dead_leaves : (m : Option DeadRow) (t : Tables) → LeavesOld t (dead_put m t)
+dead_leaves None t = record { logins = refl; pendings = refl; visits = refl; seens = refl }
+dead_leaves (Some row) t = record { logins = refl; pendings = refl; visits = refl; seens = refl }
 
 -- ---- the tables before the rows are put
 
@@ -124,6 +167,7 @@ pub record IsKept (t v : Tables) (past : RpPast) (p : RpPair) : Type 0 where
   pub pendings : v.pendings ≡ filter_map (pending_kept past p) (live_rows pending_life pending_begun p.entry.at t.pendings)
   pub visits : v.visits ≡ filter_map (visit_kept past p) (live_rows visit_life visit_begun p.entry.at t.visits)
   pub seens : v.seens ≡ filter_map (seen_kept past p) (live_rows seen_life seen_begun p.entry.at t.seens)
+  pub deads : v.deads ≡ filter_map (dead_kept past p) (live_rows seen_life dead_begun p.entry.at t.deads)
   pub reserved : v.reserved ≡ t.reserved
 
 module _ (past : RpPast) (p : RpPair) (t a b d v : Tables) (purge : a ≡ purged p.entry.at t) (one : b ≡ with_logins past p a (filter_map (login_kept past p) a.logins)) (two : d ≡ with_pendings past p b (filter_map (pending_kept past p) b.pendings))
@@ -134,6 +178,7 @@ module _ (past : RpPast) (p : RpPair) (t a b d v : Tables) (purge : a ≡ purged
       let P : Tables → List PendingRow = λ x. x.pendings in
       let V : Tables → List SessionRow = λ x. x.visits in
       let S : Tables → List SeenRow = λ x. x.seens in
+      let D : Tables → List DeadRow = λ x. x.deads in
       let R : Tables → Reserved = λ x. x.reserved in
       let FL : Tables → List LoginRow = λ x. filter_map (login_kept past p) x.logins in
       let FP : Tables → List PendingRow = λ x. filter_map (pending_kept past p) x.pendings in
@@ -143,12 +188,13 @@ module _ (past : RpPast) (p : RpPair) (t a b d v : Tables) (purge : a ≡ purged
         pendings = ap P three ∙ ap P two ∙ ap FP one ∙ ap FP purge;
         visits = ap V three ∙ ap FV two ∙ ap FV one ∙ ap FV purge;
         seens = ap S three ∙ ap S two ∙ ap S one ∙ ap S purge ∙ sym (all_kept (seen_kept past p) (live_rows seen_life seen_begun p.entry.at t.seens) (λ row. refl));
+        deads = ap D three ∙ ap D two ∙ ap D one ∙ ap D purge ∙ sym (all_kept (dead_kept past p) (live_rows seen_life dead_begun p.entry.at t.deads) (λ row. refl));
         reserved = ap R three ∙ ap R two ∙ ap R one ∙ ap R purge;
       }
 
 -- ---- the rows may be added, and then the tables are those after the pair
 
-module _ {s : PartySetup} {past : RpPast} {before : ℕ} {t : Tables} {p : RpPair} {login : Option LoginRow} {pending : Option PendingRow} {visit : Option SessionRow} {seen : Option SeenRow} (up : MayUpdate s past before t p login pending visit seen) {v : Tables} (kept : IsKept t v past p) (reserved : t.reserved ≡ all_reserved) where
+module _ {s : PartySetup} {past : RpPast} {before : ℕ} {t : Tables} {p : RpPair} {login : Option LoginRow} {pending : Option PendingRow} {visit : Option SessionRow} {seen : Option SeenRow} {dead : Option DeadRow} (up : MayUpdate s past before t p login pending visit seen dead) {v : Tables} (kept : IsKept t v past p) (reserved : t.reserved ≡ all_reserved) where
   pub login_may : IfSome login (λ r. MayAddRow login_name login_begun v.reserved.logins v.logins r)
   login_may =
       if_made (λ r. MayAddRow login_name login_begun v.reserved.logins v.logins r) login (λ row is.
@@ -196,6 +242,20 @@ module _ {s : PartySetup} {past : RpPast} {before : ℕ} {t : Tables} {p : RpPai
       (seens past) up.agrees.seens row
       (seen_made_begun (seens past) past p row made) (seen_fits s past p.entry (length past) p.entry.ask p.reply row refl up.reply_is made))))
 
+  pub dead_may_before : IfSome dead (λ r. MayAddRow dead_name dead_begun v.reserved.deads (without dead_name r.sid v.deads) r)
+  dead_may_before =
+      if_made (λ r. MayAddRow dead_name dead_begun v.reserved.deads (without dead_name r.sid v.deads) r) dead (λ row is.
+      let made : dead_made (deads past) past p ≡ Some row = sym up.rows.dead_is ∙ is in
+      let R : Reserved → Bool = λ x. x.deads in
+      let M : List DeadRow → Type 0 = λ xs. MayAdd most_rows dead_name dead_begun (without dead_name row.sid xs) row in
+      let few : length (live_deads past p.entry.at) ≤ length (live_seens past p.entry.at) = up.few in
+      let fits : length (live_seens past p.entry.at) < most_rows = dead_fits s past p.entry (length past) p.entry.ask p.reply row refl up.reply_is made in
+      may_row dead_name dead_begun v.reserved.deads (without dead_name row.sid v.deads) row (ap R (kept.reserved ∙ reserved))
+      (subst M (sym kept.deads)
+      (may_add_ended (dead_kept past p) before p.entry.at up.order t.deads (dead_begun_kept past p) up.begun.deads
+      (deads past) up.agrees.deads row
+      (dead_made_begun (deads past) past p row made) (omega (arith, few, fits)))))
+
   module _ {w : Tables} (first : w ≡ login_put login v) where
     pub pending_may : IfSome pending (λ r. MayAddRow pending_name pending_begun w.reserved.pendings w.pendings r)
     pending_may =
@@ -229,31 +289,51 @@ module _ {s : PartySetup} {past : RpPast} {before : ℕ} {t : Tables} {p : RpPai
             ap R then_seen ∙ (visit_leaves visit x).reserved_seens ∙ ap R next ∙ (pending_leaves pending w).reserved_seens ∙ ap R first ∙ (login_leaves login v).reserved_seens in
             subst N (sym same) (subst M (sym same_seens) seen_may_before)
 
-        pub follows : (u : Tables) → u ≡ seen_put seen y → IsUpdate (party_of s).types t u past p
-        follows u last =
-            let L : Tables → List LoginRow = λ z. z.logins in
-            let P : Tables → List PendingRow = λ z. z.pendings in
-            let V : Tables → List SessionRow = λ z. z.visits in
-            let S : Tables → List SeenRow = λ z. z.seens in
-            let LL : List LoginRow → List LoginRow = λ xs. put login_name login xs in
-            let LP : List PendingRow → List PendingRow = λ xs. put pending_name pending xs in
-            let LV : List SessionRow → List SessionRow = λ xs. put visit_name visit xs in
-            let LS : List SeenRow → List SeenRow = λ xs. put seen_name seen xs in
-            let HL : Option LoginRow → List LoginRow = λ m. put login_name m (filter_map (login_kept past p) (live_rows login_life login_begun p.entry.at t.logins)) in
-            let HP : Option PendingRow → List PendingRow = λ m. put pending_name m (filter_map (pending_kept past p) (live_rows pending_life pending_begun p.entry.at t.pendings)) in
-            let HV : Option SessionRow → List SessionRow = λ m. put visit_name m (filter_map (visit_kept past p) (live_rows visit_life visit_begun p.entry.at t.visits)) in
-            let HS : Option SeenRow → List SeenRow = λ m. put seen_name m (filter_map (seen_kept past p) (live_rows seen_life seen_begun p.entry.at t.seens)) in
-            let more = seen_leaves seen y in
-            record {
-              logins_are =
-                  ap L last ∙ more.logins ∙ ap L then_seen ∙ (visit_leaves visit x).logins ∙ ap L next ∙ (pending_leaves pending w).logins ∙ ap L first ∙ logins_put login v login_may ∙ ap LL kept.logins
-                  ∙ ap HL up.rows.login_is;
-              pendings_are =
-                  ap P last ∙ more.pendings ∙ ap P then_seen ∙ (visit_leaves visit x).pendings ∙ ap P next ∙ pendings_put pending w pending_may ∙ ap LP (ap P first ∙ (login_leaves login v).pendings ∙ kept.pendings)
-                  ∙ ap HP up.rows.pending_is;
-              visits_are = ap V last ∙ more.visits ∙ ap V then_seen ∙ visits_put visit x visit_may ∙ ap LV (same_visits ∙ kept.visits) ∙ ap HV up.rows.visit_is;
-              seens_are = ap S last ∙ seens_put seen y seen_may ∙ ap LS (same_seens ∙ kept.seens) ∙ ap HS up.rows.seen_is;
-            }
+        module _ {z : Tables} (then_dead : z ≡ seen_put seen y) where
+          same_deads : z.deads ≡ v.deads
+          same_deads =
+              let D : Tables → List DeadRow = λ k. k.deads in
+              ap D then_dead ∙ (seen_leaves seen y).deads ∙ ap D then_seen ∙ (visit_leaves visit x).deads ∙ ap D next ∙ (pending_leaves pending w).deads ∙ ap D first ∙ (login_leaves login v).deads
+
+          pub dead_may : IfSome dead (λ r. MayAddRow dead_name dead_begun z.reserved.deads (without dead_name r.sid z.deads) r)
+          dead_may =
+              let N : Bool → Type 0 = λ b. IfSome dead (λ r. MayAddRow dead_name dead_begun b (without dead_name r.sid z.deads) r) in
+              let M : List DeadRow → Type 0 = λ xs. IfSome dead (λ r. MayAddRow dead_name dead_begun v.reserved.deads (without dead_name r.sid xs) r) in
+              let R : Tables → Bool = λ k. k.reserved.deads in
+              let same : z.reserved.deads ≡ v.reserved.deads =
+              ap R then_dead ∙ (seen_leaves seen y).reserved_deads ∙ ap R then_seen ∙ (visit_leaves visit x).reserved_deads ∙ ap R next ∙ (pending_leaves pending w).reserved_deads ∙ ap R first ∙ (login_leaves login v).reserved_deads in
+              subst N (sym same) (subst M (sym same_deads) dead_may_before)
+
+          pub follows : (u : Tables) → u ≡ dead_put dead z → IsUpdate (party_of s).types t u past p
+          follows u last =
+              let L : Tables → List LoginRow = λ k. k.logins in
+              let P : Tables → List PendingRow = λ k. k.pendings in
+              let V : Tables → List SessionRow = λ k. k.visits in
+              let S : Tables → List SeenRow = λ k. k.seens in
+              let D : Tables → List DeadRow = λ k. k.deads in
+              let LL : List LoginRow → List LoginRow = λ xs. put login_name login xs in
+              let LP : List PendingRow → List PendingRow = λ xs. put pending_name pending xs in
+              let LV : List SessionRow → List SessionRow = λ xs. put visit_name visit xs in
+              let LS : List SeenRow → List SeenRow = λ xs. put seen_name seen xs in
+              let LD : List DeadRow → List DeadRow = λ xs. put dead_name dead xs in
+              let HL : Option LoginRow → List LoginRow = λ m. put login_name m (filter_map (login_kept past p) (live_rows login_life login_begun p.entry.at t.logins)) in
+              let HP : Option PendingRow → List PendingRow = λ m. put pending_name m (filter_map (pending_kept past p) (live_rows pending_life pending_begun p.entry.at t.pendings)) in
+              let HV : Option SessionRow → List SessionRow = λ m. put visit_name m (filter_map (visit_kept past p) (live_rows visit_life visit_begun p.entry.at t.visits)) in
+              let HS : Option SeenRow → List SeenRow = λ m. put seen_name m (filter_map (seen_kept past p) (live_rows seen_life seen_begun p.entry.at t.seens)) in
+              let HD : Option DeadRow → List DeadRow = λ m. put dead_name m (filter_map (dead_kept past p) (live_rows seen_life dead_begun p.entry.at t.deads)) in
+              let more = seen_leaves seen y in
+              let old = dead_leaves dead z in
+              record {
+                logins_are =
+                    ap L last ∙ old.logins ∙ ap L then_dead ∙ more.logins ∙ ap L then_seen ∙ (visit_leaves visit x).logins ∙ ap L next ∙ (pending_leaves pending w).logins ∙ ap L first ∙ logins_put login v login_may ∙ ap LL kept.logins
+                    ∙ ap HL up.rows.login_is;
+                pendings_are =
+                    ap P last ∙ old.pendings ∙ ap P then_dead ∙ more.pendings ∙ ap P then_seen ∙ (visit_leaves visit x).pendings ∙ ap P next ∙ pendings_put pending w pending_may ∙ ap LP (ap P first ∙ (login_leaves login v).pendings ∙ kept.pendings)
+                    ∙ ap HP up.rows.pending_is;
+                visits_are = ap V last ∙ old.visits ∙ ap V then_dead ∙ more.visits ∙ ap V then_seen ∙ visits_put visit x visit_may ∙ ap LV (same_visits ∙ kept.visits) ∙ ap HV up.rows.visit_is;
+                seens_are = ap S last ∙ old.seens ∙ ap S then_dead ∙ seens_put seen y seen_may ∙ ap LS (same_seens ∙ kept.seens) ∙ ap HS up.rows.seen_is;
+                deads_are = ap D last ∙ deads_put dead z ∙ ap LD (same_deads ∙ kept.deads) ∙ ap HD up.rows.dead_is;
+              }
 
 -- ---- an accepted logout token names somebody
 

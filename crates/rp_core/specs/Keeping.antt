@@ -1,5 +1,5 @@
 -- The tables after one more pair.
-use Rattle.std.specs.Prelude.{◌≡◌, ◌≤◌, ℕ, Bool, List, ◌||◌, true, filter_map, Option, Some, None, is_some, option_and_then, if◌then◌else◌}
+use Rattle.std.specs.Prelude.{◌≡◌, ◌≤◌, ℕ, Bool, List, ◌||◌, true, length, filter_map, Option, Some, None, is_some, option_and_then, if◌then◌else◌}
 use Rattle.sso_base.specs.Words.{Word}
 use Rattle.sso_base.specs.Rows.{put, row_of, live_rows}
 use Rattle.logout_token.specs.declared.claims.LogoutClaims.{LogoutClaims}
@@ -8,16 +8,18 @@ use Rattle.rp_login.specs.declared.rows.LoginRow.{LoginRow}
 use Rattle.rp_login.specs.declared.rows.PendingRow.{PendingRow}
 use Rattle.rp_login.specs.declared.rows.SessionRow.{SessionRow}
 use Rattle.rp_login.specs.declared.rows.SeenRow.{SeenRow}
+use Rattle.rp_login.specs.declared.rows.DeadRow.{DeadRow}
 use Rattle.rp_login.specs.declared.rows.Stage.{Stage}
-use Rattle.rp_login.specs.Rows.{login_name, login_begun, pending_name, pending_begun, visit_name, visit_begun, seen_name, seen_begun}
+use Rattle.rp_login.specs.Rows.{login_name, login_begun, pending_name, pending_begun, visit_name, visit_begun, seen_name, seen_begun, dead_name, dead_begun}
 use Rattle.oidc_words.specs.Lives.{login_life, pending_life, visit_life, seen_life}
-use Rattle.rp_login.specs.Tables.{Tables, with_login, with_pending, with_visit, with_seen}
+use Rattle.rp_login.specs.Tables.{Tables, with_login, with_pending, with_visit, with_seen, with_dead, dead_ended}
 use Rattle.rp_answer.specs.Past.{RpPair, RpPast}
 use Rattle.rp_answer.specs.Setup.{PartySetup, party_of}
 use Rattle.rp_answer.specs.Logins.{logins, login_made, login_kept}
 use Rattle.rp_answer.specs.Pendings.{if_stage, is_answered, pendings, pending_made, pending_kept}
 use Rattle.rp_answer.specs.Visits.{visits, visit_made, visit_kept}
-use Rattle.rp_answer.specs.Seens.{seens, seen_made, seen_kept}
+use Rattle.rp_answer.specs.Seens.{seens, seen_made, seen_kept, live_seens}
+use Rattle.rp_answer.specs.Deads.{deads, dead_made, dead_kept, live_deads}
 use Rattle.rp_answer.specs.Answering.{rp_answer}
 use Rattle.rp_core.specs.Agreeing.{Agrees, IsBegun}
 use Rattle.rp_core.specs.Making.{MakesRows}
@@ -37,27 +39,31 @@ pub record IsUpdate (types : Types) (before after : Tables) (past : RpPast) (p :
   pub seens_are : after.seens
       ≡ put seen_name (seen_made (seens past) past p)
           (filter_map (seen_kept past p) (live_rows seen_life seen_begun p.entry.at before.seens))
+  pub deads_are : after.deads
+      ≡ put dead_name (dead_made (deads past) past p)
+          (filter_map (dead_kept past p) (live_rows seen_life dead_begun p.entry.at before.deads))
 
--- The precondition of an update: the tables agree with the past, the reply is the answer after it, and the rows are those it
--- makes.
+-- The precondition of an update: the tables agree with the past, the reply is the answer after it, the rows are those it makes,
+-- and no more session identifiers are remembered than logout tokens.
 pub record MayUpdate
     (s : PartySetup) (past : RpPast) (before : ℕ) (t : Tables) (p : RpPair) (login : Option LoginRow)
-    (pending : Option PendingRow) (visit : Option SessionRow) (seen : Option SeenRow) : Type 0 where
+    (pending : Option PendingRow) (visit : Option SessionRow) (seen : Option SeenRow) (dead : Option DeadRow) : Type 0 where
   pub order : before ≤ p.entry.at
   pub agrees : Agrees (party_of s).types t past before
   pub begun : IsBegun t before
   pub reply_is : p.reply ≡ rp_answer s past p.entry
-  pub rows : MakesRows (party_of s).types past p login pending visit seen
+  pub rows : MakesRows (party_of s).types past p login pending visit seen dead
+  pub few : length (live_deads past p.entry.at) ≤ length (live_seens past p.entry.at)
 
 -- some setup, past and moment before the pair for which this is the precondition
 abbrev pub MayUpdateTables : Tables → RpPair → Made → Type 0
 MayUpdateTables t p made =
-    (s : PartySetup) × (past : RpPast) × (before : ℕ) × MayUpdate s past before t p made.login made.pending made.visit made.seen
+    (s : PartySetup) × (past : RpPast) × (before : ℕ) × MayUpdate s past before t p made.login made.pending made.visit made.seen made.dead
 
 -- after each such past the tables follow the pair
 abbrev pub UpdatesTables : Tables → Tables → RpPair → Made → Type 0
 UpdatesTables t after p made =
-    (s : PartySetup) (past : RpPast) (before : ℕ) → MayUpdate s past before t p made.login made.pending made.visit made.seen
+    (s : PartySetup) (past : RpPast) (before : ℕ) → MayUpdate s past before t p made.login made.pending made.visit made.seen made.dead
     → IsUpdate (party_of s).types t after past p
 
 -- ---- exchanges that get their response
@@ -93,3 +99,8 @@ visit_put (Some row) t = with_visit row t
 abbrev pub seen_put : Option SeenRow → Tables → Tables
 seen_put None t = t
 seen_put (Some row) t = with_seen row t
+
+-- a later one replaces that of the same `sid`
+abbrev pub dead_put : Option DeadRow → Tables → Tables
+dead_put None t = t
+dead_put (Some row) t = with_dead row (dead_ended row.sid t)

@@ -7,6 +7,7 @@ use Rattle.rp_login.specs.declared.rows.LoginRow.{LoginRow}
 use Rattle.rp_login.specs.declared.rows.PendingRow.{PendingRow}
 use Rattle.rp_login.specs.declared.rows.SessionRow.{SessionRow}
 use Rattle.rp_login.specs.declared.rows.SeenRow.{SeenRow}
+use Rattle.rp_login.specs.declared.rows.DeadRow.{DeadRow}
 use Rattle.rp_login.specs.declared.rows.Stage.{Stage}
 use Rattle.rp_login.specs.declared.rows.Stage.TheVariants as stage
 use Rattle.rp_exchange.specs.declared.ask.RpAsk.{RpAsk}
@@ -18,6 +19,7 @@ use Rattle.rp_answer.specs.Asked.{state_named, claims_judged}
 use Rattle.rp_answer.specs.Logins.{logins, login_made, live_login}
 use Rattle.rp_answer.specs.Pendings.{pendings, pending_started, pending_followed, pending_made, live_pending}
 use Rattle.rp_answer.specs.Seens.{seens, seen_made}
+use Rattle.rp_answer.specs.Deads.{deads, dead_made}
 use Rattle.rp_answer.specs.Visits.{visits, visit_of, visit_after, visit_made}
 use Rattle.rp_core.specs.declared.making.Made.{Made}
 
@@ -62,12 +64,13 @@ visit_found types past e reply = None
 -- these are the rows that the definitions make
 pub record MakesRows
     (types : Types) (past : RpPast) (p : RpPair) (login : Option LoginRow) (pending : Option PendingRow)
-    (visit : Option SessionRow) (seen : Option SeenRow) : Type 0 where
+    (visit : Option SessionRow) (seen : Option SeenRow) (dead : Option DeadRow) : Type 0 where
   pub login_is : login ≡ login_made (logins past) past p
   pub pending_is : pending ≡ pending_made types (pendings types past) past p
   pub visit_is : visit ≡ visit_made types (visits types past) past p
   pub seen_is : seen ≡ seen_made (seens past) past p
+  pub dead_is : dead ≡ dead_made (deads past) past p
 
 -- these are the rows that the pair makes
 abbrev pub AreMade : Types → RpPast → RpPair → Made → Type 0
-AreMade types past p made = MakesRows types past p made.login made.pending made.visit made.seen
+AreMade types past p made = MakesRows types past p made.login made.pending made.visit made.seen made.dead

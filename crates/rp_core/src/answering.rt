@@ -5,6 +5,7 @@ ghost use Rattle.sso_base.specs.Legal.{last_moment};
 ghost use Rattle.rp_answer.specs.Answering as spec;
 ghost use Rattle.rp_core.specs.Relying.{past_of};
 
+use crate::alive::unless_dead;
 use crate::state::RpCore;
 use rp_accept::is_prepared;
 use rp_exchange::{RpAsk, RpNo, RpReply};
@@ -12,7 +13,7 @@ use sso_base::{Entry, NoMemory};
 use std::alloc::Global;
 
 impl RpCore {
-    // The reply, if no table were full.
+    // The reply, if no table were full and no logout had come before its login.
     fn reply(&self, alloc: Global, entry: &Entry<RpAsk>) -> Result<RpReply, NoMemory>
         requires { last_moment (past_of self.now) ≤ entry.now.at }
         ensures { IfOk result (λ r. r ≡ spec.rp_reply self.now.setup (past_of self.now) entry.now entry.now.ask) }
@@ -36,6 +37,15 @@ impl RpCore {
         }
     }
 
+    // The reply, if no table were full.
+    fn told(&self, alloc: Global, entry: &Entry<RpAsk>) -> Result<RpReply, NoMemory>
+        requires { last_moment (past_of self.now) ≤ entry.now.at }
+        ensures { IfOk result (λ r. r ≡ spec.rp_told self.now.setup (past_of self.now) entry.now entry.now.ask) }
+    {
+        let reply = self.reply(alloc, entry)?;
+        Ok(unless_dead(reply, self.dead_for(entry.at, &entry.ask)))
+    }
+
     // The reply. A value that no request produces gets `NotHere`, and with a full table nothing changes.
     #[tactic(auto, unfolding(rp_answer::specs::Answering::rp_answer))]
     pub(crate) fn answer(&self, alloc: Global, entry: &Entry<RpAsk>) -> Result<RpReply, NoMemory>
@@ -45,7 +55,7 @@ impl RpCore {
         if !is_prepared(&entry.ask) {
             return Ok(RpReply::NotHere);
         }
-        let reply = self.reply(alloc, entry)?;
+        let reply = self.told(alloc, entry)?;
         match self.table_lacking(entry, &reply) {
             Some(table) => Ok(RpReply::Refused {
                 why: RpNo::Full(table),

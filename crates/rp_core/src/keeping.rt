@@ -1,9 +1,10 @@
 // Updating the tables with a pair. It allocates nothing.
 
 ghost use Rattle.std.specs.Prelude.{◌≡◌, true, false, filter_map, IfSome, None};
+ghost use Rattle.sso_base.specs.Rows.{without};
 ghost use Rattle.held_rows.specs.Held.{MayAddRow};
 ghost use Rattle.rp_login.specs.Tables.{ArePendings};
-ghost use Rattle.rp_login.specs.Rows.{login_name, login_begun, pending_name, pending_begun, visit_name, visit_begun, seen_name, seen_begun};
+ghost use Rattle.rp_login.specs.Rows.{login_name, login_begun, pending_name, pending_begun, visit_name, visit_begun, seen_name, seen_begun, dead_name, dead_begun};
 ghost use Rattle.rp_answer.specs.Past.{RpPast};
 ghost use Rattle.rp_answer.specs.Asked as asked;
 ghost use Rattle.rp_answer.specs.Logins as logins;
@@ -14,7 +15,7 @@ ghost use Rattle.rp_core.specs.Keeping as spec;
 use crate::making::{Made, state_named, token_accepted};
 use crate::questions::is_stage;
 use rp_exchange::{RpAsk, RpNo, RpReply};
-use rp_login::{LoginRow, Logins, PendingRow, SeenRow, SessionRow, Stage};
+use rp_login::{DeadRow, LoginRow, Logins, PendingRow, SeenRow, SessionRow, Stage};
 use sso_base::{Pair, Word, bytes_if};
 
 fn leaves_login(why: &RpNo) -> bool
@@ -173,10 +174,21 @@ fn add_seen(tables: &mut Logins, row: Option<SeenRow>)
     }
 }
 
+// Adds a session identifier. Its earlier record is removed.
+fn add_dead(tables: &mut Logins, row: Option<DeadRow>)
+    requires may { IfSome row (λ r. MayAddRow dead_name dead_begun tables.old.reserved.deads (without dead_name r.sid tables.old.deads) r) }
+    ensures { tables.new ≡ spec.dead_put row tables.old }
+{
+    if let Some(row) = row {
+        tables.end_dead(row.sid.as_str().as_bytes());
+        tables.add_dead(row);
+    }
+}
+
 /// Updates the tables with a pair: expired rows are removed, the pair changes the other rows, and its new rows are added.
-pub(crate) fn take_up(tables: &mut Logins, pair: &Pair<RpAsk, RpReply>, made: Made)
+pub(crate) fn update_tables(tables: &mut Logins, pair: &Pair<RpAsk, RpReply>, made: Made)
     requires may { spec.MayUpdateTables tables.old pair.now made }
-    requires reserved { tables.old.reserved ≡ record { logins = true; pendings = true; visits = true; seens = true } }
+    requires reserved { tables.old.reserved ≡ record { logins = true; pendings = true; visits = true; seens = true; deads = true } }
     ensures { spec.UpdatesTables tables.old tables.new pair.now made }
 {
     tables.purge(pair.entry.at);
@@ -187,4 +199,5 @@ pub(crate) fn take_up(tables: &mut Logins, pair: &Pair<RpAsk, RpReply>, made: Ma
     add_pending(tables, made.pending);
     add_visit(tables, made.visit);
     add_seen(tables, made.seen);
+    add_dead(tables, made.dead);
 }

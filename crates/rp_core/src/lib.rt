@@ -14,6 +14,7 @@
 //! | `keeping` | updating the tables with a pair |
 #![tactic(auto)]
 
+mod alive;
 mod answering;
 mod exchanging;
 mod keeping;

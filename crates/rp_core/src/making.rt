@@ -9,6 +9,7 @@ ghost use Rattle.rp_answer.specs.Answering.{rp_answer};
 ghost use Rattle.rp_answer.specs.Asked as asked;
 ghost use Rattle.rp_answer.specs.Logins as logins;
 ghost use Rattle.rp_answer.specs.Pendings as pendings;
+ghost use Rattle.rp_answer.specs.Deads as deads;
 ghost use Rattle.rp_answer.specs.Seens as seens;
 ghost use Rattle.rp_answer.specs.Visits as visits;
 ghost use Rattle.rp_answer.specs.Setup.{party_of};
@@ -20,7 +21,7 @@ use id_token::{IdClaims, IdNo};
 use logout_token::LogoutClaims;
 use oidc_words::Types;
 use rp_exchange::{RpAsk, RpReply};
-use rp_login::{LoginRow, PendingRow, SeenRow, SessionRow, Stage};
+use rp_login::{DeadRow, LoginRow, PendingRow, SeenRow, SessionRow, Stage};
 use sso_base::{Entry, Moment, NoMemory, Text, Word, copied_text};
 use std::alloc::Global;
 
@@ -31,6 +32,7 @@ pub(crate) struct Made {
     pub pending: Option<PendingRow>,
     pub visit: Option<SessionRow>,
     pub seen: Option<SeenRow>,
+    pub dead: Option<DeadRow>,
 }
 
 // The state of an authorization response that can be read.
@@ -91,7 +93,7 @@ fn claims_read(id: &Option<Result<IdClaims, IdNo>>) -> Option<&IdClaims>
 }
 
 // The claims of the ID Token that is verified.
-fn claims_judged<'a>(types: &Types, ask: &'a RpAsk) -> Option<&'a IdClaims>
+pub(crate) fn claims_judged<'a>(types: &Types, ask: &'a RpAsk) -> Option<&'a IdClaims>
     ensures { option_copied result ≡ asked.claims_judged types.now ask.now }
 {
     match ask {
@@ -216,6 +218,17 @@ fn visit_after(
         })),
         None => Ok(None),
     }
+}
+
+// The record of a session identifier.
+fn dead_at(alloc: Global, place: u64, at: Moment, sid: &Text) -> Result<DeadRow, NoMemory>
+    ensures { IfOk result (λ row. row ≡ record { sid = sid.now; place = place; accepted = at }) }
+{
+    Ok(DeadRow {
+        sid: sid.copy(alloc)?,
+        place,
+        accepted: at,
+    })
 }
 
 impl RpCore {
@@ -422,6 +435,24 @@ impl RpCore {
         }
     }
 
+    // The record of the session identifier that an accepted logout token has.
+    fn dead_named(
+        &self,
+        alloc: Global,
+        entry: &Entry<RpAsk>,
+        reply: &RpReply,
+    ) -> Result<Option<DeadRow>, NoMemory>
+        ensures { IfOk result (λ row. row ≡ deads.dead_by (length (past_of self.now)) entry.now.at entry.now.ask reply.now) }
+    {
+        let Some(claims) = token_accepted(&entry.ask, reply) else {
+            return Ok(None);
+        };
+        match &claims.sid {
+            Some(sid) => Ok(Some(dead_at(alloc, self.place() + 1, entry.at, sid)?)),
+            None => Ok(None),
+        }
+    }
+
     /// The rows that a reply makes, if it is the party's answer.
     pub(crate) fn made(
         &self,
@@ -438,6 +469,7 @@ impl RpCore {
             pending: self.pending_found(alloc, entry, reply)?,
             visit: self.visit_found(alloc, entry, reply)?,
             seen: self.seen_accepted(alloc, entry, reply)?,
+            dead: self.dead_named(alloc, entry, reply)?,
         })
     }
 }

@@ -11,12 +11,13 @@ ghost use Rattle.rp_answer.specs.Logins as logins;
 ghost use Rattle.rp_answer.specs.Pendings as pendings;
 ghost use Rattle.rp_answer.specs.Replies.{meant_count};
 ghost use Rattle.rp_answer.specs.Seens as seens;
+ghost use Rattle.rp_answer.specs.Deads as deads;
 ghost use Rattle.rp_answer.specs.Visits as visits;
 ghost use Rattle.rp_core.specs.Relying.{past_of, exchanges_at};
 
 use crate::state::RpCore;
 use logout_token::LogoutClaims;
-use rp_login::{LoginRow, PendingRow, RpTable, SeenRow, SessionRow, Stage};
+use rp_login::{DeadRow, LoginRow, PendingRow, RpTable, SeenRow, SessionRow, Stage};
 use sso_base::{Moment, Word, bytes_if};
 
 // Whether the response is the one that is pending.
@@ -81,6 +82,21 @@ impl RpCore {
         ensures { option_copied result ≡ seens.live_seen (past_of self.now) at jti.now }
     {
         self.logins.live_seen(jti, at)
+    }
+
+    /// The session identifier that an accepted logout token named, if it is still remembered.
+    pub(crate) fn live_dead(&self, at: Moment, sid: &[u8]) -> Option<&DeadRow>
+        requires { last_moment (past_of self.now) ≤ at }
+        ensures { option_copied result ≡ deads.live_dead (past_of self.now) at sid.now }
+    {
+        let Some(row) = self.logins.dead(sid) else {
+            return None;
+        };
+        if is_live(SEEN_LIFE, row.accepted, at) {
+            Some(row)
+        } else {
+            None
+        }
     }
 
     /// How many live sessions a logout token names.

@@ -42,7 +42,7 @@ fn put(
 )
     requires reserved { length journal.old.pairs < journal.old.capacity }
     requires may { MayUpdateTables logins.old (record { entry = entry; reply = reply }) made }
-    requires tables { logins.old.reserved ≡ record { logins = true; pendings = true; visits = true; seens = true } }
+    requires tables { logins.old.reserved ≡ record { logins = true; pendings = true; visits = true; seens = true; deads = true } }
     requires weight { weight ≡ weights.ask_weight entry.ask }
     requires room { history_weight weights.ask_weight journal.old.pairs + weight ≤ most_weight }
     ensures pairs { journal.new.pairs ≡ journal.old.pairs ++ (record { entry = entry; reply = reply }) ∷ [] }

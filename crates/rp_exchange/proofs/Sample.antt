@@ -38,6 +38,8 @@ shop_client =
     record {
       id = codes "shop-client";
       secret = codes "shop-secret-shop-secret-shop-secret";
+      old_secret = None;
+      seals_old = false;
       redirects = codes "http://127.0.0.1:8081/cb" ∷ [];
       types = true ∷ false ∷ false ∷ false ∷ false ∷ false ∷ [];
       pairwise = false;
@@ -53,6 +55,8 @@ news_client =
     record {
       id = codes "news-client";
       secret = codes "news-secret-news-secret-news-secret";
+      old_secret = None;
+      seals_old = false;
       redirects = codes "http://127.0.0.1:8082/cb" ∷ [];
       types = false ∷ false ∷ true ∷ false ∷ false ∷ false ∷ [];
       pairwise = false;

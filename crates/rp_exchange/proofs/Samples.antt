@@ -21,18 +21,15 @@ use Rattle.token_endpoint.specs.declared.no.TokensNo.TheVariants as tokens_no
 use Rattle.userinfo.specs.declared.no.InfoNo.TheVariants as info_no
 use Rattle.rp_exchange.specs.declared.ask.RpAsk.TheVariants as ask
 use Rattle.rp_exchange.specs.Asks.{is_prepared}
-use Rattle.client_registry.specs.Numbers.{party_secret, party_name}
+use Rattle.client_registry.specs.Numbers.{party_client, party_name}
 use Rattle.rp_exchange.specs.Values.{IsIdValue, IsLogoutValue, IsTokensValue, IsRpAsk}
 use Rattle.rp_exchange.specs.Weight.{ask_weight}
 use Rattle.rp_exchange.proofs.Sample.{word, shop_client, sample, alice}
 
 -- ---- parties
 
-secret_of_the_shop : party_secret sample 0 ≡ shop_client.secret
-secret_of_the_shop = refl
-
-secret_of_nobody : party_secret sample 2 ≡ []
-secret_of_nobody = refl
+client_of_the_shop : party_client sample 0 ≡ shop_client
+client_of_the_shop = refl
 
 name_of_the_news : party_name sample 1 ≡ codes "news"
 name_of_the_news = refl

@@ -111,6 +111,7 @@ impl RpNo {
             RpNo::Full(table) => RpNo::Full(*table),
             RpNo::Logout(why) => RpNo::Logout(copied_logout(alloc, why)?),
             RpNo::Seen(place) => RpNo::Seen(*place),
+            RpNo::EndedSid(place) => RpNo::EndedSid(*place),
         })
     }
 }

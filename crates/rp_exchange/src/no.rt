@@ -21,9 +21,10 @@ pub enum Part {
 
 /// Why a relying party rejects a request or a response. The first error that applies is returned:
 ///
-/// - for an authorization response: `Twice`, `NoState`, `StaleLogin`, `WrongBrowser`, `Provider`, `Missing`, `Id`, `Full`;
-/// - for a token response: `StalePending`, `Tokens`, `Id`, `SubjectDiffers`, `Full`;
-/// - for a UserInfo response: `StalePending`, `Info`, `SubjectDiffers`, `Full`;
+/// - for an authorization response: `Twice`, `NoState`, `StaleLogin`, `WrongBrowser`, `Provider`, `Missing`, `Id`, `EndedSid`,
+///   `Full`;
+/// - for a token response: `StalePending`, `Tokens`, `Id`, `SubjectDiffers`, `EndedSid`, `Full`;
+/// - for a UserInfo response: `StalePending`, `Info`, `SubjectDiffers`, `EndedSid`, `Full`;
 /// - for a logout request: `Logout`, `Seen`, `Full`.
 #[derive(Drop)]
 pub enum RpNo {
@@ -55,4 +56,7 @@ pub enum RpNo {
     Logout(LogoutNo),
     /// The logout token was accepted before, by the pair with this number in the party's history, counted from 1 (2.6, step 8).
     Seen(u64),
+    /// The session identifier of the last ID Token was ended by a logout token that is still remembered. That token was
+    /// accepted by the pair with this number in the party's history, counted from 1 (2.7).
+    EndedSid(u64),
 }

@@ -7,14 +7,15 @@ use Rattle.rp_login.specs.declared.rows.LoginRow.{LoginRow}
 use Rattle.rp_login.specs.declared.rows.PendingRow.{PendingRow}
 use Rattle.rp_login.specs.declared.rows.SessionRow.{SessionRow}
 use Rattle.rp_login.specs.declared.rows.SeenRow.{SeenRow}
+use Rattle.rp_login.specs.declared.rows.DeadRow.{DeadRow}
 use Rattle.rp_login.specs.declared.rows.Stage.TheVariants as stage
 use Rattle.rp_login.specs.declared.table.RpTable.TheVariants.{Logins, Pendings, Sessions, Seen}
 use Rattle.held_rows.specs.Held.{IsInOrder, none_after, IsFull}
 use Rattle.rp_login.specs.Named.{is_meant, IsMeant}
-use Rattle.rp_login.specs.Rows.{login_begun, seen_name}
+use Rattle.rp_login.specs.Rows.{login_begun, seen_name, dead_name}
 use Rattle.oidc_words.specs.Lives.{login_life, pending_life, visit_life, seen_life}
-use Rattle.rp_login.specs.Tables.{Tables, AreLogins, with_room, purged, has_room, IsFullTable, with_login, with_pending, with_visit, with_seen, login_ended, pending_ended, visit_ended, named_ended, named_count, live_named_count}
-use Rattle.rp_login.specs.Calls.{reserve, purge, add_login, add_pending, add_session, add_seen, end_login, end_named, after_all, adds_login, adds_pending, adds_session, NoneAdds, AllLeaveSeen}
+use Rattle.rp_login.specs.Tables.{Tables, AreLogins, with_room, purged, has_room, IsFullTable, with_login, with_pending, with_visit, with_seen, with_dead, login_ended, pending_ended, visit_ended, dead_ended, named_ended, named_count, live_named_count}
+use Rattle.rp_login.specs.Calls.{reserve, purge, add_login, add_pending, add_session, add_seen, add_dead, end_login, end_dead, end_named, after_all, adds_login, adds_pending, adds_session, NoneAdds, AllLeaveSeen, AllLeaveDead}
 
 -- ---- words and texts
 
@@ -51,13 +52,17 @@ visit w sub sid at = record { word = w; nonce = first; sub = sub; sid = sid; ent
 abbrev seen : Text → ℕ → SeenRow
 seen jti at = record { jti = jti; place = 7; accepted = at }
 
+abbrev dead : Text → ℕ → DeadRow
+dead sid at = record { sid = sid; place = 7; accepted = at }
+
 abbrev tables : Tables
 tables = record {
   logins = login first 1000 ∷ login second 1001 ∷ [];
   pendings = pending first 1000 ∷ pending second 1001 ∷ [];
   visits = visit first alice (Some phone) 1000 ∷ visit second bob (Some phone) 1001 ∷ visit third alice None 1001 ∷ [];
   seens = seen phone 1000 ∷ [];
-  reserved = record { logins = false; pendings = false; visits = false; seens = false };
+  deads = dead phone 1000 ∷ dead alice 1001 ∷ [];
+  reserved = record { logins = false; pendings = false; visits = false; seens = false; deads = false };
 }
 
 -- ---- lives
@@ -102,6 +107,10 @@ purged-one_second_before = refl
 purged-at_the_end_of_the_first_pending : ((purged 1219 tables).pendings ≡ tables.pendings) × ((purged 1220 tables).pendings ≡ pending second 1001 ∷ [])
 purged-at_the_end_of_the_first_pending = (refl, refl)
 
+-- a session identifier is remembered as long as the logout token that named it
+purged-at_the_end_of_the_first_sid : ((purged 1660 tables).deads ≡ tables.deads) × ((purged 1661 tables).deads ≡ dead alice 1001 ∷ [])
+purged-at_the_end_of_the_first_sid = (refl, refl)
+
 has_room-few_rows : (has_room Logins 1000 tables ≡ true) × (has_room Pendings 1000 tables ≡ true) × (has_room Sessions 1000 tables ≡ true) × (has_room Seen 1000 tables ≡ true)
 has_room-few_rows = (refl, refl, refl, refl)
 
@@ -120,11 +129,17 @@ is_full-not_two_rows full = (let k : ◌≡◌ {A = ℕ} 2 65536 = full.most in 
 with_login-at_the_end : with_login (login third 1002) tables ≡ record tables { logins = login first 1000 ∷ login second 1001 ∷ login third 1002 ∷ [] }
 with_login-at_the_end = refl
 
-with_seen-uses_its_room_alone : (with_seen (seen alice 1000) (with_room tables)).reserved ≡ record { logins = true; pendings = true; visits = true; seens = false }
+with_seen-uses_its_room_alone : (with_seen (seen alice 1000) (with_room tables)).reserved ≡ record { logins = true; pendings = true; visits = true; seens = false; deads = true }
 with_seen-uses_its_room_alone = refl
 
-with_pending-and_session-use_their_room_alone : (with_visit (visit first bob None 1001) (with_pending (pending third 1002) (with_room tables))).reserved ≡ record { logins = true; pendings = false; visits = false; seens = true }
+with_pending-and_session-use_their_room_alone : (with_visit (visit first bob None 1001) (with_pending (pending third 1002) (with_room tables))).reserved ≡ record { logins = true; pendings = false; visits = false; seens = true; deads = true }
 with_pending-and_session-use_their_room_alone = refl
+
+with_dead-at_the_end : (with_dead (dead bob 1002) tables).deads ≡ dead phone 1000 ∷ dead alice 1001 ∷ dead bob 1002 ∷ []
+with_dead-at_the_end = refl
+
+with_dead-uses_its_room_alone : (with_dead (dead bob 1002) (with_room tables)).reserved ≡ record { logins = true; pendings = true; visits = true; seens = true; deads = false }
+with_dead-uses_its_room_alone = refl
 
 -- ---- rows that end
 
@@ -140,6 +155,12 @@ pending_ended-the_named_one = refl
 visit_ended-the_named_one : visit_ended second tables ≡ record tables { visits = visit first alice (Some phone) 1000 ∷ visit third alice None 1001 ∷ [] }
 visit_ended-the_named_one = refl
 
+dead_ended-the_named_one : dead_ended phone tables ≡ record tables { deads = dead alice 1001 ∷ [] }
+dead_ended-the_named_one = refl
+
+dead_ended-none : dead_ended bob tables ≡ tables
+dead_ended-none = refl
+
 -- ---- a row is found by the whole of its name
 
 row_of-the_jti : row_of seen_name phone tables.seens ≡ Some (seen phone 1000)
@@ -147,6 +168,12 @@ row_of-the_jti = refl
 
 row_of-not_a_longer_jti : row_of seen_name (codes "phones") tables.seens ≡ None
 row_of-not_a_longer_jti = refl
+
+row_of-the_sid : row_of dead_name alice tables.deads ≡ Some (dead alice 1001)
+row_of-the_sid = refl
+
+row_of-not_a_longer_sid : row_of dead_name (codes "phones") tables.deads ≡ None
+row_of-not_a_longer_sid = refl
 
 -- ---- the sessions that equal each given part
 
@@ -205,3 +232,13 @@ all_leave_seen-a_purge_in_time = (refl, (refl, tt))
 
 all_leave_seen-not_a_purge_at_the_end : AllLeaveSeen 1000 (purge 1661 ∷ []) → ⊥
 all_leave_seen-not_a_purge_at_the_end leave = (let k : false ≡ true = leave.0 in cc)
+
+-- another session identifier may end, and the same one may be named again
+all_leave_dead-another_sid_and_a_purge_in_time : AllLeaveDead phone 1000 (end_dead alice ∷ purge 1660 ∷ add_dead (dead bob 2000) ∷ [])
+all_leave_dead-another_sid_and_a_purge_in_time = (refl, (refl, (refl, tt)))
+
+all_leave_dead-not_its_own_end : AllLeaveDead phone 1000 (end_dead phone ∷ []) → ⊥
+all_leave_dead-not_its_own_end leave = (let k : false ≡ true = leave.0 in cc)
+
+all_leave_dead-not_a_purge_at_the_end : AllLeaveDead phone 1000 (purge 1661 ∷ []) → ⊥
+all_leave_dead-not_a_purge_at_the_end leave = (let k : false ≡ true = leave.0 in cc)

@@ -7,10 +7,11 @@ use Rattle.rp_login.specs.declared.rows.LoginRow.{LoginRow}
 use Rattle.rp_login.specs.declared.rows.PendingRow.{PendingRow}
 use Rattle.rp_login.specs.declared.rows.SessionRow.{SessionRow}
 use Rattle.rp_login.specs.declared.rows.SeenRow.{SeenRow}
+use Rattle.rp_login.specs.declared.rows.DeadRow.{DeadRow}
 use Rattle.rp_login.specs.Named.{IsMeant}
-use Rattle.rp_login.specs.Rows.{login_name, login_begun, pending_name, pending_begun, visit_name, visit_begun, seen_name, seen_begun}
+use Rattle.rp_login.specs.Rows.{login_name, login_begun, pending_name, pending_begun, visit_name, visit_begun, seen_name, seen_begun, dead_name, dead_begun}
 use Rattle.oidc_words.specs.Lives.{login_life, pending_life, visit_life, seen_life}
-use Rattle.rp_login.specs.Tables.{Tables, AreLogins, ArePendings, AreVisits, AreSeens}
+use Rattle.rp_login.specs.Tables.{Tables, AreLogins, ArePendings, AreVisits, AreSeens, AreDeads}
 use Rattle.rp_login.specs.Calls as calls
 
 -- ---- rows that are added
@@ -35,6 +36,11 @@ AddedIdentifiersAreFound =
     (row : SeenRow) (t : Tables) → row_of seen_name row.jti t.seens ≡ None
     → row_of seen_name row.jti (calls.after (calls.add_seen row) t).seens ≡ Some row
 
+abbrev pub AddedDeadSidsAreFound : Type 0
+AddedDeadSidsAreFound =
+    (row : DeadRow) (t : Tables) → row_of dead_name row.sid t.deads ≡ None
+    → row_of dead_name row.sid (calls.after (calls.add_dead row) t).deads ≡ Some row
+
 abbrev pub AddsLeaveOtherLogins : Type 0
 AddsLeaveOtherLogins =
     (state : Word) (row : LoginRow) (t : Tables) → bytes_eq row.state state ≡ false
@@ -55,6 +61,11 @@ AddsLeaveOtherIdentifiers =
     (jti : Text) (row : SeenRow) (t : Tables) → bytes_eq row.jti jti ≡ false
     → row_of seen_name jti (calls.after (calls.add_seen row) t).seens ≡ row_of seen_name jti t.seens
 
+abbrev pub AddsLeaveOtherDeadSids : Type 0
+AddsLeaveOtherDeadSids =
+    (sid : Text) (row : DeadRow) (t : Tables) → bytes_eq row.sid sid ≡ false
+    → row_of dead_name sid (calls.after (calls.add_dead row) t).deads ≡ row_of dead_name sid t.deads
+
 -- ---- rows that are ended
 
 abbrev pub EndsLeaveOtherLogins : Type 0
@@ -71,6 +82,11 @@ abbrev pub EndsLeaveOtherSessions : Type 0
 EndsLeaveOtherSessions =
     (v w : Word) (t : Tables) → bytes_eq v w ≡ false
     → row_of visit_name w (calls.after (calls.end_session v) t).visits ≡ row_of visit_name w t.visits
+
+abbrev pub EndsLeaveOtherDeadSids : Type 0
+EndsLeaveOtherDeadSids =
+    (ended sid : Text) (t : Tables) → bytes_eq ended sid ≡ false
+    → row_of dead_name sid (calls.after (calls.end_dead ended) t).deads ≡ row_of dead_name sid t.deads
 
 abbrev pub LoginsComeBackByAddsAlone : Type 0
 LoginsComeBackByAddsAlone =
@@ -112,6 +128,12 @@ PurgesLeaveLiveIdentifiers =
     (at : ℕ) (jti : Text) (t : Tables) → AreSeens t.seens
     → row_of seen_name jti (calls.after (calls.purge at) t).seens
         ≡ option_and_then (if_lives seen_life seen_begun at) (row_of seen_name jti t.seens)
+
+abbrev pub PurgesLeaveLiveDeadSids : Type 0
+PurgesLeaveLiveDeadSids =
+    (at : ℕ) (sid : Text) (t : Tables) → AreDeads t.deads
+    → row_of dead_name sid (calls.after (calls.purge at) t).deads
+        ≡ option_and_then (if_lives seen_life dead_begun at) (row_of dead_name sid t.deads)
 
 abbrev pub SeenTokensAreRemembered : Type 0
 SeenTokensAreRemembered =

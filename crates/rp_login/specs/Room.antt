@@ -9,6 +9,7 @@ tables_of l = record {
   pendings = l.pendings.rows;
   visits = l.visits.rows;
   seens = l.seens.rows;
+  deads = l.deads.rows;
   reserved = l.reserved;
 }
 
@@ -18,3 +19,4 @@ pub record IsRoomReserved (l : Inside) : Type 0 where
   pub pendings : HasMemory l.reserved.pendings l.pendings
   pub visits : HasMemory l.reserved.visits l.visits
   pub seens : HasMemory l.reserved.seens l.seens
+  pub deads : HasMemory l.reserved.deads l.deads

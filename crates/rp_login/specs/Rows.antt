@@ -5,6 +5,7 @@ use Rattle.rp_login.specs.declared.rows.LoginRow.{LoginRow}
 use Rattle.rp_login.specs.declared.rows.PendingRow.{PendingRow}
 use Rattle.rp_login.specs.declared.rows.SessionRow.{SessionRow}
 use Rattle.rp_login.specs.declared.rows.SeenRow.{SeenRow}
+use Rattle.rp_login.specs.declared.rows.DeadRow.{DeadRow}
 
 -- ---- logins
 
@@ -37,3 +38,11 @@ seen_name seen = seen.jti
 
 abbrev pub seen_begun : SeenRow → ℕ
 seen_begun seen = seen.accepted
+
+-- ---- session identifiers that accepted logout tokens named
+
+abbrev pub dead_name : DeadRow → Text
+dead_name dead = dead.sid
+
+abbrev pub dead_begun : DeadRow → ℕ
+dead_begun dead = dead.accepted

@@ -6,10 +6,11 @@ use Rattle.rp_login.specs.declared.rows.LoginRow.{LoginRow}
 use Rattle.rp_login.specs.declared.rows.PendingRow.{PendingRow}
 use Rattle.rp_login.specs.declared.rows.SessionRow.{SessionRow}
 use Rattle.rp_login.specs.declared.rows.SeenRow.{SeenRow}
+use Rattle.rp_login.specs.declared.rows.DeadRow.{DeadRow}
 use Rattle.rp_login.specs.declared.table.RpTable.{RpTable}
 use Rattle.rp_login.specs.declared.table.RpTable.TheVariants.{Logins, Pendings, Sessions, Seen}
 use Rattle.rp_login.specs.declared.table.Reserved.{Reserved}
-use Rattle.rp_login.specs.Rows.{login_name, login_begun, pending_name, pending_begun, visit_name, visit_begun, seen_name, seen_begun}
+use Rattle.rp_login.specs.Rows.{login_name, login_begun, pending_name, pending_begun, visit_name, visit_begun, seen_name, seen_begun, dead_name, dead_begun}
 use Rattle.oidc_words.specs.Lives.{login_life, pending_life, visit_life, seen_life}
 use Rattle.held_rows.specs.Held.{IsHeld, AnyRow, has_room_for_one, IsFull}
 use Rattle.rp_login.specs.Named.{is_meant}
@@ -20,6 +21,7 @@ pub record Tables : Type 0 where
   pub pendings : List PendingRow
   pub visits : List SessionRow
   pub seens : List SeenRow
+  pub deads : List DeadRow
   pub reserved : Reserved
 
 abbrev pub no_tables : Tables
@@ -28,7 +30,8 @@ no_tables = record {
   pendings = [];
   visits = [];
   seens = [];
-  reserved = record { logins = false; pendings = false; visits = false; seens = false };
+  deads = [];
+  reserved = record { logins = false; pendings = false; visits = false; seens = false; deads = false };
 }
 
 -- ---- the invariant of each table: at most 65,536 rows, with distinct names, in the order of the moments from which they live
@@ -45,18 +48,23 @@ AreVisits rows = IsHeld visit_name visit_begun AnyRow rows
 abbrev pub AreSeens : List SeenRow → Type 0
 AreSeens rows = IsHeld seen_name seen_begun AnyRow rows
 
+abbrev pub AreDeads : List DeadRow → Type 0
+AreDeads rows = IsHeld dead_name dead_begun AnyRow rows
+
 -- ---- room
 
 abbrev pub with_room : Tables → Tables
-with_room t = record t { reserved = record { logins = true; pendings = true; visits = true; seens = true } }
+with_room t = record t { reserved = record { logins = true; pendings = true; visits = true; seens = true; deads = true } }
 
--- the tables without the rows whose life has ended at the moment
+-- the tables without the rows whose life has ended at the moment; a session identifier is remembered as long as the logout
+-- token that named it
 abbrev pub purged : ℕ → Tables → Tables
 purged at t = record t {
   logins = live_rows login_life login_begun at t.logins;
   pendings = live_rows pending_life pending_begun at t.pendings;
   visits = live_rows visit_life visit_begun at t.visits;
   seens = live_rows seen_life seen_begun at t.seens;
+  deads = live_rows seen_life dead_begun at t.deads;
 }
 
 -- the number of rows of the table that live at the moment is below the limit
@@ -87,6 +95,9 @@ with_visit row t = record t { visits = t.visits ++ row ∷ []; reserved = record
 abbrev pub with_seen : SeenRow → Tables → Tables
 with_seen row t = record t { seens = t.seens ++ row ∷ []; reserved = record t.reserved { seens = false } }
 
+abbrev pub with_dead : DeadRow → Tables → Tables
+with_dead row t = record t { deads = t.deads ++ row ∷ []; reserved = record t.reserved { deads = false } }
+
 -- ---- rows that end
 
 abbrev pub login_ended : Word → Tables → Tables
@@ -97,6 +108,9 @@ pending_ended w t = record t { pendings = without pending_name w t.pendings }
 
 abbrev pub visit_ended : Word → Tables → Tables
 visit_ended w t = record t { visits = without visit_name w t.visits }
+
+abbrev pub dead_ended : Text → Tables → Tables
+dead_ended sid t = record t { deads = without dead_name sid t.deads }
 
 -- the tables without the sessions that match each given part
 abbrev pub named_ended : Option Text → Option Text → Tables → Tables

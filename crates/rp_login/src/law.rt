@@ -4,11 +4,12 @@ ghost use Rattle.std.specs.Prelude.{◌≡◌, ◌<◌, ◌+◌, ℕ, true, leng
 ghost use Rattle.sso_base.specs.Words.{Word, Text};
 ghost use Rattle.sso_base.specs.Rows.{row_of};
 ghost use Rattle.rp_login.specs.declared.rows.SessionRow.{SessionRow};
+ghost use Rattle.rp_login.specs.declared.rows.DeadRow.{DeadRow};
 ghost use Rattle.rp_login.specs.declared.table.RpTable.TheVariants as table;
 ghost use Rattle.held_rows.specs.Held.{most_rows};
 ghost use Rattle.rp_login.specs.Named.{is_meant, IsMeant};
-ghost use Rattle.rp_login.specs.Rows.{login_name, pending_name, visit_name};
-ghost use Rattle.rp_login.specs.Tables.{Tables, has_room, named_count};
+ghost use Rattle.rp_login.specs.Rows.{login_name, pending_name, visit_name, dead_name, dead_begun};
+ghost use Rattle.rp_login.specs.Tables.{Tables, has_room, named_count, AreDeads};
 ghost use Rattle.rp_login.specs.Calls as calls;
 ghost use Rattle.rp_login.specs.Laws.{AddedLoginsAreFound, AddedExchangesAreFound, AddedSessionsAreFound, AddedIdentifiersAreFound, AddsLeaveOtherLogins};
 ghost use Rattle.rp_login.specs.Laws.{AddsLeaveOtherExchanges, AddsLeaveOtherSessions, AddsLeaveOtherIdentifiers, EndsLeaveOtherLogins};
@@ -22,10 +23,12 @@ pub fn added_rows_are_found()
     ensures pending { AddedExchangesAreFound }
     ensures session { AddedSessionsAreFound }
     ensures seen { AddedIdentifiersAreFound }
+    ensures dead { AddedDeadSidsAreFound }
     ensures other_logins { AddsLeaveOtherLogins }
     ensures other_pendings { AddsLeaveOtherExchanges }
     ensures other_sessions { AddsLeaveOtherSessions }
     ensures other_seens { AddsLeaveOtherIdentifiers }
+    ensures other_deads { AddsLeaveOtherDeadSids }
 {}
 
 /// A row that is ended is no longer found, and the rows of other names stay.
@@ -33,9 +36,11 @@ pub fn ended_rows_are_gone()
     ensures login { (state : Word) (t : Tables) → row_of login_name state (calls.after (calls.end_login state) t).logins ≡ None }
     ensures pending { (w : Word) (t : Tables) → row_of pending_name w (calls.after (calls.end_pending w) t).pendings ≡ None }
     ensures session { (w : Word) (t : Tables) → row_of visit_name w (calls.after (calls.end_session w) t).visits ≡ None }
+    ensures dead { (sid : Text) (t : Tables) → row_of dead_name sid (calls.after (calls.end_dead sid) t).deads ≡ None }
     ensures other_logins { EndsLeaveOtherLogins }
     ensures other_pendings { EndsLeaveOtherExchanges }
     ensures other_sessions { EndsLeaveOtherSessions }
+    ensures other_deads { EndsLeaveOtherDeadSids }
 {}
 
 /// An absent row stays absent through all calls that do not add its name again. This is why the callback of a login counts only
@@ -52,6 +57,7 @@ pub fn purges_leave_what_lives()
     ensures pendings { PurgesLeaveLiveExchanges }
     ensures sessions { PurgesLeaveLiveSessions }
     ensures seens { PurgesLeaveLiveIdentifiers }
+    ensures deads { PurgesLeaveLiveDeadSids }
 {}
 
 /// If a table has room at a moment, a purge at that moment leaves fewer rows than the limit.
@@ -66,6 +72,12 @@ pub fn purges_make_the_room()
 /// accepted twice (OpenID Connect Back-Channel Logout 1.0, 2.6).
 pub fn seen_tokens_are_remembered()
     ensures { SeenTokensAreRemembered }
+{}
+
+/// A session identifier that an accepted logout token named is found through all calls, except a purge 661 or more seconds
+/// later, until it is ended by its name. This is why no session of it begins meanwhile.
+pub fn dead_sids_are_remembered()
+    ensures { (row : DeadRow) (steps : List calls.Call) (t : Tables) → row_of dead_name row.sid t.deads ≡ Some row → calls.AllLeaveDead row.sid row.accepted steps → row_of dead_name row.sid (calls.after_all steps t).deads ≡ Some row }
 {}
 
 /// Exactly the sessions that match each given part end. The others stay in their order. The returned number is that of the

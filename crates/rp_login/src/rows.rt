@@ -81,6 +81,18 @@ pub struct SeenRow {
     pub accepted: Moment,
 }
 
+/// A session identifier that an accepted logout token named. No session of it begins while it is remembered, which is as long
+/// as its logout token: 661 seconds (our choice; OpenID Connect Back-Channel Logout 1.0, 2.7).
+#[derive(Drop)]
+pub struct DeadRow {
+    /// The token's `sid` (OpenID Connect Back-Channel Logout 1.0, 2.4).
+    pub sid: Text,
+    /// The number, counted from 1, of the pair in the party's history that accepted the token.
+    pub place: u64,
+    /// When it was accepted.
+    pub accepted: Moment,
+}
+
 impl Row for LoginRow {
     ghost use Rattle.oidc_words.specs.Lives.{login_life};
     ghost use Rattle.rp_login.specs.Rows.{login_name, login_begun};
@@ -193,6 +205,35 @@ impl Row for SeenRow {
         match by {
             By::Name => Some(self.jti.as_str().as_bytes()),
             By::Group | By::OtherGroup => None,
+        }
+    }
+
+    fn begun(&self) -> Moment {
+        self.accepted
+    }
+
+    ghost named = { λ row. refl };
+}
+
+impl Row for DeadRow {
+    ghost use Rattle.oidc_words.specs.Lives.{seen_life};
+
+    ghost name = { λ row. row.sid };
+
+    ghost key = { λ by row. one_of (Some row.sid) None None by };
+
+    ghost begun = { λ row. row.accepted };
+
+    ghost IsSound = { AnyRow };
+
+    ghost LIFE = { seen_life };
+
+    const LIFE: u32 = SEEN_LIFE;
+
+    fn key(&self, by: By) -> Option<&[u8]> {
+        match by {
+            By::Name => Some(self.sid.as_str().as_bytes()),
+            By::First | By::Second => None,
         }
     }
 

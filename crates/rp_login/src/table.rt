@@ -24,4 +24,6 @@ pub struct Reserved {
     pub visits: bool,
     /// For a logout token.
     pub seens: bool,
+    /// For the session identifier that a logout token names.
+    pub deads: bool,
 }

@@ -3,7 +3,7 @@
 ghost use Rattle.std.specs.Prelude.{◌≡◌, false, IfOk, OnOk, OnErr};
 ghost use Rattle.rp_login.specs.Tables as spec;
 
-use crate::rows::{LoginRow, PendingRow, SeenRow, SessionRow};
+use crate::rows::{DeadRow, LoginRow, PendingRow, SeenRow, SessionRow};
 use crate::table::{Reserved, RpTable};
 use held_rows::Held;
 use sso_base::{Moment, NoMemory};
@@ -18,6 +18,7 @@ pub struct Logins {
     pub(crate) pendings: Held<PendingRow>,
     pub(crate) visits: Held<SessionRow>,
     pub(crate) seens: Held<SeenRow>,
+    pub(crate) deads: Held<DeadRow>,
     pub(crate) reserved: Reserved,
 }
 
@@ -44,11 +45,13 @@ impl Logins {
             pendings: Held::new(alloc),
             visits: Held::new(alloc),
             seens: Held::new(alloc),
+            deads: Held::new(alloc),
             reserved: Reserved {
                 logins: false,
                 pendings: false,
                 visits: false,
                 seens: false,
+                deads: false,
             },
         })
     }
@@ -62,11 +65,13 @@ impl Logins {
         self.pendings.reserve()?;
         self.visits.reserve()?;
         self.seens.reserve()?;
+        self.deads.reserve()?;
         self.reserved = Reserved {
             logins: true,
             pendings: true,
             visits: true,
             seens: true,
+            deads: true,
         };
         Ok(())
     }
@@ -79,6 +84,7 @@ impl Logins {
         self.pendings.purge(at);
         self.visits.purge(at);
         self.seens.purge(at);
+        self.deads.purge(at);
     }
 
     /// Whether the table has room for one more row at the moment. It is false if and only if the table has 65,536 rows and

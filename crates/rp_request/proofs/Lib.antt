@@ -1,4 +1,5 @@
 pub mod Parties
+pub mod Opened
 pub mod Refused
 pub mod Routing
 pub mod Callbacks

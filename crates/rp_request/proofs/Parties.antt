@@ -12,7 +12,7 @@ use Rattle.client_registry.specs.declared.records.Party.{Party}
 use Rattle.client_registry.specs.Configuration.{Configuration}
 use Rattle.client_registry.specs.Numbers.{client_at, party_at, party_row, no_party}
 use Rattle.client_registry.specs.Registered.{IsParty, FitsClient, IsLogoutOf, IsRegistry}
-use Rattle.configuration_rows.specs.Version1.{has_path}
+use Rattle.configuration_rows.specs.Rows.{has_path}
 use Rattle.oidc_words.specs.declared.response_types.Types.{Types}
 use Rattle.oidc_words.specs.Paths.{home_path, begin_path, leave_path}
 use Rattle.sso_base.proofs.RowLaws.{bool_cases, bytes_same, bytes_true, bytes_turn}

@@ -8,9 +8,10 @@ use Rattle.sso_base.specs.Words.{Text}
 use Rattle.sso_base.specs.declared.http.Method.{Method}
 use Rattle.sso_base.specs.declared.http.Method.TheVariants.{Get, Post, Other}
 use Rattle.sso_base.specs.declared.http.Ask.{Ask}
+use Rattle.client_registry.specs.declared.records.Client.{Client}
 use Rattle.client_registry.specs.declared.records.Party.{Party}
 use Rattle.client_registry.specs.Configuration.{Configuration}
-use Rattle.client_registry.specs.Numbers.{party_row, party_secret}
+use Rattle.client_registry.specs.Numbers.{party_row, party_client}
 use Rattle.client_registry.specs.Registered.{IsRegistry}
 use Rattle.auth_answer.specs.declared.heard.Heard.{Heard}
 use Rattle.auth_answer.specs.declared.no.AnswerNo.{AnswerNo}
@@ -91,34 +92,34 @@ module _ (c : Configuration) (n : ℕ) (request : Ask) where
   pub asked_to : (e : Endpoint) → endpoint_at c n request ≡ Some e → IsTo c n request e
   asked_to e h = asked_by (slice_get c.parties n) e refl h
 
-  pub prepared_at : (e : Endpoint) → IsRegistry c → IsTo c n request e → prepared c n request ≡ asked_at (party_secret c n) (party_row c n).types request (Some e)
+  pub prepared_at : (e : Endpoint) → IsRegistry c → IsTo c n request e → prepared c n request ≡ asked_at (party_client c n) (party_row c n).types request (Some e)
   unfolding prepared
-  prepared_at e r to = ap (asked_at (party_secret c n) (party_row c n).types request) (to_asked e r to)
+  prepared_at e r to = ap (asked_at (party_client c n) (party_row c n).types request) (to_asked e r to)
 
   -- ---- the redirection URI: the page, or a response
 
-  page_or : (secret : Text) (types : Types) (page : Bool) → wants_page types request ≡ page
-      → redirected secret types request ≡ cond page ask.Fragment (callback_asked secret request.first (answer_read (form_of request.method request)))
-  page_or secret types page is =
-      let P : Bool → RpAsk = λ b. cond b ask.Fragment (callback_asked secret request.first (answer_read (form_of request.method request))) in
+  page_or : (client : Client) (types : Types) (page : Bool) → wants_page types request ≡ page
+      → redirected client types request ≡ cond page ask.Fragment (callback_asked client request.first (answer_read (form_of request.method request)))
+  page_or client types page is =
+      let P : Bool → RpAsk = λ b. cond b ask.Fragment (callback_asked client request.first (answer_read (form_of request.method request))) in
       ap P is
 
   pub page_asked : IsRegistry c → IsTo c n request endpoint.Redirection → wants_page (party_row c n).types request ≡ true → prepared c n request ≡ ask.Fragment
-  page_asked r to is = prepared_at endpoint.Redirection r to ∙ page_or (party_secret c n) (party_row c n).types true is
+  page_asked r to is = prepared_at endpoint.Redirection r to ∙ page_or (party_client c n) (party_row c n).types true is
 
   pub response_asked : IsRegistry c → IsTo c n request endpoint.Redirection → wants_page (party_row c n).types request ≡ false
-      → prepared c n request ≡ callback_asked (party_secret c n) request.first (answer_read (form_of request.method request))
-  response_asked r to is = prepared_at endpoint.Redirection r to ∙ page_or (party_secret c n) (party_row c n).types false is
+      → prepared c n request ≡ callback_asked (party_client c n) request.first (answer_read (form_of request.method request))
+  response_asked r to is = prepared_at endpoint.Redirection r to ∙ page_or (party_client c n) (party_row c n).types false is
 
-  no_page_heard : (secret : Text) (r : Result Heard AnswerNo) → ¬ (callback_asked secret request.first r ≡ ask.Fragment)
-  no_page_heard secret (Ok heard) = λ h. cc
-  no_page_heard secret (Err why) = λ h. cc
+  no_page_heard : (client : Client) (r : Result Heard AnswerNo) → ¬ (callback_asked client request.first r ≡ ask.Fragment)
+  no_page_heard client (Ok heard) = λ h. cc
+  no_page_heard client (Err why) = λ h. cc
 
-  page_by : (secret : Text) (r : Result Heard AnswerNo) (page : Bool) → cond page ask.Fragment (callback_asked secret request.first r) ≡ ask.Fragment → page ≡ true
-  page_by secret r true h = refl
-  page_by secret r false h = absurd (no_page_heard secret r h)
+  page_by : (client : Client) (r : Result Heard AnswerNo) (page : Bool) → cond page ask.Fragment (callback_asked client request.first r) ≡ ask.Fragment → page ≡ true
+  page_by client r true h = refl
+  page_by client r false h = absurd (no_page_heard client r h)
 
-  page_at : (o : Option Endpoint) → endpoint_at c n request ≡ o → asked_at (party_secret c n) (party_row c n).types request o ≡ ask.Fragment
+  page_at : (o : Option Endpoint) → endpoint_at c n request ≡ o → asked_at (party_client c n) (party_row c n).types request o ≡ ask.Fragment
       → IsTo c n request endpoint.Redirection × (wants_page (party_row c n).types request ≡ true)
   page_at None is h = absurd (cc)
   page_at (Some endpoint.Login) is h = absurd (cc)
@@ -126,7 +127,7 @@ module _ (c : Configuration) (n : ℕ) (request : Ask) where
   page_at (Some endpoint.Leave) is h = absurd (cc)
   page_at (Some endpoint.Logout) is h = absurd (cc)
   page_at (Some endpoint.Redirection) is h =
-      (asked_to endpoint.Redirection is, page_by (party_secret c n) (answer_read (form_of request.method request)) (wants_page (party_row c n).types request) h)
+      (asked_to endpoint.Redirection is, page_by (party_client c n) (answer_read (form_of request.method request)) (wants_page (party_row c n).types request) h)
 
   pub page_wanted : prepared c n request ≡ ask.Fragment → IsTo c n request endpoint.Redirection × (wants_page (party_row c n).types request ≡ true)
   unfolding prepared
@@ -134,7 +135,7 @@ module _ (c : Configuration) (n : ℕ) (request : Ask) where
 
   -- ---- no endpoint
 
-  nowhere : (o : Option Endpoint) → endpoint_at c n request ≡ o → ((e : Endpoint) → ¬ IsTo c n request e) → asked_at (party_secret c n) (party_row c n).types request o ≡ ask.NotHere
+  nowhere : (o : Option Endpoint) → endpoint_at c n request ≡ o → ((e : Endpoint) → ¬ IsTo c n request e) → asked_at (party_client c n) (party_row c n).types request o ≡ ask.NotHere
   nowhere None is none = refl
   nowhere (Some e) is none = absurd (none e (asked_to e is))
 
@@ -146,18 +147,18 @@ module _ (c : Configuration) (n : ℕ) (request : Ask) where
   one_of true asked other = λ h. cc
   one_of false asked other = other
 
-  heard_somewhere : (secret : Text) (r : Result Heard AnswerNo) → ¬ (callback_asked secret request.first r ≡ ask.NotHere)
-  heard_somewhere secret (Ok heard) = λ h. cc
-  heard_somewhere secret (Err why) = λ h. cc
+  heard_somewhere : (client : Client) (r : Result Heard AnswerNo) → ¬ (callback_asked client request.first r ≡ ask.NotHere)
+  heard_somewhere client (Ok heard) = λ h. cc
+  heard_somewhere client (Err why) = λ h. cc
 
-  redirected_somewhere : (secret : Text) (types : Types) → ¬ (redirected secret types request ≡ ask.NotHere)
-  redirected_somewhere secret types = one_of (wants_page types request) (callback_asked secret request.first (answer_read (form_of request.method request))) (heard_somewhere secret (answer_read (form_of request.method request)))
+  redirected_somewhere : (client : Client) (types : Types) → ¬ (redirected client types request ≡ ask.NotHere)
+  redirected_somewhere client types = one_of (wants_page types request) (callback_asked client request.first (answer_read (form_of request.method request))) (heard_somewhere client (answer_read (form_of request.method request)))
 
-  none_at : (o : Option Endpoint) → asked_at (party_secret c n) (party_row c n).types request o ≡ ask.NotHere → o ≡ None
+  none_at : (o : Option Endpoint) → asked_at (party_client c n) (party_row c n).types request o ≡ ask.NotHere → o ≡ None
   none_at None h = refl
   none_at (Some endpoint.Login) h = absurd (cc)
   none_at (Some endpoint.Home) h = absurd (cc)
-  none_at (Some endpoint.Redirection) h = absurd (redirected_somewhere (party_secret c n) (party_row c n).types h)
+  none_at (Some endpoint.Redirection) h = absurd (redirected_somewhere (party_client c n) (party_row c n).types h)
   none_at (Some endpoint.Leave) h = absurd (cc)
   none_at (Some endpoint.Logout) h = absurd (cc)
 
@@ -167,20 +168,20 @@ module _ (c : Configuration) (n : ℕ) (request : Ask) where
 
   -- ---- the endpoint of an ask
 
-  heard_own : (secret : Text) (r : Result Heard AnswerNo) (e : Endpoint) → own_endpoint (callback_asked secret request.first r) ≡ Some e → Some endpoint.Redirection ≡ Some e
-  heard_own secret (Ok heard) e h = h
-  heard_own secret (Err why) e h = h
+  heard_own : (client : Client) (r : Result Heard AnswerNo) (e : Endpoint) → own_endpoint (callback_asked client request.first r) ≡ Some e → Some endpoint.Redirection ≡ Some e
+  heard_own client (Ok heard) e h = h
+  heard_own client (Err why) e h = h
 
-  redirected_own : (page : Bool) (secret : Text) (r : Result Heard AnswerNo) (e : Endpoint) → own_endpoint (cond page ask.Fragment (callback_asked secret request.first r)) ≡ Some e
+  redirected_own : (page : Bool) (client : Client) (r : Result Heard AnswerNo) (e : Endpoint) → own_endpoint (cond page ask.Fragment (callback_asked client request.first r)) ≡ Some e
       → Some endpoint.Redirection ≡ Some e
-  redirected_own true secret r e h = h
-  redirected_own false secret r e h = heard_own secret r e h
+  redirected_own true client r e h = h
+  redirected_own false client r e h = heard_own client r e h
 
-  own_at : (o : Option Endpoint) (e : Endpoint) → own_endpoint (asked_at (party_secret c n) (party_row c n).types request o) ≡ Some e → o ≡ Some e
+  own_at : (o : Option Endpoint) (e : Endpoint) → own_endpoint (asked_at (party_client c n) (party_row c n).types request o) ≡ Some e → o ≡ Some e
   own_at None e h = absurd (cc)
   own_at (Some endpoint.Login) e h = h
   own_at (Some endpoint.Home) e h = h
-  own_at (Some endpoint.Redirection) e h = redirected_own (wants_page (party_row c n).types request) (party_secret c n) (answer_read (form_of request.method request)) e h
+  own_at (Some endpoint.Redirection) e h = redirected_own (wants_page (party_row c n).types request) (party_client c n) (answer_read (form_of request.method request)) e h
   own_at (Some endpoint.Leave) e h = h
   own_at (Some endpoint.Logout) e h = h
 
@@ -190,19 +191,19 @@ module _ (c : Configuration) (n : ℕ) (request : Ask) where
 
   -- ---- cookies
 
-  heard_cookies : (secret : Text) (r : Result Heard AnswerNo) → HasCookies request (callback_asked secret request.first r)
-  heard_cookies secret (Ok heard) = refl
-  heard_cookies secret (Err why) = refl
+  heard_cookies : (client : Client) (r : Result Heard AnswerNo) → HasCookies request (callback_asked client request.first r)
+  heard_cookies client (Ok heard) = refl
+  heard_cookies client (Err why) = refl
 
-  redirected_cookies : (page : Bool) (secret : Text) (r : Result Heard AnswerNo) → HasCookies request (cond page ask.Fragment (callback_asked secret request.first r))
-  redirected_cookies true secret r = tt
-  redirected_cookies false secret r = heard_cookies secret r
+  redirected_cookies : (page : Bool) (client : Client) (r : Result Heard AnswerNo) → HasCookies request (cond page ask.Fragment (callback_asked client request.first r))
+  redirected_cookies true client r = tt
+  redirected_cookies false client r = heard_cookies client r
 
-  cookies_at : (o : Option Endpoint) → HasCookies request (asked_at (party_secret c n) (party_row c n).types request o)
+  cookies_at : (o : Option Endpoint) → HasCookies request (asked_at (party_client c n) (party_row c n).types request o)
   cookies_at None = tt
   cookies_at (Some endpoint.Login) = refl
   cookies_at (Some endpoint.Home) = refl
-  cookies_at (Some endpoint.Redirection) = redirected_cookies (wants_page (party_row c n).types request) (party_secret c n) (answer_read (form_of request.method request))
+  cookies_at (Some endpoint.Redirection) = redirected_cookies (wants_page (party_row c n).types request) (party_client c n) (answer_read (form_of request.method request))
   cookies_at (Some endpoint.Leave) = refl
   cookies_at (Some endpoint.Logout) = tt
 

@@ -3,6 +3,8 @@ use Rattle.std.proofs.Common.{◌≡◌, ℕ, [], ◌∷◌, ◌++◌, false, re
 use Rattle.url.proofs.OnLiterals.{url_on_literals}
 use Rattle.sso_base.proofs.Spelling.{IsBytes-from_all_bytes}
 use Rattle.registered_url.specs.Rule.{parts_of}
+use Rattle.client_registry.specs.declared.records.Client.{Client}
+use Rattle.client_registry.specs.Configuration.{Configuration}
 use Rattle.client_registry.specs.Registered.{AllHoldClaims, IsClient, IsParty, FitsClient, IsRegistry}
 use Rattle.request_params.specs.Form.{form_pairs}
 use Rattle.request_params.specs.Reading.{has_name, StandsTwice}
@@ -17,9 +19,9 @@ use Rattle.jws_compact.specs.declared.no.JwsNo.TheVariants as jws_no
 use Rattle.jws_compact.specs.declared.unsealing.Unsealed.{Unsealed}
 use Rattle.jws_compact.specs.Jws.{Opens, seal_text}
 use Rattle.jws_compact.proofs.OnLiterals.{jws_on_literals}
+use Rattle.client_keys.specs.Opening.{opening}
 use Rattle.id_token.specs.declared.claims.IdClaims.{IdClaims}
 use Rattle.id_token.specs.declared.no.IdNo.TheVariants as id_no
-use Rattle.id_token.specs.Token.{IsIdToken}
 use Rattle.id_token.specs.Reading.{raw_in, whole, id_of, id_read}
 use Rattle.id_token.proofs.Unsealed as id_sealed
 use Rattle.auth_answer.specs.declared.heard.Heard.{Heard}
@@ -39,7 +41,7 @@ use Rattle.logout_token.specs.declared.claims.LogoutClaims.{LogoutClaims}
 use Rattle.logout_token.specs.declared.no.LogoutNo.TheVariants as logout_no
 use Rattle.logout_token.specs.LogoutToken as logout
 use Rattle.logout_token.proofs.Unsealed as logout_sealed
-use Rattle.logout_token.specs.Token.{IsLogoutToken}
+use Rattle.rp_request.specs.Opened.{IsIdTokenFor, logout_read_for, IsLogoutTokenFor}
 use Rattle.rp_request.specs.Prepared.{logout_token_in, prepared, tokens_prepared, info_prepared}
 use Rattle.rp_request.specs.Requests.{IsTo, IsOpened, StandsAlone}
 use Rattle.rp_request.proofs.Routing.{asked_to, page_wanted, page_asked, not_here_to_none}
@@ -83,7 +85,7 @@ leave-got = refl
 
 -- a form without a logout token, and one with two
 logout-posted : prepared sample 0 (posted (codes "/logout") []) ≡ ask.Logout (Err (logout_no.Jws jws_no.NotThreeParts))
-unfolding prepared auth_answer_on_literals jws_on_literals logout.logout_read
+unfolding prepared opening auth_answer_on_literals jws_on_literals logout.logout_read
 logout-posted = refl
 
 logout-with_two_tokens : logout_token_in (codes "logout_token=a&logout_token=a") ≡ []
@@ -191,11 +193,11 @@ abbrev heard_token : Heard
 heard_token = record nothing { id = Some (token_of news_client.secret) }
 
 callback-with_an_id_token : prepared sample 1 with_token ≡ ask.Callback (Ok heard_token) (Some (Ok alice)) (Some (word 5))
-unfolding prepared auth_answer_on_literals jws_on_literals claims_on_literals id_read id_of raw_in whole
+unfolding prepared opening auth_answer_on_literals jws_on_literals claims_on_literals id_read id_of raw_in whole
 callback-with_an_id_token = refl
 
 callback-with_the_token_of_another_client : prepared sample 0 with_token ≡ ask.Callback (Ok heard_token) (Some (Err (id_no.Jws jws_no.BadMac))) (Some (word 5))
-unfolding prepared auth_answer_on_literals jws_on_literals claims_on_literals id_read id_of raw_in whole
+unfolding prepared opening auth_answer_on_literals jws_on_literals claims_on_literals id_read id_of raw_in whole
 callback-with_the_token_of_another_client = refl
 
 -- it is sealed under the secret of its client, and not under that of another
@@ -212,6 +214,27 @@ refused-under_another_secret = refl
 
 not_sealed-under_another_secret : (u : Unsealed) → ¬ Opens shop_client.secret (token_of news_client.secret) u
 not_sealed-under_another_secret = (id_sealed.unsealed_refused shop_client.secret (token_of news_client.secret)).0 (jws_no.BadMac, refused-under_another_secret)
+
+-- a client whose secret is changed: a token under its old secret is read, and one under neither is not
+abbrev changed_client : Client
+changed_client = record news_client { secret = codes "another secret of the client"; old_secret = Some news_client.secret }
+
+abbrev changed : Configuration
+changed = record sample { clients = shop_client ∷ changed_client ∷ [] }
+
+callback-with_a_token_under_the_old_secret : prepared changed 1 with_token ≡ ask.Callback (Ok heard_token) (Some (Ok alice)) (Some (word 5))
+unfolding prepared opening auth_answer_on_literals jws_on_literals claims_on_literals id_read id_of raw_in whole
+callback-with_a_token_under_the_old_secret = refl
+
+abbrev with_another_token : Ask
+with_another_token = posted (codes "/cb") (codes "id_token=" ++ token_of shop_client.secret)
+
+abbrev heard_another_token : Heard
+heard_another_token = record nothing { id = Some (token_of shop_client.secret) }
+
+callback-with_a_token_under_neither_secret : prepared changed 1 with_another_token ≡ ask.Callback (Ok heard_another_token) (Some (Err (id_no.Jws jws_no.BadMac))) (Some (word 5))
+unfolding prepared opening auth_answer_on_literals jws_on_literals claims_on_literals id_read id_of raw_in whole
+callback-with_a_token_under_neither_secret = refl
 
 -- ---- logout tokens
 
@@ -230,11 +253,11 @@ abbrev with_logout : Text → Ask
 with_logout secret = posted (codes "/logout") (codes "logout_token=" ++ logout_of secret)
 
 logout-with_a_logout_token : prepared sample 0 (with_logout shop_client.secret) ≡ ask.Logout (Ok logout_claims)
-unfolding prepared auth_answer_on_literals jws_on_literals claims_on_literals logout.logout_read logout.logout_of logout.raw_in logout.whole
+unfolding prepared opening auth_answer_on_literals jws_on_literals claims_on_literals logout.logout_read logout.logout_of logout.raw_in logout.whole
 logout-with_a_logout_token = refl
 
 logout-with_the_token_of_another_client : prepared sample 0 (with_logout news_client.secret) ≡ ask.Logout (Err (logout_no.Jws jws_no.BadMac))
-unfolding prepared auth_answer_on_literals jws_on_literals claims_on_literals logout.logout_read logout.logout_of logout.raw_in logout.whole
+unfolding prepared opening auth_answer_on_literals jws_on_literals claims_on_literals logout.logout_read logout.logout_of logout.raw_in logout.whole
 logout-with_the_token_of_another_client = refl
 
 -- the empty text is refused as unsealed, and so is sealed under no secret
@@ -253,7 +276,7 @@ abbrev tokens : Tokens
 tokens = record { access = codes "a"; id = codes "x" }
 
 tokens-of_a_response : tokens_prepared sample 0 (word 7) good ≡ ask.Tokens (word 7) (Ok tokens) (Some (Err (id_no.Jws jws_no.NotThreeParts)))
-unfolding tokens_prepared token_endpoint_on_literals jws_on_literals id_read
+unfolding tokens_prepared opening token_endpoint_on_literals jws_on_literals id_read
 tokens-of_a_response = refl
 
 tokens-of_a_refusal : tokens_prepared sample 0 (word 7) (answered 400 (codes "{\"error\":\"invalid_grant\"}")) ≡ ask.Tokens (word 7) (Err (tokens_no.Status 400)) None
@@ -275,7 +298,7 @@ info-of_a_refusal = refl
 a_page_is_wanted : IsTo sample 1 (got (codes "/cb") []) endpoint.Redirection
 a_page_is_wanted = (page_wanted sample 1 (got (codes "/cb") []) page-with_an_empty_query).0
 
-an_empty_text_is_no_logout_token : (x : LogoutClaims) → ¬ IsLogoutToken shop_client.secret [] x
+an_empty_text_is_no_logout_token : (x : LogoutClaims) → ¬ IsLogoutTokenFor shop_client [] x
 unfolding auth_answer_on_literals
 an_empty_text_is_no_logout_token = logout_opened sample 0 (posted (codes "/logout") []) (Err (logout_no.Jws jws_no.NotThreeParts)) logout-posted
 
@@ -294,22 +317,25 @@ a_code_is_heard = has_answer sample 0 with_code heard_code None (Some (word 5)) 
 a_name_is_repeated : RefusesAnswer twice.query (answer_no.Twice (codes "code"))
 a_name_is_repeated = refuses_answer sample 0 twice (answer_no.Twice (codes "code")) None (Some (word 5)) callback-with_a_name_twice
 
-a_token_is_one : IsIdToken news_client.secret (token_of news_client.secret) alice
+a_token_is_one : IsIdTokenFor news_client (token_of news_client.secret) alice
 a_token_is_one = callback_opened sample 1 with_token heard_token (Some (Ok alice)) (Some (word 5)) callback-with_an_id_token
 
-it_is_none_of_another_client : (x : IdClaims) → ¬ IsIdToken shop_client.secret (token_of news_client.secret) x
+it_is_none_of_another_client : (x : IdClaims) → ¬ IsIdTokenFor shop_client (token_of news_client.secret) x
 it_is_none_of_another_client = callback_opened sample 0 with_token heard_token (Some (Err (id_no.Jws jws_no.BadMac))) (Some (word 5)) callback-with_the_token_of_another_client
 
-nothing_is_read_of_nothing : ¬ IsOpened shop_client.secret None (Some (Ok alice))
+nothing_is_read_of_nothing : ¬ IsOpened shop_client None (Some (Ok alice))
 nothing_is_read_of_nothing = λ h. h
 
 a_response_has_tokens : HasTokens good tokens
 a_response_has_tokens = (has_tokens sample 0 (word 7) good (word 7) tokens (Some (Err (id_no.Jws jws_no.NotThreeParts))) tokens-of_a_response).1
 
-its_token_is_none : (x : IdClaims) → ¬ IsIdToken shop_client.secret (codes "x") x
+it_is_one_of_the_changed_client : IsIdTokenFor changed_client (token_of news_client.secret) alice
+it_is_one_of_the_changed_client = callback_opened changed 1 with_token heard_token (Some (Ok alice)) (Some (word 5)) callback-with_a_token_under_the_old_secret
+
+its_token_is_none : (x : IdClaims) → ¬ IsIdTokenFor shop_client (codes "x") x
 its_token_is_none = tokens_opened sample 0 (word 7) good (word 7) tokens (Some (Err (id_no.Jws jws_no.NotThreeParts))) tokens-of_a_response
 
-its_logout_token_is_one : IsLogoutToken shop_client.secret (logout_of shop_client.secret) logout_claims
+its_logout_token_is_one : IsLogoutTokenFor shop_client (logout_of shop_client.secret) logout_claims
 unfolding auth_answer_on_literals jws_on_literals
 its_logout_token_is_one = logout_opened sample 0 (with_logout shop_client.secret) (Ok logout_claims) logout-with_a_logout_token
 
@@ -317,11 +343,11 @@ its_logout_token_is_one = logout_opened sample 0 (with_logout shop_client.secret
 
 shop_is_client : IsClient shop_client
 unfolding url_on_literals parts_of
-shop_is_client = record { id = refl; secret = refl; long_secret = omega arith; redirects = refl; types = refl; urls = refl; kept = refl; logout = refl; logout_kept = refl; one_host = refl }
+shop_is_client = record { id = refl; secret = refl; long_secret = omega arith; old_secret = tt; seals = refl; redirects = refl; types = refl; urls = refl; kept = refl; logout = refl; logout_kept = refl; one_host = refl }
 
 news_is_client : IsClient news_client
 unfolding url_on_literals parts_of
-news_is_client = record { id = refl; secret = refl; long_secret = omega arith; redirects = refl; types = refl; urls = refl; kept = refl; logout = refl; logout_kept = refl; one_host = refl }
+news_is_client = record { id = refl; secret = refl; long_secret = omega arith; old_secret = tt; seals = refl; redirects = refl; types = refl; urls = refl; kept = refl; logout = refl; logout_kept = refl; one_host = refl }
 
 shop_is_party : IsParty shop
 unfolding url_on_literals parts_of
@@ -392,7 +418,7 @@ a_logout_is_to secret = asked_to sample 0 (with_logout secret) endpoint.Logout r
 abbrev token_in : Ask → Text
 token_in request = logout_token_in (unwrap_or request.body [])
 
-the_logout_token_is_read : (secret : Text) → prepared sample 0 (with_logout secret) ≡ ask.Logout (logout.logout_read shop_client.secret (token_in (with_logout secret)))
+the_logout_token_is_read : (secret : Text) → prepared sample 0 (with_logout secret) ≡ ask.Logout (logout_read_for shop_client (token_in (with_logout secret)))
 the_logout_token_is_read secret = logout_reads sample 0 (with_logout secret) sample_is_registry (a_logout_is_to secret)
 
 the_logout_token_is_accepted : prepared sample 0 (with_logout shop_client.secret) ≡ ask.Logout (Ok logout_claims)

@@ -4,13 +4,11 @@ use Rattle.sso_base.specs.Words.{Word, Text}
 use Rattle.sso_base.specs.declared.http.Ask.{Ask}
 use Rattle.sso_base.specs.declared.message.Answered.{Answered}
 use Rattle.client_registry.specs.Configuration.{Configuration}
-use Rattle.client_registry.specs.Numbers.{party_row, party_secret}
+use Rattle.client_registry.specs.Numbers.{party_row, party_client}
 use Rattle.client_registry.specs.Registered.{IsRegistry}
 use Rattle.request_params.specs.Form.{form_of, posted}
 use Rattle.id_token.specs.declared.claims.IdClaims.{IdClaims}
 use Rattle.id_token.specs.declared.no.IdNo.{IdNo}
-use Rattle.id_token.specs.Token.{IsIdToken}
-use Rattle.id_token.specs.Reading.{id_read}
 use Rattle.auth_answer.specs.declared.heard.Heard.{Heard}
 use Rattle.auth_answer.specs.declared.no.AnswerNo.{AnswerNo}
 use Rattle.auth_answer.specs.Reading.{HasAnswer, RefusesAnswer}
@@ -21,11 +19,10 @@ use Rattle.userinfo.specs.declared.no.InfoNo.{InfoNo}
 use Rattle.userinfo.specs.Answer.{info_read, IsUserInfo}
 use Rattle.logout_token.specs.declared.claims.LogoutClaims.{LogoutClaims}
 use Rattle.logout_token.specs.declared.no.LogoutNo.{LogoutNo}
-use Rattle.logout_token.specs.LogoutToken.{logout_read}
-use Rattle.logout_token.specs.Token.{IsLogoutToken}
 use Rattle.rp_exchange.specs.declared.ask.RpAsk.TheVariants as ask
 use Rattle.rp_request.specs.declared.routes.Endpoint.TheVariants as endpoint
 use Rattle.rp_request.specs.Prepared.{wants_page, logout_token_in, prepared, tokens_prepared, info_prepared}
+use Rattle.rp_request.specs.Opened.{id_read_for, logout_read_for, IsIdTokenFor, IsLogoutTokenFor}
 use Rattle.rp_request.specs.Requests.{IsTo, IsOpened, IsLogoutOpened}
 
 -- ---- authorization responses
@@ -49,7 +46,7 @@ abbrev pub ResponsesInTheFormAreRead : Type 0
 ResponsesInTheFormAreRead =
     (c : Configuration) (n : ℕ) (request : Ask) (heard : Heard) → IsRegistry c → IsTo c n request endpoint.Redirection
     → wants_page (party_row c n).types request ≡ false → HasAnswer (form_of request.method request) heard
-    → prepared c n request ≡ ask.Callback (Ok heard) (option_map (id_read (party_secret c n)) heard.id) request.first
+    → prepared c n request ≡ ask.Callback (Ok heard) (option_map (id_read_for (party_client c n)) heard.id) request.first
 
 abbrev pub RefusedResponsesAreInTheForm : Type 0
 RefusedResponsesAreInTheForm =
@@ -62,17 +59,17 @@ BadFormsAreRefused =
     → wants_page (party_row c n).types request ≡ false → RefusesAnswer (form_of request.method request) why
     → prepared c n request ≡ ask.Callback (Err why) None request.first
 
-abbrev pub IdTokensAreOpenedByTheSecret : Type 0
-IdTokensAreOpenedByTheSecret =
+abbrev pub IdTokensAreOpenedByASecret : Type 0
+IdTokensAreOpenedByASecret =
     (c : Configuration) (n : ℕ) (request : Ask) (heard : Heard) (id : Option (Result IdClaims IdNo)) (browser : Option Word)
-    → prepared c n request ≡ ask.Callback (Ok heard) id browser → IsOpened (party_secret c n) heard.id id
+    → prepared c n request ≡ ask.Callback (Ok heard) id browser → IsOpened (party_client c n) heard.id id
 
-abbrev pub IdTokensOfTheSecretAreAccepted : Type 0
-IdTokensOfTheSecretAreAccepted =
+abbrev pub IdTokensOfASecretAreAccepted : Type 0
+IdTokensOfASecretAreAccepted =
     (c : Configuration) (n : ℕ) (request : Ask) (heard : Heard) (id : Option (Result IdClaims IdNo)) (browser : Option Word)
     (text : Text) (claims : IdClaims)
     → prepared c n request ≡ ask.Callback (Ok heard) id browser → heard.id ≡ Some text
-    → IsIdToken (party_secret c n) text claims → id ≡ Some (Ok claims)
+    → IsIdTokenFor (party_client c n) text claims → id ≡ Some (Ok claims)
 
 -- ---- token responses
 
@@ -84,7 +81,7 @@ ReadTokensAreInTheResponse =
 abbrev pub TokensInTheResponseAreRead : Type 0
 TokensInTheResponseAreRead =
     (c : Configuration) (n : ℕ) (pending : Word) (answer : Answered) (tokens : Tokens) → HasTokens answer tokens
-    → tokens_prepared c n pending answer ≡ ask.Tokens pending (Ok tokens) (Some (id_read (party_secret c n) tokens.id))
+    → tokens_prepared c n pending answer ≡ ask.Tokens pending (Ok tokens) (Some (id_read_for (party_client c n) tokens.id))
 
 abbrev pub BadTokenResponsesAreRefused : Type 0
 BadTokenResponsesAreRefused =
@@ -94,13 +91,13 @@ BadTokenResponsesAreRefused =
 abbrev pub IdTokensOfTokenResponsesAreOpened : Type 0
 IdTokensOfTokenResponsesAreOpened =
     (c : Configuration) (n : ℕ) (pending w : Word) (answer : Answered) (tokens : Tokens) (id : Option (Result IdClaims IdNo))
-    → tokens_prepared c n pending answer ≡ ask.Tokens w (Ok tokens) id → IsOpened (party_secret c n) (Some tokens.id) id
+    → tokens_prepared c n pending answer ≡ ask.Tokens w (Ok tokens) id → IsOpened (party_client c n) (Some tokens.id) id
 
 abbrev pub IdTokensOfTokenResponsesAreAccepted : Type 0
 IdTokensOfTokenResponsesAreAccepted =
     (c : Configuration) (n : ℕ) (pending w : Word) (answer : Answered) (tokens : Tokens) (id : Option (Result IdClaims IdNo))
     (claims : IdClaims)
-    → tokens_prepared c n pending answer ≡ ask.Tokens w (Ok tokens) id → IsIdToken (party_secret c n) tokens.id claims
+    → tokens_prepared c n pending answer ≡ ask.Tokens w (Ok tokens) id → IsIdTokenFor (party_client c n) tokens.id claims
     → id ≡ Some (Ok claims)
 
 -- ---- UserInfo responses
@@ -120,16 +117,16 @@ BadUserInfoResponsesAreRefused =
 abbrev pub LogoutRequestsAreRead : Type 0
 LogoutRequestsAreRead =
     (c : Configuration) (n : ℕ) (request : Ask) → IsRegistry c → IsTo c n request endpoint.Logout
-    → prepared c n request ≡ ask.Logout (logout_read (party_secret c n) (logout_token_in (posted request.body)))
+    → prepared c n request ≡ ask.Logout (logout_read_for (party_client c n) (logout_token_in (posted request.body)))
 
-abbrev pub LogoutTokensAreOpenedByTheSecret : Type 0
-LogoutTokensAreOpenedByTheSecret =
+abbrev pub LogoutTokensAreOpenedByASecret : Type 0
+LogoutTokensAreOpenedByASecret =
     (c : Configuration) (n : ℕ) (request : Ask) (claims : Result LogoutClaims LogoutNo)
     → prepared c n request ≡ ask.Logout claims
-    → IsLogoutOpened (party_secret c n) (logout_token_in (posted request.body)) claims
+    → IsLogoutOpened (party_client c n) (logout_token_in (posted request.body)) claims
 
-abbrev pub LogoutTokensOfTheSecretAreAccepted : Type 0
-LogoutTokensOfTheSecretAreAccepted =
+abbrev pub LogoutTokensOfASecretAreAccepted : Type 0
+LogoutTokensOfASecretAreAccepted =
     (c : Configuration) (n : ℕ) (request : Ask) (claims : LogoutClaims) → IsRegistry c → IsTo c n request endpoint.Logout
-    → IsLogoutToken (party_secret c n) (logout_token_in (posted request.body)) claims
+    → IsLogoutTokenFor (party_client c n) (logout_token_in (posted request.body)) claims
     → prepared c n request ≡ ask.Logout (Ok claims)

@@ -1,4 +1,5 @@
 pub mod Routes
+pub mod Opened
 pub mod Prepared
 pub mod Requests
 pub mod Laws

@@ -13,11 +13,9 @@ use Rattle.registered_url.specs.declared.web_url.WebUrl.{WebUrl}
 use Rattle.client_registry.specs.declared.records.Client.{Client}
 use Rattle.client_registry.specs.declared.records.Party.{Party}
 use Rattle.client_registry.specs.Configuration.{Configuration}
-use Rattle.client_registry.specs.Numbers.{client_at, party_at, party_row, party_secret}
+use Rattle.client_registry.specs.Numbers.{client_at, party_at, party_row, party_client}
 use Rattle.request_params.specs.Form.{Pair, form_pairs, posted, form_of}
 use Rattle.request_params.specs.Reading.{value_of}
-use Rattle.id_token.specs.Reading.{id_read}
-use Rattle.logout_token.specs.LogoutToken.{logout_read}
 use Rattle.auth_answer.specs.declared.heard.Heard.{Heard}
 use Rattle.auth_answer.specs.declared.no.AnswerNo.{AnswerNo}
 use Rattle.auth_answer.specs.Reading.{answer_read}
@@ -30,13 +28,14 @@ use Rattle.rp_exchange.specs.declared.ask.RpAsk.TheVariants as ask
 use Rattle.rp_request.specs.declared.routes.Endpoint.{Endpoint}
 use Rattle.rp_request.specs.declared.routes.Endpoint.TheVariants as endpoint
 use Rattle.rp_request.specs.Routes.{endpoint_asked}
+use Rattle.rp_request.specs.Opened.{id_read_for, logout_read_for}
 
 -- ---- an authorization response (OpenID Connect Core 1.0, 3.1.2.5 and 3.2.2.5)
 
--- its ID Token is read under the secret
-abbrev pub callback_asked : Text → Option Word → Result Heard AnswerNo → RpAsk
-callback_asked secret browser (Ok heard) = ask.Callback (Ok heard) (option_map (id_read secret) heard.id) browser
-callback_asked secret browser (Err why) = ask.Callback (Err why) None browser
+-- its ID Token is read as one of the client
+abbrev pub callback_asked : Client → Option Word → Result Heard AnswerNo → RpAsk
+callback_asked client browser (Ok heard) = ask.Callback (Ok heard) (option_map (id_read_for client) heard.id) browser
+callback_asked client browser (Err why) = ask.Callback (Err why) None browser
 
 -- ---- a response in the fragment, which only the browser sees (Core 3.2.2.5): a request for the page that posts it
 
@@ -48,9 +47,9 @@ is_get method = false
 abbrev pub wants_page : Types → Ask → Bool
 wants_page types request = is_get request.method && (length request.query == 0 && is_in_fragment types)
 
-abbrev pub redirected : Text → Types → Ask → RpAsk
-redirected secret types request =
-    if wants_page types request then ask.Fragment else callback_asked secret request.first (answer_read (form_of request.method request))
+abbrev pub redirected : Client → Types → Ask → RpAsk
+redirected client types request =
+    if wants_page types request then ask.Fragment else callback_asked client request.first (answer_read (form_of request.method request))
 
 -- ---- a logout request (OpenID Connect Back-Channel Logout 1.0, 2.5)
 
@@ -62,19 +61,19 @@ only_value name pairs = if nat_lt 1 (length (filter (λ (pair : Pair). bytes_eq 
 abbrev pub logout_token_in : List ℕ → Text
 logout_token_in form = unwrap_or (only_value (codes "logout_token") (form_pairs form)) []
 
--- the logout token is read under the secret
-abbrev pub logout_asked : Text → List ℕ → RpAsk
-logout_asked secret form = ask.Logout (logout_read secret (logout_token_in form))
+-- the logout token is read as one of the client
+abbrev pub logout_asked : Client → List ℕ → RpAsk
+logout_asked client form = ask.Logout (logout_read_for client (logout_token_in form))
 
 -- ---- any request: its first cookie is the browser's word, its second the session's
 
-abbrev pub asked_at : Text → Types → Ask → Option Endpoint → RpAsk
-asked_at secret types request None = ask.NotHere
-asked_at secret types request (Some endpoint.Login) = ask.Begin request.first
-asked_at secret types request (Some endpoint.Home) = ask.Visit request.second
-asked_at secret types request (Some endpoint.Redirection) = redirected secret types request
-asked_at secret types request (Some endpoint.Leave) = ask.Leave request.second
-asked_at secret types request (Some endpoint.Logout) = logout_asked secret (posted request.body)
+abbrev pub asked_at : Client → Types → Ask → Option Endpoint → RpAsk
+asked_at client types request None = ask.NotHere
+asked_at client types request (Some endpoint.Login) = ask.Begin request.first
+asked_at client types request (Some endpoint.Home) = ask.Visit request.second
+asked_at client types request (Some endpoint.Redirection) = redirected client types request
+asked_at client types request (Some endpoint.Leave) = ask.Leave request.second
+asked_at client types request (Some endpoint.Logout) = logout_asked client (posted request.body)
 
 -- the path of the logout URI of a party's client, if it has one
 abbrev pub logout_path_of : Client → Option Text
@@ -89,17 +88,17 @@ endpoint_at c n request = option_and_then (λ (party : Party). endpoint_asked pa
 
 -- the value of a request to the party with this number
 unfoldable pub prepared : Configuration → ℕ → Ask → RpAsk
-prepared c n request = asked_at (party_secret c n) (party_row c n).types request (endpoint_at c n request)
+prepared c n request = asked_at (party_client c n) (party_row c n).types request (endpoint_at c n request)
 
 -- ---- a token response (Core 3.1.3.3)
 
-abbrev pub tokens_asked : Text → Word → Result Tokens TokensNo → RpAsk
-tokens_asked secret pending (Ok tokens) = ask.Tokens pending (Ok tokens) (Some (id_read secret tokens.id))
-tokens_asked secret pending (Err why) = ask.Tokens pending (Err why) None
+abbrev pub tokens_asked : Client → Word → Result Tokens TokensNo → RpAsk
+tokens_asked client pending (Ok tokens) = ask.Tokens pending (Ok tokens) (Some (id_read_for client tokens.id))
+tokens_asked client pending (Err why) = ask.Tokens pending (Err why) None
 
 -- the value of such a response to the party with this number, in the exchange that is waiting for it under this word
 unfoldable pub tokens_prepared : Configuration → ℕ → Word → Answered → RpAsk
-tokens_prepared c n pending answer = tokens_asked (party_secret c n) pending (tokens_read answer)
+tokens_prepared c n pending answer = tokens_asked (party_client c n) pending (tokens_read answer)
 
 -- ---- a UserInfo response (Core 5.3.2)
 

@@ -3,6 +3,7 @@ use Rattle.std.specs.Prelude.{◌≡◌, ℕ, List, ◌∷◌, ◌++◌, IsFalse
 use Rattle.sso_base.specs.Lists.{Has}
 use Rattle.sso_base.specs.Words.{Text}
 use Rattle.sso_base.specs.declared.http.Ask.{Ask}
+use Rattle.client_registry.specs.declared.records.Client.{Client}
 use Rattle.client_registry.specs.declared.records.Party.{Party}
 use Rattle.client_registry.specs.Configuration.{Configuration}
 use Rattle.client_registry.specs.Numbers.{party_at}
@@ -10,15 +11,14 @@ use Rattle.request_params.specs.Form.{Pair}
 use Rattle.request_params.specs.Reading.{has_name}
 use Rattle.id_token.specs.declared.claims.IdClaims.{IdClaims}
 use Rattle.id_token.specs.declared.no.IdNo.{IdNo}
-use Rattle.id_token.specs.Token.{IsIdToken}
 use Rattle.logout_token.specs.declared.claims.LogoutClaims.{LogoutClaims}
 use Rattle.logout_token.specs.declared.no.LogoutNo.{LogoutNo}
-use Rattle.logout_token.specs.Token.{IsLogoutToken}
 use Rattle.rp_exchange.specs.declared.ask.RpAsk.{RpAsk}
 use Rattle.rp_exchange.specs.declared.ask.RpAsk.TheVariants as ask
 use Rattle.rp_request.specs.declared.routes.Endpoint.{Endpoint}
 use Rattle.rp_request.specs.declared.routes.Endpoint.TheVariants as endpoint
 use Rattle.rp_request.specs.Routes.{routes_of}
+use Rattle.rp_request.specs.Opened.{IsIdTokenFor, IsLogoutTokenFor}
 use Rattle.rp_request.specs.Prepared.{logout_path}
 
 -- ---- endpoints
@@ -42,14 +42,14 @@ own_endpoint other = None
 
 -- ---- ID Tokens
 
--- The reading of a text: the claims of the ID Token that it is under this secret, or an error if it is none. Nothing was read
--- if and only if there is no text.
-abbrev pub IsOpened : Text → Option Text → Option (Result IdClaims IdNo) → Type 0
-IsOpened secret None None = Unit {0}
-IsOpened secret None (Some id) = ⊥
-IsOpened secret (Some text) None = ⊥
-IsOpened secret (Some text) (Some (Ok claims)) = IsIdToken secret text claims
-IsOpened secret (Some text) (Some (Err why)) = (claims : IdClaims) → ¬ IsIdToken secret text claims
+-- The reading of a text: the claims of the ID Token that it is under a secret of the client, or an error if it is none. Nothing
+-- was read if and only if there is no text.
+abbrev pub IsOpened : Client → Option Text → Option (Result IdClaims IdNo) → Type 0
+IsOpened client None None = Unit {0}
+IsOpened client None (Some id) = ⊥
+IsOpened client (Some text) None = ⊥
+IsOpened client (Some text) (Some (Ok claims)) = IsIdTokenFor client text claims
+IsOpened client (Some text) (Some (Err why)) = (claims : IdClaims) → ¬ IsIdTokenFor client text claims
 
 -- ---- logout tokens
 
@@ -61,10 +61,10 @@ pub record StandsAlone (name value : Text) (pairs : List Pair) : Type 0 where
   pub none_before : IsFalse (has_name name before)
   pub none_after : IsFalse (has_name name after)
 
--- the reading of a text: the claims of the logout token that it is under this secret, or an error if it is none
-abbrev pub IsLogoutOpened : Text → Text → Result LogoutClaims LogoutNo → Type 0
-IsLogoutOpened secret text (Ok claims) = IsLogoutToken secret text claims
-IsLogoutOpened secret text (Err why) = (claims : LogoutClaims) → ¬ IsLogoutToken secret text claims
+-- the reading of a text: the claims of the logout token that it is under a secret of the client, or an error if it is none
+abbrev pub IsLogoutOpened : Client → Text → Result LogoutClaims LogoutNo → Type 0
+IsLogoutOpened client text (Ok claims) = IsLogoutTokenFor client text claims
+IsLogoutOpened client text (Err why) = (claims : LogoutClaims) → ¬ IsLogoutTokenFor client text claims
 
 -- ---- cookies
 

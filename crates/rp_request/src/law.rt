@@ -14,13 +14,14 @@ ghost use Rattle.logout_token.specs.LogoutToken.{logout_read};
 ghost use Rattle.rp_exchange.specs.declared.ask.RpAsk.TheVariants as ask;
 ghost use Rattle.rp_exchange.specs.Asks.{is_prepared};
 ghost use Rattle.rp_request.specs.declared.routes.Endpoint.{Endpoint};
+ghost use Rattle.rp_request.specs.Opened.{id_read_for, IsIdTokenFor, logout_read_for, IsLogoutTokenFor};
 ghost use Rattle.rp_request.specs.Prepared.{logout_token_in, prepared, tokens_prepared, info_prepared};
 ghost use Rattle.rp_request.specs.Requests.{IsTo, own_endpoint, StandsAlone, HasCookies};
 ghost use Rattle.rp_request.specs.Laws.{FragmentPagesAreWanted, WantedPagesAreAskedFor, ReadResponsesAreInTheForm, ResponsesInTheFormAreRead};
-ghost use Rattle.rp_request.specs.Laws.{RefusedResponsesAreInTheForm, BadFormsAreRefused, IdTokensAreOpenedByTheSecret, IdTokensOfTheSecretAreAccepted};
+ghost use Rattle.rp_request.specs.Laws.{RefusedResponsesAreInTheForm, BadFormsAreRefused, IdTokensAreOpenedByASecret, IdTokensOfASecretAreAccepted};
 ghost use Rattle.rp_request.specs.Laws.{ReadTokensAreInTheResponse, TokensInTheResponseAreRead, BadTokenResponsesAreRefused, IdTokensOfTokenResponsesAreOpened};
 ghost use Rattle.rp_request.specs.Laws.{IdTokensOfTokenResponsesAreAccepted, ReadSubjectsAreInTheResponse, BadUserInfoResponsesAreRefused};
-ghost use Rattle.rp_request.specs.Laws.{LogoutRequestsAreRead, LogoutTokensAreOpenedByTheSecret, LogoutTokensOfTheSecretAreAccepted};
+ghost use Rattle.rp_request.specs.Laws.{LogoutRequestsAreRead, LogoutTokensAreOpenedByASecret, LogoutTokensOfASecretAreAccepted};
 
 /// A request gives `NotHere` if and only if it is to no endpoint: its path is not listed for its method, and is not that of the
 /// redirect URI or of the logout URI. Any other value belongs to the endpoint that the request is to.
@@ -47,11 +48,11 @@ pub fn callbacks_are_read_from_forms()
     ensures refuses { BadFormsAreRefused }
 {}
 
-/// The ID Token in an authorization response is read as its claims if and only if it is an ID Token under the secret of the
+/// The ID Token in an authorization response is read as its claims if and only if it is an ID Token under a secret of the
 /// party's client (OpenID Connect Core 1.0, 3.1.3.7, step 8; 10.1). Nothing is read if and only if there is none.
-pub fn id_tokens_are_opened_by_the_secret()
-    ensures opened { IdTokensAreOpenedByTheSecret }
-    ensures accepted { IdTokensOfTheSecretAreAccepted }
+pub fn id_tokens_are_opened_by_a_secret()
+    ensures opened { IdTokensAreOpenedByASecret }
+    ensures accepted { IdTokensOfASecretAreAccepted }
 {}
 
 /// A token response is given to the exchange that is waiting for it. It is accepted, with its tokens, if and only if it is a
@@ -62,7 +63,7 @@ pub fn token_answers_are_read_for_their_exchange()
     ensures refuses { BadTokenResponsesAreRefused }
 {}
 
-/// The ID Token in a token response is read as its claims if and only if it is an ID Token under the secret of the party's
+/// The ID Token in a token response is read as its claims if and only if it is an ID Token under a secret of the party's
 /// client.
 pub fn token_answers_have_opened_id_tokens()
     ensures opened { IdTokensOfTokenResponsesAreOpened }
@@ -77,13 +78,12 @@ pub fn info_answers_are_read_for_their_exchange()
     ensures refuses { BadUserInfoResponsesAreRefused }
 {}
 
-/// A logout request is read as the logout token in its form, under the secret of the party's client. The result is the claims,
-/// if and only if it is a logout token under that secret, or why it is none (OpenID Connect Back-Channel Logout 1.0, 2.5 and
-/// 2.6).
-pub fn logout_tokens_are_opened_by_the_secret()
+/// A logout request is read as the logout token in its form. The result is the claims, if and only if it is a logout token
+/// under a secret of the party's client, or why it is none (OpenID Connect Back-Channel Logout 1.0, 2.5 and 2.6).
+pub fn logout_tokens_are_opened_by_a_secret()
     ensures reads { LogoutRequestsAreRead }
-    ensures opened { LogoutTokensAreOpenedByTheSecret }
-    ensures accepted { LogoutTokensOfTheSecretAreAccepted }
+    ensures opened { LogoutTokensAreOpenedByASecret }
+    ensures accepted { LogoutTokensOfASecretAreAccepted }
 {}
 
 /// The logout token of a form is the value of the only pair with the name `logout_token`. If no pair or several pairs have that

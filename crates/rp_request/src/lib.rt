@@ -16,8 +16,8 @@ mod prepare;
 mod routes;
 
 pub use law::{
-    asks_have_the_cookies, callbacks_are_read_from_forms, id_tokens_are_opened_by_the_secret,
-    info_answers_are_read_for_their_exchange, logout_tokens_are_opened_by_the_secret,
+    asks_have_the_cookies, callbacks_are_read_from_forms, id_tokens_are_opened_by_a_secret,
+    info_answers_are_read_for_their_exchange, logout_tokens_are_opened_by_a_secret,
     prepared_asks_are_given_by_requests, requests_are_told_by_method_and_path,
     the_one_logout_token_is_read, the_page_is_asked_for_without_a_query,
     token_answers_are_read_for_their_exchange, token_answers_have_opened_id_tokens,

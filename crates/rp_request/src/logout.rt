@@ -5,9 +5,11 @@ ghost use Rattle.std.specs.Option.{option_copied};
 ghost use Rattle.std.specs.Str.{bytes_eq};
 ghost use Rattle.sso_base.specs.Words.{Text};
 ghost use Rattle.request_params.specs.Form.{posted as posted_form};
-ghost use Rattle.logout_token.specs.LogoutToken.{logout_read};
+ghost use Rattle.rp_request.specs.Opened.{logout_read_for};
 ghost use Rattle.rp_request.specs.Prepared as spec;
 
+use client_keys::opening_key;
+use client_registry::Client;
 use logout_token::{LogoutClaims, LogoutNo, read_logout};
 use request_params::{Pair, posted, read_pairs, value_of};
 use rp_exchange::RpAsk;
@@ -58,25 +60,27 @@ pub fn logout_token_of(alloc: Global, ask: &Ask) -> Result<Text, NoMemory>
     logout_token_in(alloc, posted(&ask.body))
 }
 
-// The claims of a logout token, or why it is rejected.
+// The claims of a logout token of the client, or why it is rejected.
 fn read_as_logout(
     alloc: Global,
-    secret: &[u8],
+    client: &Client,
     text: &Text,
 ) -> Result<Result<LogoutClaims, LogoutNo>, NoMemory>
-    ensures { IfOk result (λ claims. claims ≡ logout_read secret.now text.now) }
+    ensures { IfOk result (λ claims. claims ≡ logout_read_for client.now text.now) }
 {
-    match read_logout(alloc, secret, text.as_str().as_bytes()) {
+    let text = text.as_str().as_bytes();
+    let key = opening_key(alloc, client, text)?;
+    match read_logout(alloc, key.as_str().as_bytes(), text) {
         Err(LogoutNo::NoMemory) => Err(NoMemory),
         claims => Ok(claims),
     }
 }
 
 // The value for a logout request, from its form.
-pub(crate) fn logout_asked(alloc: Global, secret: &[u8], form: &[u8]) -> Result<RpAsk, NoMemory>
-    ensures { IfOk result (λ asked. asked ≡ spec.logout_asked secret.now form.now) }
+pub(crate) fn logout_asked(alloc: Global, client: &Client, form: &[u8]) -> Result<RpAsk, NoMemory>
+    ensures { IfOk result (λ asked. asked ≡ spec.logout_asked client.now form.now) }
 {
     let token = logout_token_in(alloc, form)?;
-    let claims = read_as_logout(alloc, secret, &token)?;
+    let claims = read_as_logout(alloc, client, &token)?;
     Ok(RpAsk::Logout { claims })
 }

@@ -2,14 +2,15 @@
 
 ghost use Rattle.std.specs.Prelude.{◌≡◌, ◌<◌, length, IfOk, option_map};
 ghost use Rattle.std.specs.Option.{option_copied};
-ghost use Rattle.id_token.specs.Reading.{id_read};
 ghost use Rattle.auth_answer.specs.Reading.{answer_read};
-ghost use Rattle.client_registry.specs.Numbers.{party_row, party_secret};
+ghost use Rattle.client_registry.specs.Numbers.{party_row, party_client};
+ghost use Rattle.rp_request.specs.Opened.{id_read_for};
 ghost use Rattle.rp_request.specs.Prepared as spec;
 
 use crate::logout::logout_asked;
 use crate::routes::{Endpoint, endpoint_asked};
 use auth_answer::{AnswerNo, read_answer};
+use client_keys::opening_key;
 use client_registry::{Client, Registry};
 use id_token::{IdClaims, IdNo, read_id};
 use oidc_words::Types;
@@ -23,16 +24,15 @@ use userinfo::{InfoNo, read_info};
 // The claims of an ID Token, or why it is rejected.
 type IdRead = Result<IdClaims, IdNo>;
 
-// The secret of the party's client.
-#[tactic(auto, using(crate::proofs::Parties::known_client))]
-fn secret_of(registry: &Registry, party: u32) -> &[u8]
+// The party's client.
+fn client_of(registry: &Registry, party: u32) -> &Client
     requires { party < length registry.now.parties }
-    ensures { result.now ≡ party_secret registry.now party }
+    ensures { result.now ≡ party_client registry.now party }
 {
     // The contract of `parties` states the invariant of every registry: the client of each of its parties exists.
     let _parties = registry.parties();
-    let client = registry.client(registry.party(party).client);
-    client.secret.as_str().as_bytes()
+    let number = registry.party(party).client;
+    registry.client(number)
 }
 
 // The response type of the party's requests.
@@ -67,11 +67,13 @@ fn endpoint_of(registry: &Registry, party: u32, ask: &Ask) -> Option<Endpoint>
     endpoint_asked(&row.redirect_url.path, logout, ask)
 }
 
-// Reads an ID Token.
-fn read_as_id(alloc: Global, secret: &[u8], text: &Text) -> Result<IdRead, NoMemory>
-    ensures { IfOk result (λ id. id ≡ id_read secret.now text.now) }
+// Reads an ID Token of the client.
+fn read_as_id(alloc: Global, client: &Client, text: &Text) -> Result<IdRead, NoMemory>
+    ensures { IfOk result (λ id. id ≡ id_read_for client.now text.now) }
 {
-    match read_id(alloc, secret, text.as_str().as_bytes()) {
+    let text = text.as_str().as_bytes();
+    let key = opening_key(alloc, client, text)?;
+    match read_id(alloc, key.as_str().as_bytes(), text) {
         Err(IdNo::NoMemory) => Err(NoMemory),
         id => Ok(id),
     }
@@ -80,13 +82,13 @@ fn read_as_id(alloc: Global, secret: &[u8], text: &Text) -> Result<IdRead, NoMem
 // Reads an ID Token, if there is one.
 fn read_if_there(
     alloc: Global,
-    secret: &[u8],
+    client: &Client,
     text: &Option<Text>,
 ) -> Result<Option<IdRead>, NoMemory>
-    ensures { IfOk result (λ id. id ≡ option_map (id_read secret.now) text.now) }
+    ensures { IfOk result (λ id. id ≡ option_map (id_read_for client.now) text.now) }
 {
     match text {
-        Some(text) => Ok(Some(read_as_id(alloc, secret, text)?)),
+        Some(text) => Ok(Some(read_as_id(alloc, client, text)?)),
         None => Ok(None),
     }
 }
@@ -101,11 +103,11 @@ fn wants_page(types: &Types, ask: &Ask) -> bool
 // The value for an authorization response, from its form (OpenID Connect Core 1.0, 3.1.2.5 and 3.2.2.5).
 fn callback(
     alloc: Global,
-    secret: &[u8],
+    client: &Client,
     browser: Option<Word>,
     form: &[u8],
 ) -> Result<RpAsk, NoMemory>
-    ensures { IfOk result (λ asked. asked ≡ spec.callback_asked secret.now browser (answer_read form.now)) }
+    ensures { IfOk result (λ asked. asked ≡ spec.callback_asked client.now browser (answer_read form.now)) }
 {
     let heard = match read_answer(alloc, form) {
         Ok(heard) => heard,
@@ -118,7 +120,7 @@ fn callback(
             });
         }
     };
-    let id = read_if_there(alloc, secret, &heard.id)?;
+    let id = read_if_there(alloc, client, &heard.id)?;
     Ok(RpAsk::Callback {
         heard: Ok(heard),
         id,
@@ -127,13 +129,18 @@ fn callback(
 }
 
 // A request to the redirect URI: for the fragment page, or with an authorization response.
-fn redirected(alloc: Global, secret: &[u8], types: &Types, ask: &Ask) -> Result<RpAsk, NoMemory>
-    ensures { IfOk result (λ asked. asked ≡ spec.redirected secret.now types.now ask.now) }
+fn redirected(
+    alloc: Global,
+    client: &Client,
+    types: &Types,
+    ask: &Ask,
+) -> Result<RpAsk, NoMemory>
+    ensures { IfOk result (λ asked. asked ≡ spec.redirected client.now types.now ask.now) }
 {
     if wants_page(types, ask) {
         return Ok(RpAsk::Fragment);
     }
-    callback(alloc, secret, ask.first, form_of(ask))
+    callback(alloc, client, ask.first, form_of(ask))
 }
 
 /// Reads a request to the relying party with this number in the registry, as an [`RpAsk`]. `first` of the request is the
@@ -151,9 +158,9 @@ fn redirected(alloc: Global, secret: &[u8], types: &Types, ask: &Ask) -> Result<
 /// Any other request, also one with another method, is [`RpAsk::NotHere`]. An absent form is empty.
 ///
 /// The parts of an authorization response are read as in `read_answer`, and an ID Token in it as in `read_id`, under the secret
-/// of the party's client. Whether it is for this login at this moment is verified later (OpenID Connect Core 1.0, 3.1.3.7). The
-/// `logout_token` of a logout request is read as in `read_logout`, under the same secret. If there is none, or more than one,
-/// the empty text is read (OpenID Connect Back-Channel Logout 1.0, 2.5).
+/// of the party's client that opens it ([`opening_key`]). Whether it is for this login at this moment is verified later (OpenID
+/// Connect Core 1.0, 3.1.3.7). The `logout_token` of a logout request is read as in `read_logout`, under the secret that opens
+/// it. If there is none, or more than one, the empty text is read (OpenID Connect Back-Channel Logout 1.0, 2.5).
 #[tactic(auto, unfolding(crate::specs::Prepared::prepared))]
 pub fn prepare_rp(
     alloc: Global,
@@ -167,17 +174,17 @@ pub fn prepare_rp(
     let Some(endpoint) = endpoint_of(registry, party, ask) else {
         return Ok(RpAsk::NotHere);
     };
-    let secret = secret_of(registry, party);
+    let client = client_of(registry, party);
     match endpoint {
         Endpoint::Login => Ok(RpAsk::Begin { browser: ask.first }),
         Endpoint::Home => Ok(RpAsk::Visit {
             session: ask.second,
         }),
-        Endpoint::Redirection => redirected(alloc, secret, types_of(registry, party), ask),
+        Endpoint::Redirection => redirected(alloc, client, types_of(registry, party), ask),
         Endpoint::Leave => Ok(RpAsk::Leave {
             session: ask.second,
         }),
-        Endpoint::Logout => logout_asked(alloc, secret, posted(&ask.body)),
+        Endpoint::Logout => logout_asked(alloc, client, posted(&ask.body)),
     }
 }
 
@@ -185,7 +192,7 @@ pub fn prepare_rp(
 /// `pending` (OpenID Connect Core 1.0, 3.1.3.3).
 ///
 /// Returns [`RpAsk::Tokens`] of that word, with the tokens as in `read_tokens`, and their ID Token as in `read_id`, under the
-/// secret of the party's client. If the response is rejected, no ID Token is read.
+/// secret of the party's client that opens it. If the response is rejected, no ID Token is read.
 ///
 /// The precondition is that of [`prepare_rp`].
 #[tactic(auto, unfolding(crate::specs::Prepared::tokens_prepared))]
@@ -210,7 +217,7 @@ pub fn prepare_tokens(
             });
         }
     };
-    let id = read_as_id(alloc, secret_of(registry, party), &tokens.id)?;
+    let id = read_as_id(alloc, client_of(registry, party), &tokens.id)?;
     Ok(RpAsk::Tokens {
         pending,
         tokens: Ok(tokens),

@@ -47,3 +47,7 @@ twice_alike name other = refl
 pub seen_alike : (place other : ℕ) → line_of (reply.Refused (no.Seen place)) ≡ line_of (reply.Refused (no.Seen other))
 unfolding line_of
 seen_alike place other = refl
+
+pub ended_sid_alike : (place other : ℕ) → line_of (reply.Refused (no.EndedSid place)) ≡ line_of (reply.Refused (no.EndedSid other))
+unfolding line_of
+ended_sid_alike place other = refl

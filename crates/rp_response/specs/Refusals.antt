@@ -95,6 +95,7 @@ refusal_words no.SubjectDiffers = codes "SubjectDiffers"
 refusal_words (no.Full table) = codes "Full"
 refusal_words (no.Logout why) = codes "Logout " ++ logout_words why
 refusal_words (no.Seen place) = codes "Seen"
+refusal_words (no.EndedSid place) = codes "EndedSid"
 
 abbrev pub refusal_line : RpNo → Text
 refusal_line why = codes "refused " ++ refusal_words why

@@ -77,4 +77,5 @@ pub fn lines_tell_no_words_and_no_values()
     ensures session { (v w : Word) (sub : Text) → line_of (reply.Entered v sub) ≡ line_of (reply.Entered w sub) }
     ensures twice { (name other : Text) → line_of (reply.Refused (no.Twice name)) ≡ line_of (reply.Refused (no.Twice other)) }
     ensures seen { (place other : ℕ) → line_of (reply.Refused (no.Seen place)) ≡ line_of (reply.Refused (no.Seen other)) }
+    ensures ended_sid { (place other : ℕ) → line_of (reply.Refused (no.EndedSid place)) ≡ line_of (reply.Refused (no.EndedSid other)) }
 {}

@@ -133,5 +133,6 @@ pub(crate) fn refusal_line(alloc: Global, why: &RpNo) -> Result<Text, NoMemory>
             told(alloc, "refused Logout ", own, inside)
         }
         RpNo::Seen(_) => Text::new(alloc, "refused Seen"),
+        RpNo::EndedSid(_) => Text::new(alloc, "refused EndedSid"),
     }
 }

@@ -3,12 +3,11 @@ use Rattle.std.proofs.Common.{◌≡◌, ℕ, suc, Bool, true, false, ◌&&◌, 
 use Rattle.std.specs.List.{list_any}
 use Rattle.sso_base.specs.Words.{Word}
 use Rattle.client_registry.specs.Configuration.{Configuration}
-use Rattle.client_registry.specs.Numbers.{client_secret}
 use Rattle.sso_places.specs.Cookies.{words_in}
 use Rattle.sso_places.specs.Premises.{set_elsewhere}
 use Rattle.sso_places.specs.Premises as premises
 use Rattle.sso_places.specs.Site.{own_site}
-use Rattle.sso_places.specs.Tokens.{TokenText as TokenPair, is_sealed}
+use Rattle.sso_places.specs.Tokens.{TokenText as TokenPair, is_sealed_for}
 use Rattle.sso_places.specs.World.{World}
 use Rattle.sso_places.specs.declared.types.Broken.{Broken}
 use Rattle.world_index.specs.Setting.{set_for_other}
@@ -39,7 +38,7 @@ module _ (c : Configuration) (index : Index) (world : World) (is : IsIndexed c i
   forged_is : (token : Option TokenText) → forges c index.written token ≡ list_any (premises.is_forged (own_site c) world) (tokens_in token)
   forged_is None = refl
   forged_is (Some t) =
-      ap (λ b. is_sealed (client_secret c t.client) t.text && not b) (is.wrote t.text t.client)
+      ap (λ b. is_sealed_for c (t.client, t.text) && not b) (is.wrote t.text t.client)
       ∙ sym (or_false (premises.is_forged (own_site c) world (t.client, t.text)))
 
   leaked_is : (from : ℕ) (words : List Word) → list_any (λ (w : Word). set_for_other index.setters w from) words ≡ list_any (set_elsewhere world from) words

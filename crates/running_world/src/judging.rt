@@ -2,10 +2,10 @@
 // set for another number.
 
 ghost use Rattle.std.specs.Prelude.{◌≡◌, ◌<◌, length, Some, Ok, IfSome, IfOk};
-ghost use Rattle.client_registry.specs.Numbers.{client_secret};
 ghost use Rattle.auth_request.specs.Judgement.{client_number as client_number_of};
 ghost use Rattle.request_params.specs.Reading.{request_read};
-ghost use Rattle.sso_places.specs.Tokens.{token_if, is_sealed as is_sealed_of};
+ghost use Rattle.sso_places.specs.Tokens as sealed;
+ghost use Rattle.sso_places.specs.Tokens.{token_if};
 ghost use Rattle.sso_places.specs.Checked as spec;
 ghost use Rattle.running_world.specs.declared.judging.TokenText.{TokenText as TokenOf};
 ghost use Rattle.running_world.specs.Judging.{tokens_in};
@@ -20,7 +20,7 @@ use sso_base::{Ask, NoMemory, Text};
 use sso_places::WorldAsk;
 use std::alloc::Global;
 
-/// A token, and the number of the client under whose secret it is checked.
+/// A token, and the number of the client under whose secrets it is checked.
 #[derive(Drop)]
 pub(crate) struct TokenText {
     pub(crate) client: u32,
@@ -138,19 +138,39 @@ pub(crate) fn checked_by_party(
     }
 }
 
-/// Whether the token is sealed under the client's secret.
+// Whether the text is sealed under this key.
+fn is_sealed_under(alloc: Global, key: &Text, text: &Text) -> Result<bool, NoMemory>
+    ensures { IfOk result (λ b. b ≡ sealed.is_sealed key.now text.now) }
+{
+    match unseal(alloc, key.as_str().as_bytes(), text.as_str().as_bytes()) {
+        Ok(_) => Ok(true),
+        Err(JwsNo::NoMemory) => Err(NoMemory),
+        Err(_) => Ok(false),
+    }
+}
+
+// Whether the text is sealed under the old secret, if there is one.
+fn is_sealed_old(alloc: Global, old: &Option<Text>, text: &Text) -> Result<bool, NoMemory>
+    ensures { IfOk result (λ b. b ≡ sealed.is_sealed_old old.now text.now) }
+{
+    match old {
+        Some(old) => is_sealed_under(alloc, old, text),
+        None => Ok(false),
+    }
+}
+
+/// Whether the token is sealed under a secret of the client.
 pub(crate) fn is_sealed(
     alloc: Global,
     registry: &Registry,
     token: &TokenText,
 ) -> Result<bool, NoMemory>
     requires { token.now.client < length registry.now.clients }
-    ensures { IfOk result (λ b. b ≡ is_sealed_of (client_secret registry.now token.now.client) token.now.text) }
+    ensures { IfOk result (λ b. b ≡ sealed.is_sealed_for registry.now (token.now.client, token.now.text)) }
 {
-    let secret = registry.client(token.client).secret.as_str().as_bytes();
-    match unseal(alloc, secret, token.text.as_str().as_bytes()) {
-        Ok(_) => Ok(true),
-        Err(JwsNo::NoMemory) => Err(NoMemory),
-        Err(_) => Ok(false),
+    let client = registry.client(token.client);
+    if is_sealed_under(alloc, &client.secret, &token.text)? {
+        return Ok(true);
     }
+    is_sealed_old(alloc, &client.old_secret, &token.text)
 }

@@ -46,7 +46,7 @@ pub(crate) fn ask_leaks(setters: &Setters, ask: &WorldAsk, from: u32) -> bool
     }
 }
 
-// Whether the token is sealed under the client's secret, but was not written for the client. A written token needs no MAC
+// Whether the token is sealed under a secret of the client, but was not written for the client. A written token needs no MAC
 // check.
 fn is_forged(
     alloc: Global,

@@ -24,7 +24,7 @@ use Rattle.op_answer.specs.Codes.{codes_issued}
 use Rattle.sso_places.specs.World.{op_past}
 use Rattle.sign_on.proofs.Invariant.{IsBegun, Agrees, Holds, IsKept}
 use Rattle.sso_places.proofs.Places.{legal_before, distinct_before, party_legal}
-use Rattle.sign_on.proofs.Shared.{began_more, signed_more, answered_more, redeemed_more, entered_more, sessions_more, codes_more, each_more, events_more, texts_more, sent_more, logouts_more, bound_more, ended_more}
+use Rattle.sign_on.proofs.Shared.{began_more, signed_more, answered_more, redeemed_more, entered_more, sessions_more, codes_more, each_more, events_more, texts_more, sent_more, logouts_more, bound_more, ended_more, dead_more}
 use Rattle.sign_on.proofs.OpPlaces.{provider_kept}
 use Rattle.sign_on.proofs.RpPlaces.{Does, rp_frame, nothing_done, asked_done, user_done}
 use Rattle.sign_on.proofs.Entering.{entering_done}
@@ -97,6 +97,8 @@ nothing_kept s world kept =
         redeemed = redeemed_more Nothing world m.redeemed old.redeemed;
         entered = entered_more s Nothing world m.entered old.entered;
         ended = ended_more s Nothing world m.ended old.ended;
+        dead = dead_more s Nothing world m.dead old.dead;
+        dead_apart = old.dead_apart;
         sent = sent_more s.configuration Nothing world m.out old.sent;
         sent_apart = old.sent_apart;
         tokens = old.tokens;
@@ -128,6 +130,8 @@ empty_kept s = record {
     redeemed = tt;
     entered = tt;
     ended = tt;
+    dead = tt;
+    dead_apart = tt;
     sent = tt;
     sent_apart = tt;
     tokens = tt;

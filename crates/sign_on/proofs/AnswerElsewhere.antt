@@ -37,6 +37,7 @@ use Rattle.op_answer.proofs.FirstLogin as op
 use Rattle.rp_exchange.specs.Values.{IsRpAsk, IsIdValue}
 use Rattle.rp_exchange.specs.declared.ask.RpAsk.{RpAsk}
 use Rattle.rp_exchange.specs.declared.ask.RpAsk.TheVariants as ask
+use Rattle.client_keys.specs.Opening.{opening}
 use Rattle.rp_request.specs.Prepared.{tokens_asked, tokens_prepared}
 use Rattle.rp_answer.specs.Past.{RpPair, RpPast}
 use Rattle.rp_answer.specs.Legal.{IsLegalRp}
@@ -95,9 +96,9 @@ abbrev answer_entry : Entry RpAsk
 answer_entry = entry_at 1000 25 (ask.Tokens (word 17) (Ok (record { access = word_text (word 21); id = id })) (Some (Ok claims)))
 
 answer_is_asked : tokens_prepared configuration 0 (word 17) answer ≡ answer_entry.ask
-unfolding tokens_prepared
+unfolding tokens_prepared opening
 answer_is_asked =
-    let A : Result Tokens TokensNo → RpAsk = λ r. tokens_asked shop_client.secret (word 17) r in
+    let A : Result Tokens TokensNo → RpAsk = λ r. tokens_asked shop_client (word 17) r in
     let I : Result IdClaims IdNo → RpAsk = λ r. ask.Tokens (word 17) (Ok (record { access = word_text (word 21); id = id })) (Some r) in
     ap A (tokens_are_read configuration (word 21) id id_is_utf8) ∙ ap I is_read
 

@@ -9,10 +9,11 @@ use Rattle.sso_base.specs.declared.http.Ask.{Ask}
 use Rattle.sso_base.specs.declared.message.Answered.{Answered}
 use Rattle.sso_base.proofs.RowLaws.{bool_cases}
 use Rattle.oidc_words.specs.declared.response_types.Types.{Types}
+use Rattle.client_registry.specs.declared.records.Client.{Client}
 use Rattle.oidc_words.specs.Routes.{Route, endpoint_of}
 use Rattle.client_registry.specs.Configuration.{Configuration}
 use Rattle.client_registry.specs.declared.records.Party.{Party as PartyRow}
-use Rattle.client_registry.specs.Numbers.{party_at, party_row, party_secret}
+use Rattle.client_registry.specs.Numbers.{party_at, party_row, party_client}
 use Rattle.id_token.specs.declared.claims.IdClaims.{IdClaims}
 use Rattle.id_token.specs.declared.no.IdNo.{IdNo}
 use Rattle.auth_answer.specs.declared.heard.Heard.{Heard}
@@ -40,57 +41,57 @@ is_answer asked = false
 
 -- ---- requests give none
 
-heard_kind : (secret : Text) (shown : Option Word) (r : Result Heard AnswerNo) → is_answer (callback_asked secret shown r) ≡ false
-heard_kind secret shown (Ok heard) = refl
-heard_kind secret shown (Err why) = refl
+heard_kind : (client : Client) (shown : Option Word) (r : Result Heard AnswerNo) → is_answer (callback_asked client shown r) ≡ false
+heard_kind client shown (Ok heard) = refl
+heard_kind client shown (Err why) = refl
 
-redirected_kind : (secret : Text) (types : Types) (request : Ask) → is_answer (redirected secret types request) ≡ false
-redirected_kind secret types request =
-    let C : RpAsk = callback_asked secret request.first (answer_read (form_of request.method request)) in
+redirected_kind : (client : Client) (types : Types) (request : Ask) → is_answer (redirected client types request) ≡ false
+redirected_kind client types request =
+    let C : RpAsk = callback_asked client request.first (answer_read (form_of request.method request)) in
     let F : Bool → Bool = λ b. is_answer (cond b ask.Fragment C) in
-    elim (bool_cases (wants_page types request)) [ inl page ↦ ap F page | inr none ↦ ap F none ∙ heard_kind secret request.first (answer_read (form_of request.method request)) ]
+    elim (bool_cases (wants_page types request)) [ inl page ↦ ap F page | inr none ↦ ap F none ∙ heard_kind client request.first (answer_read (form_of request.method request)) ]
 
 -- at every endpoint of the list
-abbrev IsKind : Text → Types → Ask → Route Endpoint → Type 0
-IsKind secret types request route = is_answer (asked_at secret types request (Some route.1)) ≡ false
+abbrev IsKind : Client → Types → Ask → Route Endpoint → Type 0
+IsKind client types request route = is_answer (asked_at client types request (Some route.1)) ≡ false
 
-found_kind : (secret : Text) (types : Types) (request : Ask) (routes : List (Route Endpoint)) (path : Text)
-    → AllByRecursion (IsKind secret types request) routes → is_answer (asked_at secret types request (endpoint_of routes path)) ≡ false
-found_kind secret types request [] path all = refl
-found_kind secret types request (route ∷ routes) path all =
-    let F : Bool → Bool = λ b. is_answer (asked_at secret types request (cond b (Some route.1) (endpoint_of routes path))) in
-    elim (bool_cases (bytes_eq path route.0)) [ inl this ↦ ap F this ∙ all.0 | inr other ↦ ap F other ∙ found_kind secret types request routes path all.1 ]
+found_kind : (client : Client) (types : Types) (request : Ask) (routes : List (Route Endpoint)) (path : Text)
+    → AllByRecursion (IsKind client types request) routes → is_answer (asked_at client types request (endpoint_of routes path)) ≡ false
+found_kind client types request [] path all = refl
+found_kind client types request (route ∷ routes) path all =
+    let F : Bool → Bool = λ b. is_answer (asked_at client types request (cond b (Some route.1) (endpoint_of routes path))) in
+    elim (bool_cases (bytes_eq path route.0)) [ inl this ↦ ap F this ∙ all.0 | inr other ↦ ap F other ∙ found_kind client types request routes path all.1 ]
 
-logout_kinds : (secret : Text) (types : Types) (request : Ask) (logout : Option Text) → AllByRecursion (IsKind secret types request) (logout_routes logout)
-logout_kinds secret types request None = tt
-logout_kinds secret types request (Some path) = (refl, tt)
+logout_kinds : (client : Client) (types : Types) (request : Ask) (logout : Option Text) → AllByRecursion (IsKind client types request) (logout_routes logout)
+logout_kinds client types request None = tt
+logout_kinds client types request (Some path) = (refl, tt)
 
-route_kinds : (secret : Text) (types : Types) (request : Ask) (method : Method) (redirection : Text) (logout : Option Text) → AllByRecursion (IsKind secret types request) (routes_of method redirection logout)
-route_kinds secret types request Get redirection logout = (refl, (refl, (redirected_kind secret types request, tt)))
-route_kinds secret types request Post redirection logout = (redirected_kind secret types request, (refl, logout_kinds secret types request logout))
-route_kinds secret types request Other redirection logout = tt
+route_kinds : (client : Client) (types : Types) (request : Ask) (method : Method) (redirection : Text) (logout : Option Text) → AllByRecursion (IsKind client types request) (routes_of method redirection logout)
+route_kinds client types request Get redirection logout = (refl, (refl, (redirected_kind client types request, tt)))
+route_kinds client types request Post redirection logout = (redirected_kind client types request, (refl, logout_kinds client types request logout))
+route_kinds client types request Other redirection logout = tt
 
-party_kind : (c : Configuration) (secret : Text) (types : Types) (request : Ask) (o : Option PartyRow)
-    → is_answer (asked_at secret types request (option_and_then (λ (party : PartyRow). endpoint_asked party.redirect_url.path (logout_path c party) request) o)) ≡ false
-party_kind c secret types request None = refl
-party_kind c secret types request (Some party) =
+party_kind : (c : Configuration) (client : Client) (types : Types) (request : Ask) (o : Option PartyRow)
+    → is_answer (asked_at client types request (option_and_then (λ (party : PartyRow). endpoint_asked party.redirect_url.path (logout_path c party) request) o)) ≡ false
+party_kind c client types request None = refl
+party_kind c client types request (Some party) =
     let redirection : Text = party.redirect_url.path in
     let logout : Option Text = logout_path c party in
-    found_kind secret types request (routes_of request.method redirection logout) request.path (route_kinds secret types request request.method redirection logout)
+    found_kind client types request (routes_of request.method redirection logout) request.path (route_kinds client types request request.method redirection logout)
 
 request_kind : (c : Configuration) (n : ℕ) (request : Ask) → is_answer (prepared c n request) ≡ false
 unfolding prepared
-request_kind c n request = party_kind c (party_secret c n) (party_row c n).types request (party_at c n)
+request_kind c n request = party_kind c (party_client c n) (party_row c n).types request (party_at c n)
 
 -- ---- answers are of their own kind, and have the word under which they come
 
-read_kind : (secret : Text) (w : Word) (r : Result ComeTokens TokensNo) → (came : Result ComeTokens TokensNo) × (id : Option (Result IdClaims IdNo)) × (tokens_asked secret w r ≡ ask.Tokens w came id)
-read_kind secret w (Ok came) = (_, _, refl)
-read_kind secret w (Err why) = (_, _, refl)
+read_kind : (client : Client) (w : Word) (r : Result ComeTokens TokensNo) → (came : Result ComeTokens TokensNo) × (id : Option (Result IdClaims IdNo)) × (tokens_asked client w r ≡ ask.Tokens w came id)
+read_kind client w (Ok came) = (_, _, refl)
+read_kind client w (Err why) = (_, _, refl)
 
 tokens_kind : (c : Configuration) (n : ℕ) (w : Word) (answer : Answered) → (came : Result ComeTokens TokensNo) × (id : Option (Result IdClaims IdNo)) × (tokens_prepared c n w answer ≡ ask.Tokens w came id)
 unfolding tokens_prepared
-tokens_kind c n w answer = read_kind (party_secret c n) w (tokens_read answer)
+tokens_kind c n w answer = read_kind (party_client c n) w (tokens_read answer)
 
 info_kind : (w : Word) (answer : Answered) → (came : Result Text InfoNo) × (info_prepared w answer ≡ ask.Info w came)
 unfolding info_prepared

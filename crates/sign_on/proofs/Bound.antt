@@ -11,7 +11,8 @@ use Rattle.sso_model.specs.Lists.{Has}
 use Rattle.sso_model.proofs.ListLaws.{all_has, has_append_left, has_append_right}
 use Rattle.oidc_words.specs.Lives.{code_life, access_life}
 use Rattle.client_registry.specs.Configuration.{Configuration}
-use Rattle.client_registry.specs.Numbers.{client_secret, party_secret}
+use Rattle.client_registry.specs.declared.records.Client.{Client}
+use Rattle.client_registry.specs.Numbers.{party_client}
 use Rattle.code_grant.specs.declared.rows.CodeRow.{CodeRow}
 use Rattle.code_grant.specs.declared.rows.TokenRow.{TokenRow}
 use Rattle.code_grant.specs.Rows.{code_name, code_begun, access_name, access_begun}
@@ -19,7 +20,6 @@ use Rattle.id_token.specs.declared.claims.IdClaims.{IdClaims}
 use Rattle.id_token.specs.declared.no.IdNo.{IdNo}
 use Rattle.id_token.specs.declared.rules.IdRules.{IdRules}
 use Rattle.id_token.specs.HalfHash.{half_hash_of}
-use Rattle.id_token.specs.Reading.{id_read}
 use Rattle.id_token.specs.Judging.{IsGoodIdToken, Meets}
 use Rattle.id_token.proofs.Good.{passes_good}
 use Rattle.auth_answer.specs.declared.heard.Heard.{Heard}
@@ -39,6 +39,8 @@ use Rattle.op_answer.proofs.InfoResponses.{infos_have_a_cause}
 use Rattle.op_answer.proofs.Drawn.{codes_are_drawn, accesses_are_drawn}
 use Rattle.rp_exchange.specs.declared.ask.RpAsk.{RpAsk}
 use Rattle.rp_exchange.specs.declared.ask.RpAsk.TheVariants as ask
+use Rattle.client_keys.specs.Opening.{opening}
+use Rattle.rp_request.specs.Opened.{id_read_for}
 use Rattle.rp_request.specs.Requests.{IsOpened}
 use Rattle.rp_request.proofs.Callbacks.{callback_opened}
 use Rattle.rp_request.proofs.TokenAnswers.{tokens_opened}
@@ -62,8 +64,7 @@ use Rattle.sign_on.proofs.Lists.{row_of-has, lives_some}
 use Rattle.sign_on.proofs.Invariant.{IsIdOf, HasReplied, IsTokenBound, IsKept}
 use Rattle.sso_places.proofs.Places.{party_legal, legal_before, legal_from, distinct_before, distinct_from, unleaked_from}
 use Rattle.sign_on.proofs.Shared.{was_written}
-use Rattle.sign_on.proofs.Registry.{secret_is}
-use Rattle.sign_on.proofs.Texts.{read_is_sealed}
+use Rattle.sign_on.proofs.Keys.{id_sealed_for}
 use Rattle.sign_on.proofs.AskKinds.{IsRequest, as_request, IsTokens, as_tokens}
 use Rattle.sign_on.proofs.OpSessions.{IsOpPlace, op_pair_place}
 use Rattle.sign_on.proofs.Pairs.{joined_before, joined_from}
@@ -220,13 +221,13 @@ stands s world later earlier y site legal distinct unleaked unforged joined part
     record { legal = legal_y; clean = unforged_y.1; kept = agrees s earlier site (legal_before s y earlier legal_y) (distinct_before y earlier distinct_y) unleaked_y.0 unforged_y.0 (joined_before y earlier joined_y) }
 
 -- that ID Token was in a reply
-was_replied : (s : Site) (n : ℕ) (y : Place) (earlier : World) (id : Text) (claims : IdClaims) (nonce : Text) → Stands s y earlier → Has (checked s y) (client_of_party s n, id)
-    → id_read (client_secret s.configuration (client_of_party s n)) id ≡ Ok claims → claims.nonce ≡ Some nonce → HasReplied earlier id claims
-was_replied s n y earlier id claims given st checks read is =
+was_replied : (s : Site) (n : ℕ) (y : Place) (earlier : World) (id : Text) (claims : IdClaims) (nonce : Text) → IsSite s → n < length s.configuration.parties → Stands s y earlier → Has (checked s y) (client_of_party s n, id)
+    → id_read_for (party_client s.configuration n) id ≡ Ok claims → claims.nonce ≡ Some nonce → HasReplied earlier id claims
+was_replied s n y earlier id claims given site mine st checks read is =
     let c : Configuration = s.configuration in
     let t : TokenText = (client_of_party s n, id) in
-    let wrote : Has (written s earlier) t = was_written s earlier y t st.clean checks (read_is_sealed (client_secret c (client_of_party s n)) id claims read) in
-    all_has (IsTokenBound c earlier) (written s earlier) t st.kept.holds.bound wrote claims given read is
+    let wrote : Has (written s earlier) t = was_written s earlier y t st.clean checks (id_sealed_for c n id claims site.registry mine read) in
+    all_has (IsTokenBound c earlier) (written s earlier) t st.kept.holds.bound wrote (opening (party_client c n) id) claims given read is
 
 callback_checks : (s : Site) (n from : ℕ) (request : WorldAsk) (p : RpPair) (heard : Heard) (read : Option (Result IdClaims IdNo)) (browser : Option Word) (id : Text) → p.entry.ask ≡ ask.Callback (Ok heard) read browser → heard.id ≡ Some id
     → Has (checked s (Party n from request p)) (client_of_party s n, id)
@@ -236,15 +237,14 @@ callback_checks s n from request p heard read browser id callback id_is =
     let A : RpAsk → Type 0 = λ a. Has {A = TokenText} (rp_checked client request a) (client, id) in
     subst A (sym callback) (subst T (sym id_is) (inl refl))
 
-callback_reads : (s : Site) (n : ℕ) (request : WorldAsk) (asked : RpAsk) (heard : Heard) (read : Option (Result IdClaims IdNo)) (browser : Option Word) (id : Text) (claims : IdClaims) → n < length s.configuration.parties
-    → asked ≡ ask.Callback (Ok heard) read browser → asked ≡ party_prepared s.configuration n request → heard.id ≡ Some id → read ≡ Some (Ok claims) → id_read (client_secret s.configuration (client_of_party s n)) id ≡ Ok claims
-callback_reads s n request asked heard read browser id claims mine callback prepared id_is is =
+callback_reads : (s : Site) (n : ℕ) (request : WorldAsk) (asked : RpAsk) (heard : Heard) (read : Option (Result IdClaims IdNo)) (browser : Option Word) (id : Text) (claims : IdClaims)
+    → asked ≡ ask.Callback (Ok heard) read browser → asked ≡ party_prepared s.configuration n request → heard.id ≡ Some id → read ≡ Some (Ok claims) → id_read_for (party_client s.configuration n) id ≡ Ok claims
+callback_reads s n request asked heard read browser id claims callback prepared id_is is =
     let c : Configuration = s.configuration in
     let came : IsRequest c n request (ask.Callback (Ok heard) read browser) = as_request c n request (ask.Callback (Ok heard) read browser) (sym callback ∙ prepared) refl in
-    let text : ReadOf (party_secret c n) heard.id claims = read_of (party_secret c n) heard.id read claims (callback_opened c n came.request heard read browser came.asked_is) is in
-    let T : Text → Type 0 = λ t. id_read (party_secret c n) t ≡ Ok claims in
-    let K : Text → Type 0 = λ k. id_read k id ≡ Ok claims in
-    subst K (secret_is c n mine) (subst T (same_Some text.text id (sym text.there ∙ id_is)) text.read)
+    let text : ReadOf (party_client c n) heard.id claims = read_of (party_client c n) heard.id read claims (callback_opened c n came.request heard read browser came.asked_is) is in
+    let T : Text → Type 0 = λ t. id_read_for (party_client c n) t ≡ Ok claims in
+    subst T (same_Some text.text id (sym text.there ∙ id_is)) text.read
 
 tokens_checks : (s : Site) (n from : ℕ) (request : WorldAsk) (p : RpPair) (pending : Word) (came : ComeTokens) (read : Option (Result IdClaims IdNo)) → p.entry.ask ≡ ask.Tokens pending (Ok came) read
     → Has (checked s (Party n from request p)) (client_of_party s n, came.id)
@@ -253,15 +253,14 @@ tokens_checks s n from request p pending came read tokens =
     let A : RpAsk → Type 0 = λ a. Has {A = TokenText} (rp_checked client request a) (client, came.id) in
     subst A (sym tokens) (inl refl)
 
-tokens_reads : (s : Site) (n : ℕ) (request : WorldAsk) (asked : RpAsk) (pending : Word) (came : ComeTokens) (read : Option (Result IdClaims IdNo)) (claims : IdClaims) → n < length s.configuration.parties
-    → asked ≡ ask.Tokens pending (Ok came) read → asked ≡ party_prepared s.configuration n request → read ≡ Some (Ok claims) → id_read (client_secret s.configuration (client_of_party s n)) came.id ≡ Ok claims
-tokens_reads s n request asked pending came read claims mine tokens prepared is =
+tokens_reads : (s : Site) (n : ℕ) (request : WorldAsk) (asked : RpAsk) (pending : Word) (came : ComeTokens) (read : Option (Result IdClaims IdNo)) (claims : IdClaims)
+    → asked ≡ ask.Tokens pending (Ok came) read → asked ≡ party_prepared s.configuration n request → read ≡ Some (Ok claims) → id_read_for (party_client s.configuration n) came.id ≡ Ok claims
+tokens_reads s n request asked pending came read claims tokens prepared is =
     let c : Configuration = s.configuration in
     let answer : IsTokens c n request (ask.Tokens pending (Ok came) read) pending = as_tokens c n request pending (Ok came) read (sym tokens ∙ prepared) in
-    let text : ReadOf (party_secret c n) (Some came.id) claims = read_of (party_secret c n) (Some came.id) read claims (tokens_opened c n pending answer.answer pending came read answer.asked_is) is in
-    let T : Text → Type 0 = λ t. id_read (party_secret c n) t ≡ Ok claims in
-    let K : Text → Type 0 = λ k. id_read k came.id ≡ Ok claims in
-    subst K (secret_is c n mine) (subst T (sym (same_Some came.id text.text text.there)) text.read)
+    let text : ReadOf (party_client c n) (Some came.id) claims = read_of (party_client c n) (Some came.id) read claims (tokens_opened c n pending answer.answer pending came read answer.asked_is) is in
+    let T : Text → Type 0 = λ t. id_read_for (party_client c n) t ≡ Ok claims in
+    subst T (sym (same_Some came.id text.text text.there)) text.read
 
 -- ---- codes
 
@@ -271,13 +270,13 @@ record IsJudged (rules : IdRules) (at : ℕ) (read : Option (Result IdClaims IdN
   is : read ≡ Some (Ok claims)
   good : IsGoodIdToken rules claims at
 
-judged_by : (secret : Text) (rules : IdRules) (at : ℕ) (wanted : Bool) (o : Option Text) (id : Text) (read : Option (Result IdClaims IdNo)) → IsOpened secret o read → o ≡ Some id → wanted ≡ true → IfGood rules at (if_wanted wanted read) → IsJudged rules at read
-judged_by secret rules at wanted None id read opened is wants good = absurd (cc)
-judged_by secret rules at wanted (Some text) id None opened is wants good = absurd opened
-judged_by secret rules at wanted (Some text) id (Some (Err why)) opened is wants good =
+judged_by : (client : Client) (rules : IdRules) (at : ℕ) (wanted : Bool) (o : Option Text) (id : Text) (read : Option (Result IdClaims IdNo)) → IsOpened client o read → o ≡ Some id → wanted ≡ true → IfGood rules at (if_wanted wanted read) → IsJudged rules at read
+judged_by client rules at wanted None id read opened is wants good = absurd (cc)
+judged_by client rules at wanted (Some text) id None opened is wants good = absurd opened
+judged_by client rules at wanted (Some text) id (Some (Err why)) opened is wants good =
     let G : Bool → Type 0 = λ b. IfGood rules at (if_wanted b (Some (Err why))) in
     absurd (subst G wants good)
-judged_by secret rules at wanted (Some text) id (Some (Ok claims)) opened is wants good =
+judged_by client rules at wanted (Some text) id (Some (Ok claims)) opened is wants good =
     let G : Bool → Type 0 = λ b. IfGood rules at (if_wanted b (Some (Ok claims))) in
     let found : G true = subst G wants good in
     record { claims = claims; is = refl; good = passes_good rules claims at found.judged }
@@ -297,11 +296,11 @@ module _ (s : Site) (world : World) (site : IsSite s) (legal : IsLegalWorld s wo
       let came : IsRequest c n request (ask.Callback (Ok x.heard) x.read x.browser) = as_request c n request (ask.Callback (Ok x.heard) x.read x.browser) (sym x.asked ∙ st.legal.asked.0.1) refl in
       let rules : IdRules = front_rules setup cause.login x.heard in
       let judged : IsJudged rules p.entry.at x.read =
-      judged_by (party_secret c n) rules p.entry.at (types_at s n).id_token x.heard.id id x.read (callback_opened c n came.request x.heard x.read x.browser came.asked_is) x.id_is x.has_id cause.accepted in
+      judged_by (party_client c n) rules p.entry.at (types_at s n).id_token x.heard.id id x.read (callback_opened c n came.request x.heard x.read x.browser came.asked_is) x.id_is x.has_id cause.accepted in
       let claims : IdClaims = judged.claims in
       let replied : HasReplied earlier id claims =
-      was_replied s n y earlier id claims (word_text cause.login.nonce) st (callback_checks s n from request p x.heard x.read x.browser id x.asked x.id_is)
-      (callback_reads s n request p.entry.ask x.heard x.read x.browser id claims mine x.asked st.legal.asked.0.1 x.id_is judged.is) judged.good.nonce in
+      was_replied s n y earlier id claims (word_text cause.login.nonce) site mine st (callback_checks s n from request p x.heard x.read x.browser id x.asked x.id_is)
+      (callback_reads s n request p.entry.ask x.heard x.read x.browser id claims x.asked st.legal.asked.0.1 x.id_is judged.is) judged.good.nonce in
       let W : Bool → Option Text = λ b. if_wanted b x.heard.code in
       let front : front_code setup x.heard ≡ Some code = ap W x.has_code ∙ x.code_is in
       let M : Option Text → Type 0 = λ o. Meets (must_hash o) claims.c_hash in
@@ -344,8 +343,8 @@ module _ (s : Site) (n from : ℕ) (request : WorldAsk) (p : RpPair) (earlier : 
       record {
         claims = x;
         replied =
-            was_replied s n (Party n from request p) earlier id x (word_text cause.login.nonce) st (callback_checks s n from request p heard read browser id is came.0)
-            (callback_reads s n request p.entry.ask heard read browser id x mine is st.legal.asked.0.1 came.0 read_is) good.nonce;
+            was_replied s n (Party n from request p) earlier id x (word_text cause.login.nonce) site mine st (callback_checks s n from request p heard read browser id is came.0)
+            (callback_reads s n request p.entry.ask heard read browser id x is st.legal.asked.0.1 came.0 read_is) good.nonce;
         hash = subst M came.1 good.token;
       }
   beside_by (ask.Tokens pending (Ok tokens) read) is came claims judged some w message cause =
@@ -358,8 +357,8 @@ module _ (s : Site) (n from : ℕ) (request : WorldAsk) (p : RpPair) (earlier : 
       let hash : x.at_hash ≡ Some (half_hash_of tokens.access) = some_hash x.at_hash (half_hash_of tokens.access) (subst S (sym same) some) good.token in
       let R : Text → Type 0 = λ t. HasReplied earlier t x in
       let replied : R tokens.id =
-      was_replied s n (Party n from request p) earlier tokens.id x (word_text cause.exchange.nonce) st (tokens_checks s n from request p pending tokens read is)
-      (tokens_reads s n request p.entry.ask pending tokens read x mine is st.legal.asked.0.1 cause.accepted.read) good.nonce in
+      was_replied s n (Party n from request p) earlier tokens.id x (word_text cause.exchange.nonce) site mine st (tokens_checks s n from request p pending tokens read is)
+      (tokens_reads s n request p.entry.ask pending tokens read x is st.legal.asked.0.1 cause.accepted.read) good.nonce in
       record { claims = x; replied = subst R came.0 replied; hash = hash ∙ ap (λ (t : Text). Some (half_hash_of t)) came.1 }
   beside_by asked is came claims judged some w message cause = absurd came
 

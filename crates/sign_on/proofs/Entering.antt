@@ -1,29 +1,28 @@
 -- A place that lets a login in: its step may be taken, and the invariant still holds.
-use Rattle.std.proofs.Common.{◌≡◌, ◌≢◌, ℕ, suc, ◌<◌, ◌≤◌, not, Bool, true, false, List, [], ◌∷◌, ◌++◌, length, filter, Option, Some, None, option_and_then, option_map, Result, Ok, Err, refl, sym, ap, ◌∙◌, subst, inl, inr, arith}
+use Rattle.std.proofs.Common.{◌≡◌, ◌≢◌, ℕ, suc, ◌<◌, ◌≤◌, not, Bool, true, false, List, [], ◌∷◌, ◌++◌, length, filter, Option, Some, None, option_and_then, option_map, Result, Ok, Err, refl, sym, ap, ◌∙◌, subst, inl, inr, arith, ◌+◌, ◌==◌, ◌&&◌, nat_le, nat_lt, cond, eq-eqb}
 use Rattle.std.proofs.lemmas.Option.{same_Some}
 use Rattle.std.proofs.lemmas.List.{append_assoc}
 use Rattle.std.specs.List.{AllByRecursion}
 use Rattle.std.specs.Str.{bytes_eq}
 use Rattle.sso_base.specs.Words.{Word, Text, IsWord, is_word, fresh_word, word_text}
 use Rattle.sso_base.specs.Texts.{is_other}
-use Rattle.sso_base.specs.Rows.{row_of, lives}
+use Rattle.sso_base.specs.Rows.{row_of, lives, if_lives}
 use Rattle.sso_base.specs.Legal.{last_moment}
 use Rattle.sso_base.proofs.RowLaws.{bool_cases, option_cases, bytes_same, bytes_true, row_has_name}
 use Rattle.sso_model.specs.Lists.{Has, Lacks}
-use Rattle.sso_model.specs.Rows.{Began, Answered, Entered, Live, Machine, Step, enter}
-use Rattle.sso_model.specs.Machine.{IsRun, IsAnsweredFor, after_all}
+use Rattle.sso_model.specs.Rows.{Began, Answered, Entered, Live, Machine, Step, enter, Dead}
+use Rattle.sso_model.specs.Machine.{IsRun, IsAnsweredFor, after_all, dead_row}
 use Rattle.sso_model.proofs.ListLaws.{all_weaker, all_has, all_filter, all_append, has_append_right}
 use Rattle.sso_model.proofs.RunLaws.{apart_filter, apart_push}
 use Rattle.oidc_words.specs.Lives.{visit_life}
 use Rattle.oidc_words.specs.declared.response_types.Types.{Types}
 use Rattle.client_registry.specs.Configuration.{Configuration}
-use Rattle.client_registry.specs.Numbers.{client_secret, party_secret}
+use Rattle.client_registry.specs.declared.records.Client.{Client}
+use Rattle.client_registry.specs.Numbers.{party_client}
 use Rattle.id_token.specs.declared.claims.IdClaims.{IdClaims}
 use Rattle.id_token.specs.declared.no.IdNo.{IdNo}
-use Rattle.id_token.specs.Reading.{id_read}
 use Rattle.id_token.specs.Judging.{IsGoodIdToken}
 use Rattle.id_token.proofs.Good.{passes_good}
-use Rattle.id_token.proofs.Tokens.{token-id_read}
 use Rattle.auth_answer.specs.declared.heard.Heard.{Heard}
 use Rattle.token_endpoint.specs.declared.reading.Tokens.{Tokens as ComeTokens}
 use Rattle.login_request.proofs.PartyRows.{client_is_known}
@@ -31,18 +30,21 @@ use Rattle.rp_login.specs.declared.rows.LoginRow.{LoginRow}
 use Rattle.rp_login.specs.declared.rows.PendingRow.{PendingRow}
 use Rattle.rp_login.specs.declared.rows.SessionRow.{SessionRow}
 use Rattle.rp_login.specs.declared.rows.Stage.TheVariants as stage
-use Rattle.rp_login.specs.Rows.{visit_name}
+use Rattle.rp_login.specs.Rows.{visit_name, dead_name, dead_begun}
 use Rattle.rp_exchange.specs.declared.ask.RpAsk.{RpAsk}
 use Rattle.rp_exchange.specs.declared.ask.RpAsk.TheVariants as ask
 use Rattle.rp_exchange.specs.declared.reply.RpReply.{RpReply}
 use Rattle.rp_exchange.specs.declared.reply.RpReply.TheVariants as rp
+use Rattle.client_keys.specs.Opening.{opening}
+use Rattle.rp_request.specs.Opened.{id_read_for}
 use Rattle.rp_request.specs.Requests.{HasCookies, IsOpened}
+use Rattle.rp_request.proofs.Opened.{token-id_read_for}
 use Rattle.rp_request.proofs.Routing.{has_cookies}
 use Rattle.rp_request.proofs.Callbacks.{callback_opened}
 use Rattle.rp_request.proofs.TokenAnswers.{tokens_opened}
 use Rattle.rp_response.specs.Told.{browser_given, session_given}
 use Rattle.rp_answer.specs.Past.{RpPair, RpPast}
-use Rattle.rp_answer.specs.Asked.{if_wanted, claims_read, claims_judged}
+use Rattle.rp_answer.specs.Asked.{if_wanted, claims_read, claims_judged, sid_in}
 use Rattle.rp_answer.specs.Logins.{login_of, live_login}
 use Rattle.rp_answer.specs.Pendings.{pendings, pending_of}
 use Rattle.rp_answer.specs.Visits.{visits, visit_by, visit_of, visit_of_pending, visit_after, nonce_by, live_visits}
@@ -54,29 +56,35 @@ use Rattle.rp_answer.proofs.Sessions.{visits_are_drawn}
 use Rattle.rp_answer.proofs.Sending.{login_found, pending_found, pending_waits, stage_same, named_row}
 use Rattle.rp_answer.proofs.Exchanges.{fetches_are_sent}
 use Rattle.rp_answer.proofs.LoginsOnce.{logins_enter_once}
+use Rattle.sso_model.proofs.NamedEnds.{filter_passes}
+use Rattle.sso_model.proofs.ForgetRuns.{deads_filter}
+use Rattle.rp_login.specs.declared.rows.DeadRow.{DeadRow}
+use Rattle.rp_answer.specs.Deads.{deads, live_dead}
+use Rattle.rp_answer.specs.Alive.{sid_waiting, sid_judged, dead_for}
+use Rattle.std.proofs.lemmas.Grind.{common_steps}
 use Rattle.sso_places.specs.declared.types.WorldAsk.{WorldAsk}
 use Rattle.sso_places.specs.Each.{Each}
 use Rattle.sso_places.specs.Site.{Site, IsSite, setup_at, client_of_party, types_at}
 use Rattle.sso_places.specs.World.{Place, Party, World, from_of, rp_past, fresh_of}
 use Rattle.sso_places.specs.Legal.{IsLegalWorld, party_prepared}
 use Rattle.sso_places.specs.Cookies.{words_in, set_at, presented}
-use Rattle.sso_places.specs.Tokens.{TokenText, token_if}
+use Rattle.sso_places.specs.Tokens.{TokenText, token_if, is_sealed_for}
 use Rattle.sso_places.specs.Written.{written_at, written}
 use Rattle.sso_places.specs.Checked.{rp_checked, checked}
 use Rattle.sso_places.specs.Premises.{HasDistinctWords, IsUnleaked, IsUnforged, leaks, forges, asks_under, holds, holder, IsJoinedAt, IsJoined}
-use Rattle.sso_places.specs.Reading.{machine_of, party_steps, enter_of, enter_as, user_of_subject, is_over}
+use Rattle.sso_places.specs.Reading.{machine_of, party_steps, enter_of, enter_as, user_of_subject, is_over, is_forgotten, is_after}
 use Rattle.sso_places.specs.Agreement.{IsSameSession, rows_of}
 use Rattle.sso_places.proofs.Numbers.{place_at_last}
 use Rattle.sign_on.proofs.Lists.{each_push, all_back}
-use Rattle.sign_on.proofs.Invariant.{AnsweredAs, IsTokenAnswered, IsBegunAt, IsEnteredRow, IsBegun, IsBegunPlace, Agrees, Holds, IsKept}
+use Rattle.sign_on.proofs.Invariant.{AnsweredAs, IsTokenAnswered, IsBegunAt, IsEnteredRow, IsBegun, IsBegunPlace, Agrees, Holds, IsKept, IsDeadRow}
 use Rattle.sso_places.proofs.Places.{IsWhole, whole_places, past_own, party_legal, legal_before, legal_from, unleaked_from, distinct_before, has_words, drawn_other, place_drawn}
-use Rattle.sign_on.proofs.Shared.{own_browser, was_written, began_more, entered_more, begun_at_more, events_more, ended_more}
-use Rattle.sign_on.proofs.Registry.{secret_is, subject_finds, parties_apart}
-use Rattle.sign_on.proofs.Texts.{read_is_sealed}
+use Rattle.sign_on.proofs.Shared.{own_browser, was_written, began_more, entered_more, begun_at_more, events_more, ended_more, dead_more}
+use Rattle.sign_on.proofs.Registry.{subject_finds, parties_apart}
+use Rattle.sign_on.proofs.Keys.{id_sealed_for}
 use Rattle.sign_on.proofs.AskKinds.{IsRequest, as_request, IsTokens, as_tokens, IsInfo, as_info}
 use Rattle.sign_on.proofs.LiveRows.{settled, own_pushed, other_pushed, visits_pushed, live_pushed}
 use Rattle.sign_on.proofs.Pairs.{IsPlaceOf, pair_place, place_has, one_begun, entered_word, IsSender, sends, sender_has, sender_holds, joins}
-use Rattle.sign_on.proofs.RpPlaces.{lapsed, Does, agrees_by, others_agree, own_settled_agree}
+use Rattle.sign_on.proofs.RpPlaces.{lapsed, Does, agrees_by, others_agree, own_settled_agree, unforgotten}
 
 -- ---- the login of a response
 
@@ -169,23 +177,24 @@ begins_as s n b from began past v nonce k j browsers nonces numbers begins =
 record HasToken (s : Site) (n from : ℕ) (request : WorldAsk) (p : RpPair) (claims : IdClaims) : Type 0 where
   text : Text
   checks : Has (checked s (Party n from request p)) (client_of_party s n, text)
-  read : id_read (client_secret s.configuration (client_of_party s n)) text ≡ Ok claims
+  read : id_read_for (party_client s.configuration n) text ≡ Ok claims
+  seals : is_sealed_for s.configuration (client_of_party s n, text) ≡ true
 
 -- the text of an ID Token that was read
-pub record ReadOf (secret : Text) (o : Option Text) (claims : IdClaims) : Type 0 where
+pub record ReadOf (client : Client) (o : Option Text) (claims : IdClaims) : Type 0 where
   pub text : Text
   pub there : o ≡ Some text
-  pub read : id_read secret text ≡ Ok claims
+  pub read : id_read_for client text ≡ Ok claims
 
-pub read_of : (secret : Text) (o : Option Text) (id : Option (Result IdClaims IdNo)) (claims : IdClaims) → IsOpened secret o id → id ≡ Some (Ok claims) → ReadOf secret o claims
-read_of secret None None claims opened is = absurd (cc)
-read_of secret None (Some id) claims opened is = absurd opened
-read_of secret (Some text) None claims opened is = absurd (cc)
-read_of secret (Some text) (Some (Ok x)) claims opened is =
+pub read_of : (client : Client) (o : Option Text) (id : Option (Result IdClaims IdNo)) (claims : IdClaims) → IsOpened client o id → id ≡ Some (Ok claims) → ReadOf client o claims
+read_of client None None claims opened is = absurd (cc)
+read_of client None (Some id) claims opened is = absurd opened
+read_of client (Some text) None claims opened is = absurd (cc)
+read_of client (Some text) (Some (Ok x)) claims opened is =
     let same : x ≡ claims = cc in
-    let R : IdClaims → Type 0 = λ y. id_read secret text ≡ Ok y in
-    record { text = text; there = refl; read = subst R same (token-id_read secret text x opened) }
-read_of secret (Some text) (Some (Err why)) claims opened is = absurd (cc)
+    let R : IdClaims → Type 0 = λ y. id_read_for client text ≡ Ok y in
+    record { text = text; there = refl; read = subst R same (token-id_read_for client text x opened) }
+read_of client (Some text) (Some (Err why)) claims opened is = absurd (cc)
 
 -- an ID Token counts if the response type has one
 claims_of : (id : Option (Result IdClaims IdNo)) (claims : IdClaims) → claims_read id ≡ Some claims → id ≡ Some (Ok claims)
@@ -213,32 +222,30 @@ not_other before sub h =
       | inr other ↦ (let never : true ≡ false = sym (ap not other) ∙ h in absurd (cc))
     ]
 
-callback_token : (s : Site) (n from : ℕ) (request : WorldAsk) (p : RpPair) (heard : Heard) (id : Option (Result IdClaims IdNo)) (browser : Option Word) (claims : IdClaims) → n < length s.configuration.parties
+callback_token : (s : Site) (n from : ℕ) (request : WorldAsk) (p : RpPair) (heard : Heard) (id : Option (Result IdClaims IdNo)) (browser : Option Word) (claims : IdClaims) → IsSite s → n < length s.configuration.parties
     → p.entry.ask ≡ ask.Callback (Ok heard) id browser → p.entry.ask ≡ party_prepared s.configuration n request → id ≡ Some (Ok claims) → HasToken s n from request p claims
-callback_token s n from request p heard id browser claims known callback asked is =
+callback_token s n from request p heard id browser claims site known callback asked is =
     let c : Configuration = s.configuration in
     let client : ℕ = client_of_party s n in
     let came : IsRequest c n request (ask.Callback (Ok heard) id browser) = as_request c n request (ask.Callback (Ok heard) id browser) (sym callback ∙ asked) refl in
-    let opened : IsOpened (party_secret c n) heard.id id = callback_opened c n came.request heard id browser came.asked_is in
-    let text : ReadOf (party_secret c n) heard.id claims = read_of (party_secret c n) heard.id id claims opened is in
-    let K : Text → Type 0 = λ k. id_read k text.text ≡ Ok claims in
+    let opened : IsOpened (party_client c n) heard.id id = callback_opened c n came.request heard id browser came.asked_is in
+    let text : ReadOf (party_client c n) heard.id claims = read_of (party_client c n) heard.id id claims opened is in
     let T : Option Text → Type 0 = λ o. Has {A = TokenText} (token_if (Some client) o) (client, text.text) in
     let A : RpAsk → Type 0 = λ a. Has {A = TokenText} (rp_checked client request a) (client, text.text) in
-    record { text = text.text; checks = subst A (sym callback) (subst T (sym text.there) (inl refl)); read = subst K (secret_is c n known) text.read }
+    record { text = text.text; checks = subst A (sym callback) (subst T (sym text.there) (inl refl)); read = text.read; seals = id_sealed_for c n text.text claims site.registry known text.read }
 
-tokens_token : (s : Site) (n from : ℕ) (request : WorldAsk) (p : RpPair) (pending : Word) (came : ComeTokens) (id : Option (Result IdClaims IdNo)) (claims : IdClaims) → n < length s.configuration.parties
+tokens_token : (s : Site) (n from : ℕ) (request : WorldAsk) (p : RpPair) (pending : Word) (came : ComeTokens) (id : Option (Result IdClaims IdNo)) (claims : IdClaims) → IsSite s → n < length s.configuration.parties
     → p.entry.ask ≡ ask.Tokens pending (Ok came) id → p.entry.ask ≡ party_prepared s.configuration n request → id ≡ Some (Ok claims) → HasToken s n from request p claims
-tokens_token s n from request p pending came id claims known tokens asked is =
+tokens_token s n from request p pending came id claims site known tokens asked is =
     let c : Configuration = s.configuration in
     let client : ℕ = client_of_party s n in
     let answer : IsTokens c n request (ask.Tokens pending (Ok came) id) pending = as_tokens c n request pending (Ok came) id (sym tokens ∙ asked) in
-    let opened : IsOpened (party_secret c n) (Some came.id) id = tokens_opened c n pending answer.answer pending came id answer.asked_is in
-    let text : ReadOf (party_secret c n) (Some came.id) claims = read_of (party_secret c n) (Some came.id) id claims opened is in
+    let opened : IsOpened (party_client c n) (Some came.id) id = tokens_opened c n pending answer.answer pending came id answer.asked_is in
+    let text : ReadOf (party_client c n) (Some came.id) claims = read_of (party_client c n) (Some came.id) id claims opened is in
     let texts : came.id ≡ text.text = same_Some came.id text.text text.there in
-    let K : Text → Type 0 = λ k. id_read k text.text ≡ Ok claims in
     let T : Text → Type 0 = λ t. Has {A = TokenText} ((client, came.id) ∷ []) (client, t) in
     let A : RpAsk → Type 0 = λ a. Has {A = TokenText} (rp_checked client request a) (client, text.text) in
-    record { text = text.text; checks = subst A (sym tokens) (subst T texts (inl refl)); read = subst K (secret_is c n known) text.read }
+    record { text = text.text; checks = subst A (sym tokens) (subst T texts (inl refl)); read = text.read; seals = id_sealed_for c n text.text claims site.registry known text.read }
 
 -- ---- the tie: an ID Token that a place verified was written, so its nonce was answered
 
@@ -255,8 +262,8 @@ tied : (s : Site) (n from : ℕ) (request : WorldAsk) (p : RpPair) (before : Wor
 tied s n from request p before claims nonce answered clean token is says =
     let c : Configuration = s.configuration in
     let client : ℕ = client_of_party s n in
-    let wrote : Has (written s before) (client, token.text) = was_written s before (Party n from request p) (client, token.text) clean token.checks (read_is_sealed (client_secret c client) token.text claims token.read) in
-    says (client, token.text) wrote claims nonce token.read is
+    let wrote : Has (written s before) (client, token.text) = was_written s before (Party n from request p) (client, token.text) clean token.checks token.seals in
+    says (client, token.text) wrote (opening (party_client c n) token.text) claims nonce token.read is
 
 -- ---- what an entering place shows
 
@@ -273,6 +280,7 @@ record Enters (s : Site) (n from : ℕ) (p : RpPair) (world : World) (w : Word) 
   token : AnsweredAs s.configuration (machine_of s world).answered (client_of_party s n) claims (word_text visit.nonce)
   claims_sub : claims.sub ≡ visit.sub
   claims_sid : claims.sid ≡ visit.sid
+  sid_is : sid_judged (types_at s n) (rp_past n world) p.entry.at p.entry.ask ≡ visit.sid
 
 -- of the last ID Token: that of a response, or of a token response
 visit_is : (types : Types) (at : ℕ) (past : RpPast) (w : Word) (nonce : Option Word) (claims : Option IdClaims) (v : Word) (x : IdClaims) → nonce ≡ Some v → claims ≡ Some x
@@ -316,7 +324,7 @@ module _ (s : Site) (n from at : ℕ) (request : WorldAsk) (fresh : List Word) (
       let wanted : if_wanted types.id_token id ≡ Some (Ok cause.claims) = cause.accepted.read in
       let came : id ≡ Some (Ok cause.claims) = wanted_id types.id_token id cause.claims wanted in
       let good : IsGoodIdToken (front_rules (setup_at s n) login heard) cause.claims at = passes_good (front_rules (setup_at s n) login heard) cause.claims at cause.accepted.judged in
-      let token : HasToken s n from request p cause.claims = callback_token s n from request p heard id browser cause.claims legal.asked.0.0 refl legal.asked.0.1 came in
+      let token : HasToken s n from request p cause.claims = callback_token s n from request p heard id browser cause.claims site legal.asked.0.0 refl legal.asked.0.1 came in
       let nonce : nonce_by types past (ask.Callback (Ok heard) id browser) ≡ Some login.nonce = ap (λ (o : Option LoginRow). option_map (λ (row : LoginRow). row.nonce) o) found in
       let judged : claims_judged types (ask.Callback (Ok heard) id browser) ≡ Some cause.claims = wanted_read types.id_token id cause.claims wanted in
       record {
@@ -332,6 +340,7 @@ module _ (s : Site) (n from at : ℕ) (request : WorldAsk) (fresh : List Word) (
         token = tied s n from request p world cause.claims (word_text login.nonce) m.answered clean token good.nonce says;
         claims_sub = refl;
         claims_sid = refl;
+        sid_is = ap sid_in judged;
       }
 
   -- the exchange that an answer is to: its login was begun by the number under which the answer comes
@@ -367,7 +376,7 @@ module _ (s : Site) (n from at : ℕ) (request : WorldAsk) (fresh : List Word) (
       let J : WorldAsk → Type 0 = λ r. IsJoinedAt world from r in
       let held : (y : Place) → holder pending world ≡ Some y → from_of y ≡ from = subst J answer.came_is here_joined in
       let good : IsGoodIdToken (back_rules (setup_at s n) exchange came) cause.claims at = passes_good (back_rules (setup_at s n) exchange came) cause.claims at cause.accepted.judged in
-      let token : HasToken s n from request p cause.claims = tokens_token s n from request p pending came id cause.claims legal.asked.0.0 refl legal.asked.0.1 cause.accepted.read in
+      let token : HasToken s n from request p cause.claims = tokens_token s n from request p pending came id cause.claims site legal.asked.0.0 refl legal.asked.0.1 cause.accepted.read in
       let nonce : nonce_by types past asked ≡ Some exchange.nonce = ap (λ (o : Option PendingRow). option_map (λ (row : PendingRow). row.nonce) o) found in
       let judged : claims_judged types asked ≡ Some cause.claims = ap claims_read cause.accepted.read in
       record {
@@ -383,6 +392,7 @@ module _ (s : Site) (n from at : ℕ) (request : WorldAsk) (fresh : List Word) (
         token = tied s n from request p world cause.claims (word_text exchange.nonce) m.answered clean token good.nonce says;
         claims_sub = refl;
         claims_sid = refl;
+        sid_is = ap sid_in judged;
       }
 
   -- a UserInfo response completes a login: the ID Token was verified at the place of the UserInfo request
@@ -400,10 +410,10 @@ module _ (s : Site) (n from at : ℕ) (request : WorldAsk) (fresh : List Word) (
       elim by.word_is [
         | inl once ↦
             (let C : RpAsk → Type 0 = λ a. claims_judged types a ≡ Some by.claims in
-            callback_token s n there.from there.request by.maker once.heard once.id once.browser by.claims legal_y.asked.0.0 once.asked legal_y.asked.0.1 (wanted_claims types.id_token once.id by.claims (subst C once.asked by.token.came)))
+            callback_token s n there.from there.request by.maker once.heard once.id once.browser by.claims site legal_y.asked.0.0 once.asked legal_y.asked.0.1 (wanted_claims types.id_token once.id by.claims (subst C once.asked by.token.came)))
         | inr after ↦
             (let C : RpAsk → Type 0 = λ a. claims_judged types a ≡ Some by.claims in
-            tokens_token s n there.from there.request by.maker row.word after.came after.id by.claims legal_y.asked.0.0 after.asked legal_y.asked.0.1 (claims_of after.id by.claims (subst C after.asked by.token.came)))
+            tokens_token s n there.from there.request by.maker row.word after.came after.id by.claims site legal_y.asked.0.0 after.asked legal_y.asked.0.1 (claims_of after.id by.claims (subst C after.asked by.token.came)))
       ] in
       let W : World → Type 0 = λ z. (t : TokenText) → Has (written s there.before) t → Has (written s z) t in
       let wrote : W world = subst W (sym there.parts) (λ t has. written_from s there.after (y ∷ there.before) t (has_append_right (written_at s there.before y) (written s there.before) t has)) in
@@ -474,6 +484,7 @@ module _ (s : Site) (n from at : ℕ) (request : WorldAsk) (fresh : List Word) (
         token = asked_for row before unforged by;
         claims_sub = refl;
         claims_sid = sym by.sid_is;
+        sid_is = ap sid_waiting cause.live;
       }
 
 -- ---- the step of an entering place
@@ -519,12 +530,39 @@ others_before n live low =
     all_weaker (λ (row : Live). row.event ≤ n) (λ (row : Live). row.event ≢ suc n) live
     (λ row below same. let least : row.event ≤ n = below in let is : row.event ≡ suc n = same in absurd (omega arith)) low
 
+not_late_lives : (a b : ℕ) → not (nat_le a b) ≡ true → nat_lt b a ≡ true
+not_late_lives a b h = grind (arith, common_steps)
+
+-- no session identifier is dead that the party does not remember
+not_dead : (s : Site) (n at : ℕ) (world : World) (row : Live) (types : Types) (asked : RpAsk) → IsSite s → n < length s.configuration.parties → IsKept s world → row.client ≡ client_of_party s n
+    → sid_judged types (rp_past n world) at asked ≡ Some row.sid → dead_for types (rp_past n world) at asked ≡ None → Lacks (unforgotten (rp_past n world) (client_of_party s n) at (machine_of s world).dead) (dead_row row)
+not_dead s n at world row types asked site mine kept client sid alive has =
+    let m : Machine = machine_of s world in
+    let past : RpPast = rp_past n world in
+    let test : Dead → Bool = λ other. not (is_forgotten past (client_of_party s n) at other) in
+    let was : IsDeadRow s world (dead_row row) =
+    all_has (IsDeadRow s world) (unforgotten past (client_of_party s n) at m.dead) (dead_row row) (all_filter (IsDeadRow s world) test m.dead kept.holds.dead) has in
+    let same : was.n ≡ n = parties_apart s.configuration was.n n site.registry was.known mine (sym was.client ∙ client) in
+    let R : ℕ → Type 0 = λ k. row_of dead_name row.sid (deads (rp_past k world)) ≡ Some was.dead in
+    let found : row_of dead_name row.sid (deads past) ≡ Some was.dead = subst R same was.remembered in
+    let passes : test (dead_row row) ≡ true = filter_passes test m.dead (dead_row row) has in
+    let A : Option DeadRow → Bool = λ o. not ((row.client == client_of_party s n) && is_after 661 at (option_map dead_begun o)) in
+    let B : Bool → Bool = λ b. not (b && nat_le (was.dead.accepted + 661) at) in
+    let young : not (nat_le (was.dead.accepted + 661) at) ≡ true = sym (ap B (eq-eqb row.client (client_of_party s n) client)) ∙ sym (ap A found) ∙ passes in
+    let lives_now : nat_lt at (was.dead.accepted + 661) ≡ true = not_late_lives (was.dead.accepted + 661) at young in
+    let D : Option Text → Option DeadRow = λ o. option_and_then (live_dead past at) o in
+    let I : Option DeadRow → Option DeadRow = λ o. option_and_then (if_lives 661 dead_begun at) o in
+    let C : Bool → Option DeadRow = λ b. cond b (Some was.dead) None in
+    let never : Some was.dead ≡ None = sym (ap D sid ∙ ap I found ∙ ap C lives_now) ∙ alive in
+    cc
+
 entered_done : (s : Site) (n from at : ℕ) (request : WorldAsk) (fresh : List Word) (asked : RpAsk) (w : Word) (sub : Text) (world : World) → IsSite s
     → IsLegalWorld s (Party n from request (record { entry = record { at = at; fresh = fresh; ask = asked }; reply = rp.Entered w sub }) ∷ world)
     → HasDistinctWords (Party n from request (record { entry = record { at = at; fresh = fresh; ask = asked }; reply = rp.Entered w sub }) ∷ world) → IsKept s world
+    → dead_for (types_at s n) (rp_past n world) at asked ≡ None
     → Enters s n from (record { entry = record { at = at; fresh = fresh; ask = asked }; reply = rp.Entered w sub }) world w sub
     → Does s n from request (record { entry = record { at = at; fresh = fresh; ask = asked }; reply = rp.Entered w sub }) world
-entered_done s n from at request fresh asked w sub world site legal distinct kept f =
+entered_done s n from at request fresh asked w sub world site legal distinct kept alive f =
     let p : RpPair = record { entry = record { at = at; fresh = fresh; ask = asked }; reply = rp.Entered w sub } in
     let x : Place = Party n from request p in
     let c : Configuration = s.configuration in
@@ -551,6 +589,7 @@ entered_done s n from at request fresh asked w sub world site legal distinct kep
     let answered : IsAnsweredFor mid row = record { answered = f.token.row; has = f.token.has; nonce = f.token.nonce_is; client = f.token.client_is; user = refl; sid = refl } in
     let unused : Lacks m.entered (record { client = client; nonce = Some (word_text visit.nonce) }) =
     not_entered s n from p world w sub m.entered site mine (distinct_before x world distinct) f old.entered in
+    let undead : Lacks mid.dead (dead_row row) = not_dead s n at world row types asked site mine kept refl (f.sid_is ∙ sid) alive in
     let rows : List Live = settled world client at m.live in
     let test : Live → Bool = λ r. not (is_over world client at r) in
     let low : AllByRecursion (λ (r : Live). r.event ≤ length world) rows = all_filter (λ (r : Live). r.event ≤ length world) test m.live old.events in
@@ -593,7 +632,8 @@ entered_done s n from at request fresh asked w sub world site legal distinct kep
       entered = record { client = client; nonce = Some (word_text visit.nonce) } ∷ m.entered;
       live = rows ++ row ∷ [];
       ended = m.ended;
-      run = subst R (sym steps) ((f.begins.has, answered, unused), tt);
+      dead = unforgotten past client at m.dead;
+      run = subst R (sym steps) ((f.begins.has, answered, unused, undead), tt);
       leaves = ap (after_all mid) steps;
       nonces = began_more x world m.began old.began;
       begins = tt;
@@ -614,6 +654,8 @@ entered_done s n from at request fresh asked w sub world site legal distinct kep
         entered_more s x world m.entered old.entered,
       );
       endings = ended_more s x world m.ended old.ended;
+      deaths = dead_more s x world (unforgotten past client at m.dead) (all_filter (IsDeadRow s world) (λ r. not (is_forgotten past client at r)) m.dead old.dead);
+      dead_once = deads_filter (λ r. not (is_forgotten past client at r)) m.dead old.dead_apart;
       texts = tt;
       logouts = tt;
       bound = tt;
@@ -633,14 +675,14 @@ pub entering_done : (s : Site) (n from at : ℕ) (request : WorldAsk) (fresh : L
     → EnteredCause (setup_at s n) (rp_past n world) (record { at = at; fresh = fresh; ask = asked }) asked w sub
     → Does s n from request (record { entry = record { at = at; fresh = fresh; ask = asked }; reply = rp.Entered w sub }) world
 entering_done s n from at request fresh (ask.Callback (Ok heard) id browser) w sub world site legal distinct unleaked tight unforged clean joined here_joined kept cause =
-    entered_done s n from at request fresh (ask.Callback (Ok heard) id browser) w sub world site legal distinct kept
-    (at_once s n from at request fresh w sub world site kept heard id browser legal tight clean cause)
+    entered_done s n from at request fresh (ask.Callback (Ok heard) id browser) w sub world site legal distinct kept cause.alive
+    (at_once s n from at request fresh w sub world site kept heard id browser legal tight clean cause.enters)
 entering_done s n from at request fresh (ask.Tokens pending (Ok came) id) w sub world site legal distinct unleaked tight unforged clean joined here_joined kept cause =
     let x : Place = Party n from request (record { entry = record { at = at; fresh = fresh; ask = ask.Tokens pending (Ok came) id }; reply = rp.Entered w sub }) in
-    entered_done s n from at request fresh (ask.Tokens pending (Ok came) id) w sub world site legal distinct kept
-    (after_exchange s n from at request fresh w sub world site kept pending came id legal (distinct_before x world distinct) unleaked joined here_joined clean cause)
+    entered_done s n from at request fresh (ask.Tokens pending (Ok came) id) w sub world site legal distinct kept cause.alive
+    (after_exchange s n from at request fresh w sub world site kept pending came id legal (distinct_before x world distinct) unleaked joined here_joined clean cause.enters)
 entering_done s n from at request fresh (ask.Info pending (Ok came)) w sub world site legal distinct unleaked tight unforged clean joined here_joined kept cause =
     let x : Place = Party n from request (record { entry = record { at = at; fresh = fresh; ask = ask.Info pending (Ok came) }; reply = rp.Entered w sub }) in
-    entered_done s n from at request fresh (ask.Info pending (Ok came)) w sub world site legal distinct kept
-    (after_info s n from at request fresh w sub world site kept pending came legal (distinct_before x world distinct) unleaked unforged joined here_joined cause)
-entering_done s n from at request fresh asked w sub world site legal distinct unleaked tight unforged clean joined here_joined kept cause = absurd cause
+    entered_done s n from at request fresh (ask.Info pending (Ok came)) w sub world site legal distinct kept cause.alive
+    (after_info s n from at request fresh w sub world site kept pending came legal (distinct_before x world distinct) unleaked unforged joined here_joined cause.enters)
+entering_done s n from at request fresh asked w sub world site legal distinct unleaked tight unforged clean joined here_joined kept cause = absurd cause.enters

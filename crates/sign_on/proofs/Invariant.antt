@@ -5,8 +5,9 @@ use Rattle.sso_base.specs.Legal.{last_moment}
 use Rattle.sso_base.specs.Words.{Word, Text, IsWord, fresh_word, word_text}
 use Rattle.sso_base.specs.declared.http.Ask.{Ask}
 use Rattle.sso_model.specs.Lists.{Has, Lacks}
-use Rattle.sso_model.specs.Rows.{Began, Signed, Answered, Sent, Entered, Live, Machine}
+use Rattle.sso_model.specs.Rows.{Began, Signed, Answered, Sent, Entered, Dead, Live, Machine}
 use Rattle.sso_model.proofs.RunLaws.{Apart}
+use Rattle.sso_model.proofs.ForgetRuns.{DeadApart}
 use Rattle.client_registry.specs.Configuration.{Configuration, subject_at}
 use Rattle.auth_request.specs.declared.wish.Wish.{Wish}
 use Rattle.code_grant.specs.declared.rows.TurnRow.{TurnRow}
@@ -15,7 +16,6 @@ use Rattle.code_grant.specs.declared.rows.CodeRow.{CodeRow}
 use Rattle.id_token.specs.declared.claims.IdClaims.{IdClaims}
 use Rattle.id_token.specs.Reading.{id_read}
 use Rattle.auth_request.specs.Values.{is_short_nonce}
-use Rattle.client_registry.specs.Numbers.{client_secret}
 use Rattle.auth_request.specs.Values.{IsWishValue}
 use Rattle.sso_base.specs.Values.{latest_moment}
 use Rattle.logout_token.specs.declared.claims.LogoutClaims.{LogoutClaims}
@@ -36,6 +36,10 @@ use Rattle.rp_answer.specs.Past.{RpPair, RpPast}
 use Rattle.rp_answer.specs.Legal.{login_entered}
 use Rattle.rp_answer.specs.Visits.{live_visits}
 use Rattle.rp_answer.specs.Endings.{Accepts}
+use Rattle.rp_answer.specs.Deads.{deads}
+use Rattle.rp_login.specs.declared.rows.DeadRow.{DeadRow}
+use Rattle.rp_login.specs.Rows.{dead_name}
+use Rattle.sso_base.specs.Rows.{row_of}
 use Rattle.sso_places.specs.Site.{Site, client_of_party, types_at}
 use Rattle.sso_places.specs.World.{Place, Provider, Party, Nothing, World, place_at, from_of, moment_of, op_past, rp_past, fresh_of, drawn, op_place}
 use Rattle.sso_places.specs.Cookies.{set_at}
@@ -128,7 +132,7 @@ pub record AnsweredAs (c : Configuration) (answered : List Answered) (client : �
 
 -- The nonce of a text that is read as an ID Token was answered. This does not restrict a request object, since none is read so.
 abbrev pub IsTokenAnswered : Configuration → List Answered → TokenText → Type 0
-IsTokenAnswered c answered t = (x : IdClaims) (nonce : Text) → id_read (client_secret c t.0) t.1 ≡ Ok x → x.nonce ≡ Some nonce → AnsweredAs c answered t.0 x nonce
+IsTokenAnswered c answered t = (key : Text) (x : IdClaims) (nonce : Text) → id_read key t.1 ≡ Ok x → x.nonce ≡ Some nonce → AnsweredAs c answered t.0 x nonce
 
 -- the reply has this ID Token, and its claims have the half hashes of the code and of the access token in the same reply
 abbrev pub IsIdOf : Text → IdClaims → OpReply → Type 0
@@ -146,7 +150,7 @@ pub record HasReplied (world : World) (id : Text) (x : IdClaims) : Type 0 where
 
 -- A text that is read as an ID Token with a nonce was in such a reply. This does not restrict any other text.
 abbrev pub IsTokenBound : Configuration → World → TokenText → Type 0
-IsTokenBound c world t = (x : IdClaims) (nonce : Text) → id_read (client_secret c t.0) t.1 ≡ Ok x → x.nonce ≡ Some nonce → HasReplied world t.1 x
+IsTokenBound c world t = (key : Text) (x : IdClaims) (nonce : Text) → id_read key t.1 ≡ Ok x → x.nonce ≡ Some nonce → HasReplied world t.1 x
 
 -- ---- logout tokens
 
@@ -164,7 +168,7 @@ pub record SentAs (c : Configuration) (world : World) (sent : List Sent) (client
 -- A text that is read as a logout token went out. This does not restrict an ID Token or a request object, since none is read
 -- so.
 abbrev pub IsTokenSent : Configuration → World → List Sent → TokenText → Type 0
-IsTokenSent c world sent t = (y : LogoutClaims) → logout_read (client_secret c t.0) t.1 ≡ Ok y → SentAs c world sent t.0 y
+IsTokenSent c world sent t = (key : Text) (y : LogoutClaims) → logout_read key t.1 ≡ Ok y → SentAs c world sent t.0 y
 
 -- a message went out at a place that drew the word of its `jti`
 pub record IsSentRow (c : Configuration) (world : World) (row : Sent) : Type 0 where
@@ -229,6 +233,14 @@ pub record IsEndedRow (s : Site) (world : World) (row : Sent) : Type 0 where
   pub jti : jti_at row.client (place_at world row.place) ≡ Some claims.jti
   pub moment : option_and_then moment_of (place_at world row.place) ≡ Some claims.iat
 
+-- the party of its client has a record of a dead session identifier
+pub record IsDeadRow (s : Site) (world : World) (row : Dead) : Type 0 where
+  pub n : ℕ
+  pub known : n < length s.configuration.parties
+  pub client : row.client ≡ client_of_party s n
+  pub dead : DeadRow
+  pub remembered : row_of dead_name row.sid (deads (rp_past n world)) ≡ Some dead
+
 -- the begin of a login is one of the machine's
 abbrev pub IsBegun : Site → List Began → ℕ → ℕ → List Word → RpReply → Type 0
 IsBegun s began n from fresh (rp.Ask to browser) = Has began (record { client = client_of_party s n; browser = from; nonce = Some (word_text (fresh_word fresh 2)) })
@@ -257,6 +269,8 @@ pub record Holds (s : Site) (world : World) (m : Machine) : Type 0 where
   pub redeemed : AllByRecursion (IsRedeemed world) m.redeemed
   pub entered : AllByRecursion (IsEnteredRow s world) m.entered
   pub ended : AllByRecursion (IsEndedRow s world) m.ended
+  pub dead : AllByRecursion (IsDeadRow s world) m.dead
+  pub dead_apart : DeadApart m.dead
   pub sent : AllByRecursion (IsSentRow s.configuration world) m.out
   pub sent_apart : AreSentApart m.out
   pub tokens : AllByRecursion (IsTokenAnswered s.configuration m.answered) (written s world)

@@ -15,7 +15,7 @@ use Rattle.jws_compact.proofs.Ascii.{sealed_ascii}
 use Rattle.jws_compact.proofs.Opening.{same_payload}
 use Rattle.claim_set.specs.Reading.{claims_text}
 use Rattle.client_registry.specs.Configuration.{Configuration}
-use Rattle.client_registry.specs.Numbers.{client_secret, is_client}
+use Rattle.client_registry.specs.Numbers.{client_sealing, is_client}
 use Rattle.client_registry.specs.Registered.{IsRegistry}
 use Rattle.token_kinds.proofs.Apart.{same_claims}
 use Rattle.auth_request.specs.declared.wish.Wish.{Wish}
@@ -54,7 +54,7 @@ use Rattle.sign_on.proofs.Lists.{lives_some}
 issued_text : (c : Configuration) (wish : Wish) (who : Authentication) (at : ℕ) (access code : Option Word) → IsUtf8 (issued_id c wish who at access code)
 unfolding issued_id id_text
 issued_text c wish who at access code =
-    IsUtf8-are_ascii (issued_id c wish who at access code) (sealed_ascii (client_secret c wish.client) (claims_text (id_members (id_claims c wish who at access code))) Jwt)
+    IsUtf8-are_ascii (issued_id c wish who at access code) (sealed_ascii (client_sealing c wish.client) (claims_text (id_members (id_claims c wish who at access code))) Jwt)
 
 abbrev HasText : Configuration → OpPast → Entry OpAsk → OpAsk → Word → Text → Type 0
 HasText c past e asked access id = TokensCause c past e asked access id → IsUtf8 id
@@ -88,9 +88,9 @@ issued_has_hash : (c : Configuration) (wish : Wish) (who : Authentication) (at :
     → id_read key (issued_id c wish who at (Some access) None) ≡ Ok x → is_some x.at_hash ≡ true
 issued_has_hash c wish who at access key x may value read =
     let t : Text = issued_id c wish who at (Some access) None in
-    let own : IsIdToken (client_secret c wish.client) t (id_claims c wish who at (Some access) None) =
-    id_read-token (client_secret c wish.client) t (id_claims c wish who at (Some access) None) (is_read_back c wish who at (Some access) None may value) in
-    let same : id_claims c wish who at (Some access) None ≡ x = same_token (client_secret c wish.client) key t (id_claims c wish who at (Some access) None) x own (id_read-token key t x read) in
+    let own : IsIdToken (client_sealing c wish.client) t (id_claims c wish who at (Some access) None) =
+    id_read-token (client_sealing c wish.client) t (id_claims c wish who at (Some access) None) (is_read_back c wish who at (Some access) None may value) in
+    let same : id_claims c wish who at (Some access) None ≡ x = same_token (client_sealing c wish.client) key t (id_claims c wish who at (Some access) None) x own (id_read-token key t x read) in
     ap (λ (y : IdClaims). is_some y.at_hash) (sym same) ∙ hash_is_there c wish who at access
 
 -- ---- what the provider issues for a code of its past

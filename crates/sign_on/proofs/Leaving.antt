@@ -24,22 +24,24 @@ use Rattle.rp_answer.specs.Past.{RpPair, RpPast}
 use Rattle.rp_answer.specs.Visits.{visits, visit_made, visit_kept, live_visits, live_visit}
 use Rattle.rp_answer.specs.Causes.{LeftCause}
 use Rattle.rp_answer.proofs.KeptNames.{visit_names}
+use Rattle.sso_model.proofs.ForgetRuns.{deads_filter}
+use Rattle.sso_model.proofs.ListLaws.{all_filter}
 use Rattle.sso_places.specs.declared.types.WorldAsk.{WorldAsk}
 use Rattle.sso_places.specs.Site.{Site, IsSite, setup_at, client_of_party, types_at}
 use Rattle.sso_places.specs.World.{Place, Party, World, place_at, rp_past, lets_in, entered_as}
 use Rattle.sso_places.specs.Legal.{IsLegalWorld}
 use Rattle.sso_places.specs.Premises.{HasDistinctWords, leaks}
-use Rattle.sso_places.specs.Reading.{machine_of, party_steps, drop_of}
+use Rattle.sso_places.specs.Reading.{machine_of, party_steps, drop_of, is_forgotten}
 use Rattle.sso_places.proofs.Numbers.{place_at_before, place_at_low, place_at_has}
 use Rattle.sign_on.proofs.Lists.{filter_had, filter_keeps, all_of}
-use Rattle.sign_on.proofs.Invariant.{IsKept}
+use Rattle.sign_on.proofs.Invariant.{IsKept, IsDeadRow}
 use Rattle.sso_places.proofs.Places.{party_legal}
-use Rattle.sign_on.proofs.Shared.{ended_more}
+use Rattle.sign_on.proofs.Shared.{ended_more, dead_more}
 use Rattle.sign_on.proofs.AskKinds.{IsRequest, as_request}
 use Rattle.sign_on.proofs.OpSessions.{has_found}
 use Rattle.sign_on.proofs.LiveRows.{is_ended, live_left}
 use Rattle.sign_on.proofs.Pairs.{entered_finds}
-use Rattle.sign_on.proofs.RpPlaces.{Does, nothing_done, fewer_done, place_entered, presents_second, Shown, shown}
+use Rattle.sign_on.proofs.RpPlaces.{Does, nothing_done, fewer_done, place_entered, presents_second, Shown, shown, unforgotten}
 
 -- ---- visits that live are found
 
@@ -141,7 +143,7 @@ module _ (s : Site) (n from at : ℕ) (request : WorldAsk) (fresh : List Word) (
       let away : lets_in n w x ≡ false = ap E (eq-eqb n n refl) in
       let Q : Bool → Option ℕ = λ b. cond b (Some (suc (length world))) (entered_as n w world) in
       let number : entered_as n w (x ∷ world) ≡ Some event = ap Q away ∙ sh.number in
-      fewer_done s n from request p world k m.ended (drop event client from ∷ []) site mine own.2 kept unmade
+      fewer_done s n from request p world k m.ended (unforgotten past client at m.dead) (drop event client from ∷ []) site mine own.2 kept unmade
       (λ row other same of_client.
       let place : Place = Party n row.browser same.request same.pair in
       let B : Bool → Bool = λ b. not (b || false) in
@@ -185,6 +187,8 @@ module _ (s : Site) (n from at : ℕ) (request : WorldAsk) (fresh : List Word) (
       ((sh.row, sh.has, refl, sh.client_is, sh.browser_is), tt)
       refl
       (ended_more s x world m.ended kept.holds.ended)
+      (dead_more s x world (unforgotten past client at m.dead) (all_filter (IsDeadRow s world) (λ row. not (is_forgotten past client at row)) m.dead kept.holds.dead))
+      (deads_filter (λ row. not (is_forgotten past client at row)) m.dead kept.holds.dead_apart)
       refl tt
 
 pub left_done : (s : Site) (n from at : ℕ) (request : WorldAsk) (fresh : List Word) (asked : RpAsk) (ended : Bool) (world : World) → IsSite s

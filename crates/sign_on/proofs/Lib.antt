@@ -9,6 +9,7 @@ mod ForgedToken
 pub mod Founding
 pub mod Invariant
 pub mod IssuedHashes
+pub mod Keys
 pub mod Leaving
 pub mod Lists
 pub mod LiveRows

@@ -1,5 +1,5 @@
 -- A logout token is accepted: the step of the place may be taken, and the invariant still holds.
-use Rattle.std.proofs.Common.{◌≡◌, ◌≢◌, ℕ, suc, ◌+◌, ◌<◌, ◌≤◌, ◌==◌, ◌&&◌, ◌||◌, ◌^◌, not, Bool, true, false, cond, List, [], ◌∷◌, ◌++◌, length, filter, Option, Some, None, option_and_then, Ok, refl, sym, ap, ◌∙◌, subst, inl, inr, eq-eqb, ne_eqb, arith}
+use Rattle.std.proofs.Common.{◌≡◌, ◌≢◌, ℕ, suc, ◌+◌, ◌<◌, ◌≤◌, ◌==◌, ◌&&◌, ◌||◌, ◌^◌, not, Bool, true, false, cond, List, [], ◌∷◌, ◌++◌, length, filter, Option, Some, None, option_map, option_and_then, Ok, refl, sym, ap, ◌∙◌, subst, inl, inr, eq-eqb, ne_eqb, arith}
 use Rattle.std.proofs.lemmas.Option.{same_Some}
 use Rattle.std.proofs.lemmas.Bool.{eqb-true, and_parts}
 use Rattle.std.specs.List.{AllByRecursion}
@@ -7,20 +7,18 @@ use Rattle.std.specs.Str.{bytes_eq}
 use Rattle.sso_base.specs.Words.{Word, Text, fresh_word}
 use Rattle.sso_base.specs.Texts.{is_given}
 use Rattle.sso_base.proofs.Histories.{earlier_is_legal}
-use Rattle.sso_base.proofs.RowLaws.{bool_cases, bytes_same, bytes_true, bytes_turn}
+use Rattle.sso_base.proofs.RowLaws.{bool_cases, bytes_same, bytes_true, bytes_turn, row_of-more}
+use Rattle.sso_base.specs.Stands as stands
 use Rattle.sso_model.specs.Lists.{Has, Lacks}
-use Rattle.sso_model.specs.Rows.{Sent, Live, Machine, Step, end}
-use Rattle.sso_model.specs.Machine.{is_meant as is_meant_row}
-use Rattle.sso_model.proofs.ListLaws.{all_has}
+use Rattle.sso_model.specs.Rows.{Sent, Live, Machine, Step, end, Dead}
+use Rattle.sso_model.specs.Machine.{is_meant as is_meant_row, dead_of, is_dead, without_dead, with_dead}
+use Rattle.sso_model.proofs.ListLaws.{all_has, all_filter}
 use Rattle.client_registry.specs.Configuration.{Configuration, subject_at}
-use Rattle.client_registry.specs.Numbers.{client_secret, party_secret}
+use Rattle.client_registry.specs.Numbers.{party_client}
 use Rattle.login_request.proofs.PartyRows.{client_is_known}
 use Rattle.logout_token.specs.declared.claims.LogoutClaims.{LogoutClaims}
-use Rattle.logout_token.specs.LogoutToken.{logout_read}
-use Rattle.logout_token.specs.Token.{IsLogoutToken}
 use Rattle.logout_token.specs.Judging.{IsGoodLogoutToken}
 use Rattle.logout_token.proofs.Good.{passes_good}
-use Rattle.logout_token.proofs.Tokens.{logout_read-IsLogoutToken}
 use Rattle.oidc_words.specs.declared.response_types.Types.{Types}
 use Rattle.op_issue.specs.Issued.{if_wished}
 use Rattle.op_issue.specs.LogoutTokens.{logout_id}
@@ -32,6 +30,9 @@ use Rattle.rp_exchange.specs.declared.ask.RpAsk.TheVariants as ask
 use Rattle.rp_exchange.specs.declared.reply.RpReply.TheVariants as rp
 use Rattle.rp_exchange.specs.Values.{IsRpAsk}
 use Rattle.rp_request.specs.Prepared.{logout_token_in}
+use Rattle.client_keys.specs.Opening.{opening}
+use Rattle.rp_request.specs.Opened.{logout_read_for, IsLogoutTokenFor}
+use Rattle.rp_request.proofs.Opened.{token-logout_read_for}
 use Rattle.rp_request.proofs.Logouts.{logout_opened}
 use Rattle.rp_answer.specs.Past.{RpPair, RpPast}
 use Rattle.rp_answer.specs.Setup.{PartySetup, client_of}
@@ -42,6 +43,12 @@ use Rattle.rp_answer.specs.Endings.{Accepts}
 use Rattle.rp_answer.specs.Answering.{rp_answer}
 use Rattle.rp_answer.proofs.Answers.{ended_has_a_cause}
 use Rattle.rp_answer.proofs.TokensOnce.{tokens_apart}
+use Rattle.sso_model.proofs.ForgetRuns.{deads_filter, deads_with}
+use Rattle.rp_login.specs.declared.rows.DeadRow.{DeadRow}
+use Rattle.rp_login.specs.Rows.{dead_name}
+use Rattle.rp_answer.specs.Deads.{deads, dead_at, dead_made, dead_kept}
+use Rattle.rp_answer.proofs.KeptNames.{dead_names}
+use Rattle.sso_base.specs.Rows.{row_of}
 use Rattle.sso_places.specs.declared.types.WorldAsk.{WorldAsk}
 use Rattle.sso_places.specs.Each.{Each}
 use Rattle.sso_places.specs.Site.{Site, IsSite, setup_at, client_of_party, types_at}
@@ -51,18 +58,18 @@ use Rattle.sso_places.specs.Tokens.{TokenText}
 use Rattle.sso_places.specs.Written.{written}
 use Rattle.sso_places.specs.Checked.{rp_checked, logout_checked}
 use Rattle.sso_places.specs.Premises.{HasDistinctWords, forges}
-use Rattle.sso_places.specs.Reading.{machine_of, party_steps, end_of, jti_at, has_jti, message_named, user_of_subject}
+use Rattle.sso_places.specs.Reading.{machine_of, party_steps, end_of, jti_at, has_jti, message_named, user_of_subject, is_forgotten}
 use Rattle.sso_places.specs.Agreement.{IsSameSession, rows_of}
 use Rattle.sso_places.proofs.Numbers.{place_at_has}
 use Rattle.sign_on.proofs.Lists.{each_filter, each_length, each_weaker, filter_other, all_kept}
-use Rattle.sign_on.proofs.Invariant.{SentAs, IsTokenSent, IsSentRow, AreSentApart, IsEndedRow, IsKept}
+use Rattle.sign_on.proofs.Invariant.{SentAs, IsTokenSent, IsSentRow, AreSentApart, IsEndedRow, IsKept, IsDeadRow}
 use Rattle.sso_places.proofs.Places.{party_legal, distinct_before, past_own, drawn_other, place_drawn}
-use Rattle.sign_on.proofs.Shared.{was_written, at_more, ended_more}
-use Rattle.sign_on.proofs.Registry.{secret_is, subject_finds, finds_subject, parties_apart}
-use Rattle.sign_on.proofs.Texts.{logout_is_sealed}
+use Rattle.sign_on.proofs.Shared.{was_written, at_more, ended_more, dead_more}
+use Rattle.sign_on.proofs.Registry.{subject_finds, finds_subject, parties_apart}
+use Rattle.sign_on.proofs.Keys.{logout_sealed_for}
 use Rattle.sign_on.proofs.AskKinds.{IsRequest, as_request}
 use Rattle.sign_on.proofs.LiveRows.{settled, sessions_settled}
-use Rattle.sign_on.proofs.RpPlaces.{Does, fewer_done}
+use Rattle.sign_on.proofs.RpPlaces.{Does, fewer_done, unforgotten}
 use Rattle.request_params.specs.Form.{posted}
 
 -- ---- which message a `jti` names
@@ -206,6 +213,10 @@ too_late : (a b first second : ℕ) → a + 661 ≤ b → first ≡ second → f
 too_late a b first second apart same issued recent = omega (arith, apart, same, issued, recent)
 
 -- a pair of a legal past that accepts one has the cause of that
+all_with : (P : Dead → Type 0) (only : Bool) (new : Dead) (rows : List Dead) → (only ≡ true → P new) → AllByRecursion P rows → AllByRecursion P (cond only (new ∷ without_dead new rows) rows)
+all_with P true new rows first rest = (first refl, all_filter P (λ other. not (is_dead new other)) rows rest)
+all_with P false new rows first rest = rest
+
 cause_of : (s : PartySetup) (past : RpPast) (p : RpPair) (claims : LogoutClaims) → p.reply ≡ rp_answer s past p.entry → (accepts : Accepts p claims) → LogoutAccepted s past p.entry claims accepts.count
 cause_of s past p claims answered accepts =
     let C : RpAsk → Type 0 = λ a. EndedCause s past p.entry a accepts.count in
@@ -238,13 +249,12 @@ module _ (s : Site) (n from at : ℕ) (request : WorldAsk) (fresh : List Word) (
   went_out legal clean =
       let came : IsRequest c n request (ask.Logout (Ok claims)) = as_request c n request (ask.Logout (Ok claims)) legal.asked.0.1 refl in
       let text : Text = logout_token_in (posted came.request.body) in
-      let opened : IsLogoutToken (party_secret c n) text claims = logout_opened c n came.request (Ok claims) came.asked_is in
-      let K : Text → Type 0 = λ k. logout_read k text ≡ Ok claims in
-      let read : logout_read (client_secret c client) text ≡ Ok claims = subst K (secret_is c n legal.asked.0.0) (logout_read-IsLogoutToken (party_secret c n) text claims opened) in
+      let opened : IsLogoutTokenFor (party_client c n) text claims = logout_opened c n came.request (Ok claims) came.asked_is in
+      let read : logout_read_for (party_client c n) text ≡ Ok claims = token-logout_read_for (party_client c n) text claims opened in
       let L : WorldAsk → Type 0 = λ r. Has {A = TokenText} (logout_checked client r) (client, text) in
       let checks : Has (rp_checked client request (ask.Logout (Ok claims))) (client, text) = subst L (sym came.came_is) (inl refl) in
-      let wrote : Has (written s world) (client, text) = was_written s world x (client, text) clean checks (logout_is_sealed (client_secret c client) text claims read) in
-      all_has (IsTokenSent c world m.out) (written s world) (client, text) kept.holds.logouts wrote claims read
+      let wrote : Has (written s world) (client, text) = was_written s world x (client, text) clean checks (logout_sealed_for c n text claims site.registry legal.asked.0.0 read) in
+      all_has (IsTokenSent c world m.out) (written s world) (client, text) kept.holds.logouts wrote (opening (party_client c n) text) claims read
 
   -- the `jti` of the message
   named : (t : SentAs c world m.out client claims) → has_jti world client claims.jti t.row ≡ true
@@ -276,6 +286,28 @@ module _ (s : Site) (n from at : ℕ) (request : WorldAsk) (fresh : List Word) (
       let good_then : IsGoodLogoutToken issuer id was.claims was.pair.entry.at = passes_good issuer id was.claims was.pair.entry.at first.judged in
       let good_now : IsGoodLogoutToken issuer id claims at = passes_good issuer id claims at cause.judged in
       too_late was.pair.entry.at at was.claims.iat claims.iat apart moments good_then.issued good_now.recent
+
+  -- the party remembers the `sid` of the message, if the client takes it
+  named_now : (t : SentAs c world m.out client claims) → t.row.only ≡ true → n < length c.parties → IsDeadRow s (x ∷ world) (dead_of t.row)
+  named_now t only mine =
+      let sid : Text = t.row.sid in
+      let row : DeadRow = dead_at (length past) at sid in
+      let F : Bool → Option Text = λ b. if_wished b sid in
+      let M : Option Text → Option DeadRow = λ o. option_map (dead_at (length past) at) o in
+      let made : dead_made (deads past) past p ≡ Some row = ap M (t.sid ∙ ap F only) in
+      let held : Option DeadRow = option_and_then (dead_kept past p) (row_of dead_name sid (deads past)) in
+      let N : Option DeadRow → Option DeadRow = λ o. cond (stands.is_named dead_name sid o) o held in
+      let C : Bool → Option DeadRow = λ b. cond b (Some row) held in
+      let R : RpPast → Option DeadRow = λ z. row_of dead_name sid (deads z) in
+      record {
+        n = n;
+        known = mine;
+        client = t.client_is;
+        dead = row;
+        remembered =
+            ap R (past_own n from request p world) ∙ row_of-more dead_name dead_made dead_kept dead_names sid p past
+            ∙ ap N made ∙ ap C (bytes_true sid sid refl);
+      }
 
   pub accepted : IsLegalWorld s (x ∷ world) → HasDistinctWords (x ∷ world) → forges s world x ≡ false → LogoutAccepted (setup_at s n) past p.entry claims count → Does s n from request p world
   accepted legal distinct clean cause =
@@ -315,7 +347,7 @@ module _ (s : Site) (n from at : ℕ) (request : WorldAsk) (fresh : List Word) (
       ∙ ap (λ (zs : List Live). length zs) all_of_client in
       let k : Live → Bool = λ row. not (is_meant_row o row) in
       let unmade : visit_made types (visits types past) past p ≡ None = refl in
-      fewer_done s n from request p world k (o ∷ m.ended) (end o count ∷ []) site mine own.2 kept unmade
+      fewer_done s n from request p world k (o ∷ m.ended) (with_dead o (unforgotten past client at m.dead)) (end o count ∷ []) site mine own.2 kept unmade
       (λ row visit same of_client. ap not (agrees (x ∷ world) row visit same of_client))
       (λ j known_j other row visit same of_client.
       ap not (other_meant o row (λ clients. other (parties_apart c n j site.registry mine known_j (sym t.client_is ∙ sym clients ∙ of_client)))))
@@ -337,6 +369,9 @@ module _ (s : Site) (n from at : ℕ) (request : WorldAsk) (fresh : List Word) (
         },
         ended_more s x world m.ended kept.holds.ended,
       )
+      (all_with (IsDeadRow s (x ∷ world)) o.only (dead_of o) (unforgotten past client at m.dead) (λ only. named_now t only mine)
+      (dead_more s x world (unforgotten past client at m.dead) (all_filter (IsDeadRow s world) (λ row. not (is_forgotten past client at row)) m.dead kept.holds.dead)))
+      (deads_with o.only (dead_of o) (unforgotten past client at m.dead) (deads_filter (λ row. not (is_forgotten past client at row)) m.dead kept.holds.dead_apart))
       refl tt
 
 pub ended_done : (s : Site) (n from at : ℕ) (request : WorldAsk) (fresh : List Word) (asked : RpAsk) (count : ℕ) (world : World) → IsSite s

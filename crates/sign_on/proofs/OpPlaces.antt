@@ -70,7 +70,7 @@ use Rattle.sso_places.specs.Agreement.{rows_of, SignsOn}
 use Rattle.sign_on.proofs.Lists.{all_rows, all_within, row_of-has, lives_some}
 use Rattle.sign_on.proofs.Invariant.{IsSetBy, IsDrawnText, IsKnownWish, IsSessionOwned, IsSessionAnswered, IsCodeAnswered, IsTokenAnswered, IsTokenBound, IsTokenSent, IsSentRow, AreSentApart, IsRedeemed, Agrees, Holds, IsKept}
 use Rattle.sso_places.proofs.Places.{fresh_is_word, legal_before, distinct_before}
-use Rattle.sign_on.proofs.Shared.{began_more, answered_more, events_more, redeemed_more, entered_more, tokens_more, code_more, each_more, op_place_more, op_place_one, text_more, texts_more, sent_more, logouts_more, bound_more, ended_more, answered_by_more}
+use Rattle.sign_on.proofs.Shared.{began_more, answered_more, events_more, redeemed_more, entered_more, tokens_more, code_more, each_more, op_place_more, op_place_one, text_more, texts_more, sent_more, logouts_more, bound_more, ended_more, answered_by_more, dead_more}
 use Rattle.sign_on.proofs.Texts.{issued_answered, issued_hashes, issued_unsent, token_where, token_written, logout_claims_are, logout_unanswered, logout_unbound}
 use Rattle.sign_on.proofs.OpSessions.{has_found, sessions_distinct, one_session}
 use Rattle.sign_on.proofs.OpOuts.{outs, with_sent, outs_run, outs_after, sent_before, sent_now, sent_all, sent_apart, all_before, all_map, told_is_rising, told_is_answered}
@@ -132,6 +132,8 @@ op_frame s from request p world site legal kept one two =
       redeemed = two.once;
       entered = entered_more s x world m.entered old.entered;
       ended = ended_more s x world m.ended old.ended;
+      dead = dead_more s x world m.dead old.dead;
+      dead_apart = old.dead_apart;
       sent = two.messages;
       sent_apart = two.apart;
       tokens = two.tokens;
@@ -319,8 +321,8 @@ answered_replies s from at request fresh asked sent given world site legal kept 
     (issued_unsent c a.wish who at (issued_access a.wish fresh) (issued_code a.wish fresh) (x ∷ world) m.out may a.known.value) in
     let E : TokenText → Type 0 = IsTokenBound c (x ∷ world) in
     let binds : a.wish.types.id_token ≡ true → E (a.wish.client, text) =
-    λ wished y nonce read is.
-    let hashes = issued_hashes c a.wish who at (issued_access a.wish fresh) (issued_code a.wish fresh) y may a.known.value read in
+    λ wished key y nonce read is.
+    let hashes = issued_hashes c a.wish who at (issued_access a.wish fresh) (issued_code a.wish fresh) key y may a.known.value read in
     let I : Answer → Type 0 = λ z. (z.id ≡ Some text) × (y.c_hash ≡ hash_of z.code) × (y.at_hash ≡ hash_of z.access) in
     let F : Bool → Option Text = λ b. if_wished b text in
     let made : I sent = subst I a.sent_is (ap F wished, hashes.0, hashes.1) in
@@ -540,8 +542,8 @@ tokens_replies s from at request fresh grant access id world site legal kept one
     let D : ℕ → Text → Type 0 = λ k t. IsTokenBound c (x ∷ world) (k, t) in
     let H : ℕ → Type 0 = λ k. D k (issued_id c code.wish who at (Some access) None) in
     let binds : D code.wish.client (issued_id c code.wish who at (Some access) None) =
-    λ y nonce read is.
-    let hashes = issued_hashes c code.wish who at (Some access) None y may told.wish.value read in
+    λ key y nonce read is.
+    let hashes = issued_hashes c code.wish who at (Some access) None key y may told.wish.value read in
     record { from = from; request = request; pair = p; has = inl refl; replied = (sym cause.token, hashes.0, hashes.1) } in
     let beside : D grant.client id = subst (D grant.client) cause.token (subst H cause.own_client binds) in
     record {
@@ -675,8 +677,8 @@ signed_out s from at request fresh asked messages world site legal distinct kept
     let J : ℕ → Option Place → Option Text = λ n o. jti_at n o in
     let T : Option Place → Option ℕ = λ o. option_and_then moment_of o in
     let went : (n : ℕ) → Has told n → IsTokenSent c (x ∷ world) rows (token n) =
-    λ n has_n y read.
-    let claims : logout_claims c n so ≡ y = logout_claims_are c n so y (may n has_n) read in
+    λ n has_n key y read.
+    let claims : logout_claims c n so ≡ y = logout_claims_are c n so key y (may n has_n) read in
     record {
       row = sent_to c number session n;
       has = sent_now c number session told m.out n has_n;

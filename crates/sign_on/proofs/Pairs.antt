@@ -20,7 +20,7 @@ use Rattle.rp_exchange.specs.declared.reply.RpReply.TheVariants as rp
 use Rattle.rp_answer.specs.Past.{RpPair, RpPast}
 use Rattle.rp_answer.specs.Setup.{PartySetup}
 use Rattle.rp_answer.specs.Pendings.{pendings, pending_of}
-use Rattle.rp_answer.specs.Causes.{EnteredCause, ExchangeCause, FetchCause}
+use Rattle.rp_answer.specs.Causes.{MayEnter, ExchangeCause, FetchCause}
 use Rattle.rp_answer.specs.Legal.{IsLegalRp, ExchangedBy}
 use Rattle.rp_answer.proofs.Answers.{entered_have_a_cause, exchanges_have_a_cause, fetches_have_a_cause}
 use Rattle.rp_answer.proofs.Sending.{named_row, pending_found, pending_waits, stage_same}
@@ -118,7 +118,7 @@ one_begun n world j k given distinct first second =
 
 -- ---- the place that accepted a login
 
-entered_drawn : (s : PartySetup) (past : RpPast) (e : Entry RpAsk) (asked : RpAsk) (w : Word) (sub : Text) → EnteredCause s past e asked w sub → fresh_word e.fresh 1 ≡ w
+entered_drawn : (s : PartySetup) (past : RpPast) (e : Entry RpAsk) (asked : RpAsk) (w : Word) (sub : Text) → MayEnter s past e asked w sub → fresh_word e.fresh 1 ≡ w
 entered_drawn s past e (ask.Callback (Ok heard) id browser) w sub cause = cause.drawn
 entered_drawn s past e (ask.Tokens pending (Ok came) id) w sub cause = cause.drawn
 entered_drawn s past e (ask.Info pending (Ok came)) w sub cause = cause.drawn
@@ -126,7 +126,7 @@ entered_drawn s past e asked w sub cause = absurd cause
 
 -- the word of a session is drawn at the place that accepts the login
 pub entered_word : (s : PartySetup) (past : RpPast) (p : RpPair) (w : Word) (sub : Text) → IsLegalRp s (p ∷ past) → p.reply ≡ rp.Entered w sub → fresh_word p.entry.fresh 1 ≡ w
-entered_word s past p w sub legal replied = entered_drawn s past p.entry p.entry.ask w sub (entered_have_a_cause s past p.entry w sub (sym legal.3 ∙ replied))
+entered_word s past p w sub legal replied = entered_drawn s past p.entry p.entry.ask w sub (entered_have_a_cause s past p.entry w sub (sym legal.3 ∙ replied)).enters
 
 -- a reply that lets in under this word
 entered_by : (w : Word) (reply : RpReply) → enters_as w reply ≡ true → (sub : Text) × (reply ≡ rp.Entered w sub)

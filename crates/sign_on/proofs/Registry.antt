@@ -1,5 +1,5 @@
 -- What a registry makes one: the client of a redirection URI, the user of a subject, and the party of a client.
-use Rattle.std.proofs.Common.{◌≡◌, ℕ, zero, suc, ◌+◌, ◌<◌, ◌==◌, Bool, true, false, cond, List, [], ◌∷◌, length, map, Option, Some, unwrap_or, option_and_then, slice_get, slice_index_or, inl, inr, refl, sym, ap, ◌∙◌, subst, eq-eqb, ◌≤◌, arith}
+use Rattle.std.proofs.Common.{◌≡◌, ℕ, zero, suc, ◌+◌, ◌<◌, ◌==◌, Bool, true, false, cond, List, [], ◌∷◌, length, map, Option, Some, unwrap_or, slice_get, slice_index_or, inl, inr, refl, sym, ap, ◌∙◌, subst, eq-eqb, ◌≤◌, arith}
 use Rattle.std.proofs.lemmas.Bool.{cases_lt}
 use Rattle.std.proofs.lemmas.Option.{same_Some}
 use Rattle.std.specs.Str.{bytes_eq}
@@ -13,7 +13,7 @@ use Rattle.client_registry.specs.declared.records.Client.{Client}
 use Rattle.client_registry.specs.declared.records.Party.{Party}
 use Rattle.client_registry.specs.Configuration.{Configuration, subject_at}
 use Rattle.client_registry.specs.Registered.{AreApart, NumbersAreApart, HasNoneOf, AreDisjoint, IsRegistry}
-use Rattle.client_registry.specs.Numbers.{client_of, client_secret, party_secret, secret_in, no_party, party_row}
+use Rattle.client_registry.specs.Numbers.{no_party, party_row}
 use Rattle.sso_places.specs.Written.{client_of_uri}
 use Rattle.sso_places.specs.Reading.{user_of_subject}
 use Rattle.sso_places.proofs.Lists.{any_none, any_has, index_has}
@@ -148,13 +148,3 @@ parties_apart c n k registry first second same =
             | inr there ↦ (let up : k ≤ n = rest in let down : n ≤ k = there in omega arith)
           ]
     ]
-
--- ---- secrets
-
--- the secret of the client that a party is
-pub secret_is : (c : Configuration) (n : ℕ) → n < length c.parties → party_secret c n ≡ client_secret c (party_row c n).client
-secret_is c n low =
-    let party = get_some c.parties n low in
-    let S : Option Party → Text = λ o. secret_in (option_and_then (client_of c) o) in
-    let R : Option Party → Text = λ o. client_secret c (unwrap_or o no_party).client in
-    ap S party.1 ∙ sym (ap R party.1)

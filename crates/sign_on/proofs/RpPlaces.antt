@@ -9,10 +9,11 @@ use Rattle.sso_base.specs.Legal.{last_moment}
 use Rattle.sso_base.proofs.RowLaws.{bool_cases}
 use Rattle.sso_base.proofs.WordTexts.{word_text_inj}
 use Rattle.sso_model.specs.Lists.{Has}
-use Rattle.sso_model.specs.Rows.{Began, Sent, Entered, Live, Machine, Step, begin, see}
+use Rattle.sso_model.specs.Rows.{Began, Sent, Entered, Dead, Live, Machine, Step, begin, see}
 use Rattle.sso_model.specs.Machine.{IsRun, after, after_all}
 use Rattle.sso_model.proofs.ListLaws.{all_weaker, all_filter, all_append, has_append_right, has_filter}
 use Rattle.sso_model.proofs.RunLaws.{Apart, apart_filter, run_append, after_append, lapses_run, lapses_after}
+use Rattle.sso_model.proofs.ForgetRuns.{DeadApart, deads_filter, forgets_run, forgets_after}
 use Rattle.client_registry.specs.Configuration.{Configuration}
 use Rattle.oidc_words.specs.declared.response_types.Types.{Types}
 use Rattle.rp_login.specs.declared.rows.SessionRow.{SessionRow}
@@ -41,13 +42,13 @@ use Rattle.sso_places.specs.Tokens.{TokenText}
 use Rattle.sso_places.specs.Written.{rp_written, written}
 use Rattle.sso_places.proofs.Numbers.{place_at_has}
 use Rattle.sso_places.specs.Premises.{HasDistinctWords, leaks}
-use Rattle.sso_places.specs.Reading.{machine_of, steps_at, lapses, party_steps, see_of, is_over, user_of_subject}
+use Rattle.sso_places.specs.Reading.{machine_of, steps_at, lapses, forgets, is_forgotten, party_steps, see_of, is_over, user_of_subject}
 use Rattle.sso_places.specs.Each.{Each}
 use Rattle.sso_places.specs.Agreement.{IsSameSession, rows_of, SignsOn}
 use Rattle.sign_on.proofs.Lists.{each_has, each_filter, each_weaker, each_all, filter_had, filter_both, all_kept, all_of, row_of-has, lives_some}
-use Rattle.sign_on.proofs.Invariant.{IsDrawnNonce, IsTokenAnswered, IsTokenSent, IsEnteredRow, IsEndedRow, IsBegun, IsBegunPlace, Agrees, Holds, IsKept, IsTokenBound}
+use Rattle.sign_on.proofs.Invariant.{IsDrawnNonce, IsTokenAnswered, IsTokenSent, IsEnteredRow, IsEndedRow, IsDeadRow, IsBegun, IsBegunPlace, Agrees, Holds, IsKept, IsTokenBound}
 use Rattle.sso_places.proofs.Places.{past_own, past_other, party_legal, legal_before, distinct_before, fresh_drawn, fresh_is_word, drawn_other}
-use Rattle.sign_on.proofs.Shared.{began_more, signed_more, answered_more, redeemed_more, entered_more, sessions_more, codes_more, each_more, events_more, own_browser, texts_more, sent_more, logouts_more, bound_more, ended_more}
+use Rattle.sign_on.proofs.Shared.{began_more, signed_more, answered_more, redeemed_more, entered_more, sessions_more, codes_more, each_more, events_more, own_browser, texts_more, sent_more, logouts_more, bound_more, ended_more, dead_more}
 use Rattle.sign_on.proofs.Registry.{parties_apart}
 use Rattle.sign_on.proofs.Texts.{object_answered, object_sent, object_bound}
 use Rattle.sign_on.proofs.AskKinds.{IsRequest, as_request}
@@ -56,24 +57,34 @@ use Rattle.sign_on.proofs.Pairs.{entered_finds, entered_word}
 
 -- ---- a place of a party in general
 
--- the machine after the lapses of the place
-abbrev pub lapsed : Site → ℕ → ℕ → World → Machine
-lapsed s n at world = record (machine_of s world) { live = settled world (client_of_party s n) at (machine_of s world).live }
+-- the machine after the lapses and the forgets of the place
+abbrev pub unforgotten : RpPast → ℕ → ℕ → List Dead → List Dead
+unforgotten past client at rows = filter (λ row. not (is_forgotten past client at row)) rows
 
--- what the steps after the lapses do, and what they leave
+abbrev pub lapsed : Site → ℕ → ℕ → World → Machine
+lapsed s n at world =
+    record (machine_of s world) {
+      live = settled world (client_of_party s n) at (machine_of s world).live;
+      dead = unforgotten (rp_past n world) (client_of_party s n) at (machine_of s world).dead;
+    }
+
+-- what the steps after those do, and what they leave
 pub record Does (s : Site) (n from : ℕ) (request : WorldAsk) (p : RpPair) (world : World) : Type 0 where
   pub began : List Began
   pub entered : List Entered
   pub live : List Live
   pub ended : List Sent
+  pub dead : List Dead
   pub run : IsRun (lapsed s n p.entry.at world) (party_steps s world (machine_of s world).out n from (rp_past n world) p p.entry.ask p.reply)
   pub leaves : after_all (lapsed s n p.entry.at world) (party_steps s world (machine_of s world).out n from (rp_past n world) p p.entry.ask p.reply)
-      ≡ record (machine_of s world) { began = began; entered = entered; live = live; ended = ended }
+      ≡ record (machine_of s world) { began = began; entered = entered; live = live; ended = ended; dead = dead }
   pub nonces : AllByRecursion (λ (row : Began). IsDrawnNonce (Party n from request p ∷ world) row.nonce) began
   pub begins : IsBegun s began n from p.entry.fresh p.reply
   pub still : (row : Began) → Has (machine_of s world).began row → Has began row
   pub entries : AllByRecursion (IsEnteredRow s (Party n from request p ∷ world)) entered
   pub endings : AllByRecursion (IsEndedRow s (Party n from request p ∷ world)) ended
+  pub deaths : AllByRecursion (IsDeadRow s (Party n from request p ∷ world)) dead
+  pub dead_once : DeadApart dead
   pub texts : AllByRecursion (IsTokenAnswered s.configuration (machine_of s world).answered) (rp_written s n p.entry.fresh p.reply)
   pub logouts : AllByRecursion (IsTokenSent s.configuration (Party n from request p ∷ world) (machine_of s world).out) (rp_written s n p.entry.fresh p.reply)
   pub bound : AllByRecursion (IsTokenBound s.configuration (Party n from request p ∷ world)) (rp_written s n p.entry.fresh p.reply)
@@ -102,14 +113,20 @@ rp_frame s n from request p world kept does =
     let client : ℕ = client_of_party s n in
     let at : ℕ = p.entry.at in
     let mid : Machine = lapsed s n at world in
-    let new : Machine = record m { began = does.began; entered = does.entered; live = does.live; ended = does.ended } in
+    let new : Machine = record m { began = does.began; entered = does.entered; live = does.live; ended = does.ended; dead = does.dead } in
     let first : List Step = lapses world client at m in
+    let then : List Step = forgets (rp_past n world) client at m in
     let second : List Step = party_steps s world m.out n from (rp_past n world) p p.entry.ask p.reply in
-    let left : after_all m first ≡ mid = lapses_after m (is_over world client at) old.apart in
+    let over : Machine = record m { live = settled world client at m.live } in
+    let left : after_all m first ≡ over = lapses_after m (is_over world client at) old.apart in
+    let forgot : after_all over then ≡ mid = forgets_after over (is_forgotten (rp_past n world) client at) old.dead_apart in
     let R : Machine → Type 0 = λ z. IsRun z second in
-    let run : IsRun m (steps_at s world m x) = run_append m first second (lapses_run m (is_over world client at) old.apart) (subst R (sym left) does.run) in
+    let rest : IsRun over (then ++ second) = run_append over then second (forgets_run over (is_forgotten (rp_past n world) client at) old.dead_apart) (subst R (sym forgot) does.run) in
+    let S : Machine → Type 0 = λ z. IsRun z (then ++ second) in
+    let run : IsRun m (steps_at s world m x) = run_append m first (then ++ second) (lapses_run m (is_over world client at) old.apart) (subst S (sym left) rest) in
     let A : Machine → Machine = λ z. after_all z second in
-    let leaves : machine_of s (x ∷ world) ≡ new = after_append m first second ∙ ap A left ∙ does.leaves in
+    let B : Machine → Machine = λ z. after_all z (then ++ second) in
+    let leaves : machine_of s (x ∷ world) ≡ new = after_append m first (then ++ second) ∙ ap B left ∙ after_append over then second ∙ ap A forgot ∙ does.leaves in
     let holds : Holds s (x ∷ world) new =
     record {
       closed = texts_more x world m.closed old.closed;
@@ -120,6 +137,8 @@ rp_frame s n from request p world kept does =
       redeemed = redeemed_more x world m.redeemed old.redeemed;
       entered = does.entries;
       ended = does.endings;
+      dead = does.deaths;
+      dead_apart = does.dead_once;
       sent = sent_more c x world m.out old.sent;
       sent_apart = old.sent_apart;
       tokens = all_append (IsTokenAnswered c m.answered) (rp_written s n p.entry.fresh p.reply) (written s world) does.texts old.tokens;
@@ -264,6 +283,7 @@ unentered s n from request p world began steps site mine order kept stay is run 
       entered = m.entered;
       live = rows;
       ended = m.ended;
+      dead = unforgotten (rp_past n world) client at m.dead;
       run = subst R (sym is) run;
       leaves = ap (after_all mid) is ∙ leaves;
       nonces = nonces;
@@ -271,6 +291,8 @@ unentered s n from request p world began steps site mine order kept stay is run 
       still = still;
       entries = entered_more s x world m.entered old.entered;
       endings = ended_more s x world m.ended old.ended;
+      deaths = dead_more s x world (unforgotten (rp_past n world) client at m.dead) (all_filter (IsDeadRow s world) (λ row. not (is_forgotten (rp_past n world) client at row)) m.dead old.dead);
+      dead_once = deads_filter (λ row. not (is_forgotten (rp_past n world) client at row)) m.dead old.dead_apart;
       texts = texts;
       logouts = logouts;
       bound = bound;
@@ -293,17 +315,18 @@ nothing_done s n from request p world site mine order kept stay none unwritten b
     unentered s n from request p world m.began [] site mine order kept stay none tt refl (began_more x world m.began kept.holds.began) begins (λ row has. has) (subst T (sym unwritten) tt) (subst L (sym unwritten) tt) (subst G (sym unwritten) tt)
 
 -- a place that drops those sessions that it ends
-pub fewer_done : (s : Site) (n from : ℕ) (request : WorldAsk) (p : RpPair) (world : World) (k : Live → Bool) (ended : List Sent) (steps : List Step) → IsSite s → n < length s.configuration.parties → last_moment (rp_past n world) ≤ p.entry.at → IsKept s world
+pub fewer_done : (s : Site) (n from : ℕ) (request : WorldAsk) (p : RpPair) (world : World) (k : Live → Bool) (ended : List Sent) (dead : List Dead) (steps : List Step) → IsSite s → n < length s.configuration.parties → last_moment (rp_past n world) ≤ p.entry.at → IsKept s world
     → visit_made (types_at s n) (visits (types_at s n) (rp_past n world)) (rp_past n world) p ≡ None
     → ((row : Live) (visit : SessionRow) → IsSameSession s (Party n from request p ∷ world) n row visit → row.client ≡ client_of_party s n → k row ≡ not (is_ended p visit))
     → ((j : ℕ) → j < length s.configuration.parties → (n ≡ j → ⊥) → (row : Live) (visit : SessionRow) → IsSameSession s (Party n from request p ∷ world) j row visit → row.client ≡ client_of_party s j → k row ≡ true)
     → party_steps s world (machine_of s world).out n from (rp_past n world) p p.entry.ask p.reply ≡ steps
     → IsRun (lapsed s n p.entry.at world) steps
-    → after_all (lapsed s n p.entry.at world) steps ≡ record (lapsed s n p.entry.at world) { ended = ended; live = filter k (settled world (client_of_party s n) p.entry.at (machine_of s world).live) }
+    → after_all (lapsed s n p.entry.at world) steps ≡ record (lapsed s n p.entry.at world) { ended = ended; live = filter k (settled world (client_of_party s n) p.entry.at (machine_of s world).live); dead = dead }
     → AllByRecursion (IsEndedRow s (Party n from request p ∷ world)) ended
+    → AllByRecursion (IsDeadRow s (Party n from request p ∷ world)) dead → DeadApart dead
     → rp_written s n p.entry.fresh p.reply ≡ [] → IsBegun s (machine_of s world).began n from p.entry.fresh p.reply
     → Does s n from request p world
-fewer_done s n from request p world k ended steps site mine order kept unmade own others is run leaves endings unwritten begins =
+fewer_done s n from request p world k ended dead steps site mine order kept unmade own others is run leaves endings deaths once unwritten begins =
     let x : Place = Party n from request p in
     let m : Machine = machine_of s world in
     let old : Holds s world m = kept.holds in
@@ -321,6 +344,7 @@ fewer_done s n from request p world k ended steps site mine order kept unmade ow
       entered = m.entered;
       live = filter k rows;
       ended = ended;
+      dead = dead;
       run = subst R (sym is) run;
       leaves = ap (after_all mid) is ∙ leaves;
       nonces = began_more x world m.began old.began;
@@ -328,6 +352,8 @@ fewer_done s n from request p world k ended steps site mine order kept unmade ow
       still = λ row has. has;
       entries = entered_more s x world m.entered old.entered;
       endings = endings;
+      deaths = deaths;
+      dead_once = once;
       texts = subst T (sym unwritten) tt;
       logouts = subst L (sym unwritten) tt;
       bound = subst G (sym unwritten) tt;

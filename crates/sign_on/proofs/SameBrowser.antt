@@ -7,7 +7,7 @@ use Rattle.sso_base.specs.Words.{Word, Text, is_word, word_text}
 use Rattle.sso_base.specs.declared.http.Ask.{Ask}
 use Rattle.sso_base.proofs.RowLaws.{bytes_same}
 use Rattle.sso_model.specs.Lists.{Has}
-use Rattle.sso_model.specs.Rows.{Answered, Sent, Live, Machine, Step, out, close, lapse}
+use Rattle.sso_model.specs.Rows.{Answered, Sent, Live, Machine, Step, out, close, lapse, Dead, forget}
 use Rattle.sso_model.specs.Machine.{after, after_all}
 use Rattle.sso_model.proofs.ListLaws.{all_weaker, all_has, has_append_left}
 use Rattle.sso_model.proofs.RunLaws.{after_append}
@@ -46,7 +46,7 @@ use Rattle.sso_places.specs.World.{Place, Provider, Party, Nothing, World, op_pa
 use Rattle.sso_places.specs.Legal.{IsLegalWorld}
 use Rattle.sso_places.specs.Cookies.{words_in, presented}
 use Rattle.sso_places.specs.Premises.{IsUnleaked, leaks}
-use Rattle.sso_places.specs.Reading.{machine_of, sign_of, sign_steps, answer_of, redeem_of, sent_to, sign_out_steps, reply_steps, enter_as, enter_of, see_of, drop_of, message_named, end_of, party_steps, lapses, is_over, user_of_subject}
+use Rattle.sso_places.specs.Reading.{machine_of, sign_of, sign_steps, answer_of, redeem_of, sent_to, sign_out_steps, reply_steps, enter_as, enter_of, see_of, drop_of, message_named, end_of, party_steps, lapses, is_over, user_of_subject, forgets, is_forgotten}
 use Rattle.sso_places.specs.Told.{told_clients, session_ended}
 use Rattle.sso_places.specs.SameBrowser.{WishesNonce, IsAskedFrom, IsAskedOnlyFrom, IsAnsweredOnlyTo}
 use Rattle.sign_on.proofs.Lists.{all_rows, row_of-has, lives_some}
@@ -218,6 +218,10 @@ lapses_same : (m : Machine) (rows : List Live) → (after_all m (map (λ (row : 
 lapses_same m [] = refl
 lapses_same m (row ∷ rows) = lapses_same (after m (lapse row.event)) rows
 
+forgets_same : (m : Machine) (rows : List Dead) → (after_all m (map (λ (row : Dead). forget row) rows)).answered ≡ m.answered
+forgets_same m [] = refl
+forgets_same m (row ∷ rows) = forgets_same (after m (forget row)) rows
+
 entered_as_same : (m : Machine) (number client from : ℕ) (drawn : Word) (user : Option ℕ) (sid : Option Text) → (after m (enter_as number client from drawn user sid)).answered ≡ m.answered
 entered_as_same m number client from drawn (Some user) (Some sid) = refl
 entered_as_same m number client from drawn user sid = refl
@@ -312,10 +316,13 @@ origins s (Party n from request p ∷ world) legal unleaked =
     let old : Origins s world = origins s world (legal_before s x world legal) unleaked.0 in
     let first : List Step = lapses world (client_of_party s n) p.entry.at m in
     let second : List Step = party_steps s world m.out n from (rp_past n world) p p.entry.ask p.reply in
-    let mid : Machine = after_all m first in
-    let same : (after_all m (first ++ second)).answered ≡ m.answered =
-    ap (λ (z : Machine). z.answered) (after_append m first second)
+    let then : List Step = forgets (rp_past n world) (client_of_party s n) p.entry.at m in
+    let over : Machine = after_all m first in
+    let mid : Machine = after_all over then in
+    let same : (after_all m (first ++ (then ++ second))).answered ≡ m.answered =
+    ap (λ (z : Machine). z.answered) (after_append m first (then ++ second) ∙ after_append over then second)
     ∙ party_same s mid world m.out n from (rp_past n world) p p.entry.ask p.reply
+    ∙ forgets_same over (filter (is_forgotten (rp_past n world) (client_of_party s n) p.entry.at) m.dead)
     ∙ lapses_same m (filter (is_over world (client_of_party s n) p.entry.at) m.live) in
     let A : List Answered → Type 0 = λ rows. AllByRecursion (IsAnswerOf (x ∷ world)) rows in
     record {

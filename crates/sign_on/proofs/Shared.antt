@@ -6,12 +6,18 @@ use Rattle.std.proofs.lemmas.List.{append_assoc}
 use Rattle.std.specs.Str.{bytes_eq}
 use Rattle.std.specs.List.{AllByRecursion, list_any}
 use Rattle.sso_base.specs.Words.{Word, Text, word_text}
-use Rattle.sso_base.proofs.RowLaws.{bool_cases, option_cases, bytes_same, bytes_true}
+use Rattle.sso_base.proofs.RowLaws.{bool_cases, option_cases, bytes_same, bytes_true, row_of-more}
 use Rattle.sso_model.specs.Lists.{Has}
-use Rattle.sso_model.specs.Rows.{Began, Signed, Answered, Sent, Entered, Live}
+use Rattle.sso_model.specs.Rows.{Began, Signed, Answered, Sent, Entered, Dead, Live}
 use Rattle.sso_model.proofs.ListLaws.{all_weaker}
 use Rattle.op_answer.specs.Past.{OpPast}
-use Rattle.rp_answer.specs.Past.{RpPast}
+use Rattle.rp_answer.specs.Past.{RpPair, RpPast}
+use Rattle.rp_answer.specs.Deads.{deads, dead_made, dead_kept}
+use Rattle.rp_answer.proofs.KeptNames.{dead_names}
+use Rattle.rp_login.specs.declared.rows.DeadRow.{DeadRow}
+use Rattle.rp_login.specs.Rows.{dead_name}
+use Rattle.sso_base.specs.Rows.{row_of}
+use Rattle.sso_base.specs.Stands as stands
 use Rattle.client_registry.specs.Configuration.{Configuration}
 use Rattle.rp_login.specs.declared.rows.SessionRow.{SessionRow as VisitRow}
 use Rattle.code_grant.specs.declared.rows.SessionRow.{SessionRow}
@@ -20,18 +26,17 @@ use Rattle.sso_places.specs.Site.{Site}
 use Rattle.sso_places.specs.World.{Place, Provider, Party, Nothing, World, place_at, from_of, moment_of, op_past, rp_past, op_place}
 use Rattle.sso_places.specs.Reading.{jti_at}
 use Rattle.sso_places.specs.Cookies.{set_at, presented}
-use Rattle.sso_places.specs.Tokens.{TokenText, is_token, is_sealed}
+use Rattle.sso_places.specs.Tokens.{TokenText, is_token, is_sealed_for}
 use Rattle.sso_places.specs.Written.{written}
 use Rattle.sso_places.specs.Checked.{checked}
 use Rattle.sso_places.specs.Premises.{sets_elsewhere, set_elsewhere, leaks, is_written, is_forged, forges}
 use Rattle.sso_places.specs.Each.{Each}
 use Rattle.sso_places.specs.Agreement.{IsSameSession}
-use Rattle.client_registry.specs.Numbers.{client_secret}
 use Rattle.sso_places.proofs.Lists.{any_none, any_some, any_has}
 use Rattle.sso_places.proofs.Places.{More, past_more, op_more, drawn_more}
 use Rattle.sso_places.proofs.Numbers.{place_at_before, place_at_low}
 use Rattle.sign_on.proofs.Lists.{each_weaker}
-use Rattle.sign_on.proofs.Invariant.{IsSetBy, IsDrawnText, IsDrawnNonce, IsSessionOwned, AnsweredBy, IsCodeAnswered, AnsweredAs, IsTokenAnswered, SentAs, IsTokenSent, IsSentRow, IsRedeemed, IsBegunAt, IsEnteredRow, IsEndedRow, Owns, HasReplied, IsTokenBound}
+use Rattle.sign_on.proofs.Invariant.{IsSetBy, IsDrawnText, IsDrawnNonce, IsSessionOwned, AnsweredBy, IsCodeAnswered, AnsweredAs, IsTokenAnswered, SentAs, IsTokenSent, IsSentRow, IsRedeemed, IsBegunAt, IsEnteredRow, IsEndedRow, IsDeadRow, Owns, HasReplied, IsTokenBound}
 
 -- ---- cookies
 
@@ -63,7 +68,7 @@ token_same t u first second =
     ap F first ∙ ap G second
 
 -- a sealed text that is checked, and that is not forged, was written before
-pub was_written : (s : Site) (world : World) (x : Place) (t : TokenText) → forges s world x ≡ false → Has (checked s x) t → is_sealed (client_secret s.configuration t.0) t.1 ≡ true → Has (written s world) t
+pub was_written : (s : Site) (world : World) (x : Place) (t : TokenText) → forges s world x ≡ false → Has (checked s x) t → is_sealed_for s.configuration t ≡ true → Has (written s world) t
 was_written s world x t clean checks seals =
     let kept : is_forged s world t ≡ false = any_none (is_forged s world) (checked s x) t clean checks in
     let S : Bool → Bool = λ b. b && not (is_written s world t) in
@@ -206,10 +211,44 @@ entered_one s x world row old =
 pub entered_more : (s : Site) (x : Place) (world : World) (rows : List Entered) → AllByRecursion (IsEnteredRow s world) rows → AllByRecursion (IsEnteredRow s (x ∷ world)) rows
 entered_more s x world rows all = all_weaker (IsEnteredRow s world) (IsEnteredRow s (x ∷ world)) rows (entered_one s x world) all
 
+-- a record of a session identifier stays, or a later one takes its place
+dead_next : (p : RpPair) (past : RpPast) (sid : Text) (row : DeadRow) → row_of dead_name sid (deads past) ≡ Some row → (after : DeadRow) × (row_of dead_name sid (deads (p ∷ past)) ≡ Some after)
+dead_next p past sid row found =
+    let made : Option DeadRow = dead_made (deads past) past p in
+    let held : Option DeadRow = option_and_then (dead_kept past p) (row_of dead_name sid (deads past)) in
+    let K : Option DeadRow → Option DeadRow = λ o. option_and_then (dead_kept past p) o in
+    let M : Option DeadRow → Option DeadRow = λ o. cond (stands.is_named dead_name sid o) o held in
+    let more : row_of dead_name sid (deads (p ∷ past)) ≡ M made = row_of-more dead_name dead_made dead_kept dead_names sid p past in
+    elim (option_cases made) [
+      | inl none ↦ (row, more ∙ ap M none ∙ ap K found)
+      | inr new ↦
+          (let C : Bool → Option DeadRow = λ b. cond b (Some new.0) held in
+          elim (bool_cases (stands.is_named dead_name sid (Some new.0))) [
+            | inl e ↦ (new.0, more ∙ ap M new.1 ∙ ap C e)
+            | inr e ↦ (row, more ∙ ap M new.1 ∙ ap C e ∙ ap K found)
+          ])
+    ]
+
+dead_later : (added past : RpPast) (sid : Text) (row : DeadRow) → row_of dead_name sid (deads past) ≡ Some row → (after : DeadRow) × (row_of dead_name sid (deads (added ++ past)) ≡ Some after)
+dead_later [] past sid row found = (row, found)
+dead_later (p ∷ added) past sid row found =
+    let before = dead_later added past sid row found in
+    dead_next p (added ++ past) sid before.0 before.1
+
+dead_one : (s : Site) (x : Place) (world : World) (row : Dead) → IsDeadRow s world row → IsDeadRow s (x ∷ world) row
+dead_one s x world row old =
+    let more : More old.n x world = past_more old.n x world in
+    let after = dead_later more.added (rp_past old.n world) row.sid old.dead old.remembered in
+    let D : RpPast → Option DeadRow = λ past. row_of dead_name row.sid (deads past) in
+    record { n = old.n; known = old.known; client = old.client; dead = after.0; remembered = ap D more.is ∙ after.1 }
+
+pub dead_more : (s : Site) (x : Place) (world : World) (rows : List Dead) → AllByRecursion (IsDeadRow s world) rows → AllByRecursion (IsDeadRow s (x ∷ world)) rows
+dead_more s x world rows all = all_weaker (IsDeadRow s world) (IsDeadRow s (x ∷ world)) rows (dead_one s x world) all
+
 -- an answer more
 answered_as_more : (c : Configuration) (row : Answered) (answered : List Answered) (t : TokenText) → IsTokenAnswered c answered t → IsTokenAnswered c (row ∷ answered) t
-answered_as_more c row answered t old x nonce read is =
-    let was : AnsweredAs c answered t.0 x nonce = old x nonce read is in
+answered_as_more c row answered t old key x nonce read is =
+    let was : AnsweredAs c answered t.0 x nonce = old key x nonce read is in
     record { row = was.row; has = inr was.has; nonce_is = was.nonce_is; client_is = was.client_is; known = was.known; subject = was.subject; sid = was.sid }
 
 pub tokens_more : (c : Configuration) (row : Answered) (answered : List Answered) (texts : List TokenText) → AllByRecursion (IsTokenAnswered c answered) texts → AllByRecursion (IsTokenAnswered c (row ∷ answered)) texts
@@ -294,8 +333,8 @@ pub sent_more : (c : Configuration) (x : Place) (world : World) (rows : List Sen
 sent_more c x world rows all = all_weaker (IsSentRow c world) (IsSentRow c (x ∷ world)) rows (sent_row_more c x world) all
 
 pub sent_as_more : (c : Configuration) (x : Place) (world : World) (sent after : List Sent) (t : TokenText) → ((row : Sent) → Has sent row → Has after row) → IsTokenSent c world sent t → IsTokenSent c (x ∷ world) after t
-sent_as_more c x world sent after t stays old y read =
-    let was : SentAs c world sent t.0 y = old y read in
+sent_as_more c x world sent after t stays old key y read =
+    let was : SentAs c world sent t.0 y = old key y read in
     record {
       row = was.row;
       has = stays was.row was.has;
@@ -313,8 +352,8 @@ logouts_more c x world sent after texts stays all = all_weaker (IsTokenSent c wo
 
 -- ID Tokens in one reply with codes and access tokens
 bound_one : (c : Configuration) (x : Place) (world : World) (t : TokenText) → IsTokenBound c world t → IsTokenBound c (x ∷ world) t
-bound_one c x world t old y nonce read is =
-    let was : HasReplied world t.1 y = old y nonce read is in
+bound_one c x world t old key y nonce read is =
+    let was : HasReplied world t.1 y = old key y nonce read is in
     record { from = was.from; request = was.request; pair = was.pair; has = inr was.has; replied = was.replied }
 
 pub bound_more : (c : Configuration) (x : Place) (world : World) (texts : List TokenText) → AllByRecursion (IsTokenBound c world) texts → AllByRecursion (IsTokenBound c (x ∷ world)) texts

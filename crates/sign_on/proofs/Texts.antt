@@ -1,5 +1,5 @@
 -- Texts: which of those that are written read as an ID Token, and which as a logout token.
-use Rattle.std.proofs.Common.{◌≡◌, ℕ, ◌<◌, Bool, true, false, cond, List, [], ◌∷◌, length, Option, Some, None, Result, Ok, Err, is_some, codes, refl, sym, ap, ◌∙◌, subst}
+use Rattle.std.proofs.Common.{◌≡◌, ◌⊎◌, inl, inr, ℕ, ◌<◌, Bool, true, false, cond, List, [], ◌∷◌, length, Option, Some, None, Result, Ok, Err, is_some, codes, refl, sym, ap, ◌∙◌, subst}
 use Rattle.std.specs.List.{AllByRecursion}
 use Rattle.std.specs.Result.{result_ok}
 use Rattle.sso_base.specs.Words.{Word, Text, IsWord, fresh_word, word_text}
@@ -8,17 +8,21 @@ use Rattle.sso_model.specs.Lists.{Has}
 use Rattle.jws_compact.specs.Jws.{verdict as opened_as}
 use Rattle.jws_compact.specs.declared.unsealing.Unsealed.{Unsealed}
 use Rattle.jws_compact.specs.declared.no.JwsNo.{JwsNo}
+use Rattle.jws_compact.specs.declared.no.JwsNo.TheVariants.{BadMac}
+use Rattle.client_keys.proofs.EachKey.{other_key}
 use Rattle.jws_compact.proofs.Opening.{same_payload}
 use Rattle.client_registry.specs.Configuration.{Configuration, subject_at}
-use Rattle.client_registry.specs.Numbers.{client_secret, party_row, party_client}
+use Rattle.client_registry.specs.Numbers.{client_sealing, party_row, party_client}
 use Rattle.id_token.specs.declared.claims.IdClaims.{IdClaims}
 use Rattle.id_token.specs.declared.no.IdNo.{IdNo}
 use Rattle.id_token.specs.Reading.{id_read}
+use Rattle.id_token.specs.Reading as id_token
 use Rattle.id_token.specs.Token.{IsIdToken}
 use Rattle.id_token.proofs.Tokens.{unopened, id_read-token}
 use Rattle.logout_token.specs.declared.claims.LogoutClaims.{LogoutClaims}
 use Rattle.logout_token.specs.declared.no.LogoutNo.{LogoutNo}
 use Rattle.logout_token.specs.LogoutToken.{logout_read}
+use Rattle.logout_token.specs.LogoutToken as logout_token
 use Rattle.logout_token.specs.Token.{IsLogoutToken}
 use Rattle.logout_token.proofs.Tokens.{logout_read-unopened, IsLogoutToken-read}
 use Rattle.auth_request.specs.declared.wish.Wish.{Wish}
@@ -60,6 +64,43 @@ logout_by k t y (Err why) opened read = (let never = sym read ∙ logout_read-un
 pub logout_is_sealed : (k t : Text) (y : LogoutClaims) → logout_read k t ≡ Ok y → is_sealed k t ≡ true
 logout_is_sealed k t y read = logout_by k t y (opened_as k t) refl read
 
+-- ---- whatever key reads a text, it reads the same claims
+
+opened_once : (k l t : Text) (u v : Unsealed) → opened_as k t ≡ Ok u → opened_as l t ≡ Ok v → u ≡ v
+opened_once k l t u v first second = at (other_key k l t u first)
+  where
+    at : (opened_as l t ≡ Ok u) ⊎ (opened_as l t ≡ Err BadMac) → u ≡ v
+    at (inl is) = cc
+    at (inr bad) = absurd (cc)
+
+same_ok : (y z : IdClaims) (r : Result IdClaims IdNo) → r ≡ Ok y → r ≡ Ok z → y ≡ z
+same_ok y z r first second = cc
+
+ids_once : (k l t : Text) (x y : IdClaims) (r q : Result Unsealed JwsNo) → opened_as k t ≡ r → opened_as l t ≡ q → id_token.if_opened r ≡ Ok x → id_token.if_opened q ≡ Ok y → x ≡ y
+ids_once k l t x y (Ok u) (Ok v) first second one two =
+    let F : Unsealed → Result IdClaims IdNo = λ w. id_token.if_opened (Ok w) in
+    same_ok x y (F v) (ap F (sym (opened_once k l t u v first second)) ∙ one) two
+ids_once k l t x y (Ok u) (Err e) first second one two = absurd (cc)
+ids_once k l t x y (Err e) q first second one two = absurd (cc)
+
+id_once : (k l t : Text) (x y : IdClaims) → id_read k t ≡ Ok x → id_read l t ≡ Ok y → x ≡ y
+unfolding id_read
+id_once k l t x y one two = ids_once k l t x y (opened_as k t) (opened_as l t) refl refl one two
+
+same_logout : (y z : LogoutClaims) (r : Result LogoutClaims LogoutNo) → r ≡ Ok y → r ≡ Ok z → y ≡ z
+same_logout y z r first second = cc
+
+logouts_once : (k l t : Text) (x y : LogoutClaims) (r q : Result Unsealed JwsNo) → opened_as k t ≡ r → opened_as l t ≡ q → logout_token.if_opened r ≡ Ok x → logout_token.if_opened q ≡ Ok y → x ≡ y
+logouts_once k l t x y (Ok u) (Ok v) first second one two =
+    let F : Unsealed → Result LogoutClaims LogoutNo = λ w. logout_token.if_opened (Ok w) in
+    same_logout x y (F v) (ap F (sym (opened_once k l t u v first second)) ∙ one) two
+logouts_once k l t x y (Ok u) (Err e) first second one two = absurd (cc)
+logouts_once k l t x y (Err e) q first second one two = absurd (cc)
+
+logout_once : (k l t : Text) (x y : LogoutClaims) → logout_read k t ≡ Ok x → logout_read l t ≡ Ok y → x ≡ y
+unfolding logout_read
+logout_once k l t x y one two = logouts_once k l t x y (opened_as k t) (opened_as l t) refl refl one two
+
 -- ---- a request object is no token
 
 all_if : (P : TokenText → Type 0) (b : Bool) (t : TokenText) → P t → AllByRecursion P (cond b (t ∷ []) [])
@@ -79,29 +120,26 @@ module _ (s : Site) (n : ℕ) (fresh : List Word) (site : IsSite s) (known : n <
   pub object_answered : (answered : List Answered) → AllByRecursion (IsTokenAnswered c answered) (object_written s n fresh)
   object_answered answered =
       all_if (IsTokenAnswered c answered) (party_row c n).signed object
-      (λ x given read is. absurd (object_no_id c n (s.trusts n).issuer (fresh_word fresh 1) (fresh_word fresh 2) (client_secret c (client_of_party s n)) x may read))
+      (λ key x given read is. absurd (object_no_id c n (s.trusts n).issuer (fresh_word fresh 1) (fresh_word fresh 2) key x may read))
 
   pub object_sent : (world : World) (sent : List Sent) → AllByRecursion (IsTokenSent c world sent) (object_written s n fresh)
   object_sent world sent =
       all_if (IsTokenSent c world sent) (party_row c n).signed object
-      (λ y read. absurd (object_no_logout c n (s.trusts n).issuer (fresh_word fresh 1) (fresh_word fresh 2) (client_secret c (client_of_party s n)) y may read))
+      (λ key y read. absurd (object_no_logout c n (s.trusts n).issuer (fresh_word fresh 1) (fresh_word fresh 2) key y may read))
 
   pub object_bound : (world : World) → AllByRecursion (IsTokenBound c world) (object_written s n fresh)
   object_bound world =
       all_if (IsTokenBound c world) (party_row c n).signed object
-      (λ x given read is. absurd (object_no_id c n (s.trusts n).issuer (fresh_word fresh 1) (fresh_word fresh 2) (client_secret c (client_of_party s n)) x may read))
+      (λ key x given read is. absurd (object_no_id c n (s.trusts n).issuer (fresh_word fresh 1) (fresh_word fresh 2) key x may read))
 
 -- ---- an ID Token that the provider wrote
-
-same_ok : (y z : IdClaims) (r : Result IdClaims IdNo) → r ≡ Ok y → r ≡ Ok z → y ≡ z
-same_ok y z r first second = cc
 
 pub issued_answered : (c : Configuration) (wish : Wish) (who : Authentication) (at : ℕ) (access code : Option Word) (answered : List Answered) (row : Answered) → MayIssue c wish who at → IsWishValue wish
     → Has answered row → row.nonce ≡ wish.nonce → row.client ≡ wish.client → row.user ≡ who.user → row.sid ≡ word_text who.sid
     → IsTokenAnswered c answered (wish.client, issued_id c wish who at access code)
 unfolding id_claims
-issued_answered c wish who at access code answered row may value has nonce client user sid x given read is =
-    let same : id_claims c wish who at access code ≡ x = same_ok (id_claims c wish who at access code) x (id_read (client_secret c wish.client) (issued_id c wish who at access code)) (is_read_back c wish who at access code may value) read in
+issued_answered c wish who at access code answered row may value has nonce client user sid key x given read is =
+    let same : id_claims c wish who at access code ≡ x = id_once (client_sealing c wish.client) key (issued_id c wish who at access code) (id_claims c wish who at access code) x (is_read_back c wish who at access code may value) read in
     let Known : ℕ → Type 0 = λ u. u < length c.users in
     record {
       row = row;
@@ -114,17 +152,17 @@ issued_answered c wish who at access code answered row may value has nonce clien
     }
 
 -- it has the half digests of the code and of the access token that it was written with
-pub issued_hashes : (c : Configuration) (wish : Wish) (who : Authentication) (at : ℕ) (access code : Option Word) (x : IdClaims) → MayIssue c wish who at → IsWishValue wish
-    → id_read (client_secret c wish.client) (issued_id c wish who at access code) ≡ Ok x → (x.c_hash ≡ hash_of code) × (x.at_hash ≡ hash_of access)
+pub issued_hashes : (c : Configuration) (wish : Wish) (who : Authentication) (at : ℕ) (access code : Option Word) (key : Text) (x : IdClaims) → MayIssue c wish who at → IsWishValue wish
+    → id_read key (issued_id c wish who at access code) ≡ Ok x → (x.c_hash ≡ hash_of code) × (x.at_hash ≡ hash_of access)
 unfolding id_claims
-issued_hashes c wish who at access code x may value read =
-    let same : id_claims c wish who at access code ≡ x = same_ok (id_claims c wish who at access code) x (id_read (client_secret c wish.client) (issued_id c wish who at access code)) (is_read_back c wish who at access code may value) read in
+issued_hashes c wish who at access code key x may value read =
+    let same : id_claims c wish who at access code ≡ x = id_once (client_sealing c wish.client) key (issued_id c wish who at access code) (id_claims c wish who at access code) x (is_read_back c wish who at access code may value) read in
     (sym (ap (λ (y : IdClaims). y.c_hash) same), sym (ap (λ (y : IdClaims). y.at_hash) same))
 
 -- it is no logout token
 pub issued_unsent : (c : Configuration) (wish : Wish) (who : Authentication) (at : ℕ) (access code : Option Word) (world : World) (sent : List Sent) → MayIssue c wish who at → IsWishValue wish
     → IsTokenSent c world sent (wish.client, issued_id c wish who at access code)
-issued_unsent c wish who at access code world sent may value y read = absurd (id_is_no_logout c wish who at access code (client_secret c wish.client) y may value read)
+issued_unsent c wish who at access code world sent may value key y read = absurd (id_is_no_logout c wish who at access code key y may value read)
 
 -- what is true for the token of an answer, if it has one, is true for what the answer writes
 pub token_where : (P : TokenText → Type 0) (client : ℕ) (o : Option ℕ) (b : Bool) (t : Text) → o ≡ Some client → (b ≡ true → P (client, t)) → AllByRecursion P (token_if o (if_wished b t))
@@ -140,27 +178,24 @@ token_written P client o b t is says = token_where P client o b t is (λ wished.
 
 -- ---- a logout token that the provider wrote
 
-same_logout : (y z : LogoutClaims) (r : Result LogoutClaims LogoutNo) → r ≡ Ok y → r ≡ Ok z → y ≡ z
-same_logout y z r first second = cc
-
 -- it is read as its claims
-pub logout_claims_are : (c : Configuration) (client : ℕ) (out : SignOut) (y : LogoutClaims) → MayEnd c client out → logout_read (client_secret c client) (issued_logout c client out) ≡ Ok y → logout_claims c client out ≡ y
-logout_claims_are c client out y may read =
-    same_logout (logout_claims c client out) y (logout_read (client_secret c client) (issued_logout c client out)) (logouts.is_read_back c client out may) read
+pub logout_claims_are : (c : Configuration) (client : ℕ) (out : SignOut) (key : Text) (y : LogoutClaims) → MayEnd c client out → logout_read key (issued_logout c client out) ≡ Ok y → logout_claims c client out ≡ y
+logout_claims_are c client out key y may read =
+    logout_once (client_sealing c client) key (issued_logout c client out) (logout_claims c client out) y (logouts.is_read_back c client out may) read
 
 -- and it has no nonce, so it is no ID Token that counts
-logout_no_nonce : (c : Configuration) (client : ℕ) (out : SignOut) (x : IdClaims) (given : Text) → MayEnd c client out → id_read (client_secret c client) (issued_logout c client out) ≡ Ok x → x.nonce ≡ Some given → ⊥
-logout_no_nonce c client out x given may read is =
-    let k : Text = client_secret c client in
+logout_no_nonce : (c : Configuration) (client : ℕ) (out : SignOut) (key : Text) (x : IdClaims) (given : Text) → MayEnd c client out → id_read key (issued_logout c client out) ≡ Ok x → x.nonce ≡ Some given → ⊥
+logout_no_nonce c client out key x given may read is =
+    let k : Text = client_sealing c client in
     let t : Text = issued_logout c client out in
     let told : IsLogoutToken k t (logout_claims c client out) = IsLogoutToken-read k t (logout_claims c client out) (logouts.is_read_back c client out may) in
-    let id : IsIdToken k t x = id_read-token k t x read in
-    let payload = same_payload k k told.header id.header told.payload id.payload t told.sealed id.sealed in
+    let id : IsIdToken key t x = id_read-token key t x read in
+    let payload = same_payload k key told.header id.header told.payload id.payload t told.sealed id.sealed in
     let claims = same_claims told.claims id.claims told.payload id.payload payload told.reads id.reads in
     nothing_stands (codes "nonce") given x.nonce told.claims id.claims claims told.has.no_nonce id.has.nonce is
 
 pub logout_unanswered : (c : Configuration) (client : ℕ) (out : SignOut) (answered : List Answered) → MayEnd c client out → IsTokenAnswered c answered (client, issued_logout c client out)
-logout_unanswered c client out answered may x given read is = absurd (logout_no_nonce c client out x given may read is)
+logout_unanswered c client out answered may key x given read is = absurd (logout_no_nonce c client out key x given may read is)
 
 pub logout_unbound : (c : Configuration) (client : ℕ) (out : SignOut) (world : World) → MayEnd c client out → IsTokenBound c world (client, issued_logout c client out)
-logout_unbound c client out world may x given read is = absurd (logout_no_nonce c client out x given may read is)
+logout_unbound c client out world may key x given read is = absurd (logout_no_nonce c client out key x given may read is)

@@ -10,11 +10,11 @@ use Rattle.url.proofs.OnLiterals.{url_on_literals}
 use Rattle.registered_url.specs.Rule.{parts_of}
 use Rattle.configuration_rows.specs.declared.no.RegNo.{RegNo}
 use Rattle.configuration_rows.specs.declared.no.RegNo.TheVariants as reg
-use Rattle.configuration_rows.specs.Version1.{rows_refusals}
+use Rattle.configuration_rows.specs.Rows.{rows_refusals}
 use Rattle.client_registry.specs.Rules.{records_refusals, subjects_refusals}
 use Rattle.client_registry.specs.declared.records.Provider.{Provider}
 use Rattle.client_registry.specs.Configuration.{Configuration, configuration_of}
-use Rattle.client_registry.specs.Reading.{document_in, version1_read, records_read, subjects_read, registry_read}
+use Rattle.client_registry.specs.Reading.{document_in, rows_read, records_read, subjects_read, registry_read}
 use Rattle.sso_base.specs.Words.{Text}
 use Rattle.sso_base.specs.Outside.{Content, content_of}
 use Rattle.jws_compact.specs.declared.no.JwsNo.{JwsNo}
@@ -71,7 +71,7 @@ configuration = record {
 }
 
 small_read : registry_read small ≡ Ok configuration
-unfolding document_in toml_on_literals version1_read records_read subjects_read rows_refusals records_refusals subjects_refusals configuration_of url_on_literals parts_of hex_on_literals is_utf8 chars
+unfolding document_in toml_on_literals rows_read records_read subjects_read rows_refusals records_refusals subjects_refusals configuration_of url_on_literals parts_of hex_on_literals is_utf8 chars
 small_read = refl
 
 -- one that is no TOML

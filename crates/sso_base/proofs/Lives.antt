@@ -31,7 +31,7 @@ live_later {R} n begun at now order (r ∷ rs) =
       ]
     ]
 
-live_without : {R : Type 0} (name : R → Word) (n : ℕ) (begun : R → ℕ) (now : ℕ) (w : Word) (rows : List R) → live_rows n begun now (without name w rows) ≡ without name w (live_rows n begun now rows)
+pub live_without : {R : Type 0} (name : R → Word) (n : ℕ) (begun : R → ℕ) (now : ℕ) (w : Word) (rows : List R) → live_rows n begun now (without name w rows) ≡ without name w (live_rows n begun now rows)
 live_without name n begun now w [] = refl
 live_without {R} name n begun now w (r ∷ rs) =
     let again = live_without name n begun now w rs in

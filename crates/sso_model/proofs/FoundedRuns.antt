@@ -2,7 +2,7 @@
 use Rattle.std.proofs.Common.{List, [], ◌∷◌, inr, not}
 use Rattle.std.specs.List.{AllByRecursion}
 use Rattle.sso_model.specs.Lists.{Has}
-use Rattle.sso_model.specs.Rows.{Began, Signed, Answered, Live, Machine, Step, begin, sign, answer, redeem, out, close, enter, see, drop, end, lapse, unnamed}
+use Rattle.sso_model.specs.Rows.{Began, Signed, Answered, Live, Machine, Step, begin, sign, answer, redeem, out, close, enter, see, drop, end, forget, lapse, unnamed}
 use Rattle.sso_model.specs.Machine.{MayTake, after, after_all, IsRun, start, is_meant, is_of, signed_row, IsAnsweredFor}
 use Rattle.sso_model.specs.Founded.{IsFounded, HoldsOnlyFounded}
 use Rattle.sso_model.proofs.ListLaws.{all_weaker, all_has, all_filter, all_append}
@@ -55,6 +55,7 @@ more_rows m (enter row) = record { began = λ _ has. has; answered = λ _ has. h
 more_rows m (see event client browser user) = record { began = λ _ has. has; answered = λ _ has. has; signed = λ _ has. has }
 more_rows m (drop event client browser) = record { began = λ _ has. has; answered = λ _ has. has; signed = λ _ has. has }
 more_rows m (end row count) = record { began = λ _ has. has; answered = λ _ has. has; signed = λ _ has. has }
+more_rows m (forget row) = record { began = λ _ has. has; answered = λ _ has. has; signed = λ _ has. has }
 more_rows m (lapse event) = record { began = λ _ has. has; answered = λ _ has. has; signed = λ _ has. has }
 more_rows m unnamed = record { began = λ _ has. has; answered = λ _ has. has; signed = λ _ has. has }
 
@@ -89,6 +90,7 @@ step_keeps m (end message count) is may = record {
   founded = all_filter (IsFounded (after m (end message count))) (λ row. not (is_meant message row)) m.live (still_founded m (end message count) is);
   signed = is.signed;
 }
+step_keeps m (forget row) is may = record { founded = still_founded m (forget row) is; signed = is.signed }
 step_keeps m (lapse event) is may = record {
   founded = all_filter (IsFounded (after m (lapse event))) (λ row. not (is_of event row)) m.live (still_founded m (lapse event) is);
   signed = is.signed;

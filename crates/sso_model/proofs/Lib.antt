@@ -1,3 +1,4 @@
+pub mod ForgetRuns
 pub mod FoundedRuns
 pub mod ListLaws
 pub mod NamedEnds

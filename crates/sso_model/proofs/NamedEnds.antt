@@ -10,14 +10,14 @@ use Rattle.sso_model.specs.Machine.{is_meant}
 use Rattle.sso_model.specs.Named.{IsNamed}
 use Rattle.sso_model.proofs.ListLaws.{has_filter}
 
-bool_cases : (b : Bool) → (b ≡ true) ⊎ (b ≡ false)
+pub bool_cases : (b : Bool) → (b ≡ true) ⊎ (b ≡ false)
 bool_cases true = inl refl
 bool_cases false = inr refl
 
-same_number : (m n : ℕ) → eqb m n ≡ true → m ≡ n
+pub same_number : (m n : ℕ) → eqb m n ≡ true → m ≡ n
 same_number m n h = grind (arith, nat_tests)
 
-number_same : (m n : ℕ) → m ≡ n → eqb m n ≡ true
+pub number_same : (m n : ℕ) → m ≡ n → eqb m n ≡ true
 number_same m n h = grind (arith, nat_tests)
 
 -- the session identifier counts if the message says so
@@ -47,7 +47,7 @@ named_meant message row named =
 
 -- ---- what is left
 
-filter_passes : {A : Type 0} (test : A → Bool) (xs : List A) (x : A) → Has (filter test xs) x → test x ≡ true
+pub filter_passes : {A : Type 0} (test : A → Bool) (xs : List A) (x : A) → Has (filter test xs) x → test x ≡ true
 filter_passes test [] x has = absurd has
 filter_passes test (y ∷ ys) x has =
     let HasIf : Bool → Type 0 = λ b. Has (cond b (y ∷ filter test ys) (filter test ys)) x in

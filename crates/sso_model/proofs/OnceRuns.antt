@@ -1,6 +1,6 @@
 -- After each run of the machine, nothing was entered, redeemed or ended twice.
 use Rattle.std.proofs.Common.{List, [], ◌∷◌}
-use Rattle.sso_model.specs.Rows.{Machine, Step, begin, sign, answer, redeem, out, close, enter, see, drop, end, lapse, unnamed}
+use Rattle.sso_model.specs.Rows.{Machine, Step, begin, sign, answer, redeem, out, close, enter, see, drop, end, forget, lapse, unnamed}
 use Rattle.sso_model.specs.Machine.{MayTake, after, after_all, IsRun, start}
 use Rattle.sso_model.specs.Founded.{OnceEach}
 
@@ -15,6 +15,7 @@ step_keeps m (enter row) once may = record { entered = (may.2, once.entered); re
 step_keeps m (see event client browser user) once may = once
 step_keeps m (drop event client browser) once may = record { entered = once.entered; redeemed = once.redeemed; ended = once.ended }
 step_keeps m (end row count) once may = record { entered = once.entered; redeemed = once.redeemed; ended = (may.1, once.ended) }
+step_keeps m (forget row) once may = record { entered = once.entered; redeemed = once.redeemed; ended = once.ended }
 step_keeps m (lapse event) once may = record { entered = once.entered; redeemed = once.redeemed; ended = once.ended }
 step_keeps m unnamed once may = absurd may
 

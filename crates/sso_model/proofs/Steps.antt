@@ -1,7 +1,7 @@
 -- Each step on small machines: one in which it may be taken, and one in which it may not. And a login with a logout, as a run.
-use Rattle.std.proofs.Common.{◌≡◌, ℕ, true, List, [], ◌∷◌, Some, length, filter, inl, inr, refl, ap, ◌∙◌, arith}
-use Rattle.sso_model.specs.Rows.{Began, Signed, Answered, Sent, Live, Machine, Step, begin, sign, answer, redeem, out, close, enter, see, drop, end, lapse, unnamed}
-use Rattle.sso_model.specs.Machine.{MayTake, IsRun, after, after_all, start, is_meant}
+use Rattle.std.proofs.Common.{◌≡◌, ℕ, true, false, List, [], ◌∷◌, Some, length, filter, inl, inr, refl, ap, ◌∙◌, arith}
+use Rattle.sso_model.specs.Rows.{Began, Signed, Answered, Sent, Live, Machine, Step, begin, sign, answer, redeem, out, close, enter, see, drop, end, forget, lapse, unnamed}
+use Rattle.sso_model.specs.Machine.{MayTake, IsRun, after, after_all, start, dead_row, is_meant}
 
 -- two clients, two users and two browsers
 abbrev news : ℕ
@@ -105,7 +105,7 @@ close_refused may = may.1 (inl refl)
 
 -- a login may be entered for the browser that began it, and for no other
 enter_taken : MayTake when_answered (enter session)
-enter_taken = (inl refl, record { answered = answered; has = inl refl; nonce = refl; client = refl; user = refl; sid = refl }, λ entered. entered)
+enter_taken = (inl refl, record { answered = answered; has = inl refl; nonce = refl; client = refl; user = refl; sid = refl }, λ entered. entered, λ dead. dead)
 
 enter_refused : MayTake when_answered (enter (record session { browser = cafe })) → ⊥
 enter_refused may =
@@ -143,6 +143,33 @@ end_taken = (inl refl, λ ended. ended, refl)
 end_refused : MayTake when_closed (end message 0) → ⊥
 end_refused may = let same : ◌≡◌ {A = ℕ} 0 1 = may.2 in omega arith
 
+-- no login may be entered whose session identifier is dead at the client
+abbrev when_ended : Machine
+when_ended = after when_closed (end message 1)
+
+abbrev late : Machine
+late = record when_answered { dead = dead_row session ∷ [] }
+
+enter_refused_when_dead : MayTake late (enter session) → ⊥
+enter_refused_when_dead may = may.3 (inl refl)
+
+dead_when_ended : when_ended.dead ≡ dead_row session ∷ []
+dead_when_ended = refl
+
+-- a message that is not for one session identifier makes none dead
+dead_not_without_only : (after when_closed (end (record message { only = false }) 1)).dead ≡ []
+dead_not_without_only = refl
+
+-- a dead session identifier may be forgotten, and no other
+forget_taken : MayTake when_ended (forget (dead_row session))
+forget_taken = inl refl
+
+forget_refused : MayTake when_closed (forget (dead_row session)) → ⊥
+forget_refused may = may
+
+none_dead_when_forgotten : (after when_ended (forget (dead_row session))).dead ≡ []
+none_dead_when_forgotten = refl
+
 -- a session that is held may lapse, and no other
 lapse_taken : MayTake when_entered (lapse session.event)
 lapse_taken = (session, inl refl, refl)
@@ -166,11 +193,12 @@ login_and_logout =
     ∷ out message
     ∷ close signed_in.sid
     ∷ end message 1
+    ∷ forget (dead_row session)
     ∷ []
 
 -- it is a run
 pub login_and_logout_run : IsRun start login_and_logout
-login_and_logout_run = (begin_taken, (sign_taken, (answer_taken, (enter_taken, (see_taken, (redeem_taken, (out_taken, (close_taken, (end_taken, tt)))))))))
+login_and_logout_run = (begin_taken, (sign_taken, (answer_taken, (enter_taken, (see_taken, (redeem_taken, (out_taken, (close_taken, (end_taken, (forget_taken, tt))))))))))
 
 -- it leaves no session
 pub leaves_no_session : (after_all start login_and_logout).live ≡ []

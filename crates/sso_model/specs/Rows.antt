@@ -37,6 +37,11 @@ pub record Entered : Type 0 where
   pub client : ℕ
   pub nonce : Option (List ℕ)
 
+-- a session identifier of which a client accepted a logout message, and still remembers it
+pub record Dead : Type 0 where
+  pub client : ℕ
+  pub sid : List ℕ
+
 -- a session that a client holds for a browser
 pub record Live : Type 0 where
   pub event : ℕ
@@ -57,6 +62,7 @@ pub record Machine : Type 0 where
   pub entered : List Entered
   pub live : List Live
   pub ended : List Sent
+  pub dead : List Dead
 
 pub data Step : Type 0 where
   -- a browser begins a login at a client
@@ -79,6 +85,8 @@ pub data Step : Type 0 where
   drop : (event client browser : ℕ) → Step
   -- a client accepts a logout message and ends this number of sessions
   end : (row : Sent) (count : ℕ) → Step
+  -- a client no longer remembers an ended session identifier
+  forget : (row : Dead) → Step
   -- the lifetime of a session is over
   lapse : (event : ℕ) → Step
   -- a step about something that does not exist

@@ -1,9 +1,9 @@
 //! Lemmas about every run of the machine.
 
-ghost use Rattle.std.specs.Prelude.{ℕ, List};
+ghost use Rattle.std.specs.Prelude.{◌≡◌, ℕ, true, List};
 ghost use Rattle.sso_model.specs.Lists.{Has};
-ghost use Rattle.sso_model.specs.Rows.{Live, Machine, Sent, Step, end};
-ghost use Rattle.sso_model.specs.Machine.{start, after, after_all, IsRun};
+ghost use Rattle.sso_model.specs.Rows.{Dead, Live, Machine, Sent, Step, end, enter, forget};
+ghost use Rattle.sso_model.specs.Machine.{start, after, after_all, dead_of, dead_row, IsRun, MayTake};
 ghost use Rattle.sso_model.specs.Founded.{HoldsOnlyFounded, OnceEach};
 ghost use Rattle.sso_model.specs.Named.{IsNamed};
 ghost use Rattle.sso_model.specs.Laws.{OtherSessionsStay};
@@ -25,4 +25,13 @@ pub fn once_each()
 pub fn named_sessions_end()
     ensures ended { (m : Machine) (message : Sent) (count : ℕ) (row : Live) → IsNamed message row → Has (after m (end message count)).live row → ⊥ }
     ensures others { OtherSessionsStay }
+{}
+
+/// After a client accepted a logout message that has a session identifier, no login with this identifier is entered at this
+/// client, until the client forgets the identifier. Nothing else removes it.
+pub fn ended_sids_stay_out()
+    ensures ended { (m : Machine) (message : Sent) (count : ℕ) → message.only ≡ true → Has (after m (end message count)).dead (dead_of message) }
+    ensures stays { (m : Machine) (step : Step) (row : Dead) → Has m.dead row → (step ≡ forget row → ⊥) → Has (after m step).dead row }
+    ensures entered { (m : Machine) (row : Live) → Has m.dead (dead_row row) → MayTake m (enter row) → ⊥ }
+    ensures forgotten { (m : Machine) (row : Dead) → Has (after m (forget row)).dead row → ⊥ }
 {}

@@ -6,4 +6,4 @@
 
 mod law;
 
-pub use law::{begun_answered_signed, named_sessions_end, once_each};
+pub use law::{begun_answered_signed, ended_sids_stay_out, named_sessions_end, once_each};

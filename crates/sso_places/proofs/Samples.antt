@@ -9,7 +9,7 @@ use Rattle.sso_model.specs.Machine.{IsRun}
 use Rattle.sso_model.specs.Rows.{Began, Live, Sent, Machine, enter, see, drop, lapse, end, out, close, unnamed}
 use Rattle.client_registry.specs.declared.records.Provider.{Provider as Trusted}
 use Rattle.client_registry.specs.ClientSets.{no_clients}
-use Rattle.client_registry.specs.Numbers.{client_secret}
+use Rattle.client_registry.specs.Numbers.{client_sealing}
 use Rattle.request_params.specs.declared.params.Params.{Params}
 use Rattle.id_token.specs.declared.claims.IdClaims.{IdClaims}
 use Rattle.token_endpoint.specs.Request.{token_message}
@@ -64,6 +64,7 @@ machine_entered =
       entered = record { client = 0; nonce = Some (word_text (word 3)) } ∷ [];
       live = session ∷ [];
       ended = [];
+      dead = [];
     }
 
 whole_login : (code : Text) → word_of_text code ≡ Some (word 15) → machine_of site (entered code) ≡ machine_entered
@@ -188,10 +189,10 @@ abbrev brings : Text → Place
 brings id =
     at_shop came (pair_of (entry_at 1000 25 (rp_ask.Tokens (word 17) (Ok (record { access = codes "access"; id = id })) None)) rp.entered)
 
-forged : (id : Text) → is_sealed (client_secret configuration 0) id ≡ true → first_broken site (brings id ∷ []) ≡ Some (Forged 1)
+forged : (id : Text) → is_sealed (client_sealing configuration 0) id ≡ true → first_broken site (brings id ∷ []) ≡ Some (Forged 1)
 forged id seals = rw seals refl
 
-refused : (id : Text) → is_sealed (client_secret configuration 0) id ≡ false → first_broken site (brings id ∷ []) ≡ None
+refused : (id : Text) → is_sealed (client_sealing configuration 0) id ≡ false → first_broken site (brings id ∷ []) ≡ None
 refused id seals = rw seals refl
 
 -- ---- access tokens that have one half digest, and some that have not
@@ -315,6 +316,7 @@ enters code spells =
       (
         inl refl,
         record { answered = record { event = 4; browser = 1; nonce = Some (word_text (word 3)); client = 0; user = 0; sid = word_text (word 10) }; has = inl refl; nonce = refl; client = refl; user = refl; sid = refl },
+        λ never. never,
         λ never. never,
       ),
       tt,

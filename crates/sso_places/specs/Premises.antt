@@ -6,7 +6,6 @@ use Rattle.std.specs.List.{list_any}
 use Rattle.std.specs.Str.{bytes_eq}
 use Rattle.sso_base.specs.Words.{Word, Text, word_text}
 use Rattle.sso_model.specs.Lists.{Has, AreDistinct}
-use Rattle.client_registry.specs.Numbers.{client_secret}
 use Rattle.id_token.specs.HalfHash.{half_hash_of}
 use Rattle.rp_exchange.specs.declared.reply.RpReply.{RpReply}
 use Rattle.rp_exchange.specs.declared.reply.RpReply.TheVariants as rp
@@ -15,20 +14,20 @@ use Rattle.sso_places.specs.declared.types.WorldAsk.TheVariants.{Http, Tokens, I
 use Rattle.sso_places.specs.Site.{Site}
 use Rattle.sso_places.specs.World.{Place, Provider, Party, Nothing, World, from_of, moment_of, drawn}
 use Rattle.sso_places.specs.Cookies.{words_in, set_at, presented}
-use Rattle.sso_places.specs.Tokens.{TokenText, is_token, is_sealed}
+use Rattle.sso_places.specs.Tokens.{TokenText, is_token, is_sealed_for}
 use Rattle.sso_places.specs.Written.{written}
 use Rattle.sso_places.specs.Checked.{checked}
 use Rattle.op_exchange.specs.Replied.{code_in, access_in}
 
--- ---- unforged: each checked token that is sealed under the client's secret was written for this client at an earlier place.
+-- ---- unforged: each checked token that is sealed under a secret of the client was written for this client at an earlier place.
 -- This is the only premise about MACs. It holds, except by chance, if HMAC with SHA-256 is unforgeable and only the provider
--- and the client have the secret.
+-- and the client have the secrets.
 
 abbrev pub is_written : Site → World → TokenText → Bool
 is_written s world t = list_any (is_token t) (written s world)
 
 abbrev pub is_forged : Site → World → TokenText → Bool
-is_forged s world t = is_sealed (client_secret s.configuration t.0) t.1 && not (is_written s world t)
+is_forged s world t = is_sealed_for s.configuration t && not (is_written s world t)
 
 -- the place checks a forged token
 abbrev pub forges : Site → World → Place → Bool

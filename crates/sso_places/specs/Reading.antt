@@ -1,13 +1,14 @@
 -- The reading of a world: the steps of the sign-on machine that its places make.
 use Rattle.std.specs.Prelude.{ℕ, suc, ◌+◌, ◌==◌, ◌&&◌, nat_le, Bool, true, false, List, [], ◌∷◌, ◌++◌, length, filter, map, Option, Some, None, option_and_then}
-use Rattle.std.specs.Prelude.{Ok, slice_index_or, if◌then◌else◌}
+use Rattle.std.specs.Prelude.{Ok, slice_index_or, if◌then◌else◌, option_map}
 use Rattle.std.specs.List.{position_from}
 use Rattle.std.specs.Str.{bytes_eq}
 use Rattle.sso_base.specs.Words.{Word, Text, fresh_word, word_text}
+use Rattle.sso_base.specs.Rows.{row_of}
 use Rattle.sso_base.specs.Texts.{is_given}
-use Rattle.sso_model.specs.Rows.{Sent, Live, Machine, Step, begin, sign, answer, redeem, out, close, enter, see, drop, end, lapse, unnamed}
+use Rattle.sso_model.specs.Rows.{Sent, Live, Machine, Step, begin, sign, answer, redeem, out, close, enter, see, drop, end, lapse, unnamed, Dead, forget}
 use Rattle.sso_model.specs.Machine.{start, after_all}
-use Rattle.oidc_words.specs.Lives.{visit_life}
+use Rattle.oidc_words.specs.Lives.{visit_life, seen_life}
 use Rattle.client_registry.specs.Configuration.{Configuration}
 use Rattle.client_registry.specs.Numbers.{client_at}
 use Rattle.auth_request.specs.declared.wish.Wish.{Wish}
@@ -22,12 +23,14 @@ use Rattle.op_answer.specs.Past.{OpPair, OpPast}
 use Rattle.op_answer.specs.Sessions.{signed_user, wish_by, session_used, session_of}
 use Rattle.op_answer.specs.Legal.{code_redeemed}
 use Rattle.rp_login.specs.declared.rows.SessionRow.{SessionRow as Visit}
+use Rattle.rp_login.specs.Rows.{dead_name, dead_begun}
 use Rattle.rp_exchange.specs.declared.ask.RpAsk.{RpAsk}
 use Rattle.rp_exchange.specs.declared.ask.RpAsk.TheVariants as rp_ask
 use Rattle.rp_exchange.specs.declared.reply.RpReply.{RpReply}
 use Rattle.rp_exchange.specs.declared.reply.RpReply.TheVariants as rp
 use Rattle.rp_answer.specs.Past.{RpPair, RpPast}
 use Rattle.rp_answer.specs.Visits.{visit_by}
+use Rattle.rp_answer.specs.Deads.{deads}
 use Rattle.sso_places.specs.Site.{Site, client_of_party, types_at}
 use Rattle.sso_places.specs.World.{Place, Provider, Party, Nothing, World, place_at, op_past, rp_past, fresh_of, moment_of, op_place, entered_as}
 use Rattle.sso_places.specs.Told.{told_clients, session_ended}
@@ -142,7 +145,7 @@ abbrev pub end_of : Option Sent → ℕ → Step
 end_of (Some message) count = end message count
 end_of None count = unnamed
 
--- ---- all steps of a place of a party, except its lapses
+-- ---- all steps of a place of a party, except its lapses and forgets
 
 abbrev pub party_steps : Site → World → List Sent → ℕ → ℕ → RpPast → RpPair → RpAsk → RpReply → List Step
 party_steps s world sent n from past p asked (rp.Ask to browser) =
@@ -175,13 +178,23 @@ is_over world client at row =
 abbrev pub lapses : World → ℕ → ℕ → Machine → List Step
 lapses world client at m = map (λ (row : Live). lapse row.event) (filter (is_over world client at) m.live)
 
+-- ---- forgets: the session identifiers at the client whose logout the party has forgotten, since it was accepted so long ago
+
+abbrev pub is_forgotten : RpPast → ℕ → ℕ → Dead → Bool
+is_forgotten past client at row =
+    (row.client == client) && is_after seen_life at (option_map dead_begun (row_of dead_name row.sid (deads past)))
+
+abbrev pub forgets : RpPast → ℕ → ℕ → Machine → List Step
+forgets past client at m = map (λ (row : Dead). forget row) (filter (is_forgotten past client at) m.dead)
+
 -- ---- places, and worlds
 
 -- the steps of a place, after this world and this machine
 abbrev pub steps_at : Site → World → Machine → Place → List Step
 steps_at s world m (Provider from request p) = provider_steps s.configuration world from (op_past world) p
 steps_at s world m (Party n from request p) =
-    lapses world (client_of_party s n) p.entry.at m ++ party_steps s world m.out n from (rp_past n world) p p.entry.ask p.reply
+    lapses world (client_of_party s n) p.entry.at m ++ forgets (rp_past n world) (client_of_party s n) p.entry.at m
+    ++ party_steps s world m.out n from (rp_past n world) p p.entry.ask p.reply
 steps_at s world m Nothing = []
 
 -- the machine after the steps of a world

@@ -1,5 +1,5 @@
--- The tokens that are written for a client, under its secret: the provider's ID Tokens (OpenID Connect Core 1.0, 2), its
--- logout tokens (Back-Channel Logout 1.0, 2.4), and the request objects of the party that is the client (Core 6.1).
+-- The tokens that are written for a client, under the secret that seals: the provider's ID Tokens (OpenID Connect Core 1.0, 2),
+-- its logout tokens (Back-Channel Logout 1.0, 2.4), and the request objects of the party that is the client (Core 6.1).
 use Rattle.std.specs.Prelude.{◌≡◌, ℕ, List, [], ◌∷◌, ◌++◌, codes, map, Option, Some, None, Ok, if◌then◌else◌}
 use Rattle.sso_base.specs.Words.{Word, Text, fresh_word}
 use Rattle.sso_base.specs.declared.history.Entry.{Entry}

@@ -4,8 +4,9 @@ use Rattle.std.proofs.lemmas.List.{reverse-append}
 use Rattle.sso_base.specs.Words.{Word, Text}
 use Rattle.sso_base.specs.declared.message.Message.{Message}
 use Rattle.sso_base.specs.declared.message.Answered.{Answered}
+use Rattle.client_registry.specs.declared.records.Client.{Client}
 use Rattle.client_registry.specs.Configuration.{Configuration}
-use Rattle.client_registry.specs.Numbers.{party_secret}
+use Rattle.client_registry.specs.Numbers.{party_client}
 use Rattle.token_endpoint.specs.Answer.{tokens_read}
 use Rattle.token_endpoint.specs.declared.reading.Tokens.{Tokens}
 use Rattle.token_endpoint.specs.declared.no.TokensNo.{TokensNo}
@@ -47,9 +48,9 @@ IsTokens asked = (pending : Word) × (came : Result Tokens TokensNo) × (id : Op
 abbrev IsInfo : RpAsk → Type 0
 IsInfo asked = (pending : Word) × (came : Result Text InfoNo) × (asked ≡ ask.Info pending came)
 
-is_tokens : (secret : Text) (pending : Word) (read : Result Tokens TokensNo) → IsTokens (tokens_asked secret pending read)
-is_tokens secret pending (Ok came) = (pending, Ok came, _, refl)
-is_tokens secret pending (Err why) = (pending, Err why, None, refl)
+is_tokens : (client : Client) (pending : Word) (read : Result Tokens TokensNo) → IsTokens (tokens_asked client pending read)
+is_tokens client pending (Ok came) = (pending, Ok came, _, refl)
+is_tokens client pending (Err why) = (pending, Err why, None, refl)
 
 no_exchange : (s : PartySetup) (past : RpPast) (p : RpPair) (asked : RpAsk) (w : Word) (message : Message) → IsTokens asked
     → ExchangeCause s past p.entry asked w message → ⊥
@@ -101,7 +102,7 @@ newest_answer s before p legal =
 
 asked_tokens : (c : Configuration) (n : ℕ) (pending : Word) (answer : Answered) → IsTokens (tokens_prepared c n pending answer)
 unfolding tokens_prepared
-asked_tokens c n pending answer = is_tokens (party_secret c n) pending (tokens_read answer)
+asked_tokens c n pending answer = is_tokens (party_client c n) pending (tokens_read answer)
 
 asked_info : (pending : Word) (answer : Answered) → IsInfo (info_prepared pending answer)
 unfolding info_prepared

@@ -10,11 +10,12 @@ use Rattle.json.specs.Print.{escape_byte}
 use Rattle.oidc_words.specs.Claims.{flag_claims, seconds_claims, address_claims, is_claim_of, profile_claims, email_claims}
 use Rattle.oidc_words.specs.Types.{spellings}
 use Rattle.configuration_rows.specs.declared.no.RegNo.{RegNo}
-use Rattle.configuration_rows.specs.Version1.{rows_refusals, lacks_type}
+use Rattle.configuration_rows.specs.Versions.{version_in}
+use Rattle.configuration_rows.specs.Rows.{rows_refusals, lacks_type}
 use Rattle.client_registry.specs.Records.{party_of}
 use Rattle.client_registry.specs.Rules.{records_refusals, subjects_refusals, party_place}
 use Rattle.client_registry.specs.Configuration.{Configuration, configuration_of}
-use Rattle.client_registry.specs.Reading.{document_in, version1_read, records_read, subjects_read, registry_read}
+use Rattle.client_registry.specs.Reading.{document_in, rows_read, records_read, subjects_read, registry_read}
 use Rattle.storm_texts.specs.declared.login.Party.{Party}
 use Rattle.storm_texts.specs.declared.login.Party.TheVariants.{Shop, News, Mail}
 use Rattle.storm_texts.specs.Config.{config_text, provider_text, users_text, clients_text, parties_text}
@@ -31,7 +32,7 @@ is_ready (Err why) = false
 is_ready (Ok c) = has c Shop && (has c News && has c Mail)
 
 storm_ready : is_ready (registry_read config_text) ≡ true
-unfolding config_text provider_text users_text clients_text parties_text document_in toml_on_literals version1_read records_read subjects_read rows_refusals records_refusals subjects_refusals configuration_of url_on_literals parts_of hex_on_literals is_utf8 chars flag_claims seconds_claims address_claims is_claim_of profile_claims email_claims spellings lacks_type party_of escape_byte
+unfolding config_text provider_text users_text clients_text parties_text document_in toml_on_literals version_in rows_read records_read subjects_read rows_refusals records_refusals subjects_refusals configuration_of url_on_literals parts_of hex_on_literals is_utf8 chars flag_claims seconds_claims address_claims is_claim_of profile_claims email_claims spellings lacks_type party_of escape_byte
 storm_ready = refl
 
 ready_ok : (r : Result Configuration RegNo) → is_ready r ≡ true → is_ok r ≡ true

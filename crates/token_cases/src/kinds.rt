@@ -27,6 +27,8 @@ fn client(alloc: Global) -> Result<Client, NoMemory> {
     Ok(Client {
         id: Text::new(alloc, "c")?,
         secret: Text::new(alloc, "secret")?,
+        old_secret: None,
+        seals_old: false,
         redirects: Texts::new(alloc),
         types: [true, false, false, false, false, false],
         pairwise: false,

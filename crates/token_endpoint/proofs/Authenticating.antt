@@ -1,7 +1,5 @@
--- A request authenticates a client exactly where it shows the client's id and secret.
+-- A request authenticates a client exactly where it shows the client's id and a secret of it.
 use Rattle.std.proofs.Common.{◌≡◌, inl, inr, ℕ, List, [], ◌∷◌, Bool, true, false, not, ◌&&◌, cond, map, codes, Option, Some, None, option_map, option_and_then, is_some, is_none, unwrap_or, Result, Ok, slice_get, refl, sym, ap, ◌∙◌, subst, arith}
-use Rattle.std.specs.Str.{bytes_eq}
-use Rattle.std.proofs.lemmas.Slice.Eq.{bytes_eq-Decides}
 use Rattle.sso_base.specs.Words.{Text}
 use Rattle.sso_base.specs.Refusals.{first_refusal, NoneHolds, and_then}
 use Rattle.sso_base.specs.Texts.{is_other}
@@ -11,6 +9,7 @@ use Rattle.client_registry.specs.declared.records.Client.{Client}
 use Rattle.client_registry.specs.Configuration.{Configuration}
 use Rattle.client_registry.specs.Records.{client_place}
 use Rattle.client_registry.specs.Registered.{AreApart}
+use Rattle.client_registry.specs.Secrets.{has_secret}
 use Rattle.request_params.specs.Form.{Pair}
 use Rattle.request_params.specs.Reading.{value_of, first_repeated, StandOnce}
 use Rattle.request_params.proofs.Values.{value_there, has_value, has_its_name, value_of_pair}
@@ -19,8 +18,9 @@ use Rattle.token_endpoint.specs.declared.basic.Credentials.{Credentials}
 use Rattle.token_endpoint.specs.declared.no.GrantNo.{GrantNo}
 use Rattle.token_endpoint.specs.declared.no.GrantNo.TheVariants.{Twice, TwoAuths, NoAuth, WrongClient}
 use Rattle.token_endpoint.specs.Basic.{basic_header, basic_read, IsBasic}
-use Rattle.token_endpoint.specs.Authentication.{is_there, has_secret, if_secret, client_with, unless_other, credentials, posted, client_shown, client_refusals, client_read}
-use Rattle.token_endpoint.specs.Granted.{HasNo, ShowsByBasic, ShowsByParameters, Shows, credentials_of, Authenticates}
+use Rattle.token_endpoint.specs.Authentication.{is_there, if_secret, client_with, unless_other, credentials, posted, client_shown, client_refusals, client_read}
+use Rattle.token_endpoint.specs.Authentication.{is_secret_of}
+use Rattle.token_endpoint.specs.Granted.{HasNo, ShowsByBasic, ShowsByParameters, Shows, Authenticates}
 use Rattle.token_endpoint.proofs.Lookups.{and_found, map_found, none_of, there_of}
 use Rattle.token_endpoint.proofs.Clients.{place_found, place_of_client}
 use Rattle.token_endpoint.proofs.Headers.{header_there, read_is_basic, basic_is_found, basic_is_read}
@@ -55,17 +55,18 @@ is_same text (Some u) h = ap not (same u text (h u refl))
 pub record IsWith (c : Configuration) (shown : Credentials) (n : ℕ) : Type 0 where
   pub client : Client
   pub there : slice_get c.clients n ≡ Some client
-  pub is : credentials_of client ≡ shown
+  pub named : client.id ≡ shown.id
+  pub own : has_secret shown.secret client ≡ true
 
-secret_tested : (k : Client) (secret : Text) (n m : ℕ) (b : Bool) → bytes_eq k.secret secret ≡ b → cond b (Some m) None ≡ Some n → (k.secret ≡ secret) × (m ≡ n)
-secret_tested k secret n m true is e = ((bytes_eq-Decides k.secret secret).0 is, cc)
-secret_tested k secret n m false is e = absurd (cc)
+secret_tested : (n m : ℕ) (b : Bool) → cond b (Some m) None ≡ Some n → (b ≡ true) × (m ≡ n)
+secret_tested n m true e = (refl, cc)
+secret_tested n m false e = absurd (cc)
 
-secret_at : (secret : Text) (o : Option Client) (n m : ℕ) → cond (has_secret secret o) (Some m) None ≡ Some n → (k : Client) → o ≡ Some k → (k.secret ≡ secret) × (m ≡ n)
+secret_at : (secret : Text) (o : Option Client) (n m : ℕ) → cond (is_secret_of secret o) (Some m) None ≡ Some n → (k : Client) → o ≡ Some k → (has_secret secret k ≡ true) × (m ≡ n)
 secret_at secret None n m h k is = absurd (cc)
 secret_at secret (Some l) n m h k is =
     let this : l ≡ k = cc in
-    subst (λ (x : Client). (x.secret ≡ secret) × (m ≡ n)) this (secret_tested l secret n m (bytes_eq l.secret secret) refl h)
+    subst (λ (x : Client). (has_secret secret x ≡ true) × (m ≡ n)) this (secret_tested n m (has_secret secret l) h)
 
 pub with_is : (c : Configuration) (shown : Credentials) (n : ℕ) → client_with c shown ≡ Some n → IsWith c shown n
 with_is c shown n h =
@@ -77,17 +78,18 @@ with_is c shown n h =
     record {
       client = place.client;
       there = ap (slice_get c.clients) (sym tested.1) ∙ there;
-      is = λ i. record { id = place.named i; secret = tested.0 i };
+      named = place.named;
+      own = tested.0;
     }
 
 abbrev pub IdsDiffer : Configuration → Type 0
 IdsDiffer c = AreApart (map (λ (k : Client). k.id) c.clients)
 
-pub is_with : (c : Configuration) (n : ℕ) (k : Client) → IdsDiffer c → slice_get c.clients n ≡ Some k → client_with c (credentials_of k) ≡ Some n
-is_with c n k apart there =
-    ap (option_and_then (if_secret c k.secret)) (place_of_client c.clients n k apart there)
-    ∙ ap (λ o. cond (has_secret k.secret o) (Some n) None) there
-    ∙ ap (λ b. cond b (Some n) None) (same k.secret k.secret refl)
+pub is_with : (c : Configuration) (n : ℕ) (k : Client) (secret : Text) → IdsDiffer c → slice_get c.clients n ≡ Some k → has_secret secret k ≡ true → client_with c (credentials k.id secret) ≡ Some n
+is_with c n k secret apart there own =
+    ap (option_and_then (if_secret c secret)) (place_of_client c.clients n k apart there)
+    ∙ ap (λ o. cond (is_secret_of secret o) (Some n) None) there
+    ∙ ap (λ b. cond b (Some n) None) own
 
 -- ---- what is shown
 
@@ -97,15 +99,17 @@ by_parameters c auth ps n none h =
     let id = and_found (value_of (codes "client_id") ps) (λ id. option_map (credentials id) (value_of (codes "client_secret") ps)) shown.0 shown.1 in
     let secret = map_found (value_of (codes "client_secret") ps) (credentials id.0) shown.0 id.2 in
     let client = with_is c shown.0 n shown.2 in
-    let same_id : id.0 ≡ client.client.id = ap (λ (x : Credentials). x.id) (secret.2 ∙ sym client.is) in
-    let same_secret : secret.0 ≡ client.client.secret = ap (λ (x : Credentials). x.secret) (secret.2 ∙ sym client.is) in
+    let same_id : id.0 ≡ client.client.id = ap (λ (x : Credentials). x.id) secret.2 ∙ sym client.named in
+    let same_secret : secret.0 ≡ shown.0.secret = ap (λ (x : Credentials). x.secret) secret.2 in
     record {
       client = client.client;
       there = client.there;
+      secret = shown.0.secret;
+      own = client.own;
       shows = inr (record {
         no_basic = none;
         id = has_value ps (codes "client_id") client.client.id (id.1 ∙ ap Some same_id);
-        secret = has_value ps (codes "client_secret") client.client.secret (secret.1 ∙ ap Some same_secret);
+        secret = has_value ps (codes "client_secret") shown.0.secret (secret.1 ∙ ap Some same_secret);
       });
     }
 
@@ -121,17 +125,20 @@ by_basic c auth ps n header once is alone h =
     let shown = and_found (basic_read header) (unless_other c named) n h in
     let tested = unless_at c named shown.0 n (is_other shown.0.id named) refl shown.2 in
     let client = with_is c shown.0 n tested.1 in
+    let same_shown : shown.0 ≡ credentials client.client.id shown.0.secret = λ i. record { id = sym client.named i; secret = shown.0.secret } in
     record {
       client = client.client;
       there = client.there;
+      secret = shown.0.secret;
+      own = client.own;
       shows = inl (record {
         header = header;
         there = at.0;
-        basic = subst (IsBasic header) (sym client.is) (read_is_basic header shown.0 at.1 shown.1);
+        basic = subst (IsBasic header) same_shown (read_is_basic header shown.0 at.1 shown.1);
         no_secret = no_value ps (codes "client_secret") (none_of (value_of (codes "client_secret") ps) alone);
         no_other = λ id has.
             not_other shown.0.id named tested.0 id (value_of_pair ps (codes "client_id", id) once has)
-            ∙ ap (λ (x : Credentials). x.id) (sym client.is);
+            ∙ sym client.named;
       });
     }
 
@@ -146,18 +153,19 @@ pub record Passes (c : Configuration) (basic : Option (List ℕ)) (ps : List Pai
   pub some_way : (is_none basic && not (is_there (codes "client_id") ps && is_there (codes "client_secret") ps)) ≡ false
   pub shown : client_shown c basic ps ≡ Some n
 
-passes_basic : (c : Configuration) (auth : Option (List ℕ)) (ps : List Pair) (n : ℕ) (k : Client) → StandOnce ps → IdsDiffer c → slice_get c.clients n ≡ Some k → ShowsByBasic auth ps (credentials_of k) → Passes c (basic_header auth) ps n
-passes_basic c auth ps n k once apart there b =
+passes_basic : (c : Configuration) (auth : Option (List ℕ)) (ps : List Pair) (n : ℕ) (k : Client) (secret : Text) → StandOnce ps → IdsDiffer c → slice_get c.clients n ≡ Some k → has_secret secret k ≡ true → ShowsByBasic auth ps (credentials k.id secret)
+    → Passes c (basic_header auth) ps n
+passes_basic c auth ps n k secret once apart there own b =
     let named : Option Text = value_of (codes "client_id") ps in
-    let is : basic_header auth ≡ Some b.header = ap basic_header b.there ∙ basic_is_found b.header (credentials_of k) b.basic in
+    let is : basic_header auth ≡ Some b.header = ap basic_header b.there ∙ basic_is_found b.header (credentials k.id secret) b.basic in
     let no_other : is_other k.id named ≡ false = is_same k.id named (λ id h. b.no_other id (has_value ps (codes "client_id") id h)) in
     subst (λ o. Passes c o ps n) (sym is) (record {
       one_way = ap is_some (none_value ps (codes "client_secret") b.no_secret);
       some_way = refl;
       shown =
-          ap (option_and_then (unless_other c named)) (basic_is_read b.header (credentials_of k) b.basic)
-          ∙ ap (λ t. cond t None (client_with c (credentials_of k))) no_other
-          ∙ is_with c n k apart there;
+          ap (option_and_then (unless_other c named)) (basic_is_read b.header (credentials k.id secret) b.basic)
+          ∙ ap (λ t. cond t None (client_with c (credentials k.id secret))) no_other
+          ∙ is_with c n k secret apart there own;
     })
 
 posted_is : (ps : List Pair) (id secret : Text) → value_of (codes "client_id") ps ≡ Some id → value_of (codes "client_secret") ps ≡ Some secret → posted ps ≡ Some (credentials id secret)
@@ -168,22 +176,24 @@ both_there true true h k = refl
 both_there true false h k = absurd (cc)
 both_there false b h k = absurd (cc)
 
-passes_parameters : (c : Configuration) (auth : Option (List ℕ)) (ps : List Pair) (n : ℕ) (k : Client) → StandOnce ps → IdsDiffer c → slice_get c.clients n ≡ Some k → ShowsByParameters auth ps (credentials_of k) → Passes c (basic_header auth) ps n
-passes_parameters c auth ps n k once apart there p =
+passes_parameters : (c : Configuration) (auth : Option (List ℕ)) (ps : List Pair) (n : ℕ) (k : Client) (secret : Text) → StandOnce ps → IdsDiffer c → slice_get c.clients n ≡ Some k → has_secret secret k ≡ true → ShowsByParameters auth ps (credentials k.id secret)
+    → Passes c (basic_header auth) ps n
+passes_parameters c auth ps n k secret once apart there own p =
     let id = value_of_pair ps (codes "client_id", k.id) once p.id in
-    let secret = value_of_pair ps (codes "client_secret", k.secret) once p.secret in
+    let given = value_of_pair ps (codes "client_secret", secret) once p.secret in
     subst (λ o. Passes c o ps n) (sym p.no_basic) (record {
       one_way = refl;
-      some_way = both_there (is_there (codes "client_id") ps) (is_there (codes "client_secret") ps) (ap is_some id) (ap is_some secret);
-      shown = ap (option_and_then (client_with c)) (posted_is ps k.id k.secret id secret) ∙ is_with c n k apart there;
+      some_way = both_there (is_there (codes "client_id") ps) (is_there (codes "client_secret") ps) (ap is_some id) (ap is_some given);
+      shown = ap (option_and_then (client_with c)) (posted_is ps k.id secret id given) ∙ is_with c n k secret apart there own;
     })
 
-passes_at : (c : Configuration) (auth : Option (List ℕ)) (ps : List Pair) (n : ℕ) (k : Client) → StandOnce ps → IdsDiffer c → slice_get c.clients n ≡ Some k → Shows auth ps (credentials_of k) → Passes c (basic_header auth) ps n
-passes_at c auth ps n k once apart there (inl b) = passes_basic c auth ps n k once apart there b
-passes_at c auth ps n k once apart there (inr p) = passes_parameters c auth ps n k once apart there p
+passes_at : (c : Configuration) (auth : Option (List ℕ)) (ps : List Pair) (n : ℕ) (k : Client) (secret : Text) → StandOnce ps → IdsDiffer c → slice_get c.clients n ≡ Some k → has_secret secret k ≡ true → Shows auth ps (credentials k.id secret)
+    → Passes c (basic_header auth) ps n
+passes_at c auth ps n k secret once apart there own (inl b) = passes_basic c auth ps n k secret once apart there own b
+passes_at c auth ps n k secret once apart there own (inr p) = passes_parameters c auth ps n k secret once apart there own p
 
 pub passes : (c : Configuration) (auth : Option (List ℕ)) (ps : List Pair) (n : ℕ) → StandOnce ps → IdsDiffer c → Authenticates c auth ps n → Passes c (basic_header auth) ps n
-passes c auth ps n once apart a = passes_at c auth ps n a.client once apart a.there a.shows
+passes c auth ps n once apart a = passes_at c auth ps n a.client a.secret once apart a.there a.own a.shows
 
 -- ---- what is answered
 

@@ -1,5 +1,5 @@
 -- A token request is read exactly where it is one, and as what it asks for.
-use Rattle.std.proofs.Common.{◌≡◌, ℕ, List, [], codes, Option, Some, None, is_none, unwrap_or, Result, Ok, slice_get, refl, sym, ap, ◌∙◌, subst}
+use Rattle.std.proofs.Common.{◌≡◌, ℕ, true, List, [], codes, Option, Some, None, is_none, unwrap_or, Result, Ok, slice_get, refl, sym, ap, ◌∙◌, subst}
 use Rattle.std.specs.Str.{IsUtf8}
 use Rattle.form_urlencoded.specs.Form.{raw_pairs}
 use Rattle.sso_base.specs.Lists.{Has}
@@ -9,6 +9,7 @@ use Rattle.sso_base.specs.Texts.{is_other}
 use Rattle.sso_base.proofs.Refusals.{none_holds, and_then_ok, one_value}
 use Rattle.client_registry.specs.declared.records.Client.{Client}
 use Rattle.client_registry.specs.Configuration.{Configuration}
+use Rattle.client_registry.specs.Secrets.{has_secret}
 use Rattle.request_params.specs.Form.{Pair, form_pairs}
 use Rattle.request_params.specs.Reading.{value_of}
 use Rattle.request_params.proofs.Values.{has_value, value_of_pair}
@@ -16,9 +17,9 @@ use Rattle.request_params.proofs.Lossy.{pair_read}
 use Rattle.token_endpoint.specs.declared.granting.Grant.{Grant}
 use Rattle.token_endpoint.specs.declared.no.GrantNo.{GrantNo}
 use Rattle.token_endpoint.specs.declared.no.GrantNo.TheVariants.{OtherGrant, Missing}
-use Rattle.token_endpoint.specs.Authentication.{client_read}
+use Rattle.token_endpoint.specs.Authentication.{client_read, credentials}
 use Rattle.token_endpoint.specs.Request.{code_refusals, grant_in, code_read, grant_read}
-use Rattle.token_endpoint.specs.Granted.{Shows, credentials_of, Authenticates, IsGrant}
+use Rattle.token_endpoint.specs.Granted.{Shows, Authenticates, IsGrant}
 use Rattle.token_endpoint.proofs.Lookups.{there_of}
 use Rattle.token_endpoint.proofs.Authenticating.{IdsDiffer, not_other, is_same, client_is, none_of_four, is_client}
 
@@ -124,7 +125,7 @@ granted_texts c auth body g h =
 
 -- the client of the grant showed its secret
 pub secret_shown : (c : Configuration) (auth body : Option (List ℕ)) (g : Grant) → grant_read c auth body ≡ Ok g
-    → (client : Client) × (slice_get c.clients g.client ≡ Some client) × ((form : List ℕ) × (body ≡ Some form) × Shows auth (form_pairs form) (credentials_of client))
+    → (client : Client) × (slice_get c.clients g.client ≡ Some client) × ((form : List ℕ) × (body ≡ Some form) × ((secret : Text) × (has_secret secret client ≡ true) × Shows auth (form_pairs form) (credentials client.id secret)))
 secret_shown c auth body g h =
     let i = granted c auth body g h in
-    (i.client.client, i.client.there, (i.form, i.there, i.client.shows))
+    (i.client.client, i.client.there, (i.form, i.there, (i.client.secret, i.client.own, i.client.shows)))

@@ -16,6 +16,8 @@ use Rattle.configuration_rows.specs.declared.kind.Alphabet.{Alphabet}
 use Rattle.configuration_rows.specs.declared.kind.Alphabet.TheVariants.{ClientId, Visible}
 use Rattle.configuration_rows.specs.Kinds.{allows, is_within, is_name}
 use Rattle.client_registry.specs.declared.records.Client.{Client}
+use Rattle.client_registry.specs.Secrets.{sealing}
+use Rattle.client_registry.proofs.SecretFacts.{sealing_named, seals_with_its_own}
 use Rattle.client_registry.specs.Configuration.{Configuration}
 use Rattle.client_registry.specs.Registered.{IsClient, IsRegistry}
 use Rattle.request_params.specs.Form.{text_of, form_pairs, form_text}
@@ -28,7 +30,8 @@ use Rattle.token_endpoint.specs.Base64.{b64}
 use Rattle.request_params.specs.Scheme.{has_byte}
 use Rattle.token_endpoint.specs.Basic.{basic_auth, IsBasic}
 use Rattle.token_endpoint.specs.Request.{grant_pairs, token_message, grant_read}
-use Rattle.token_endpoint.specs.Granted.{credentials_of, Authenticates, IsGrant}
+use Rattle.token_endpoint.specs.Authentication.{credentials}
+use Rattle.token_endpoint.specs.Granted.{Authenticates, IsGrant}
 use Rattle.token_endpoint.proofs.Joined.{both_true}
 use Rattle.token_endpoint.proofs.Requests.{is_granted}
 
@@ -57,8 +60,8 @@ client_at P (x ∷ xs) (suc i) k all at = client_at P xs i k all.1 at
 pub client_id_text : (k : Client) → IsClient k → IsUtf8 k.id
 client_id_text k r = name_text ClientId id_byte 1 64 k.id r.id
 
-pub client_secret_text : (k : Client) → IsClient k → IsUtf8 k.secret
-client_secret_text k r = name_text Visible visible_byte 0 128 k.secret r.secret
+pub client_sealing_text : (k : Client) → IsClient k → IsUtf8 (sealing k)
+client_sealing_text k r = name_text Visible visible_byte 0 128 (sealing k) (sealing_named k r)
 
 -- ---- texts as a form writes them
 
@@ -86,21 +89,21 @@ ascii_bytes t h i = omega (arith, h i)
 
 -- ---- the header
 
-pub basic_is_auth : (k : Client) → IsUtf8 k.id → IsUtf8 k.secret → IsBasic (basic_auth k) (credentials_of k)
+pub basic_is_auth : (k : Client) → IsUtf8 k.id → IsUtf8 (sealing k) → IsBasic (basic_auth k) (credentials k.id (sealing k))
 unfolding basic_auth
 basic_is_auth k id secret =
     let i : List ℕ = byte_serialize k.id in
-    let s : List ℕ = byte_serialize k.secret in
+    let s : List ℕ = byte_serialize (sealing k) in
     record {
       scheme = codes "Basic";
       id = i;
       secret = s;
       name = refl;
       text = ap (λ t. codes "Basic " ++ b64 t) (append_assoc i (codes ":") s);
-      bytes = ascii_bytes (i ++ (codes ":" ++ s)) (IsAscii-append i (codes ":" ++ s) (IsAscii-byte_serialize k.id) (IsAscii-append (codes ":") s colon_ascii (IsAscii-byte_serialize k.secret)));
+      bytes = ascii_bytes (i ++ (codes ":" ++ s)) (IsAscii-append i (codes ":" ++ s) (IsAscii-byte_serialize k.id) (IsAscii-append (codes ":") s colon_ascii (IsAscii-byte_serialize (sealing k))));
       no_colon = no_colon_in i (All-byte_serialize k.id);
       is_id = text_back k.id id;
-      is_secret = text_back k.secret secret;
+      is_secret = text_back (sealing k) secret;
     }
 
 -- ---- the body
@@ -141,10 +144,12 @@ authenticates c n k code redirect r at =
     record {
       client = k;
       there = at;
+      secret = sealing k;
+      own = seals_with_its_own k;
       shows = inl (record {
         header = basic_auth k;
         there = refl;
-        basic = basic_is_auth k (client_id_text k rules) (client_secret_text k rules);
+        basic = basic_is_auth k (client_id_text k rules) (client_sealing_text k rules);
         no_secret = no_client_secret code redirect;
         no_other = λ id has. absurd (no_client_id code redirect id has);
       });

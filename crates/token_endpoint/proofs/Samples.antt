@@ -37,6 +37,8 @@ abbrev client_a : Client
 client_a = record {
   id = codes "a";
   secret = codes "s:";
+  old_secret = None;
+  seals_old = false;
   redirects = [];
   types = [];
   pairwise = false;
@@ -120,6 +122,19 @@ is_basic-not_with_another_secret basic =
 
 with-its_secret : client_with here (shown (codes "a") (codes "s:")) ≡ Some 0
 with-its_secret = refl
+
+-- the same client with an old secret
+abbrev changing : Configuration
+changing = record here { clients = (record client_a { old_secret = Some (codes "old") }) ∷ [] }
+
+with-its_old_secret : client_with changing (shown (codes "a") (codes "old")) ≡ Some 0
+with-its_old_secret = refl
+
+with-its_secret_beside_the_old : client_with changing (shown (codes "a") (codes "s:")) ≡ Some 0
+with-its_secret_beside_the_old = refl
+
+with-neither : client_with changing (shown (codes "a") (codes "x")) ≡ nothing
+with-neither = refl
 
 with-another_secret : client_with here (shown (codes "a") (codes "s")) ≡ nothing
 with-another_secret = refl

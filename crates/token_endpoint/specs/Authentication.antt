@@ -10,6 +10,7 @@ use Rattle.client_registry.specs.declared.records.Client.{Client}
 use Rattle.client_registry.specs.Configuration.{Configuration}
 use Rattle.client_registry.specs.Numbers.{client_at}
 use Rattle.client_registry.specs.Records.{client_place}
+use Rattle.client_registry.specs.Secrets.{has_secret}
 use Rattle.request_params.specs.Form.{Pair}
 use Rattle.request_params.specs.Reading.{value_of, first_repeated}
 use Rattle.token_endpoint.specs.declared.basic.Credentials.{Credentials}
@@ -25,14 +26,14 @@ is_there name ps = is_some (value_of name ps)
 
 -- ---- the client
 
-abbrev pub has_secret : Text → Option Client → Bool
-has_secret secret None = false
-has_secret secret (Some client) = bytes_eq client.secret secret
+abbrev pub is_secret_of : Text → Option Client → Bool
+is_secret_of secret None = false
+is_secret_of secret (Some client) = has_secret secret client
 
 abbrev pub if_secret : Configuration → Text → ℕ → Option ℕ
-if_secret c secret n = if has_secret secret (client_at c n) then Some n else None
+if_secret c secret n = if is_secret_of secret (client_at c n) then Some n else None
 
--- the number of the client that has this id and this secret
+-- the number of the client that has this id and this secret, as its secret or its old one
 abbrev pub client_with : Configuration → Credentials → Option ℕ
 client_with c shown = option_and_then (if_secret c shown.secret) (client_place shown.id c.clients)
 

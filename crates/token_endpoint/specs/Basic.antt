@@ -6,6 +6,7 @@ use Rattle.base64.specs.GeneralPurpose.{IsBytes}
 use Rattle.form_urlencoded.specs.Form.{byte_serialize}
 use Rattle.sso_base.specs.Words.{Text}
 use Rattle.client_registry.specs.declared.records.Client.{Client}
+use Rattle.client_registry.specs.Secrets.{sealing}
 use Rattle.request_params.specs.Form.{text_of}
 use Rattle.request_params.specs.Scheme.{split_once, scheme_of, has_byte}
 use Rattle.token_endpoint.specs.declared.basic.Credentials.{Credentials}
@@ -36,9 +37,9 @@ basic_read header = option_and_then (λ parts. option_and_then divided (unb64 pa
 
 -- ---- writing
 
--- the header with a client's id and secret
+-- the header with a client's id and the secret that it seals with
 unfoldable pub basic_auth : Client → Text
-basic_auth client = codes "Basic " ++ b64 (byte_serialize client.id ++ codes ":" ++ byte_serialize client.secret)
+basic_auth client = codes "Basic " ++ b64 (byte_serialize client.id ++ codes ":" ++ byte_serialize (sealing client))
 
 -- ---- the same, stated literally
 

@@ -1,17 +1,19 @@
 -- What a token request is, in the standard's words, and why a request is rejected (RFC 6749, 2.3.1, 4.1.3 and 5.2; OpenID
 -- Connect Core 1.0, 3.1.3.1 and 9).
-use Rattle.std.specs.Prelude.{◌≡◌, ◌≢◌, ◌⊎◌, ℕ, List, codes, Option, Some, None}
+use Rattle.std.specs.Prelude.{◌≡◌, ◌≢◌, ◌⊎◌, ℕ, List, codes, Option, Some, None, true}
 use Rattle.sso_base.specs.Lists.{Has}
 use Rattle.sso_base.specs.Words.{Text}
 use Rattle.client_registry.specs.declared.records.Client.{Client}
 use Rattle.client_registry.specs.Configuration.{Configuration}
 use Rattle.client_registry.specs.Numbers.{client_at}
+use Rattle.client_registry.specs.Secrets.{has_secret}
 use Rattle.request_params.specs.Form.{Pair, form_pairs}
 use Rattle.request_params.specs.Reading.{StandOnce, RepeatsFirst}
 use Rattle.token_endpoint.specs.declared.basic.Credentials.{Credentials}
 use Rattle.token_endpoint.specs.declared.granting.Grant.{Grant}
 use Rattle.token_endpoint.specs.declared.no.GrantNo.{GrantNo}
 use Rattle.token_endpoint.specs.declared.no.GrantNo.TheVariants.{BadForm, Twice, TwoAuths, NoAuth, WrongClient, OtherGrant, Missing, NoMemory}
+use Rattle.token_endpoint.specs.Authentication.{credentials}
 use Rattle.token_endpoint.specs.Basic.{IsBasic, basic_header}
 
 -- ---- credentials
@@ -37,19 +39,18 @@ pub record ShowsByParameters (auth : Option (List ℕ)) (ps : List Pair) (shown 
 abbrev pub Shows : Option (List ℕ) → List Pair → Credentials → Type 0
 Shows auth ps shown = ShowsByBasic auth ps shown ⊎ ShowsByParameters auth ps shown
 
-abbrev pub credentials_of : Client → Credentials
-credentials_of client = record { id = client.id; secret = client.secret }
-
--- the request shows the id and the secret of the client with this number
+-- the request shows the id and a secret of the client with this number
 pub record Authenticates (c : Configuration) (auth : Option (List ℕ)) (ps : List Pair) (n : ℕ) : Type 0 where
   pub client : Client
   pub there : client_at c n ≡ Some client
-  pub shows : Shows auth ps (credentials_of client)
+  pub secret : Text
+  pub own : has_secret secret client ≡ true
+  pub shows : Shows auth ps (credentials client.id secret)
 
 -- ---- granted requests
 
--- the request is one of this client for a code: no parameter occurs twice, the client shows its secret, and the grant type, the
--- code and the redirect URI are present
+-- the request is one of this client for a code: no parameter occurs twice, the client shows a secret of its own, and the grant
+-- type, the code and the redirect URI are present
 pub record IsGrant (c : Configuration) (auth body : Option (List ℕ)) (grant : Grant) : Type 0 where
   pub form : List ℕ
   pub there : body ≡ Some form

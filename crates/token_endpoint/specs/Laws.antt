@@ -12,12 +12,14 @@ use Rattle.client_registry.specs.declared.records.Client.{Client}
 use Rattle.client_registry.specs.Configuration.{Configuration}
 use Rattle.client_registry.specs.Numbers.{client_at}
 use Rattle.client_registry.specs.Registered.{IsRegistry}
+use Rattle.client_registry.specs.Secrets.{has_secret}
 use Rattle.request_params.specs.Form.{form_pairs}
 use Rattle.token_endpoint.specs.declared.granting.Grant.{Grant}
 use Rattle.token_endpoint.specs.declared.no.GrantNo.{GrantNo}
 use Rattle.token_endpoint.specs.declared.no.TokensNo.{TokensNo}
 use Rattle.token_endpoint.specs.Request.{grant_refusals, grant_read, token_message}
-use Rattle.token_endpoint.specs.Granted.{Shows, credentials_of}
+use Rattle.token_endpoint.specs.Granted.{Shows}
+use Rattle.token_endpoint.specs.Authentication.{credentials}
 use Rattle.token_endpoint.specs.Answer.{tokens_text, tokens_read, token_refusals}
 
 -- ---- requests
@@ -26,7 +28,8 @@ abbrev pub GrantedClientsShowTheirSecret : Type 0
 GrantedClientsShowTheirSecret =
     (c : Configuration) (auth body : Option (List ℕ)) (g : Grant) → grant_read c auth body ≡ Ok g
     → (client : Client) × (client_at c g.client ≡ Some client)
-        × ((form : List ℕ) × (body ≡ Some form) × Shows auth (form_pairs form) (credentials_of client))
+        × ((form : List ℕ) × (body ≡ Some form)
+             × ((secret : Text) × (has_secret secret client ≡ true) × Shows auth (form_pairs form) (credentials client.id secret)))
 
 abbrev pub RefusedRequestsHaveACause : Type 0
 RefusedRequestsHaveACause =

@@ -1,13 +1,14 @@
 // Which client a token request authenticates (RFC 6749, 2.3.1; OpenID Connect Core 1.0, 9).
 
 ghost use Rattle.std.specs.Prelude.{◌≡◌, ◌⊎◌, Ok, Err, IfOk, IfErr, option_map};
+ghost use Rattle.client_registry.specs.Secrets as secrets;
 ghost use Rattle.sso_base.specs.Texts as texts;
 ghost use Rattle.token_endpoint.specs.Authentication as spec;
 
 use crate::basic::{Credentials, basic_header, read_basic};
 use crate::no::GrantNo;
 use crate::parameters::first_repeated;
-use client_registry::Registry;
+use client_registry::{Client, Registry};
 use hmac256::same;
 use request_params::{Pair, value_of};
 use sso_base::{NoMemory, Text};
@@ -30,8 +31,27 @@ pub(crate) fn is_other(text: &str, given: Option<&Text>) -> bool
     }
 }
 
-// The number of the client that has this id and this secret. The time does not tell where secrets differ. For an id that no client
-// has, the first client's secret is compared.
+fn is_old(shown: &[u8], old: &Option<Text>) -> bool
+    ensures { result ≡ secrets.is_old shown.now old.now }
+{
+    match old {
+        Some(old) => same(old.as_str().as_bytes(), shown),
+        None => false,
+    }
+}
+
+// Whether this is a secret of the client. Both secrets are compared in any case, and the time does not tell where they differ.
+fn is_secret_of(client: &Client, secret: &Text) -> bool
+    ensures { result ≡ secrets.has_secret secret.now client.now }
+{
+    let shown = secret.as_str().as_bytes();
+    let by_secret = same(client.secret.as_str().as_bytes(), shown);
+    let by_old = is_old(shown, &client.old_secret);
+    by_secret || by_old
+}
+
+// The number of the client that has this id and this secret, as its secret or its old one. For an id that no client has, the
+// first client's secrets are compared.
 #[tactic(auto, using(crate::proofs::Clients::place_within))]
 fn client_with(registry: &Registry, id: &Text, secret: &Text) -> Option<u32>
     ensures { result ≡ spec.client_with registry.now (record { id = id.now; secret = secret.now }) }
@@ -41,8 +61,7 @@ fn client_with(registry: &Registry, id: &Text, secret: &Text) -> Option<u32>
     if compared >= registry.clients() {
         return None;
     }
-    let kept = &registry.client(compared).secret;
-    if same(kept.as_str().as_bytes(), secret.as_str().as_bytes()) {
+    if is_secret_of(registry.client(compared), secret) {
         found
     } else {
         None

@@ -94,14 +94,14 @@ fn encoded(alloc: Global, text: &Text) -> Result<String, NoMemory>
     Ok(form.finish())
 }
 
-/// The header with a client's id and secret.
+/// The header with a client's id and the secret that it seals with.
 #[tactic(auto, unfolding(crate::specs::Basic::basic_auth, crate::specs::Base64::b64))]
 pub(crate) fn print_basic(alloc: Global, client: &Client) -> Result<Text, NoMemory>
     ensures { IfOk result (λ t. t ≡ basic_auth client.now) }
 {
     let mut shown = encoded(alloc, &client.id)?;
     shown.push_str(":")?;
-    shown.push_str(encoded(alloc, &client.secret)?.as_str())?;
+    shown.push_str(encoded(alloc, client.sealing())?.as_str())?;
     let mut header = String::from_str(alloc, "Basic ")?;
     STANDARD.encode_string(shown.as_bytes(), &mut header)?;
     Ok(Text::from_string(header))

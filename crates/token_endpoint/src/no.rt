@@ -15,7 +15,7 @@ pub enum GrantNo {
     /// There is neither a `Basic` header nor both of `client_id` and `client_secret`.
     NoAuth,
     /// The shown id and secret are not those of a client (RFC 6749, 2.3.1). A `Basic` header cannot be read, no client has the
-    /// id, the secret differs, or `client_id` differs from the id in the `Basic` header.
+    /// id, it has no such secret, or `client_id` differs from the id in the `Basic` header.
     WrongClient,
     /// `grant_type` is present and is not `authorization_code` (RFC 6749, 4.1.3).
     OtherGrant,

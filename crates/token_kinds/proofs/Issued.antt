@@ -10,6 +10,7 @@ use Rattle.jws_compact.specs.Jws.{header_bytes}
 use Rattle.jws_compact.specs.declared.sealing.Typ.TheVariants.{Jwt}
 use Rattle.jws_compact.proofs.Opening.{same_payload}
 use Rattle.client_registry.specs.declared.records.Client.{Client}
+use Rattle.client_registry.specs.Secrets.{sealing}
 use Rattle.request_params.specs.declared.params.Params.{Params}
 use Rattle.id_token.specs.declared.claims.IdClaims.{IdClaims}
 use Rattle.id_token.specs.declared.rules.IdRules.{IdRules}
@@ -51,7 +52,7 @@ module _ (client : Client) (issuer : List ℕ) where
 
   pub id_no_request : (k t : List ℕ) (x : IdClaims) (p : Params) → ¬ (x.iss ≡ client.id) → IsIdToken k t x → IsRequestObject client issuer t p → ⊥
   id_no_request k t x p other id object =
-      let payload = same_payload k client.secret id.header object.header id.payload object.payload t id.sealed object.sealed in
+      let payload = same_payload k object.sealed.secret id.header object.header id.payload object.payload t id.sealed object.sealed.sealed in
       let claims = same_claims id.claims object.claims id.payload object.payload payload id.reads object.reads in
       another_issuer client issuer x.iss id.claims object.claims p claims id.has.iss other object.has
 
@@ -63,7 +64,7 @@ module _ (client : Client) (issuer : List ℕ) where
 
   pub logout_no_request : (k t : List ℕ) (y : LogoutClaims) (p : Params) → ¬ (y.iss ≡ client.id) → IsLogoutToken k t y → IsRequestObject client issuer t p → ⊥
   logout_no_request k t y p other out object =
-      let payload = same_payload k client.secret out.header object.header out.payload object.payload t out.sealed object.sealed in
+      let payload = same_payload k object.sealed.secret out.header object.header out.payload object.payload t out.sealed object.sealed.sealed in
       let claims = same_claims out.claims object.claims out.payload object.payload payload out.reads object.reads in
       another_issuer client issuer y.iss out.claims object.claims p claims out.has.iss other object.has
 
@@ -103,13 +104,13 @@ module _ (client : Client) (issuer : List ℕ) where
   pub sealed_request_no_id : (l : List ℕ) (p : Params) (x : IdClaims) → request_sealing.IsSealable client issuer p → id_read l (request_text client issuer p) ≡ Ok x → ⊥
   sealed_request_no_id l p x s read =
       let id = id_read-token l (request_text client issuer p) x read in
-      let payload = same_payload client.secret l (header_bytes Jwt) id.header (claims_text (request_members client issuer p)) id.payload (request_text client issuer p) (request_text-Sealed client issuer p s) id.sealed in
+      let payload = same_payload (sealing client) l (header_bytes Jwt) id.header (claims_text (request_members client issuer p)) id.payload (request_text client issuer p) (request_text-Sealed client issuer p s) id.sealed in
       let claims = same_claims (request_members client issuer p) id.claims (claims_text (request_members client issuer p)) id.payload payload (reads_request p s) id.reads in
       nothing_stands (codes "sub") x.sub (Some x.sub) (request_members client issuer p) id.claims claims (no_sub p) id.has.sub refl
 
   pub sealed_request_no_logout : (l : List ℕ) (p : Params) (y : LogoutClaims) → request_sealing.IsSealable client issuer p → logout_read l (request_text client issuer p) ≡ Ok y → ⊥
   sealed_request_no_logout l p y s read =
       let out = IsLogoutToken-read l (request_text client issuer p) y read in
-      let payload = same_payload client.secret l (header_bytes Jwt) out.header (claims_text (request_members client issuer p)) out.payload (request_text client issuer p) (request_text-Sealed client issuer p s) out.sealed in
+      let payload = same_payload (sealing client) l (header_bytes Jwt) out.header (claims_text (request_members client issuer p)) out.payload (request_text client issuer p) (request_text-Sealed client issuer p s) out.sealed in
       let claims = same_claims (request_members client issuer p) out.claims (claims_text (request_members client issuer p)) out.payload payload (reads_request p s) out.reads in
       nothing_stands (codes "jti") y.jti (Some y.jti) (request_members client issuer p) out.claims claims (no_jti p) out.has.jti refl

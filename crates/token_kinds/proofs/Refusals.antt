@@ -17,6 +17,7 @@ use Rattle.jws_compact.specs.Jws.{header_bytes, typ_of}
 use Rattle.jws_compact.specs.declared.sealing.Typ.TheVariants.{Jwt, LogoutJwt}
 use Rattle.jws_compact.proofs.Written.{typ_of-header_bytes}
 use Rattle.client_registry.specs.declared.records.Client.{Client}
+use Rattle.client_registry.specs.Secrets.{sealing, has_secret}
 use Rattle.request_params.specs.declared.params.Params.{Params}
 use Rattle.id_token.specs.declared.claims.IdClaims.{IdClaims}
 use Rattle.id_token.specs.declared.no.IdNo.TheVariants as id_no
@@ -97,14 +98,14 @@ module _ (client : Client) (issuer : List ℕ) (p : Params) where
     typ_of-header_bytes Jwt,
   ) refl
 
-  pub request_without_subject : request_sealing.IsSealable client issuer p → id_read client.secret (request_text client issuer p) ≡ Err (id_no.Missing (codes "sub"))
+  pub request_without_subject : request_sealing.IsSealable client issuer p → id_read (sealing client) (request_text client issuer p) ≡ Err (id_no.Missing (codes "sub"))
   request_without_subject s =
-      id_tokens.refused client.secret (header_bytes Jwt) (claims_text (request_members client issuer p)) (request_text client issuer p) (request_members client issuer p) (id_no.Missing (codes "sub"))
+      id_tokens.refused (sealing client) (header_bytes Jwt) (claims_text (request_members client issuer p)) (request_text client issuer p) (request_members client issuer p) (id_no.Missing (codes "sub"))
       (request_text-Sealed client issuer p s) (reads_request client issuer p s) no_subject
 
-  pub request_without_moment : request_sealing.IsSealable client issuer p → logout_read client.secret (request_text client issuer p) ≡ Err (logout_no.Missing (codes "iat"))
+  pub request_without_moment : request_sealing.IsSealable client issuer p → logout_read (sealing client) (request_text client issuer p) ≡ Err (logout_no.Missing (codes "iat"))
   request_without_moment s =
-      logout_tokens.logout_read-refused client.secret (header_bytes Jwt) (claims_text (request_members client issuer p)) (request_text client issuer p) (request_text-Sealed client issuer p s) (request_members client issuer p) (logout_no.Missing (codes "iat"))
+      logout_tokens.logout_read-refused (sealing client) (header_bytes Jwt) (claims_text (request_members client issuer p)) (request_text client issuer p) (request_text-Sealed client issuer p s) (request_members client issuer p) (logout_no.Missing (codes "iat"))
       (reads_request client issuer p s) no_moment
 
 -- ---- a logout token
@@ -135,9 +136,9 @@ module _ (client : Client) (issuer : List ℕ) (y : LogoutClaims) (other : ¬ (y
     differs y.iss client.id other,
   ) refl
 
-  pub logout_of_the_provider : logout_fitting.IsSealable y → request_read client issuer (logout_text client.secret y) ≡ Err obj_no.Issuer
-  logout_of_the_provider s =
-      objects.refused client issuer (header_bytes LogoutJwt) (claims_text (logout_members y)) (logout_text client.secret y) (logout_members y) obj_no.Issuer (logout_text-Sealed client.secret y s)
+  pub logout_of_the_provider : (k : List ℕ) → has_secret k client ≡ true → logout_fitting.IsSealable y → request_read client issuer (logout_text k y) ≡ Err obj_no.Issuer
+  logout_of_the_provider k own s =
+      objects.refused client issuer (header_bytes LogoutJwt) (claims_text (logout_members y)) (logout_text k y) (logout_members y) obj_no.Issuer (record { secret = k; own = own; sealed = logout_text-Sealed k y s })
       (read_reads (claims_text (logout_members y)) (logout_members y) (claims_read-claims_text (logout_members y) s.fits)) of_the_provider
 
 -- ---- an ID Token
@@ -184,7 +185,7 @@ module _ (client : Client) (issuer : List ℕ) (x : IdClaims) (other : ¬ (x.iss
     differs x.iss client.id other,
   ) refl
 
-  pub id_token_of_the_provider : request_read client issuer (id_text client.secret x) ≡ Err obj_no.Issuer
-  id_token_of_the_provider =
-      objects.refused client issuer (header_bytes Jwt) (claims_text (id_members x)) (id_text client.secret x) (id_members x) obj_no.Issuer (id_text-Sealed client.secret x s)
+  pub id_token_of_the_provider : (k : List ℕ) → has_secret k client ≡ true → request_read client issuer (id_text k x) ≡ Err obj_no.Issuer
+  id_token_of_the_provider k own =
+      objects.refused client issuer (header_bytes Jwt) (claims_text (id_members x)) (id_text k x) (id_members x) obj_no.Issuer (record { secret = k; own = own; sealed = id_text-Sealed k x s })
       (read_reads (claims_text (id_members x)) (id_members x) (claims_read-claims_text (id_members x) s.fits)) id_of_the_provider

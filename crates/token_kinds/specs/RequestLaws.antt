@@ -2,6 +2,7 @@
 use Rattle.std.specs.Prelude.{◌≡◌, ℕ, List, Ok, Err, codes}
 use Rattle.claim_set.specs.Building.{HasNone}
 use Rattle.client_registry.specs.declared.records.Client.{Client}
+use Rattle.client_registry.specs.Secrets.{has_secret, sealing}
 use Rattle.request_params.specs.declared.params.Params.{Params}
 use Rattle.id_token.specs.declared.claims.IdClaims.{IdClaims}
 use Rattle.id_token.specs.declared.rules.IdRules.{IdRules}
@@ -44,7 +45,7 @@ SealedRequestObjectsAreNoIdTokens =
 abbrev pub RequestObjectsHaveNoSubject : Type 0
 RequestObjectsHaveNoSubject =
     (client : Client) (issuer : List ℕ) (p : Params) → request.IsSealable client issuer p
-    → id_read client.secret (request_text client issuer p) ≡ Err (id_no.Missing (codes "sub"))
+    → id_read (sealing client) (request_text client issuer p) ≡ Err (id_no.Missing (codes "sub"))
 
 abbrev pub RequestObjectsAreNoLogoutTokens : Type 0
 RequestObjectsAreNoLogoutTokens =
@@ -64,7 +65,7 @@ SealedRequestObjectsAreNoLogoutTokens =
 abbrev pub RequestObjectsHaveNoTimeOfIssue : Type 0
 RequestObjectsHaveNoTimeOfIssue =
     (client : Client) (issuer : List ℕ) (p : Params) → request.IsSealable client issuer p
-    → logout_read client.secret (request_text client issuer p) ≡ Err (logout_no.Missing (codes "iat"))
+    → logout_read (sealing client) (request_text client issuer p) ≡ Err (logout_no.Missing (codes "iat"))
 
 -- ---- tokens
 
@@ -85,8 +86,9 @@ SealedIdTokensAreNoRequestObjects =
 
 abbrev pub IdTokensAreOfAnotherIssuer : Type 0
 IdTokensAreOfAnotherIssuer =
-    (client : Client) (issuer : List ℕ) (x : IdClaims) → ¬ (x.iss ≡ client.id) → id.IsSealable x
-    → HasNone parameter_names x.more → request_read client issuer (id_text client.secret x) ≡ Err obj_no.Issuer
+    (client : Client) (issuer k : List ℕ) (x : IdClaims)
+    → has_secret k client ≡ true → ¬ (x.iss ≡ client.id) → id.IsSealable x
+    → HasNone parameter_names x.more → request_read client issuer (id_text k x) ≡ Err obj_no.Issuer
 
 abbrev pub LogoutTokensAreNoRequestObjects : Type 0
 LogoutTokensAreNoRequestObjects =
@@ -105,5 +107,6 @@ SealedLogoutTokensAreNoRequestObjects =
 
 abbrev pub LogoutTokensAreOfAnotherIssuer : Type 0
 LogoutTokensAreOfAnotherIssuer =
-    (client : Client) (issuer : List ℕ) (y : LogoutClaims) → ¬ (y.iss ≡ client.id) → logout.IsSealable y
-    → request_read client issuer (logout_text client.secret y) ≡ Err obj_no.Issuer
+    (client : Client) (issuer k : List ℕ) (y : LogoutClaims)
+    → has_secret k client ≡ true → ¬ (y.iss ≡ client.id) → logout.IsSealable y
+    → request_read client issuer (logout_text k y) ≡ Err obj_no.Issuer

@@ -1,5 +1,6 @@
 // No request object is accepted as a token, and no token as a request object.
 
+ghost use Rattle.client_registry.specs.Secrets.{sealing, has_secret};
 ghost use Rattle.token_kinds.specs.RequestLaws.{RequestObjectsAreNoIdTokens, RequestObjectsAreNotReadAsIdTokens, SealedRequestObjectsAreNoIdTokens};
 ghost use Rattle.token_kinds.specs.RequestLaws.{RequestObjectsHaveNoSubject, RequestObjectsAreNoLogoutTokens, RequestObjectsAreNotReadAsLogoutTokens};
 ghost use Rattle.token_kinds.specs.RequestLaws.{SealedRequestObjectsAreNoLogoutTokens, RequestObjectsHaveNoTimeOfIssue, IdTokensAreNoRequestObjects};
@@ -28,8 +29,8 @@ pub fn request_objects_are_no_logout_tokens()
 {}
 
 /// An ID Token of an issuer whose name differs from the client's id is no request object of that client, for any key of the
-/// token. If it is sealed under the client's secret, and no request parameter is among its other claims, it is rejected for its
-/// issuer.
+/// token. If it is sealed under a secret of the client, and no request parameter is among its other claims, it is rejected for
+/// its issuer.
 pub fn id_tokens_are_no_request_objects()
     ensures apart { IdTokensAreNoRequestObjects }
     ensures read { IdTokensAreNotReadAsRequestObjects }
@@ -38,7 +39,7 @@ pub fn id_tokens_are_no_request_objects()
 {}
 
 /// A logout token of an issuer whose name differs from the client's id is no request object of that client, for any key of the
-/// token. If it is sealed under the client's secret, it is rejected for its issuer.
+/// token. If it is sealed under a secret of the client, it is rejected for its issuer.
 pub fn logout_tokens_are_no_request_objects()
     ensures apart { LogoutTokensAreNoRequestObjects }
     ensures read { LogoutTokensAreNotReadAsRequestObjects }

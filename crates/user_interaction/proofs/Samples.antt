@@ -17,6 +17,8 @@ abbrev client : Client
 client = record {
   id = codes "shop-client";
   secret = codes "shop-secret-shop-secret-shop-secret";
+  old_secret = None;
+  seals_old = false;
   redirects = codes "http://127.0.0.1:8081/cb" ∷ [];
   types = true ∷ false ∷ false ∷ false ∷ false ∷ false ∷ [];
   pairwise = false;

@@ -14,16 +14,16 @@ use Rattle.client_registry.specs.declared.records.Client.{Client}
 use Rattle.client_registry.specs.declared.records.Party.{Party}
 use Rattle.client_registry.specs.Records.{no_url}
 use Rattle.client_registry.specs.Configuration.{Configuration}
-use Rattle.client_registry.specs.Numbers.{client_of, party_row, party_client, party_secret, no_party, no_client}
+use Rattle.client_registry.specs.Numbers.{client_of, party_row, party_client, no_party, no_client}
 use Rattle.client_registry.specs.Registered.{is_url_or_none, IsRegistry}
 use Rattle.request_params.specs.Form.{form_text}
 use Rattle.request_params.proofs.Forms.{form_pairs-form_text}
-use Rattle.logout_token.specs.LogoutToken.{logout_read}
 use Rattle.login_request.proofs.PartyRows.{KeepRules, client_is_known, rows_keep_rules}
 use Rattle.op_exchange.specs.declared.reply.OpReply.TheVariants as op
 use Rattle.op_issue.specs.LogoutMessages.{logout_pairs}
 use Rattle.rp_exchange.specs.declared.ask.RpAsk.{RpAsk}
 use Rattle.rp_exchange.specs.declared.ask.RpAsk.TheVariants as rp_ask
+use Rattle.rp_request.specs.Opened.{logout_read_for}
 use Rattle.rp_request.specs.Prepared.{only_value, logout_token_in, logout_path_of, logout_path, asked_at as rp_asked_at}
 use Rattle.sso_places.specs.declared.types.WorldReply.TheVariants.{Provider as ProviderReply}
 use Rattle.web_requests.specs.declared.sent.Sent.{Sent}
@@ -89,14 +89,14 @@ module _ (c : Configuration) (n : ℕ) (r : IsRegistry c) (uri : Text) (out : Lo
   token_there token u =
       ap (λ pairs. unwrap_or (only_value (codes "logout_token") pairs) []) (form_pairs-form_text (logout_pairs token) ((IsUtf8-are_ascii (codes "logout_token") refl, u), tt))
 
-  request_asked : (token : Text) → IsUtf8 token → (asked : RpAsk) → asked ≡ rp_ask.Logout (logout_read (party_secret c n) token) → (o : Option Sent) → o ≡ Some (at_party c (message token) n) → AsksParty c 0 n o asked
+  request_asked : (token : Text) → IsUtf8 token → (asked : RpAsk) → asked ≡ rp_ask.Logout (logout_read_for (party_client c n) token) → (o : Option Sent) → o ≡ Some (at_party c (message token) n) → AsksParty c 0 n o asked
   request_asked token u asked is o there = record {
     request = request token;
     is = there;
     read =
         party_reads c n r out.low (request token)
-        ∙ ap (rp_asked_at (party_secret c n) (party_row c n).types (request token)) (logout_asked c n r out.low (unwrap_or client.logout_url no_url).path path_there)
-        ∙ ap (λ t. rp_ask.Logout (logout_read (party_secret c n) t)) (token_there token u) ∙ sym is;
+        ∙ ap (rp_asked_at (party_client c n) (party_row c n).types (request token)) (logout_asked c n r out.low (unwrap_or client.logout_url no_url).path path_there)
+        ∙ ap (λ t. rp_ask.Logout (logout_read_for (party_client c n) t)) (token_there token u) ∙ sym is;
   }
 
   delivered_there : (token : Text) → party_of_logout c uri ≡ Some n → bytes_eq c.provider.token uri ≡ false → is_given uri c.provider.userinfo ≡ false → delivered c (message token) ≡ Some (at_party c (message token) n)
@@ -108,9 +108,9 @@ module _ (c : Configuration) (n : ℕ) (r : IsRegistry c) (uri : Text) (out : Lo
 
 pub logout_carried : (c : Configuration) (n : ℕ) (uri token : Text) (messages : List Message) (number : ℕ) → IsRegistry c → party_of_logout c uri ≡ Some n → bytes_eq c.provider.token uri ≡ false
     → is_given uri c.provider.userinfo ≡ false → IsUtf8 token → slice_get messages number ≡ Some (record { to = uri; auth = None; body = Some (form_text (logout_pairs token)) })
-    → AsksParty c 0 n (carried c (ProviderReply (op.SignedOut messages)) number) (rp_ask.Logout (logout_read (party_secret c n) token))
+    → AsksParty c 0 n (carried c (ProviderReply (op.SignedOut messages)) number) (rp_ask.Logout (logout_read_for (party_client c n) token))
 unfolding carried
 logout_carried c n uri token messages number r found_it not_token not_info u there =
     let out = logs_out c uri n found_it in
-    request_asked c n r uri out token u (rp_ask.Logout (logout_read (party_secret c n) token)) refl (option_and_then (delivered c) (slice_get messages number))
+    request_asked c n r uri out token u (rp_ask.Logout (logout_read_for (party_client c n) token)) refl (option_and_then (delivered c) (slice_get messages number))
     (ap (option_and_then (delivered c)) there ∙ delivered_there c n r uri out token found_it not_token not_info)

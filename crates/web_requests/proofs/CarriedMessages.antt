@@ -13,9 +13,8 @@ use Rattle.client_registry.specs.Records.{without_slash}
 use Rattle.oidc_words.specs.declared.scopes.Scopes.{Scopes}
 use Rattle.claim_set.specs.Reading.{claims_text}
 use Rattle.client_registry.specs.Configuration.{Configuration, subject_at}
-use Rattle.client_registry.specs.Numbers.{party_secret}
+use Rattle.client_registry.specs.Numbers.{party_client}
 use Rattle.client_registry.specs.Registered.{IsRegistry}
-use Rattle.id_token.specs.Reading.{id_read}
 use Rattle.token_endpoint.specs.Request.{token_message}
 use Rattle.token_endpoint.proofs.RoundTrip.{printed_granted}
 use Rattle.userinfo.specs.Request.{info_message}
@@ -29,6 +28,7 @@ use Rattle.op_response.specs.Telling.{http_of as op_http}
 use Rattle.op_response.proofs.ReplyLaws.{tokens_are_read}
 use Rattle.rp_exchange.specs.declared.ask.RpAsk.TheVariants as rp_ask
 use Rattle.rp_exchange.specs.declared.reply.RpReply.TheVariants as rp
+use Rattle.rp_request.specs.Opened.{id_read_for}
 use Rattle.rp_request.specs.Prepared.{tokens_asked, tokens_prepared, info_prepared}
 use Rattle.sso_places.specs.declared.types.To.TheVariants as to
 use Rattle.sso_places.specs.declared.types.WorldReply.TheVariants.{Provider as ProviderReply, Party as PartyReply}
@@ -95,13 +95,13 @@ module _ (c : Configuration) (r : IsRegistry c) where
 
 pub tokens_handed : (c : Configuration) (from n : ℕ) (w access : Word) (message : Message) (id : Text) → IsUtf8 id
     → AnswersTokens c from n w (handed_back c from (to.Party n) (PartyReply (rp.Exchange w message)) to.Provider (ProviderReply (op.Tokens access id)))
-    (rp_ask.Tokens w (Ok (record { access = word_text access; id = id })) (Some (id_read (party_secret c n) id)))
+    (rp_ask.Tokens w (Ok (record { access = word_text access; id = id })) (Some (id_read_for (party_client c n) id)))
 unfolding handed_back printed tokens_prepared
 tokens_handed c from n w access message id u =
     record {
       answer = answer_in (op_http c (op.Tokens access id));
       is = refl;
-      read = ap (tokens_asked (party_secret c n) w) (tokens_are_read c access id u);
+      read = ap (tokens_asked (party_client c n) w) (tokens_are_read c access id u);
     }
 
 -- ---- a UserInfo response

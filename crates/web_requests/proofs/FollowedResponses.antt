@@ -6,16 +6,15 @@ use Rattle.std.specs.Str.{IsUtf8}
 use Rattle.sso_base.specs.Words.{Word, Text, word_of_text, word_text}
 use Rattle.sso_base.specs.declared.http.Ask.{Ask}
 use Rattle.registered_url.specs.declared.web_url.WebUrl.{WebUrl}
-use Rattle.configuration_rows.specs.Version1.{has_answer_name}
+use Rattle.configuration_rows.specs.Rows.{has_answer_name}
 use Rattle.oidc_words.specs.declared.errors.AuthError.{AuthError}
 use Rattle.oidc_words.specs.declared.errors.Refusal.{Refusal}
 use Rattle.client_registry.specs.declared.records.Party.{Party}
 use Rattle.client_registry.specs.Configuration.{Configuration}
-use Rattle.client_registry.specs.Numbers.{party_row, party_client, party_secret, no_party}
+use Rattle.client_registry.specs.Numbers.{party_row, party_client, no_party}
 use Rattle.client_registry.specs.Registered.{IsRegistry}
 use Rattle.form_urlencoded.proofs.FormLemmas.{raw_pairs-nil}
 use Rattle.request_params.specs.Form.{pair_of, form_pairs, form_of}
-use Rattle.id_token.specs.Reading.{id_read}
 use Rattle.auth_answer.specs.declared.answer.Answer.{Answer}
 use Rattle.auth_answer.specs.declared.heard.Heard.{Heard}
 use Rattle.auth_answer.specs.declared.no.AnswerNo.{AnswerNo}
@@ -27,6 +26,7 @@ use Rattle.auth_answer.proofs.Written.{answer_any_state, refusal_any_state}
 use Rattle.login_request.proofs.PartyRows.{KeepRules, rows_keep_rules}
 use Rattle.op_exchange.specs.declared.reply.OpReply.TheVariants as op
 use Rattle.rp_exchange.specs.declared.ask.RpAsk.TheVariants as rp_ask
+use Rattle.rp_request.specs.Opened.{id_read_for}
 use Rattle.rp_request.specs.Prepared.{callback_asked, wants_page, prepared as rp_prepared}
 use Rattle.rp_request.proofs.Routing.{response_asked}
 use Rattle.sso_places.specs.declared.types.Jar.{Jar}
@@ -88,17 +88,17 @@ module _ (c : Configuration) (n : ℕ) (r : IsRegistry c) (low : n < length c.pa
   first_there false form jar = refl
 
   response_there : (fragment : Bool) (form : List ℕ) (jar : Jar) → ¬ (form ≡ [])
-      → rp_prepared c n (request fragment form jar) ≡ callback_asked (party_secret c n) (request fragment form jar).first (answer_read (form_of (request fragment form jar).method (request fragment form jar)))
+      → rp_prepared c n (request fragment form jar) ≡ callback_asked (party_client c n) (request fragment form jar).first (answer_read (form_of (request fragment form jar).method (request fragment form jar)))
   response_there true form jar some =
       response_asked c n (request true form jar) r (record { party = party; there = some_row c.parties n no_party low; listed = inl refl }) (no_page true form jar some)
   response_there false form jar some =
       response_asked c n (request false form jar) r (record { party = party; there = some_row c.parties n no_party low; listed = inr (inr (inl refl)) }) (no_page false form jar some)
 
-  response_read : (fragment : Bool) (form : List ℕ) (jar : Jar) → ¬ (form ≡ []) → rp_prepared c n (request fragment form jar) ≡ callback_asked (party_secret c n) jar.first (answer_read form)
+  response_read : (fragment : Bool) (form : List ℕ) (jar : Jar) → ¬ (form ≡ []) → rp_prepared c n (request fragment form jar) ≡ callback_asked (party_client c n) jar.first (answer_read form)
   response_read fragment form jar some =
       response_there fragment form jar some
-      ∙ ap (λ o. callback_asked (party_secret c n) o (answer_read (form_of (request fragment form jar).method (request fragment form jar)))) (first_there fragment form jar)
-      ∙ ap (callback_asked (party_secret c n) jar.first) (read_there fragment form jar)
+      ∙ ap (λ o. callback_asked (party_client c n) o (answer_read (form_of (request fragment form jar).method (request fragment form jar)))) (first_there fragment form jar)
+      ∙ ap (callback_asked (party_client c n) jar.first) (read_there fragment form jar)
 
   -- ---- the location
 
@@ -109,7 +109,7 @@ module _ (c : Configuration) (n : ℕ) (r : IsRegistry c) (low : n < length c.pa
       ap (option_map (λ k. sent from (to.Party k) (response_ask (party_row c k).redirect_url.path false (behind (registered_query c party.redirect) form) jar))) (party_found c n r low)
 
   pub response_followed : (fragment : Bool) (form : List ℕ) (from : ℕ) (jar : Jar) (o : Option Location) → o ≡ Some (location_at c party.redirect fragment form) → ¬ (form ≡ [])
-      → AsksParty c from n (option_and_then (λ (l : Location). followed c from l jar) o) (callback_asked (party_secret c n) jar.first (answer_read form))
+      → AsksParty c from n (option_and_then (λ (l : Location). followed c from l jar) o) (callback_asked (party_client c n) jar.first (answer_read form))
   response_followed fragment form from jar o is some = record {
     request = request fragment form jar;
     is = ap (option_and_then (λ (l : Location). followed c from l jar)) is ∙ location_is fragment form from jar;
@@ -167,9 +167,9 @@ module _ (c : Configuration) (n : ℕ) (r : IsRegistry c) (low : n < length c.pa
 
   pub answer_followed_read : (answer : Answer) → (party_row c n).redirect ≡ answer.redirect → has_part answer ≡ true → IfSome answer.state IsUtf8 → IfSome answer.id IsUtf8
       → AsksParty c from n (reply_followed c from (ProviderReply (op.Answered answer given)) jar)
-      (rp_ask.Callback (Ok (answer_heard answer (option_and_then word_of_text answer.state))) (option_map (id_read (party_secret c n)) answer.id) jar.first)
+      (rp_ask.Callback (Ok (answer_heard answer (option_and_then word_of_text answer.state))) (option_map (id_read_for (party_client c n)) answer.id) jar.first)
   answer_followed_read answer is some state id =
-      subst (AsksParty c from n (reply_followed c from (ProviderReply (op.Answered answer given)) jar)) (ap (callback_asked (party_secret c n) jar.first) (answer_any_state answer state id))
+      subst (AsksParty c from n (reply_followed c from (ProviderReply (op.Answered answer given)) jar)) (ap (callback_asked (party_client c n) jar.first) (answer_any_state answer state id))
       (response_followed c n r low answer.fragment (answer_form answer) from jar (location_of c (ProviderReply (op.Answered answer given))) (answer_there answer is) (answer_filled answer state id some))
 
   refusal_there : (refusal : Refusal) → (party_row c n).redirect ≡ refusal.redirect
@@ -181,5 +181,5 @@ module _ (c : Configuration) (n : ℕ) (r : IsRegistry c) (low : n < length c.pa
       → AsksParty c from n (reply_followed c from (ProviderReply (op.Refused refusal given)) jar)
       (rp_ask.Callback (Ok (refusal_heard refusal (option_and_then word_of_text refusal.state))) None jar.first)
   refusal_followed_read refusal is state =
-      subst (AsksParty c from n (reply_followed c from (ProviderReply (op.Refused refusal given)) jar)) (ap (callback_asked (party_secret c n) jar.first) (refusal_any_state refusal state))
+      subst (AsksParty c from n (reply_followed c from (ProviderReply (op.Refused refusal given)) jar)) (ap (callback_asked (party_client c n) jar.first) (refusal_any_state refusal state))
       (response_followed c n r low refusal.fragment (refusal_form refusal) from jar (location_of c (ProviderReply (op.Refused refusal given))) (refusal_there refusal is) (refusal_filled refusal state))

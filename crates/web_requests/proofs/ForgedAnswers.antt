@@ -11,28 +11,30 @@ use Rattle.sso_base.proofs.WordUtf8.{IsUtf8-word_text}
 use Rattle.jws_compact.specs.Jws.{seal_text, header_bytes, signing_input}
 use Rattle.jws_compact.specs.declared.sealing.Typ.TheVariants.{Jwt}
 use Rattle.claim_set.specs.Reading.{claims_text}
+use Rattle.client_registry.specs.declared.records.Client.{Client}
 use Rattle.client_registry.specs.Configuration.{Configuration}
-use Rattle.client_registry.specs.Numbers.{secret_in, client_secret, client_of, party_secret, party_row, no_party}
+use Rattle.client_registry.specs.Numbers.{client_at, party_client, party_row, no_client}
+use Rattle.client_registry.specs.Secrets.{has_secret}
 use Rattle.client_registry.specs.Registered.{IsRegistry}
 use Rattle.id_token.specs.declared.claims.IdClaims.{IdClaims}
 use Rattle.id_token.specs.Claims.{id_members}
-use Rattle.id_token.specs.Reading.{id_read}
 use Rattle.id_token.specs.Sealing.{id_text, HasTexts, IsSealable}
-use Rattle.id_token.proofs.Written.{id_read-id_text}
 use Rattle.auth_answer.specs.declared.answer.Answer.{Answer}
 use Rattle.auth_answer.specs.Sent.{answer_heard}
 use Rattle.op_exchange.specs.declared.reply.OpReply.TheVariants as op
 use Rattle.rp_exchange.specs.declared.ask.RpAsk.TheVariants as rp_ask
+use Rattle.login_request.proofs.PartyRows.{client_is_known}
+use Rattle.rp_request.specs.Opened.{id_read_for}
 use Rattle.sso_places.specs.declared.types.Jar.{Jar}
 use Rattle.sso_places.specs.declared.types.WorldReply.TheVariants.{Provider as ProviderReply}
 use Rattle.web_requests.specs.declared.location.Location.{Location}
 use Rattle.web_requests.specs.Locations.{answer_at, location_of}
 use Rattle.web_requests.specs.Following.{followed}
-use Rattle.web_requests.specs.Forging.{may_be_sealed, resealed, forged_id, secret_at, forged_in, with_id, forged}
+use Rattle.web_requests.specs.Forging.{may_be_sealed, resealed, forged_id, client_with, forged_in, with_id, forged}
 use Rattle.web_requests.specs.Asked.{AsksParty, has_part}
 use Rattle.web_requests.proofs.RegistryRows.{some_row, client_found}
 use Rattle.web_requests.proofs.FollowedResponses.{answer_followed_read}
-use Rattle.web_requests.proofs.ForgedTokens.{opened, with_subject}
+use Rattle.web_requests.proofs.ForgedTokens.{own_secret, read_for, opened, with_subject}
 
 -- ---- an ID Token is a text in UTF-8
 
@@ -59,15 +61,16 @@ has_id answer id = or_true (is_some answer.code || is_some answer.access)
 -- ---- the party of the redirection URI
 
 module _ (c : Configuration) (n : ℕ) (r : IsRegistry c) (low : n < length c.parties) where
-  own_secret : client_secret c (party_row c n).client ≡ party_secret c n
-  own_secret = sym (ap (λ o. secret_in (option_and_then (client_of c) o)) (some_row c.parties n no_party low))
+  client_there : (uri : Text) → (party_row c n).redirect ≡ uri → client_with c uri ≡ Some (party_client c n)
+  client_there uri is =
+      ap (client_with c) (sym is) ∙ ap (option_and_then (client_at c)) (client_found c n r low) ∙ some_row c.clients (party_row c n).client no_client (client_is_known c n r low)
 
-  secret_there : (uri : Text) → (party_row c n).redirect ≡ uri → secret_at c uri ≡ Some (party_secret c n)
-  secret_there uri is = ap (secret_at c) (sym is) ∙ ap (option_map (client_secret c)) (client_found c n r low) ∙ ap (λ (t : Text). Some t) own_secret
+  module _ (answer : Answer) (key : Text) (claims : IdClaims) (user : Text) (is : (party_row c n).redirect ≡ answer.redirect) (own : has_secret key (party_client c n) ≡ true) (token : answer.id ≡ Some (id_text key claims)) (t : HasTexts claims) (s : IsSealable claims) where
+    abbrev client : Client
+    client = party_client c n
 
-  module _ (answer : Answer) (claims : IdClaims) (user : Text) (is : (party_row c n).redirect ≡ answer.redirect) (token : answer.id ≡ Some (id_text (party_secret c n) claims)) (t : HasTexts claims) (s : IsSealable claims) where
     abbrev secret : Text
-    secret = party_secret c n
+    secret = client.secret
 
     abbrev other : IdClaims
     other = record claims { sub = user }
@@ -77,9 +80,9 @@ module _ (c : Configuration) (n : ℕ) (r : IsRegistry c) (low : n < length c.pa
 
     token_forged : forged_in c answer user ≡ resealed secret user claims
     token_forged =
-        ap (option_and_then (λ id. option_and_then (forged_id user id) (secret_at c answer.redirect))) token
-        ∙ ap (option_and_then (forged_id user (id_text secret claims))) (secret_there answer.redirect is)
-        ∙ opened secret user claims s
+        ap (option_and_then (λ id. option_and_then (forged_id user id) (client_with c answer.redirect))) token
+        ∙ ap (option_and_then (forged_id user (id_text key claims))) (client_there answer.redirect is)
+        ∙ opened client key user claims own s
 
     answer_forged : (given : Option Word) → forged c (ProviderReply (op.Answered answer given)) user ≡ option_map (answer_at c) (option_map (with_id answer) (resealed secret user claims))
     unfolding forged
@@ -98,8 +101,8 @@ module _ (c : Configuration) (n : ℕ) (r : IsRegistry c) (low : n < length c.pa
     unfolding location_of
     forged_followed_read given from jar l state h =
         let so = sealed_at (may_be_sealed other) l refl (sym (answer_forged given) ∙ h) in
-        let read : id_read secret (id_text secret other) ≡ Ok other = id_read-id_text secret other (with_subject claims user t s so.0) in
-        let asked : AsksParty c from n (followed c from (answer_at c forged_so) jar) (rp_ask.Callback (Ok (answer_heard forged_so (option_and_then word_of_text answer.state))) (Some (id_read secret (id_text secret other))) jar.first)
+        let read : id_read_for client (id_text secret other) ≡ Ok other = read_for client secret other (own_secret client) (with_subject claims user t s so.0) in
+        let asked : AsksParty c from n (followed c from (answer_at c forged_so) jar) (rp_ask.Callback (Ok (answer_heard forged_so (option_and_then word_of_text answer.state))) (Some (id_read_for client (id_text secret other))) jar.first)
         = answer_followed_read c n r low from given jar forged_so is (has_id answer (id_text secret other)) state (token_is_text secret other) in
         subst (λ m. AsksParty c from n (followed c from m jar) (rp_ask.Callback (Ok (answer_heard forged_so (option_and_then word_of_text answer.state))) (Some (Ok other)) jar.first)) so.1
         (subst (λ i. AsksParty c from n (followed c from (answer_at c forged_so) jar) (rp_ask.Callback (Ok (answer_heard forged_so (option_and_then word_of_text answer.state))) (Some i) jar.first)) read asked)

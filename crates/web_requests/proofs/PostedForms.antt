@@ -9,7 +9,7 @@ use Rattle.sso_base.proofs.WordUtf8.{IsUtf8-word_text}
 use Rattle.oidc_words.specs.Paths.{login_path, consent_path, signout_path, begin_path, home_path, leave_path}
 use Rattle.oidc_words.specs.declared.scopes.Scopes.{Scopes}
 use Rattle.client_registry.specs.Configuration.{Configuration}
-use Rattle.client_registry.specs.Numbers.{party_row, party_secret}
+use Rattle.client_registry.specs.Numbers.{party_row, party_client}
 use Rattle.client_registry.specs.Registered.{IsRegistry}
 use Rattle.request_params.specs.Form.{form_pairs, form_text}
 use Rattle.request_params.proofs.Forms.{form_pairs-form_text}
@@ -98,4 +98,4 @@ module _ (c : Configuration) (from : ℕ) (jar : Jar) where
     pub leave_read : AsksParty c from n (Some (party_left from n jar)) (rp_ask.Leave jar.second)
     leave_read =
         let request : Ask = posted leave_path None jar in
-        record { request = request; is = refl; read = party_reads c n r low request ∙ ap (rp.asked_at (party_secret c n) (party_row c n).types request) (leave_asked c n r low) }
+        record { request = request; is = refl; read = party_reads c n r low request ∙ ap (rp.asked_at (party_client c n) (party_row c n).types request) (leave_asked c n r low) }

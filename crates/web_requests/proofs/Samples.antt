@@ -22,7 +22,6 @@ use Rattle.request_params.proofs.OnLiterals.{request_params_on_literals}
 use Rattle.auth_request.specs.Judgement.{judgement}
 use Rattle.id_token.specs.declared.claims.IdClaims.{IdClaims}
 use Rattle.id_token.specs.Claims.{id_members}
-use Rattle.id_token.specs.Reading.{id_read}
 use Rattle.id_token.specs.Sealing.{id_text, HasTexts, IsSealable}
 use Rattle.id_token.proofs.Fitting.{fits-id_members}
 use Rattle.auth_answer.specs.declared.answer.Answer.{Answer}
@@ -32,7 +31,6 @@ use Rattle.auth_answer.proofs.OnLiterals.{auth_answer_on_literals}
 use Rattle.token_endpoint.specs.Request.{token_message}
 use Rattle.userinfo.specs.Request.{info_message}
 use Rattle.userinfo.specs.declared.header.Bearer.TheVariants.{Given}
-use Rattle.logout_token.specs.LogoutToken.{logout_read}
 use Rattle.login_request.specs.Request.{login_object, login_location}
 use Rattle.login_request.proofs.Samples.{small, shop, mail, shop_party, mail_party, mail_may, word}
 use Rattle.op_exchange.specs.declared.ask.OpAsk.{OpAsk}
@@ -49,6 +47,7 @@ use Rattle.sso_places.specs.declared.types.To.TheVariants as to
 use Rattle.sso_places.specs.declared.types.WorldAsk.TheVariants as asked
 use Rattle.sso_places.specs.declared.types.WorldReply.{WorldReply}
 use Rattle.sso_places.specs.declared.types.WorldReply.TheVariants as reply
+use Rattle.rp_request.specs.Opened.{id_read_for, logout_read_for}
 use Rattle.web_requests.specs.declared.location.Location.TheVariants as location
 use Rattle.sso_places.specs.Cookies.{no_jar}
 use Rattle.web_requests.specs.Sending.{got, posted, sent}
@@ -201,11 +200,11 @@ bob_may_be_sealed = refl
 abbrev alices_token : Text
 alices_token = id_text mail.secret alice
 
-token-for_bob : forged_id (codes "bob") alices_token mail.secret ≡ Some (id_text mail.secret bob)
-token-for_bob = opened mail.secret (codes "bob") alice alice_is_sealable ∙ ap (λ b. cond b (Some (id_text mail.secret bob)) None) bob_may_be_sealed
+token-for_bob : forged_id (codes "bob") alices_token mail ≡ Some (id_text mail.secret bob)
+token-for_bob = opened mail mail.secret (codes "bob") alice refl alice_is_sealable ∙ ap (λ b. cond b (Some (id_text mail.secret bob)) None) bob_may_be_sealed
 
-token-for_no_subject : forged_id [] alices_token mail.secret ≡ None
-token-for_no_subject = opened mail.secret [] alice alice_is_sealable
+token-for_no_subject : forged_id [] alices_token mail ≡ None
+token-for_no_subject = opened mail mail.secret [] alice refl alice_is_sealable
 
 forged-for_bob : forged small (answered (Some alices_token)) (codes "bob") ≡ Some (location.Client (codes "https://c.d/cb") true (answer_form (answered_to (codes "https://c.d/cb") (Some (id_text mail.secret bob)))))
 unfolding forged
@@ -386,12 +385,12 @@ a_signed_login-is_read : AsksProvider small 7 (reply_followed small 7 (reply.Par
     (op_ask.Authorize (judgement small (whole_params mail mail_party small.provider (word 2) (word 3)) false) jar.first jar.second)
 a_signed_login-is_read = request_followed_read small 1 (word 2) (word 3) mail_may jar 7 (word 4)
 
-an_answer-is_read : AsksParty small 7 1 (reply_followed small 7 (answered (Some alices_token)) jar) (rp_ask.Callback (Ok (answer_heard (answered_to (codes "https://c.d/cb") (Some alices_token)) None)) (Some (id_read mail.secret alices_token)) jar.first)
+an_answer-is_read : AsksParty small 7 1 (reply_followed small 7 (answered (Some alices_token)) jar) (rp_ask.Callback (Ok (answer_heard (answered_to (codes "https://c.d/cb") (Some alices_token)) None)) (Some (id_read_for mail alices_token)) jar.first)
 an_answer-is_read = answer_followed_read small 1 registry second 7 None jar (answered_to (codes "https://c.d/cb") (Some alices_token)) refl refl tt (token_is_text mail.secret alice)
 
 a_forged_answer-is_read : AsksParty small 7 1 (followed small 7 (location.Client (codes "https://c.d/cb") true (answer_form (answered_to (codes "https://c.d/cb") (Some (id_text mail.secret bob))))) jar)
     (rp_ask.Callback (Ok (answer_heard (answered_to (codes "https://c.d/cb") (Some (id_text mail.secret bob))) None)) (Some (Ok bob)) jar.first)
-a_forged_answer-is_read = forged_followed_read small 1 registry second (answered_to (codes "https://c.d/cb") (Some alices_token)) alice (codes "bob") refl refl alice_texts alice_is_sealable None 7 jar _ tt forged-for_bob
+a_forged_answer-is_read = forged_followed_read small 1 registry second (answered_to (codes "https://c.d/cb") (Some alices_token)) mail.secret alice (codes "bob") refl refl refl alice_texts alice_is_sealable None 7 jar _ tt forged-for_bob
 
 a_login-is_read : AsksProvider small 7 (login_posted small 7 (reply.Provider (op.LoginPage (word 1) (word 2) false)) (codes "alice") (codes "x") jar) (op_ask.Login (Some (word 1)) (signed_user small (codes "alice") (codes "x")) jar.first jar.second)
 a_login-is_read = login_read small 7 jar (word 1) (word 2) false (codes "alice") (codes "x") word_1 (IsUtf8-are_ascii (codes "alice") refl) (IsUtf8-are_ascii (codes "x") refl)
@@ -406,18 +405,18 @@ userinfo_request-is_read : AsksProvider small 0 (carried small (reply.Party (rp.
 userinfo_request-is_read = info_request_read small registry (codes "https://op/userinfo") (word 1) (word 1) refl word_1
 
 tokens-are_read : AnswersTokens small 7 1 (word 1) (handed_back small 7 (to.Party 1) (reply.Party (rp.Exchange (word 1) (record { to = []; auth = None; body = None }))) to.Provider (reply.Provider (op.Tokens (word 2) alices_token)))
-    (rp_ask.Tokens (word 1) (Ok (record { access = word_text (word 2); id = alices_token })) (Some (id_read mail.secret alices_token)))
+    (rp_ask.Tokens (word 1) (Ok (record { access = word_text (word 2); id = alices_token })) (Some (id_read_for mail alices_token)))
 tokens-are_read = tokens_handed small 7 1 (word 1) (word 2) (record { to = []; auth = None; body = None }) alices_token (token_is_text mail.secret alice)
 
 -- ---- and those of the law of logout requests
 
 shop_is_client : IsClient shop
 unfolding url_on_literals parts_of
-shop_is_client = record { id = refl; secret = refl; long_secret = omega arith; redirects = refl; types = refl; urls = refl; kept = refl; logout = refl; logout_kept = refl; one_host = refl }
+shop_is_client = record { id = refl; secret = refl; long_secret = omega arith; old_secret = tt; seals = refl; redirects = refl; types = refl; urls = refl; kept = refl; logout = refl; logout_kept = refl; one_host = refl }
 
 mail_is_client : IsClient mail_with_logout
 unfolding url_on_literals parts_of
-mail_is_client = record { id = refl; secret = refl; long_secret = omega arith; redirects = refl; types = refl; urls = refl; kept = refl; logout = refl; logout_kept = refl; one_host = refl }
+mail_is_client = record { id = refl; secret = refl; long_secret = omega arith; old_secret = tt; seals = refl; redirects = refl; types = refl; urls = refl; kept = refl; logout = refl; logout_kept = refl; one_host = refl }
 
 shop_fits : FitsClient shop_party shop
 shop_fits = record { redirect = refl; logout = refl; logout_of = tt; number = 0; types = refl; has_type = refl }
@@ -459,7 +458,7 @@ registry_with_logout =
     }
 
 logout_request-is_read : AsksParty with_logout 0 1 (carried with_logout (reply.Provider (op.SignedOut (record { to = codes "https://c.d/out?k=v"; auth = None; body = Some (form_text (logout_pairs (codes "x.y.z"))) } ∷ []))) 0)
-    (rp_ask.Logout (logout_read mail.secret (codes "x.y.z")))
+    (rp_ask.Logout (logout_read_for mail (codes "x.y.z")))
 logout_request-is_read =
     logout_carried with_logout 1 (codes "https://c.d/out?k=v") (codes "x.y.z") (record { to = codes "https://c.d/out?k=v"; auth = None; body = Some (form_text (logout_pairs (codes "x.y.z"))) } ∷ []) 0 registry_with_logout refl refl refl
     (IsUtf8-are_ascii (codes "x.y.z") refl) refl

@@ -9,7 +9,7 @@ use Rattle.oidc_words.specs.Paths.{leave_path}
 use Rattle.oidc_words.specs.Routes.{endpoint_of}
 use Rattle.client_registry.specs.declared.records.Party.{Party}
 use Rattle.client_registry.specs.Configuration.{Configuration}
-use Rattle.client_registry.specs.Numbers.{party_row, party_secret, no_party}
+use Rattle.client_registry.specs.Numbers.{party_row, party_client, no_party}
 use Rattle.client_registry.specs.Registered.{IsRegistry}
 use Rattle.op_request.specs.Routes as op_routes
 use Rattle.op_request.specs.Prepared as op
@@ -43,10 +43,10 @@ module _ (c : Configuration) (n : ℕ) (r : IsRegistry c) (low : n < length c.pa
 
   -- a party of the registry
   pub party_reads : (request : Ask)
-      → rp.prepared c n request ≡ rp.asked_at (party_secret c n) party.types request (rp_routes.endpoint_asked party.redirect_url.path (rp.logout_path c party) request)
+      → rp.prepared c n request ≡ rp.asked_at (party_client c n) party.types request (rp_routes.endpoint_asked party.redirect_url.path (rp.logout_path c party) request)
   unfolding rp.prepared
   party_reads request =
-      ap (λ o. rp.asked_at (party_secret c n) party.types request (option_and_then (λ (p : Party). rp_routes.endpoint_asked p.redirect_url.path (rp.logout_path c p) request) o)) (some_row c.parties n no_party low)
+      ap (λ o. rp.asked_at (party_client c n) party.types request (option_and_then (λ (p : Party). rp_routes.endpoint_asked p.redirect_url.path (rp.logout_path c p) request) o)) (some_row c.parties n no_party low)
 
   leaves_elsewhere : bytes_eq leave_path party.redirect_url.path ≡ false
   leaves_elsewhere = bytes_turn party.redirect_url.path leave_path (redirects_elsewhere c n party r (some_row c.parties n no_party low)).leave

@@ -5,14 +5,15 @@ use Rattle.std.specs.Result.{result_ok}
 use Rattle.sso_base.specs.Words.{Text}
 use Rattle.claim_set.specs.Building.{HasNone}
 use Rattle.claim_set.specs.Reading.{claims_text}
+use Rattle.client_registry.specs.declared.records.Client.{Client}
 use Rattle.client_registry.specs.Configuration.{Configuration}
-use Rattle.client_registry.specs.Numbers.{client_secret}
+use Rattle.client_registry.specs.Numbers.{client_at}
 use Rattle.id_token.specs.declared.claims.IdClaims.{IdClaims}
 use Rattle.id_token.specs.Claims.{id_members, id_names, is_subject}
-use Rattle.id_token.specs.Reading.{id_read}
 use Rattle.id_token.specs.Sealing.{id_text}
 use Rattle.auth_answer.specs.declared.answer.Answer.{Answer}
 use Rattle.op_exchange.specs.declared.reply.OpReply.TheVariants as op
+use Rattle.rp_request.specs.Opened.{id_read_for}
 use Rattle.sso_places.specs.Written.{client_of_uri}
 use Rattle.sso_places.specs.declared.types.WorldReply.{WorldReply}
 use Rattle.sso_places.specs.declared.types.WorldReply.TheVariants.{Provider}
@@ -28,17 +29,17 @@ abbrev pub resealed : Text → Text → IdClaims → Option Text
 resealed secret user claims =
     if may_be_sealed (record claims { sub = user }) then Some (id_text secret (record claims { sub = user })) else None
 
--- an ID Token under this secret, with this subject in place of its own
-abbrev pub forged_id : Text → Text → Text → Option Text
-forged_id user id secret = option_and_then (resealed secret user) (result_ok (id_read secret id))
+-- an ID Token of this client, with this subject in place of its own, under the client's secret
+abbrev pub forged_id : Text → Text → Client → Option Text
+forged_id user id client = option_and_then (resealed client.secret user) (result_ok (id_read_for client id))
 
--- the secret of the client with a redirect URI
-abbrev pub secret_at : Configuration → Text → Option Text
-secret_at c uri = option_map (client_secret c) (client_of_uri c uri)
+-- the client with a redirect URI
+abbrev pub client_with : Configuration → Text → Option Client
+client_with c uri = option_and_then (client_at c) (client_of_uri c uri)
 
 -- the ID Token of an answer, with this subject in place of its own
 abbrev pub forged_in : Configuration → Answer → Text → Option Text
-forged_in c answer user = option_and_then (λ id. option_and_then (forged_id user id) (secret_at c answer.redirect)) answer.id
+forged_in c answer user = option_and_then (λ id. option_and_then (forged_id user id) (client_with c answer.redirect)) answer.id
 
 -- an answer with this ID Token in place of its own
 abbrev pub with_id : Answer → Text → Answer

@@ -3,21 +3,21 @@ use Rattle.std.specs.Prelude.{◌≡◌, ◌<◌, ◌&&◌, ℕ, List, Bool, tru
 use Rattle.std.specs.Prelude.{Ok}
 use Rattle.std.specs.Str.{IsUtf8, bytes_eq}
 use Rattle.sso_base.specs.Words.{Word, Text, IsWord, word_text, word_of_text}
+use Rattle.sso_base.specs.Texts.{is_given}
 use Rattle.sso_base.specs.declared.message.Message.{Message}
 use Rattle.oidc_words.specs.declared.errors.Refusal.{Refusal}
 use Rattle.oidc_words.specs.declared.scopes.Scopes.{Scopes}
 use Rattle.client_registry.specs.declared.records.Client.{Client}
 use Rattle.claim_set.specs.Reading.{claims_text}
 use Rattle.client_registry.specs.Configuration.{Configuration, subject_at}
-use Rattle.client_registry.specs.Numbers.{client_at, party_row, party_client, party_secret}
+use Rattle.client_registry.specs.Numbers.{client_at, party_row, party_client}
 use Rattle.client_registry.specs.Registered.{IsRegistry}
+use Rattle.client_registry.specs.Secrets.{has_secret}
 use Rattle.request_params.specs.Form.{form_pairs, form_text}
 use Rattle.request_params.specs.Reading.{has_name, value_of}
 use Rattle.auth_request.specs.Judgement.{judgement}
 use Rattle.id_token.specs.declared.claims.IdClaims.{IdClaims}
-use Rattle.id_token.specs.Reading.{id_read}
 use Rattle.id_token.specs.Sealing.{id_text, HasTexts, IsSealable}
-use Rattle.logout_token.specs.LogoutToken.{logout_read}
 use Rattle.auth_answer.specs.declared.answer.Answer.{Answer}
 use Rattle.auth_answer.specs.Sent.{answer_heard, refusal_heard}
 use Rattle.token_endpoint.specs.Request.{token_message}
@@ -32,6 +32,7 @@ use Rattle.op_issue.specs.LogoutMessages.{logout_pairs}
 use Rattle.op_request.specs.Prepared.{signed_user}
 use Rattle.rp_exchange.specs.declared.ask.RpAsk.TheVariants as rp_ask
 use Rattle.rp_exchange.specs.declared.reply.RpReply.TheVariants as rp
+use Rattle.rp_request.specs.Opened.{id_read_for, logout_read_for}
 use Rattle.sso_places.specs.declared.types.Jar.{Jar}
 use Rattle.sso_places.specs.declared.types.To.{To}
 use Rattle.sso_places.specs.declared.types.To.TheVariants as role
@@ -43,7 +44,7 @@ use Rattle.web_requests.specs.Mixing.{form_of, mixed}
 use Rattle.web_requests.specs.Forging.{forged_id, with_id, forged}
 use Rattle.web_requests.specs.Posting.{login_posted, consent_posted}
 use Rattle.web_requests.specs.Visiting.{login_begun, party_visited, party_left}
-use Rattle.web_requests.specs.Carrying.{is_text, party_of_logout, carried}
+use Rattle.web_requests.specs.Carrying.{party_of_logout, carried}
 use Rattle.web_requests.specs.Handing.{handed_back}
 use Rattle.web_requests.specs.declared.sent.Sent.{Sent}
 use Rattle.web_requests.specs.Arriving.{Arrives, GoesBack}
@@ -67,7 +68,7 @@ ResponsesAreFollowed =
     → IfSome answer.id IsUtf8
     → AsksParty c from n (reply_followed c from (reply.Provider (op.Answered answer given)) jar)
         (rp_ask.Callback (Ok (answer_heard answer (option_and_then word_of_text answer.state)))
-           (option_map (id_read (party_secret c n)) answer.id) jar.first)
+           (option_map (id_read_for (party_client c n)) answer.id) jar.first)
 
 abbrev pub ErrorResponsesAreFollowed : Type 0
 ErrorResponsesAreFollowed =
@@ -103,24 +104,25 @@ MixesIfBothHaveTheName =
 
 abbrev pub OwnSubjectForgesNothing : Type 0
 OwnSubjectForgesNothing =
-    (secret : Text) (claims : IdClaims) → IsSealable claims
-    → forged_id claims.sub (id_text secret claims) secret ≡ Some (id_text secret claims)
+    (client : Client) (secret : Text) (claims : IdClaims) → has_secret secret client ≡ true → IsSealable claims
+    → forged_id claims.sub (id_text secret claims) client ≡ Some (id_text client.secret claims)
 
 abbrev pub ForgedSubjectIsRead : Type 0
 ForgedSubjectIsRead =
-    (secret user : Text) (claims : IdClaims) (id : Text) → HasTexts claims → IsSealable claims
-    → forged_id user (id_text secret claims) secret ≡ Some id → id_read secret id ≡ Ok (record claims { sub = user })
+    (client : Client) (secret user : Text) (claims : IdClaims) (id : Text)
+    → has_secret secret client ≡ true → HasTexts claims → IsSealable claims
+    → forged_id user (id_text secret claims) client ≡ Some id → id_read_for client id ≡ Ok (record claims { sub = user })
 
 abbrev pub ForgedResponsesAreFollowed : Type 0
 ForgedResponsesAreFollowed =
-    (c : Configuration) (n : ℕ) (answer : Answer) (claims : IdClaims) (user : Text) (given : Option Word) (from : ℕ) (jar : Jar)
-    (l : Location)
+    (c : Configuration) (n : ℕ) (answer : Answer) (secret : Text) (claims : IdClaims) (user : Text) (given : Option Word)
+    (from : ℕ) (jar : Jar) (l : Location)
     → IsRegistry c → n < length c.parties → (party_row c n).redirect ≡ answer.redirect
-    → answer.id ≡ Some (id_text (party_secret c n) claims) → HasTexts claims → IsSealable claims → IfSome answer.state IsUtf8
+    → has_secret secret (party_client c n) ≡ true → answer.id ≡ Some (id_text secret claims) → HasTexts claims → IsSealable claims → IfSome answer.state IsUtf8
     → forged c (reply.Provider (op.Answered answer given)) user ≡ Some l
     → AsksParty c from n (followed c from l jar)
         (rp_ask.Callback
-           (Ok (answer_heard (with_id answer (id_text (party_secret c n) (record claims { sub = user })))
+           (Ok (answer_heard (with_id answer (id_text (party_client c n).secret (record claims { sub = user })))
                   (option_and_then word_of_text answer.state)))
            (Some (Ok (record claims { sub = user }))) jar.first)
 
@@ -177,11 +179,11 @@ UserInfoRequestsAreRead =
 abbrev pub LogoutRequestsAreRead : Type 0
 LogoutRequestsAreRead =
     (c : Configuration) (n : ℕ) (uri token : Text) (messages : List Message) (number : ℕ) → IsRegistry c
-    → party_of_logout c uri ≡ Some n → bytes_eq c.provider.token uri ≡ false → is_text c.provider.userinfo uri ≡ false
+    → party_of_logout c uri ≡ Some n → bytes_eq c.provider.token uri ≡ false → is_given uri c.provider.userinfo ≡ false
     → IsUtf8 token
     → slice_get messages number ≡ Some (record { to = uri; auth = None; body = Some (form_text (logout_pairs token)) })
     → AsksParty c 0 n (carried c (reply.Provider (op.SignedOut messages)) number)
-        (rp_ask.Logout (logout_read (party_secret c n) token))
+        (rp_ask.Logout (logout_read_for (party_client c n) token))
 
 abbrev pub TokenResponsesAreRead : Type 0
 TokenResponsesAreRead =
@@ -189,7 +191,7 @@ TokenResponsesAreRead =
     → AnswersTokens c from n pending
         (handed_back c from (role.Party n) (reply.Party (rp.Exchange pending message)) role.Provider
            (reply.Provider (op.Tokens access id)))
-        (rp_ask.Tokens pending (Ok (record { access = word_text access; id = id })) (Some (id_read (party_secret c n) id)))
+        (rp_ask.Tokens pending (Ok (record { access = word_text access; id = id })) (Some (id_read_for (party_client c n) id)))
 
 abbrev pub UserInfoResponsesAreRead : Type 0
 UserInfoResponsesAreRead =

@@ -1,13 +1,15 @@
 // An answer whose ID Token is forged.
 
-ghost use Rattle.std.specs.Prelude.{◌≡◌, option_map, IfOk, IfSome};
+ghost use Rattle.std.specs.Prelude.{◌≡◌, IfOk, IfSome};
+ghost use Rattle.std.specs.Option.{option_copied};
 ghost use Rattle.std.specs.Result.{result_ok};
-ghost use Rattle.id_token.specs.Reading.{id_read};
+ghost use Rattle.rp_request.specs.Opened.{id_read_for};
 ghost use Rattle.web_requests.specs.Forging as spec;
 
 use crate::location::{Location, answer_location};
 use auth_answer::Answer;
-use client_registry::Registry;
+use client_keys::opening_key;
+use client_registry::{Client, Registry};
 use id_token::{IdClaims, IdNo, is_subject, read_id, seal_id, written_len};
 use op_exchange::OpReply;
 use sso_base::{NoMemory, Text};
@@ -21,13 +23,15 @@ fn may_be_sealed(claims: &IdClaims) -> Result<bool, NoMemory>
     Ok(is_subject(&claims.sub) && written_len(claims)? <= 6000)
 }
 
-// The claims of an ID Token under this key, if it is one.
+// The claims of an ID Token of the client, if it is one.
 #[tactic(auto, using(crate::proofs::ReadClaims::of_token))]
-fn claims_of(alloc: Global, key: &[u8], id: &Text) -> Result<Option<IdClaims>, NoMemory>
-    ensures claims { IfOk result (λ o. o ≡ result_ok (id_read key.now id.now)) }
+fn claims_of(alloc: Global, client: &Client, id: &Text) -> Result<Option<IdClaims>, NoMemory>
+    ensures claims { IfOk result (λ o. o ≡ result_ok (id_read_for client.now id.now)) }
     ensures of_token { IfOk result (λ o. IfSome o spec.IsOfToken) }
 {
-    match read_id(alloc, key, id.as_str().as_bytes()) {
+    let id = id.as_str().as_bytes();
+    let key = opening_key(alloc, client, id)?;
+    match read_id(alloc, key.as_str().as_bytes(), id) {
         Ok(claims) => Ok(Some(claims)),
         Err(IdNo::NoMemory) => Err(NoMemory),
         Err(_) => Ok(None),
@@ -51,23 +55,27 @@ fn resealed(
     Ok(Some(seal_id(alloc, key, &claims)?))
 }
 
-// An ID Token under this secret, with this subject in place of its own.
-fn forged_id(alloc: Global, user: &Text, id: &Text, secret: &Text) -> Result<Option<Text>, NoMemory>
-    ensures { IfOk result (λ o. o ≡ spec.forged_id user.now id.now secret.now) }
+// An ID Token of this client, with this subject in place of its own, under the client's secret.
+fn forged_id(
+    alloc: Global,
+    user: &Text,
+    id: &Text,
+    client: &Client,
+) -> Result<Option<Text>, NoMemory>
+    ensures { IfOk result (λ o. o ≡ spec.forged_id user.now id.now client.now) }
 {
-    let key = secret.as_str().as_bytes();
-    match claims_of(alloc, key, id)? {
-        Some(claims) => resealed(alloc, key, user, claims),
+    match claims_of(alloc, client, id)? {
+        Some(claims) => resealed(alloc, client.secret.as_str().as_bytes(), user, claims),
         None => Ok(None),
     }
 }
 
-// The secret of the client with a redirect URI.
-fn secret_at<'a>(registry: &'a Registry, uri: &str) -> Option<&'a Text>
-    ensures { option_map (λ t. t.now) result ≡ spec.secret_at registry.now uri.now }
+// The client with a redirect URI.
+fn client_with<'a>(registry: &'a Registry, uri: &str) -> Option<&'a Client>
+    ensures { option_copied result ≡ spec.client_with registry.now uri.now }
 {
     let number = registry.client_of_uri(uri)?;
-    Some(&registry.client(number).secret)
+    Some(registry.client(number))
 }
 
 // The answer with an ID Token for this subject in place of its own.
@@ -82,10 +90,10 @@ fn forged_answer(
     let Some(id) = &answer.id else {
         return Ok(None);
     };
-    let Some(secret) = secret_at(registry, answer.redirect.as_str()) else {
+    let Some(client) = client_with(registry, answer.redirect.as_str()) else {
         return Ok(None);
     };
-    let Some(id) = forged_id(alloc, user, id, secret)? else {
+    let Some(id) = forged_id(alloc, user, id, client)? else {
         return Ok(None);
     };
     let mut forged = answer.copy(alloc)?;

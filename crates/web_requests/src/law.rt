@@ -2,7 +2,9 @@
 
 ghost use Rattle.std.specs.Prelude.{◌≡◌, ℕ, Some, is_some};
 ghost use Rattle.client_registry.specs.Configuration.{Configuration};
+ghost use Rattle.client_registry.specs.Secrets.{has_secret};
 ghost use Rattle.op_exchange.specs.declared.ask.OpAsk.TheVariants as op_ask;
+ghost use Rattle.rp_request.specs.Opened.{id_read_for, logout_read_for};
 ghost use Rattle.sso_places.specs.declared.types.Jar.{Jar};
 ghost use Rattle.sso_places.specs.declared.types.WorldReply.{WorldReply};
 ghost use Rattle.web_requests.specs.declared.location.Location.{Location};
@@ -26,7 +28,7 @@ pub fn authorization_requests_are_followed()
 
 /// The request that follows an authorization response goes to the party with its redirect URI. The party reads exactly the
 /// parameters that were given, from the query as from the fragment, whatever query is registered (OpenID Connect Core 1.0,
-/// 3.1.2.5, 3.1.2.6 and 3.2.2.5). An ID Token is verified under the party's secret.
+/// 3.1.2.5, 3.1.2.6 and 3.2.2.5). An ID Token is verified under the secrets of the party's client.
 pub fn responses_are_followed()
     ensures answer { ResponsesAreFollowed }
     ensures refusal { ErrorResponsesAreFollowed }
@@ -41,9 +43,10 @@ pub fn mixed_locations_differ_in_one_name()
     ensures exactly { MixesIfBothHaveTheName }
 {}
 
-/// An ID Token that is forged with its own subject is unchanged. With another subject it is read, under the client's secret, as
-/// the claims with that subject. The request that follows a forged answer goes to the party with the answer's redirect URI. The
-/// party reads the parameters of the answer, with this ID Token in place of the original one.
+/// An ID Token that is forged with its own subject is the one with the same claims under the client's secret, and so unchanged
+/// if it is sealed under it. With another subject it is read, for the client, as the claims with that subject. The request that
+/// follows a forged answer goes to the party with the answer's redirect URI. The party reads the parameters of the answer, with
+/// this ID Token in place of the original one.
 pub fn forged_tokens_differ_in_the_subject()
     ensures own { OwnSubjectForgesNothing }
     ensures other { ForgedSubjectIsRead }
@@ -67,7 +70,7 @@ pub fn own_requests_are_read()
 
 /// A carried message is read as what it contains. A client's token request is read as its grant, and a UserInfo request as its
 /// access token (OpenID Connect Core 1.0, 3.1.3.1 and 5.3.1). A logout request is read as its logout token, verified under the
-/// secret of the first party whose client has the logout URI (OpenID Connect Back-Channel Logout 1.0, 2.5).
+/// secrets of the client of the first party whose client has the logout URI (OpenID Connect Back-Channel Logout 1.0, 2.5).
 pub fn carried_messages_are_read()
     ensures token { TokenRequestsAreRead }
     ensures info { UserInfoRequestsAreRead }

@@ -1,7 +1,7 @@
 use Rattle.std.proofs.Common.{◌≡◌, map, drop}
 use Rattle.std.specs.List.{list_any}
 use Rattle.toml.specs.View.{view}
-use Rattle.configuration_rows.specs.Version1.{is_apart}
+use Rattle.configuration_rows.specs.Rows.{is_apart}
 use Rattle.configuration_rows.proofs.logout_rule.is_apart_from_one.Given as goal
 
 abbrev pub invariant-loop-party : goal.invariant-loop-party

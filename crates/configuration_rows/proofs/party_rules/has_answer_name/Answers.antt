@@ -1,6 +1,6 @@
 use Rattle.std.proofs.Common.{◌≡◌, false, sym, ◌∙◌}
 use Rattle.sso_base.specs.Texts.{has_text}
-use Rattle.configuration_rows.specs.Version1.{answer_names}
+use Rattle.configuration_rows.specs.Rows.{answer_names}
 use Rattle.configuration_rows.proofs.Lists.{any_rest}
 use Rattle.configuration_rows.proofs.party_rules.has_answer_name.Goals as goal
 

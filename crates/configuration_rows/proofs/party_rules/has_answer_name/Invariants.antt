@@ -1,7 +1,7 @@
 use Rattle.std.proofs.Common.{◌≡◌, drop}
 use Rattle.std.specs.List.{list_any}
 use Rattle.sso_base.specs.Texts.{has_text}
-use Rattle.configuration_rows.specs.Version1.{answer_names}
+use Rattle.configuration_rows.specs.Rows.{answer_names}
 use Rattle.configuration_rows.proofs.party_rules.has_answer_name.Given as goal
 
 abbrev pub invariant-loop-place : goal.invariant-loop-place

@@ -1,5 +1,5 @@
 use Rattle.std.proofs.Common.{◌≡◌, drop}
-use Rattle.configuration_rows.specs.Version1.{has_type}
+use Rattle.configuration_rows.specs.Rows.{has_type}
 use Rattle.configuration_rows.proofs.party_rules.has_type.Given as goal
 
 abbrev pub invariant-loop-text : goal.invariant-loop-text

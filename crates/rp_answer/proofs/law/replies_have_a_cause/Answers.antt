@@ -4,7 +4,7 @@ use Rattle.rp_answer.specs.Causes.{AskCause, FragmentCause, ExchangeCause, Fetch
 use Rattle.rp_answer.proofs.Stood.{own_replies_stand, standing_is_the_answer}
 use Rattle.rp_answer.proofs.Answers.{asks_have_a_cause, fragments_have_a_cause, exchanges_have_a_cause, fetches_have_a_cause, entered_have_a_cause, users_have_a_cause, nobody_has_a_cause, left_has_a_cause, ended_has_a_cause}
 use Rattle.rp_answer.proofs.Coming.{comes, came}
-use Rattle.rp_answer.proofs.Leading.{ask_leads, fragment_leads, exchange_leads, fetch_leads, entered_leads, user_leads, nobody_leads, left_leads, ended_leads}
+use Rattle.rp_answer.proofs.Told.{ask_leads, fragment_leads, exchange_leads, fetch_leads, entered_leads, user_leads, nobody_leads, left_leads, ended_leads}
 use Rattle.rp_answer.proofs.RefusalsCome.{refusals_come, refusals_came}
 use Rattle.rp_answer.proofs.law.replies_have_a_cause.Goals as goal
 

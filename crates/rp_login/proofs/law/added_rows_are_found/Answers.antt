@@ -1,4 +1,4 @@
-use Rattle.rp_login.specs.Rows.{login_name, pending_name, visit_name, seen_name}
+use Rattle.rp_login.specs.Rows.{login_name, pending_name, visit_name, seen_name, dead_name}
 use Rattle.held_rows.proofs.RowOf.{row_of-push_same, row_of-push_other}
 use Rattle.rp_login.proofs.law.added_rows_are_found.Goals as goal
 
@@ -14,6 +14,9 @@ returns-clause-session c = λ row t none. row_of-push_same visit_name row t.visi
 pub returns-clause-seen : goal.returns-clause-seen
 returns-clause-seen c = λ row t none. row_of-push_same seen_name row t.seens none
 
+pub returns-clause-dead : goal.returns-clause-dead
+returns-clause-dead c = λ row t none. row_of-push_same dead_name row t.deads none
+
 pub returns-clause-other_logins : goal.returns-clause-other_logins
 returns-clause-other_logins c = λ state row t other. row_of-push_other login_name state row t.logins other
 
@@ -25,3 +28,6 @@ returns-clause-other_sessions c = λ w row t other. row_of-push_other visit_name
 
 pub returns-clause-other_seens : goal.returns-clause-other_seens
 returns-clause-other_seens c = λ jti row t other. row_of-push_other seen_name jti row t.seens other
+
+pub returns-clause-other_deads : goal.returns-clause-other_deads
+returns-clause-other_deads c = λ sid row t other. row_of-push_other dead_name sid row t.deads other

@@ -1,4 +1,4 @@
-use Rattle.rp_login.specs.Rows.{login_name, login_begun, pending_name, pending_begun, visit_name, visit_begun, seen_name, seen_begun}
+use Rattle.rp_login.specs.Rows.{login_name, login_begun, pending_name, pending_begun, visit_name, visit_begun, seen_name, seen_begun, dead_name, dead_begun}
 use Rattle.oidc_words.specs.Lives.{login_life, pending_life, visit_life, seen_life}
 use Rattle.held_rows.proofs.RowOf.{row_of-live_rows}
 use Rattle.rp_login.proofs.law.purges_leave_what_lives.Goals as goal
@@ -14,3 +14,6 @@ returns-clause-sessions c = λ at w t held. row_of-live_rows visit_name visit_li
 
 pub returns-clause-seens : goal.returns-clause-seens
 returns-clause-seens c = λ at jti t held. row_of-live_rows seen_name seen_life seen_begun at jti t.seens held.distinct
+
+pub returns-clause-deads : goal.returns-clause-deads
+returns-clause-deads c = λ at sid t held. row_of-live_rows dead_name seen_life dead_begun at sid t.deads held.distinct

@@ -12,4 +12,4 @@ pub returns-clause-sealed : goal.returns-clause-sealed
 returns-clause-sealed c = sealed_id_no_request
 
 pub returns-clause-refused : goal.returns-clause-refused
-returns-clause-refused c = id_token_of_the_provider
+returns-clause-refused c = λ client issuer k x own other s none. id_token_of_the_provider client issuer x other s none k own

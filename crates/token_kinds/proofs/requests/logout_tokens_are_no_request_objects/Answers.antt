@@ -12,4 +12,4 @@ pub returns-clause-sealed : goal.returns-clause-sealed
 returns-clause-sealed c = sealed_logout_no_request
 
 pub returns-clause-refused : goal.returns-clause-refused
-returns-clause-refused c = logout_of_the_provider
+returns-clause-refused c = λ client issuer k y own other s. logout_of_the_provider client issuer y other k own s

@@ -9,4 +9,4 @@ pub returns-clause-other : goal.returns-clause-other
 returns-clause-other c = other_subject
 
 pub returns-clause-followed : goal.returns-clause-followed
-returns-clause-followed c = λ configuration n answer claims user given from jar l r low is token t s state h. forged_followed_read configuration n r low answer claims user is token t s given from jar l state h
+returns-clause-followed c = λ configuration n answer secret claims user given from jar l r low is own token t s state h. forged_followed_read configuration n r low answer secret claims user is own token t s given from jar l state h

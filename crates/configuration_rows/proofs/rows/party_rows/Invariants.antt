@@ -1,8 +1,8 @@
 use Rattle.std.proofs.Common.{◌≡◌, ◌++◌, map, drop}
 use Rattle.toml.specs.View.{view}
 use Rattle.configuration_rows.specs.Refusals.{each_from, each}
-use Rattle.configuration_rows.specs.Version1 as spec
-use Rattle.configuration_rows.proofs.version1.party_rows.Given as goal
+use Rattle.configuration_rows.specs.Rows as spec
+use Rattle.configuration_rows.proofs.rows.party_rows.Given as goal
 
 -- what the rows so far are guilty of, and those to come
 abbrev pub invariant-loop-place : goal.invariant-loop-place

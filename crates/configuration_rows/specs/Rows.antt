@@ -1,5 +1,6 @@
--- The first version of the configuration: its keys, each with its rule, row by row, in the order of its table.
-use Rattle.std.specs.Prelude.{ℕ, ◌==◌, Bool, false, not, ◌&&◌, ◌||◌, List, [], ◌∷◌, ◌++◌, codes, Option, Some, None, is_some, if◌then◌else◌}
+-- The configuration: its keys, each with its rule, row by row, in the order of its table. The second version has two keys of a
+-- client more than the first.
+use Rattle.std.specs.Prelude.{ℕ, ◌==◌, Bool, true, false, not, ◌&&◌, ◌||◌, List, [], ◌∷◌, ◌++◌, codes, Option, Some, None, is_some, if◌then◌else◌}
 use Rattle.std.specs.List.{list_any}
 use Rattle.std.specs.Str.{bytes_eq}
 use Rattle.toml.specs.Data.{Data, get, as_array}
@@ -11,15 +12,18 @@ use Rattle.configuration_rows.specs.declared.no.RegNo.TheVariants as no
 use Rattle.configuration_rows.specs.declared.row.Row.{Row}
 use Rattle.configuration_rows.specs.declared.row.Row.TheVariants.{Provider, User, Client, Party}
 use Rattle.configuration_rows.specs.declared.kind.Alphabet.TheVariants.{UserId, ClientId, PartyName, Visible}
-use Rattle.configuration_rows.specs.declared.kind.TextRule.TheVariants.{Any, Name, Hex, ResponseType, Subject, Consent, Scope, Prompt}
+use Rattle.configuration_rows.specs.declared.kind.TextRule.TheVariants.{Any, Name, Hex, ResponseType, Subject, Consent, Seals, Scope, Prompt}
 use Rattle.configuration_rows.specs.declared.kind.Kind.{Kind}
 use Rattle.configuration_rows.specs.declared.kind.Kind.TheVariants.{Text, Number, Flag, Issuer, Url, Urls, ResponseTypes, Claims}
 use Rattle.configuration_rows.specs.declared.kind.Breach.{Breach}
 use Rattle.configuration_rows.specs.declared.kind.Breach.TheVariants.{WrongKind, BadUrl}
+use Rattle.configuration_rows.specs.declared.version.Version.{Version}
+use Rattle.configuration_rows.specs.declared.version.Version.TheVariants as version
 use Rattle.configuration_rows.specs.Refusals.{note_if, each}
 use Rattle.configuration_rows.specs.Paths.{path_text}
 use Rattle.configuration_rows.specs.Values.{text_at, text_or, texts_at, url_at, rows_at, table_at}
 use Rattle.configuration_rows.specs.Kinds.{breach, passes}
+use Rattle.configuration_rows.specs.Versions.{version_in}
 use Rattle.sso_base.specs.Texts.{has_text}
 use Rattle.oidc_words.specs.Paths.{home_path, begin_path, leave_path}
 use Rattle.oidc_words.specs.Types.{code_word, type_number}
@@ -157,10 +161,25 @@ user_row i d =
     ++ required (User i) d (codes "proof") (Text (Hex 32 32))
     ++ optional (User i) d (codes "claims") Claims
 
-abbrev pub client_names : Row → Data → List RegNo
-client_names row d =
+-- the client seals with its old secret
+abbrev pub seals_old : Data → Bool
+seals_old d = bytes_eq (text_or (codes "seals") [] d) (codes "old")
+
+-- a client that seals with its old secret needs one; to any other it is optional
+abbrev pub old_secret_rule : Bool → Row → Data → List RegNo
+old_secret_rule true row d = required row d (codes "old_secret") (Text (Name Visible 0 128))
+old_secret_rule false row d = optional row d (codes "old_secret") (Text (Name Visible 0 128))
+
+-- the keys of the second version
+abbrev pub old_secret_keys : Version → Row → Data → List RegNo
+old_secret_keys version.First row d = []
+old_secret_keys version.Second row d = old_secret_rule (seals_old d) row d ++ optional row d (codes "seals") (Text Seals)
+
+abbrev pub client_names : Version → Row → Data → List RegNo
+client_names v row d =
     required row d (codes "id") (Text (Name ClientId 1 64))
     ++ required row d (codes "secret") (Text (Name Visible 0 128))
+    ++ old_secret_keys v row d
     ++ required row d (codes "redirect_uris") Urls
     ++ optional row d (codes "response_types") ResponseTypes
 
@@ -172,8 +191,8 @@ client_settings parties row d =
     ++ logout_rule parties row d
     ++ optional row d (codes "logout_session") Flag
 
-abbrev pub client_row : List Data → ℕ → Data → List RegNo
-client_row parties i d = client_names (Client i) d ++ client_settings parties (Client i) d
+abbrev pub client_row : Version → List Data → ℕ → Data → List RegNo
+client_row v parties i d = client_names v (Client i) d ++ client_settings parties (Client i) d
 
 abbrev pub party_names : List Data → Row → Data → List RegNo
 party_names clients row d =
@@ -211,7 +230,7 @@ abbrev pub users_rows : Data → List RegNo
 users_rows root = array_rule (codes "user") root ++ each user_row (rows_at (codes "user") root)
 
 abbrev pub clients_rows : Data → List RegNo
-clients_rows root = array_rule (codes "client") root ++ each (client_row (rows_at (codes "party") root)) (rows_at (codes "client") root)
+clients_rows root = array_rule (codes "client") root ++ each (client_row (version_in root) (rows_at (codes "party") root)) (rows_at (codes "client") root)
 
 abbrev pub parties_rows : Data → List RegNo
 parties_rows root = array_rule (codes "party") root ++ each (party_row (rows_at (codes "client") root)) (rows_at (codes "party") root)

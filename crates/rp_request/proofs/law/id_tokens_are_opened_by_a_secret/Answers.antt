@@ -1,5 +1,5 @@
 use Rattle.rp_request.proofs.Callbacks.{callback_opened, callback_accepted}
-use Rattle.rp_request.proofs.law.id_tokens_are_opened_by_the_secret.Goals as goal
+use Rattle.rp_request.proofs.law.id_tokens_are_opened_by_a_secret.Goals as goal
 
 pub returns-clause-opened : goal.returns-clause-opened
 returns-clause-opened c = callback_opened

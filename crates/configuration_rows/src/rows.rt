@@ -1,4 +1,5 @@
-// The first version of the configuration: its keys, each with its rule, row by row, in the order of its table.
+// The keys of the configuration, each with its rule, row by row, in the order of its table. The second version has two keys of
+// a client more than the first.
 
 ghost use Rattle.std.specs.Prelude.{◌≡◌, ◌++◌, map, OnOk};
 ghost use Rattle.toml.specs.Data.{table, no_members};
@@ -6,7 +7,8 @@ ghost use Rattle.toml.specs.View.{view};
 ghost use Rattle.configuration_rows.specs.declared.kind.Kind.TheVariants as kind;
 ghost use Rattle.configuration_rows.specs.declared.kind.TextRule.TheVariants as rule;
 ghost use Rattle.configuration_rows.specs.Refusals.{each};
-ghost use Rattle.configuration_rows.specs.Version1 as spec;
+ghost use Rattle.configuration_rows.specs.Rows as spec;
+ghost use Rattle.configuration_rows.specs.Versions.{version_in};
 
 use crate::keys::{array, optional, required};
 use crate::kind::{Alphabet, Kind, TextRule};
@@ -14,7 +16,8 @@ use crate::logout_rule::logout_rule;
 use crate::party_rules::{redirect_rule, type_rule};
 use crate::refusals::Refusals;
 use crate::row::Row;
-use crate::values::{rows_at, table_at};
+use crate::values::{rows_at, table_at, text_or};
+use crate::version::Version;
 use sso_base::NoMemory;
 use toml::Value;
 
@@ -72,8 +75,49 @@ fn user_row(refusals: &mut Refusals, place: usize, values: &Value) -> Result<(),
     optional(refusals, row, values, "claims", Kind::Claims)
 }
 
-fn client_names(refusals: &mut Refusals, row: Row, values: &Value) -> Result<(), NoMemory>
-    ensures { OnOk result (refusals.new ≡ refusals.old ++ spec.client_names row (view values.now)) }
+// Checks the old secret of a client. It is required if the client seals with it.
+fn old_secret_rule(
+    refusals: &mut Refusals,
+    seals_old: bool,
+    row: Row,
+    values: &Value,
+) -> Result<(), NoMemory>
+    ensures { OnOk result (refusals.new ≡ refusals.old ++ spec.old_secret_rule seals_old row (view values.now)) }
+{
+    let secret = name_of(Alphabet::Visible, 0, 128);
+    if seals_old {
+        required(refusals, row, values, "old_secret", secret)
+    } else {
+        optional(refusals, row, values, "old_secret", secret)
+    }
+}
+
+// Checks the keys of the second version.
+fn old_secret_keys(
+    refusals: &mut Refusals,
+    version: Version,
+    row: Row,
+    values: &Value,
+) -> Result<(), NoMemory>
+    ensures { OnOk result (refusals.new ≡ refusals.old ++ spec.old_secret_keys version row (view values.now)) }
+{
+    match version {
+        Version::First => Ok(()),
+        Version::Second => {
+            let seals_old = text_or(values, "seals", "") == "old";
+            old_secret_rule(refusals, seals_old, row, values)?;
+            optional(refusals, row, values, "seals", Kind::Text(TextRule::Seals))
+        }
+    }
+}
+
+fn client_names(
+    refusals: &mut Refusals,
+    version: Version,
+    row: Row,
+    values: &Value,
+) -> Result<(), NoMemory>
+    ensures { OnOk result (refusals.new ≡ refusals.old ++ spec.client_names version row (view values.now)) }
 {
     required(
         refusals,
@@ -89,6 +133,7 @@ fn client_names(refusals: &mut Refusals, row: Row, values: &Value) -> Result<(),
         "secret",
         name_of(Alphabet::Visible, 0, 128),
     )?;
+    old_secret_keys(refusals, version, row, values)?;
     required(refusals, row, values, "redirect_uris", Kind::Urls)?;
     optional(refusals, row, values, "response_types", Kind::ResponseTypes)
 }
@@ -122,13 +167,14 @@ fn client_settings(
 
 fn client_row(
     refusals: &mut Refusals,
+    version: Version,
     parties: &[Value],
     place: usize,
     values: &Value,
 ) -> Result<(), NoMemory>
-    ensures { OnOk result (refusals.new ≡ refusals.old ++ spec.client_row (map view parties.now) place (view values.now)) }
+    ensures { OnOk result (refusals.new ≡ refusals.old ++ spec.client_row version (map view parties.now) place (view values.now)) }
 {
-    client_names(refusals, Row::Client(place), values)?;
+    client_names(refusals, version, Row::Client(place), values)?;
     client_settings(refusals, parties, Row::Client(place), values)
 }
 
@@ -221,13 +267,14 @@ fn user_rows(refusals: &mut Refusals, users: &[Value]) -> Result<(), NoMemory>
 
 fn client_rows(
     refusals: &mut Refusals,
+    version: Version,
     parties: &[Value],
     clients: &[Value],
 ) -> Result<(), NoMemory>
-    ensures { OnOk result (refusals.new ≡ refusals.old ++ each (spec.client_row (map view parties.now)) (map view clients.now)) }
+    ensures { OnOk result (refusals.new ≡ refusals.old ++ each (spec.client_row version (map view parties.now)) (map view clients.now)) }
 {
     for (place, client) in clients.iter().enumerate() {
-        client_row(refusals, parties, place, client)?;
+        client_row(refusals, version, parties, place, client)?;
     }
     Ok(())
 }
@@ -241,10 +288,16 @@ fn party_rows(refusals: &mut Refusals, clients: &[Value], parties: &[Value]) -> 
     Ok(())
 }
 
-/// Appends the errors of the rows of a configuration, in order. `empty` is an empty table.
-#[tactic(auto, unfolding(crate::specs::Version1::rows_refusals))]
-pub fn judge_rows(refusals: &mut Refusals, root: &Value, empty: &Value) -> Result<(), NoMemory>
-    requires { view empty.now ≡ table no_members }
+/// Appends the errors of the rows of a configuration of this version, in order. `empty` is an empty table.
+#[tactic(auto, unfolding(crate::specs::Rows::rows_refusals))]
+pub fn judge_rows(
+    refusals: &mut Refusals,
+    version: Version,
+    root: &Value,
+    empty: &Value,
+) -> Result<(), NoMemory>
+    requires version { version ≡ version_in (view root.now) }
+    requires empty { view empty.now ≡ table no_members }
     ensures { OnOk result (refusals.new ≡ refusals.old ++ spec.rows_refusals (view root.now)) }
 {
     let clients = rows_at(root, "client");
@@ -253,7 +306,7 @@ pub fn judge_rows(refusals: &mut Refusals, root: &Value, empty: &Value) -> Resul
     array(refusals, root, "user")?;
     user_rows(refusals, rows_at(root, "user"))?;
     array(refusals, root, "client")?;
-    client_rows(refusals, parties, clients)?;
+    client_rows(refusals, version, parties, clients)?;
     array(refusals, root, "party")?;
     party_rows(refusals, clients, parties)
 }

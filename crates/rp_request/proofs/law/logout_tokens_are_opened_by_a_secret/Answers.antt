@@ -1,5 +1,5 @@
 use Rattle.rp_request.proofs.Logouts.{logout_opened, logout_accepted, logout_reads}
-use Rattle.rp_request.proofs.law.logout_tokens_are_opened_by_the_secret.Goals as goal
+use Rattle.rp_request.proofs.law.logout_tokens_are_opened_by_a_secret.Goals as goal
 
 pub returns-clause-reads : goal.returns-clause-reads
 returns-clause-reads c = logout_reads

@@ -1,0 +1,3 @@
+pub mod EachKey
+pub mod Opened
+mod Samples

@@ -1,0 +1,13 @@
+//! The keys of a client's tokens: its secrets. A token that is sealed under either secret of a client is opened.
+//!
+//! | Module | What it has |
+//! |---|---|
+//! | `opening` | [`opening_key`], the secret under which a text is opened |
+//! | `law` | laws about texts that are sealed for a client, for the crates above |
+#![tactic(auto)]
+
+mod law;
+mod opening;
+
+pub use law::{refusals_hold_under_each_secret, texts_open_for_their_client};
+pub use opening::opening_key;

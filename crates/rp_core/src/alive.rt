@@ -1,0 +1,76 @@
+// Whether a logout came before its login: no session begins with a `sid` that an accepted logout token named.
+
+ghost use Rattle.std.specs.Prelude.{◌≡◌, ◌≤◌};
+ghost use Rattle.std.specs.Option.{option_copied};
+ghost use Rattle.sso_base.specs.Legal.{last_moment};
+ghost use Rattle.rp_login.specs.declared.rows.Stage.TheVariants as stage;
+ghost use Rattle.rp_answer.specs.Alive as spec;
+ghost use Rattle.rp_answer.specs.Pendings.{live_pending};
+ghost use Rattle.rp_answer.specs.Setup.{party_of};
+ghost use Rattle.rp_core.specs.Relying.{past_of};
+
+use crate::making::claims_judged;
+use crate::state::RpCore;
+use rp_exchange::{RpAsk, RpNo, RpReply};
+use rp_login::{DeadRow, Stage};
+use sso_base::{Moment, Text, Word};
+
+// The text, if there is one.
+fn text_if(text: &Option<Text>) -> Option<&Text>
+    ensures { option_copied result ≡ text.now }
+{
+    match text {
+        Some(text) => Some(text),
+        None => None,
+    }
+}
+
+// The reply, unless it is a session whose `sid` is remembered.
+pub(crate) fn unless_dead(reply: RpReply, dead: Option<&DeadRow>) -> RpReply
+    ensures { result ≡ spec.unless_dead reply (option_copied dead.entry) }
+{
+    match (&reply, dead) {
+        (RpReply::Entered { .. }, Some(dead)) => RpReply::Refused {
+            why: RpNo::EndedSid(dead.place),
+        },
+        _ => reply,
+    }
+}
+
+impl RpCore {
+    // The `sid` of the exchange that waits for UserInfo under this word.
+    fn sid_waiting(&self, at: Moment, word: Word) -> Option<&Text>
+        requires { last_moment (past_of self.now) ≤ at }
+        ensures { option_copied result ≡ spec.sid_waiting (live_pending (party_of self.now.setup).types (past_of self.now) at word stage.Info) }
+    {
+        match self.live_pending(at, word, Stage::Info) {
+            Some(pending) => text_if(&pending.sid),
+            None => None,
+        }
+    }
+
+    // The `sid` of the last ID Token that was verified for the session that would begin.
+    fn sid_judged<'a>(&'a self, at: Moment, ask: &'a RpAsk) -> Option<&'a Text>
+        requires { last_moment (past_of self.now) ≤ at }
+        ensures { option_copied result ≡ spec.sid_judged (party_of self.now.setup).types (past_of self.now) at ask.now }
+    {
+        match ask {
+            RpAsk::Info { pending, .. } => self.sid_waiting(at, *pending),
+            _ => match claims_judged(&self.setup.party().types, ask) {
+                Some(claims) => text_if(&claims.sid),
+                None => None,
+            },
+        }
+    }
+
+    // The record of that `sid`, if it is remembered.
+    pub(crate) fn dead_for(&self, at: Moment, ask: &RpAsk) -> Option<&DeadRow>
+        requires { last_moment (past_of self.now) ≤ at }
+        ensures { option_copied result ≡ spec.dead_for (party_of self.now.setup).types (past_of self.now) at ask.now }
+    {
+        match self.sid_judged(at, ask) {
+            Some(sid) => self.live_dead(at, sid.as_str().as_bytes()),
+            None => None,
+        }
+    }
+}

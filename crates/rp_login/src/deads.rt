@@ -1,0 +1,41 @@
+// The session identifiers that accepted logout tokens named.
+
+ghost use Rattle.std.specs.Prelude.{◌≡◌, ◌<◌, true, length, None};
+ghost use Rattle.std.specs.Option.{option_copied};
+ghost use Rattle.sso_base.specs.Rows.{row_of};
+ghost use Rattle.held_rows.specs.Held.{none_after, most_rows};
+ghost use Rattle.rp_login.specs.Rows.{dead_name, dead_begun};
+ghost use Rattle.rp_login.specs.Tables as spec;
+
+use crate::rows::DeadRow;
+use crate::tables::Logins;
+
+impl Logins {
+    /// Adds a session identifier that an accepted logout token named. Room was reserved, the table is not full, its `sid` is
+    /// new, and no other was named later.
+    pub fn add_dead(&mut self, row: DeadRow)
+        requires reserved { self.old.reserved.deads ≡ true }
+        requires few { length self.old.deads < most_rows }
+        requires unnamed { row_of dead_name row.sid self.old.deads ≡ None }
+        requires latest { none_after dead_begun row.accepted self.old.deads ≡ true }
+        ensures { self.new ≡ spec.with_dead row self.old }
+    {
+        self.reserved.deads = false;
+        self.deads.add(row);
+    }
+
+    /// The row of this `sid`; `None` if and only if no row in the table has it. It may have been named too long ago.
+    pub fn dead(&self, sid: &[u8]) -> Option<&DeadRow>
+        ensures row { option_copied result ≡ row_of dead_name sid.now self.now.deads }
+        ensures held { spec.AreDeads self.now.deads }
+    {
+        self.deads.find(sid)
+    }
+
+    /// Removes the row of this `sid`. If no row in the table has it, nothing changes.
+    pub fn end_dead(&mut self, sid: &[u8])
+        ensures { self.new ≡ spec.dead_ended sid.now self.old }
+    {
+        self.deads.remove(sid);
+    }
+}
