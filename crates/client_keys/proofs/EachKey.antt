@@ -1,10 +1,10 @@
 -- A text under two keys: what one key opens, another opens too or finds its MAC wrong; any other error is the same.
-use Rattle.std.proofs.Common.{◌≡◌, Bool, true, false, ◌∷◌, ◌++◌, Option, Some, None, Result, Ok, Err, ◌⊎◌, inl, inr, refl, ap}
+use Rattle.std.proofs.Common.{◌≡◌, Bool, true, false, ◌∷◌, ◌++◌, Option, Some, None, Result, Ok, Err, ◌⊎◌, inl, inr, refl, sym, ap, ◌∙◌}
 use Rattle.std.specs.Str.{bytes_eq}
 use Rattle.hmac256.specs.Hmac.{hmac_of}
 use Rattle.sso_base.specs.Words.{Text}
-use Rattle.sso_base.specs.Refusals.{demand, forbid}
-use Rattle.sso_base.proofs.Refusals.{demand_ok, forbid_ok}
+use Rattle.sso_base.specs.Refusals.{and_then_as, demand, forbid}
+use Rattle.sso_base.proofs.Refusals.{and_then_as_ok, demand_ok, forbid_ok, one_value}
 use Rattle.sso_base.proofs.RowLaws.{bool_cases}
 use Rattle.jws_compact.specs.declared.no.JwsNo.{JwsNo}
 use Rattle.jws_compact.specs.declared.no.JwsNo.TheVariants.{BadMac}
@@ -31,6 +31,21 @@ other_key k l t u e =
       inl is ↦ inl (rw (long.0, three.1, header.1, payload.1, mac.1, object.1, alg.0, crit.0, is) (ap ok_of same))
       | inr no ↦ inr (rw (long.0, three.1, header.1, payload.1, mac.1, object.1, alg.0, crit.0, no))
     ]
+
+opened_once : (k l t : Text) (u v : Unsealed) → verdict k t ≡ Ok u → verdict l t ≡ Ok v → u ≡ v
+opened_once k l t u v first second = at (other_key k l t u first)
+  where
+    at : (verdict l t ≡ Ok u) ⊎ (verdict l t ≡ Err BadMac) → u ≡ v
+    at (inl is) = cc
+    at (inr bad) = absurd (cc)
+
+-- whatever key reads a text, it reads the same
+pub read_once : {A E : Type 0} (wrap : JwsNo → E) (inside : Unsealed → Result A E) (k l t : Text) (x y : A)
+    → and_then_as wrap (verdict k t) inside ≡ Ok x → and_then_as wrap (verdict l t) inside ≡ Ok y → x ≡ y
+read_once {A} {E} wrap inside k l t x y one two =
+    let u = and_then_as_ok wrap (verdict k t) inside x one in
+    let v = and_then_as_ok wrap (verdict l t) inside y two in
+    one_value E x y (sym u.2 ∙ ap inside (opened_once k l t u.0 v.0 u.1 v.1) ∙ v.2)
 
 -- ---- any other error
 

@@ -3,6 +3,8 @@ use Rattle.std.proofs.Common.{◌≡◌, ◌||◌, Bool, true, false, cond, Opti
 use Rattle.std.specs.Str.{bytes_eq}
 use Rattle.std.proofs.lemmas.Slice.Eq.{bytes_eq-Decides}
 use Rattle.sso_base.specs.Words.{Text}
+use Rattle.sso_base.specs.Refusals.{and_then_as}
+use Rattle.sso_base.proofs.Refusals.{and_then_as_ok}
 use Rattle.sso_base.proofs.RowLaws.{bool_cases}
 use Rattle.jws_compact.specs.declared.no.JwsNo.{JwsNo}
 use Rattle.jws_compact.specs.declared.no.JwsNo.TheVariants as no
@@ -119,6 +121,13 @@ opens_alike client k t u own is =
     let o = verdict_sealed k t u is in
     let same : opened o.0 u.payload ≡ u = λ i. record { typ = sym o.2 i; payload = u.payload } in
     sealed_opens client o.0 u.payload t (record { secret = k; own = own; sealed = o.1 }) ∙ ap ok_of same
+
+-- and reads from it what the secret reads
+pub reads_alike : {A E : Type 0} (wrap : JwsNo → E) (inside : Unsealed → Result A E) (client : Client) (k t : Text) (x : A)
+    → has_secret k client ≡ true → and_then_as wrap (verdict k t) inside ≡ Ok x → and_then_as wrap (verdict_for client t) inside ≡ Ok x
+reads_alike wrap inside client k t x own h =
+    let u = and_then_as_ok wrap (verdict k t) inside x h in
+    ap (λ r. and_then_as wrap r inside) (opens_alike client k t u.0 own u.1) ∙ u.2
 
 -- ---- a wrong MAC is wrong under each secret
 

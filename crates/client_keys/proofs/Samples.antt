@@ -1,5 +1,5 @@
 -- The definitions computed on small cases: what each accepts, and what it refuses.
-use Rattle.std.proofs.Common.{◌≡◌, [], true, false, codes, Some, None, Result, Ok, Err, refl, sym, ◌∙◌, arith}
+use Rattle.std.proofs.Common.{◌≡◌, true, false, codes, Some, None, Result, Ok, Err, refl, sym, ◌∙◌, arith}
 use Rattle.sso_base.specs.Words.{Text}
 use Rattle.sso_base.proofs.Spelling.{IsBytes-from_all_bytes}
 use Rattle.jws_compact.specs.declared.sealing.Typ.TheVariants.{Jwt}

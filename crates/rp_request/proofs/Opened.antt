@@ -1,13 +1,10 @@
 -- A text of a client is read as an ID Token, or as a logout token, exactly where it is one under a secret of the client.
-use Rattle.std.proofs.Common.{◌≡◌, true, Result, Ok, Err, refl, ◌∙◌, ap}
+use Rattle.std.proofs.Common.{◌≡◌, true, Ok}
 use Rattle.sso_base.specs.Words.{Text}
 use Rattle.client_registry.specs.declared.records.Client.{Client}
 use Rattle.client_registry.specs.Secrets.{has_secret}
-use Rattle.jws_compact.specs.declared.no.JwsNo.{JwsNo}
-use Rattle.jws_compact.specs.declared.unsealing.Unsealed.{Unsealed}
-use Rattle.jws_compact.specs.Jws.{verdict}
-use Rattle.client_keys.specs.Opening.{opening, verdict_for}
-use Rattle.client_keys.proofs.Opened.{opening_is_own, opens_alike}
+use Rattle.client_keys.specs.Opening.{opening}
+use Rattle.client_keys.proofs.Opened.{opening_is_own, reads_alike}
 use Rattle.id_token.specs.declared.claims.IdClaims.{IdClaims}
 use Rattle.id_token.specs.Reading as id_token
 use Rattle.id_token.proofs.Tokens.{id_read-token, token-id_read}
@@ -18,14 +15,10 @@ use Rattle.rp_request.specs.Opened.{id_read_for, IsIdTokenFor, logout_read_for, 
 
 -- ---- ID Tokens
 
-id_alike_at : (client : Client) (k t : Text) (x : IdClaims) (r : Result Unsealed JwsNo) → has_secret k client ≡ true → verdict k t ≡ r → id_token.if_opened r ≡ Ok x → id_token.if_opened (verdict_for client t) ≡ Ok x
-id_alike_at client k t x (Ok u) own is h = ap id_token.if_opened (opens_alike client k t u own is) ∙ h
-id_alike_at client k t x (Err e) own is h = absurd (cc)
-
 -- what a secret of the client reads, the client reads
 pub id_alike : (client : Client) (k t : Text) (x : IdClaims) → has_secret k client ≡ true → id_token.id_read k t ≡ Ok x → id_read_for client t ≡ Ok x
 unfolding id_token.id_read
-id_alike client k t x own h = id_alike_at client k t x (verdict k t) own refl h
+id_alike client k t x own h = reads_alike _ _ client k t x own h
 
 pub id_read_for-token : (client : Client) (t : Text) (x : IdClaims) → id_read_for client t ≡ Ok x → IsIdTokenFor client t x
 id_read_for-token client t x h = record { secret = opening client t; own = opening_is_own client t; token = id_read-token (opening client t) t x h }
@@ -35,14 +28,10 @@ token-id_read_for client t x i = id_alike client i.secret t x i.own (token-id_re
 
 -- ---- logout tokens
 
-logout_alike_at : (client : Client) (k t : Text) (x : LogoutClaims) (r : Result Unsealed JwsNo) → has_secret k client ≡ true → verdict k t ≡ r → logout_token.if_opened r ≡ Ok x → logout_token.if_opened (verdict_for client t) ≡ Ok x
-logout_alike_at client k t x (Ok u) own is h = ap logout_token.if_opened (opens_alike client k t u own is) ∙ h
-logout_alike_at client k t x (Err e) own is h = absurd (cc)
-
 -- what a secret of the client reads, the client reads
 pub logout_alike : (client : Client) (k t : Text) (x : LogoutClaims) → has_secret k client ≡ true → logout_token.logout_read k t ≡ Ok x → logout_read_for client t ≡ Ok x
 unfolding logout_token.logout_read
-logout_alike client k t x own h = logout_alike_at client k t x (verdict k t) own refl h
+logout_alike client k t x own h = reads_alike _ _ client k t x own h
 
 pub logout_read_for-token : (client : Client) (t : Text) (x : LogoutClaims) → logout_read_for client t ≡ Ok x → IsLogoutTokenFor client t x
 logout_read_for-token client t x h = record { secret = opening client t; own = opening_is_own client t; token = IsLogoutToken-read (opening client t) t x h }

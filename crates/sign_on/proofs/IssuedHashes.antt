@@ -4,7 +4,6 @@ use Rattle.std.proofs.Common.{◌≡◌, ◌<◌, ◌≤◌, ℕ, true, ◌&&◌
 use Rattle.std.specs.Str.{IsUtf8}
 use Rattle.std.proofs.lemmas.Bool.{ltb-true, and_parts}
 use Rattle.json.proofs.Printed.Utf8.{IsUtf8-are_ascii}
-use Rattle.serde_json.specs.Data.{Members}
 use Rattle.sso_base.specs.Legal.{last_moment}
 use Rattle.sso_base.specs.Values.{latest_moment}
 use Rattle.sso_base.specs.Words.{Word, Text, word_of_text}
@@ -12,21 +11,16 @@ use Rattle.sso_base.specs.Rows.{row_of}
 use Rattle.sso_base.specs.declared.history.Entry.{Entry}
 use Rattle.jws_compact.specs.declared.sealing.Typ.TheVariants.{Jwt}
 use Rattle.jws_compact.proofs.Ascii.{sealed_ascii}
-use Rattle.jws_compact.proofs.Opening.{same_payload}
 use Rattle.claim_set.specs.Reading.{claims_text}
 use Rattle.client_registry.specs.Configuration.{Configuration}
 use Rattle.client_registry.specs.Numbers.{client_sealing, is_client}
 use Rattle.client_registry.specs.Registered.{IsRegistry}
-use Rattle.token_kinds.proofs.Apart.{same_claims}
 use Rattle.auth_request.specs.declared.wish.Wish.{Wish}
 use Rattle.auth_request.specs.Values.{is_short_nonce, IsWishValue}
 use Rattle.id_token.specs.declared.claims.IdClaims.{IdClaims}
 use Rattle.id_token.specs.Claims.{id_members}
-use Rattle.id_token.specs.Reading.{id_of, id_read}
+use Rattle.id_token.specs.Reading.{id_read}
 use Rattle.id_token.specs.Sealing.{id_text}
-use Rattle.id_token.specs.Token.{IsIdToken}
-use Rattle.id_token.proofs.Standing.{id_of-has}
-use Rattle.id_token.proofs.Tokens.{id_read-token}
 use Rattle.code_grant.specs.declared.rows.CodeRow.{CodeRow}
 use Rattle.code_grant.specs.Rows.{code_name, code_begun}
 use Rattle.oidc_words.specs.Lives.{code_life}
@@ -48,6 +42,7 @@ use Rattle.op_answer.specs.OwnRows.{IsOwnCode}
 use Rattle.op_answer.proofs.OwnRows.{codes_are_own, last_is_moment}
 use Rattle.op_answer.proofs.TokenResponses.{tokens_have_a_cause}
 use Rattle.sign_on.proofs.Lists.{lives_some}
+use Rattle.sign_on.proofs.Texts.{id_once}
 
 -- ---- it is in UTF-8
 
@@ -68,17 +63,7 @@ caused_text c past e asked access id cause = absurd cause
 pub tokens_are_text : (c : Configuration) (past : OpPast) (e : Entry OpAsk) (access : Word) (id : Text) → op_answer c past e ≡ op.Tokens access id → IsUtf8 id
 tokens_are_text c past e access id answered = caused_text c past e e.ask access id (tokens_have_a_cause c past e access id answered)
 
--- ---- what is read of one text, are the same claims
-
-one_claims : (x y : IdClaims) (ms ns : Members) → ms ≡ ns → id_of ms ≡ Ok x → id_of ns ≡ Ok y → x ≡ y
-one_claims x y ms ns same first second =
-    let both : id_of ms ≡ id_of ns = ap id_of same in
-    cc
-
-same_token : (k l t : Text) (x y : IdClaims) → IsIdToken k t x → IsIdToken l t y → x ≡ y
-same_token k l t x y one two =
-    let payload = same_payload k l one.header two.header one.payload two.payload t one.sealed two.sealed in
-    one_claims x y one.claims two.claims (same_claims one.claims two.claims one.payload two.payload payload one.reads two.reads) (id_of-has one.claims x one.has) (id_of-has two.claims y two.has)
+-- ---- with an access token, an ID Token has its hash
 
 hash_is_there : (c : Configuration) (wish : Wish) (who : Authentication) (at : ℕ) (access : Word) → is_some (id_claims c wish who at (Some access) None).at_hash ≡ true
 unfolding id_claims
@@ -87,10 +72,10 @@ hash_is_there c wish who at access = refl
 issued_has_hash : (c : Configuration) (wish : Wish) (who : Authentication) (at : ℕ) (access : Word) (key : Text) (x : IdClaims) → MayIssue c wish who at → IsWishValue wish
     → id_read key (issued_id c wish who at (Some access) None) ≡ Ok x → is_some x.at_hash ≡ true
 issued_has_hash c wish who at access key x may value read =
-    let t : Text = issued_id c wish who at (Some access) None in
-    let own : IsIdToken (client_sealing c wish.client) t (id_claims c wish who at (Some access) None) =
-    id_read-token (client_sealing c wish.client) t (id_claims c wish who at (Some access) None) (is_read_back c wish who at (Some access) None may value) in
-    let same : id_claims c wish who at (Some access) None ≡ x = same_token (client_sealing c wish.client) key t (id_claims c wish who at (Some access) None) x own (id_read-token key t x read) in
+    let claims : IdClaims = id_claims c wish who at (Some access) None in
+    let same : claims ≡ x =
+        id_once (client_sealing c wish.client) key (issued_id c wish who at (Some access) None) claims x
+          (is_read_back c wish who at (Some access) None may value) read in
     ap (λ (y : IdClaims). is_some y.at_hash) (sym same) ∙ hash_is_there c wish who at access
 
 -- ---- what the provider issues for a code of its past

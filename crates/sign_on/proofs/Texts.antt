@@ -1,5 +1,5 @@
 -- Texts: which of those that are written read as an ID Token, and which as a logout token.
-use Rattle.std.proofs.Common.{◌≡◌, ◌⊎◌, inl, inr, ℕ, ◌<◌, Bool, true, false, cond, List, [], ◌∷◌, length, Option, Some, None, Result, Ok, Err, is_some, codes, refl, sym, ap, ◌∙◌, subst}
+use Rattle.std.proofs.Common.{◌≡◌, ℕ, ◌<◌, Bool, true, false, cond, List, [], ◌∷◌, length, Option, Some, None, Result, Ok, Err, is_some, codes, refl, sym, ap, ◌∙◌, subst}
 use Rattle.std.specs.List.{AllByRecursion}
 use Rattle.std.specs.Result.{result_ok}
 use Rattle.sso_base.specs.Words.{Word, Text, IsWord, fresh_word, word_text}
@@ -8,21 +8,16 @@ use Rattle.sso_model.specs.Lists.{Has}
 use Rattle.jws_compact.specs.Jws.{verdict as opened_as}
 use Rattle.jws_compact.specs.declared.unsealing.Unsealed.{Unsealed}
 use Rattle.jws_compact.specs.declared.no.JwsNo.{JwsNo}
-use Rattle.jws_compact.specs.declared.no.JwsNo.TheVariants.{BadMac}
-use Rattle.client_keys.proofs.EachKey.{other_key}
+use Rattle.client_keys.proofs.EachKey.{read_once}
 use Rattle.jws_compact.proofs.Opening.{same_payload}
 use Rattle.client_registry.specs.Configuration.{Configuration, subject_at}
 use Rattle.client_registry.specs.Numbers.{client_sealing, party_row, party_client}
 use Rattle.id_token.specs.declared.claims.IdClaims.{IdClaims}
-use Rattle.id_token.specs.declared.no.IdNo.{IdNo}
 use Rattle.id_token.specs.Reading.{id_read}
-use Rattle.id_token.specs.Reading as id_token
 use Rattle.id_token.specs.Token.{IsIdToken}
 use Rattle.id_token.proofs.Tokens.{unopened, id_read-token}
 use Rattle.logout_token.specs.declared.claims.LogoutClaims.{LogoutClaims}
-use Rattle.logout_token.specs.declared.no.LogoutNo.{LogoutNo}
 use Rattle.logout_token.specs.LogoutToken.{logout_read}
-use Rattle.logout_token.specs.LogoutToken as logout_token
 use Rattle.logout_token.specs.Token.{IsLogoutToken}
 use Rattle.logout_token.proofs.Tokens.{logout_read-unopened, IsLogoutToken-read}
 use Rattle.auth_request.specs.declared.wish.Wish.{Wish}
@@ -66,40 +61,13 @@ logout_is_sealed k t y read = logout_by k t y (opened_as k t) refl read
 
 -- ---- whatever key reads a text, it reads the same claims
 
-opened_once : (k l t : Text) (u v : Unsealed) → opened_as k t ≡ Ok u → opened_as l t ≡ Ok v → u ≡ v
-opened_once k l t u v first second = at (other_key k l t u first)
-  where
-    at : (opened_as l t ≡ Ok u) ⊎ (opened_as l t ≡ Err BadMac) → u ≡ v
-    at (inl is) = cc
-    at (inr bad) = absurd (cc)
-
-same_ok : (y z : IdClaims) (r : Result IdClaims IdNo) → r ≡ Ok y → r ≡ Ok z → y ≡ z
-same_ok y z r first second = cc
-
-ids_once : (k l t : Text) (x y : IdClaims) (r q : Result Unsealed JwsNo) → opened_as k t ≡ r → opened_as l t ≡ q → id_token.if_opened r ≡ Ok x → id_token.if_opened q ≡ Ok y → x ≡ y
-ids_once k l t x y (Ok u) (Ok v) first second one two =
-    let F : Unsealed → Result IdClaims IdNo = λ w. id_token.if_opened (Ok w) in
-    same_ok x y (F v) (ap F (sym (opened_once k l t u v first second)) ∙ one) two
-ids_once k l t x y (Ok u) (Err e) first second one two = absurd (cc)
-ids_once k l t x y (Err e) q first second one two = absurd (cc)
-
-id_once : (k l t : Text) (x y : IdClaims) → id_read k t ≡ Ok x → id_read l t ≡ Ok y → x ≡ y
+pub id_once : (k l t : Text) (x y : IdClaims) → id_read k t ≡ Ok x → id_read l t ≡ Ok y → x ≡ y
 unfolding id_read
-id_once k l t x y one two = ids_once k l t x y (opened_as k t) (opened_as l t) refl refl one two
-
-same_logout : (y z : LogoutClaims) (r : Result LogoutClaims LogoutNo) → r ≡ Ok y → r ≡ Ok z → y ≡ z
-same_logout y z r first second = cc
-
-logouts_once : (k l t : Text) (x y : LogoutClaims) (r q : Result Unsealed JwsNo) → opened_as k t ≡ r → opened_as l t ≡ q → logout_token.if_opened r ≡ Ok x → logout_token.if_opened q ≡ Ok y → x ≡ y
-logouts_once k l t x y (Ok u) (Ok v) first second one two =
-    let F : Unsealed → Result LogoutClaims LogoutNo = λ w. logout_token.if_opened (Ok w) in
-    same_logout x y (F v) (ap F (sym (opened_once k l t u v first second)) ∙ one) two
-logouts_once k l t x y (Ok u) (Err e) first second one two = absurd (cc)
-logouts_once k l t x y (Err e) q first second one two = absurd (cc)
+id_once k l t x y one two = read_once _ _ k l t x y one two
 
 logout_once : (k l t : Text) (x y : LogoutClaims) → logout_read k t ≡ Ok x → logout_read l t ≡ Ok y → x ≡ y
 unfolding logout_read
-logout_once k l t x y one two = logouts_once k l t x y (opened_as k t) (opened_as l t) refl refl one two
+logout_once k l t x y one two = read_once _ _ k l t x y one two
 
 -- ---- a request object is no token
 

@@ -2,7 +2,6 @@
 -- Core 1.0, 9). `basic` is the request's `Authorization` header, where its scheme is `Basic`, and `ps` are its parameters.
 use Rattle.std.specs.Prelude.{ℕ, Bool, false, not, ◌&&◌, List, [], ◌∷◌, codes, Option, Some, None, option_map, option_and_then, is_some, is_none, unwrap_or}
 use Rattle.std.specs.Prelude.{Result, Ok, if◌then◌else◌}
-use Rattle.std.specs.Str.{bytes_eq}
 use Rattle.sso_base.specs.Words.{Text}
 use Rattle.sso_base.specs.Refusals.{first_refusal, and_then}
 use Rattle.sso_base.specs.Texts.{is_other}
