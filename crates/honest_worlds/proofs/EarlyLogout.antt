@@ -129,7 +129,7 @@ is_carried = refl
 logout_is_asked : prepared configuration 0 logs_out ≡ logout_entry.ask
 logout_is_asked =
     party_reads_it configuration 0 0 (carried configuration (reply.Provider (SignedOut (notice ∷ []))) 0) logs_out (rp_ask.Logout (logout_read_for shop_client logout_token)) arrives is_carried
-    ∙ ap rp_ask.Logout token_is_read
+    ∙ ap (λ read. rp_ask.Logout read) token_is_read
 
 logout_asks : IsRpAsk logout_entry.ask
 unfolding logout_claims
