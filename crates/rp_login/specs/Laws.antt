@@ -140,6 +140,11 @@ SeenTokensAreRemembered =
     (row : SeenRow) (steps : List calls.Call) (t : Tables) → row_of seen_name row.jti t.seens ≡ Some row
     → calls.AllLeaveSeen row.accepted steps → row_of seen_name row.jti (calls.after_all steps t).seens ≡ Some row
 
+abbrev pub DeadSidsAreRemembered : Type 0
+DeadSidsAreRemembered =
+    (row : DeadRow) (steps : List calls.Call) (t : Tables) → row_of dead_name row.sid t.deads ≡ Some row
+    → calls.AllLeaveDead row.sid row.accepted steps → row_of dead_name row.sid (calls.after_all steps t).deads ≡ Some row
+
 -- ---- logout
 
 abbrev pub NamedSessionsAreEnded : Type 0

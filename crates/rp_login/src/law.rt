@@ -4,18 +4,18 @@ ghost use Rattle.std.specs.Prelude.{◌≡◌, ◌<◌, ◌+◌, ℕ, true, leng
 ghost use Rattle.sso_base.specs.Words.{Word, Text};
 ghost use Rattle.sso_base.specs.Rows.{row_of};
 ghost use Rattle.rp_login.specs.declared.rows.SessionRow.{SessionRow};
-ghost use Rattle.rp_login.specs.declared.rows.DeadRow.{DeadRow};
 ghost use Rattle.rp_login.specs.declared.table.RpTable.TheVariants as table;
 ghost use Rattle.held_rows.specs.Held.{most_rows};
 ghost use Rattle.rp_login.specs.Named.{is_meant, IsMeant};
-ghost use Rattle.rp_login.specs.Rows.{login_name, pending_name, visit_name, dead_name, dead_begun};
-ghost use Rattle.rp_login.specs.Tables.{Tables, has_room, named_count, AreDeads};
+ghost use Rattle.rp_login.specs.Rows.{login_name, pending_name, visit_name, dead_name};
+ghost use Rattle.rp_login.specs.Tables.{Tables, has_room, named_count};
 ghost use Rattle.rp_login.specs.Calls as calls;
-ghost use Rattle.rp_login.specs.Laws.{AddedLoginsAreFound, AddedExchangesAreFound, AddedSessionsAreFound, AddedIdentifiersAreFound, AddsLeaveOtherLogins};
-ghost use Rattle.rp_login.specs.Laws.{AddsLeaveOtherExchanges, AddsLeaveOtherSessions, AddsLeaveOtherIdentifiers, EndsLeaveOtherLogins};
-ghost use Rattle.rp_login.specs.Laws.{EndsLeaveOtherExchanges, EndsLeaveOtherSessions, LoginsComeBackByAddsAlone, ExchangesComeBackByAddsAlone};
-ghost use Rattle.rp_login.specs.Laws.{SessionsComeBackByAddsAlone, PurgesLeaveLiveLogins, PurgesLeaveLiveExchanges, PurgesLeaveLiveSessions};
-ghost use Rattle.rp_login.specs.Laws.{PurgesLeaveLiveIdentifiers, SeenTokensAreRemembered, NamedSessionsAreEnded, OtherSessionsStay, SessionsKeepTheirOrder};
+ghost use Rattle.rp_login.specs.Laws.{AddedLoginsAreFound, AddedExchangesAreFound, AddedSessionsAreFound, AddedIdentifiersAreFound, AddedDeadSidsAreFound};
+ghost use Rattle.rp_login.specs.Laws.{AddsLeaveOtherLogins, AddsLeaveOtherExchanges, AddsLeaveOtherSessions, AddsLeaveOtherIdentifiers, AddsLeaveOtherDeadSids};
+ghost use Rattle.rp_login.specs.Laws.{EndsLeaveOtherLogins, EndsLeaveOtherExchanges, EndsLeaveOtherSessions, EndsLeaveOtherDeadSids, LoginsComeBackByAddsAlone};
+ghost use Rattle.rp_login.specs.Laws.{ExchangesComeBackByAddsAlone, SessionsComeBackByAddsAlone, PurgesLeaveLiveLogins, PurgesLeaveLiveExchanges};
+ghost use Rattle.rp_login.specs.Laws.{PurgesLeaveLiveSessions, PurgesLeaveLiveIdentifiers, PurgesLeaveLiveDeadSids, SeenTokensAreRemembered};
+ghost use Rattle.rp_login.specs.Laws.{DeadSidsAreRemembered, NamedSessionsAreEnded, OtherSessionsStay, SessionsKeepTheirOrder};
 
 /// A row that is added under a new name is found by that name. The rows of other names are found as before.
 pub fn added_rows_are_found()
@@ -77,7 +77,7 @@ pub fn seen_tokens_are_remembered()
 /// A session identifier that an accepted logout token named is found through all calls, except a purge 661 or more seconds
 /// later, until it is ended by its name. This is why no session of it begins meanwhile.
 pub fn dead_sids_are_remembered()
-    ensures { (row : DeadRow) (steps : List calls.Call) (t : Tables) → row_of dead_name row.sid t.deads ≡ Some row → calls.AllLeaveDead row.sid row.accepted steps → row_of dead_name row.sid (calls.after_all steps t).deads ≡ Some row }
+    ensures { DeadSidsAreRemembered }
 {}
 
 /// Exactly the sessions that match each given part end. The others stay in their order. The returned number is that of the
