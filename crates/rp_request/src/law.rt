@@ -14,7 +14,6 @@ ghost use Rattle.logout_token.specs.LogoutToken.{logout_read};
 ghost use Rattle.rp_exchange.specs.declared.ask.RpAsk.TheVariants as ask;
 ghost use Rattle.rp_exchange.specs.Asks.{is_prepared};
 ghost use Rattle.rp_request.specs.declared.routes.Endpoint.{Endpoint};
-ghost use Rattle.rp_request.specs.Opened.{id_read_for, IsIdTokenFor, logout_read_for, IsLogoutTokenFor};
 ghost use Rattle.rp_request.specs.Prepared.{logout_token_in, prepared, tokens_prepared, info_prepared};
 ghost use Rattle.rp_request.specs.Requests.{IsTo, own_endpoint, StandsAlone, HasCookies};
 ghost use Rattle.rp_request.specs.Laws.{FragmentPagesAreWanted, WantedPagesAreAskedFor, ReadResponsesAreInTheForm, ResponsesInTheFormAreRead};
