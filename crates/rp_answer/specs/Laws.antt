@@ -1,5 +1,5 @@
 -- The laws of a relying party's answers. Each is a clause of a function of `law.rt`, which says it in words.
-use Rattle.std.specs.Prelude.{◌≡◌, ◌≤◌, ◌↔◌, ◌+◌, ℕ, Bool, true, false, ◌∷◌, ◌++◌, Some, None, Ok}
+use Rattle.std.specs.Prelude.{◌≡◌, ◌≤◌, ◌↔◌, ◌+◌, ℕ, Bool, true, false, ◌∷◌, ◌++◌, length, Some, None, Ok}
 use Rattle.sso_base.specs.Words.{Word, Text, word_text}
 use Rattle.sso_base.specs.Drawn.{IsDrawn}
 use Rattle.sso_base.specs.Rows.{row_of}
@@ -32,8 +32,8 @@ use Rattle.rp_answer.specs.Setup.{PartySetup, party_of}
 use Rattle.rp_answer.specs.Logins.{logins, login_made, login_kept}
 use Rattle.rp_answer.specs.Pendings.{pendings, pending_made, pending_kept}
 use Rattle.rp_answer.specs.Visits.{visits, live_visit, visit_made, visit_kept}
-use Rattle.rp_answer.specs.Seens.{seens, seen_made, seen_kept}
-use Rattle.rp_answer.specs.Deads.{deads, dead_made, dead_kept}
+use Rattle.rp_answer.specs.Seens.{seens, live_seens, seen_made, seen_kept}
+use Rattle.rp_answer.specs.Deads.{deads, live_deads, dead_made, dead_kept}
 use Rattle.rp_answer.specs.Answering.{rp_answer}
 use Rattle.rp_answer.specs.Causes.{Comes, AskCause, FragmentCause, ExchangeCause, FetchCause, EnteredCause, UserCause, NobodyCause, LeftCause, EndedCause}
 use Rattle.rp_answer.specs.Causes.{RefusedCause}
@@ -157,6 +157,11 @@ abbrev pub LoginsEnterOnce : Type 0
 LoginsEnterOnce =
     (types : Types) (between earlier : RpPast) (p q : RpPair) (n : ℕ) → login_entered types earlier p ≡ Some n
     → login_entered types (between ++ p ∷ earlier) q ≡ Some n → ⊥
+
+abbrev pub DeadSidsAreFew : Type 0
+DeadSidsAreFew =
+    (s : PartySetup) (past : RpPast) (p : RpPair) → IsLegalRp s (p ∷ past)
+    → length (live_deads past p.entry.at) ≤ length (live_seens past p.entry.at)
 
 abbrev pub SessionsEndIfEnded : Type 0
 SessionsEndIfEnded =

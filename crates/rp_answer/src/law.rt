@@ -14,17 +14,18 @@ ghost use Rattle.rp_exchange.specs.declared.reply.RpReply.{RpReply};
 ghost use Rattle.rp_answer.specs.Past.{RpPair, RpPast};
 ghost use Rattle.rp_answer.specs.Setup.{PartySetup};
 ghost use Rattle.rp_answer.specs.Logins.{logins};
-ghost use Rattle.rp_answer.specs.Seens.{seens, live_seens};
-ghost use Rattle.rp_answer.specs.Deads.{deads, live_deads, dead_made, dead_kept};
+ghost use Rattle.rp_answer.specs.Seens.{seens};
+ghost use Rattle.rp_answer.specs.Deads.{deads};
 ghost use Rattle.rp_answer.specs.Answering.{rp_answer};
 ghost use Rattle.rp_answer.specs.Causes.{is_own, Stood};
 ghost use Rattle.rp_answer.specs.Legal.{IsLegalHistory, BegunBy, AcceptedBy, NamedBy};
-ghost use Rattle.rp_answer.specs.Laws.{LoginsStand, PendingExchangesStand, SessionsStand, SeenLogoutTokensStand, AuthorizationRequestsHaveACause};
-ghost use Rattle.rp_answer.specs.Laws.{TokenRequestsHaveACause, FragmentPagesHaveACause, UserInfoRequestsHaveACause, LoginsHaveACause, UserPagesHaveACause};
-ghost use Rattle.rp_answer.specs.Laws.{EmptyVisitsHaveACause, SignOutsHaveACause, LogoutsHaveACause, RefusalsHaveACause, FullTablesHaveACause};
-ghost use Rattle.rp_answer.specs.Laws.{PendingExchangesAreDrawn, SessionsAreDrawn, DrawnWordsHaveOneText, SessionsNeedALogin, LoginsEnterOnce};
-ghost use Rattle.rp_answer.specs.Laws.{SessionsEndIfEnded, OtherSessionsAreKept, LiveSessionsAreKept, EqualIdentifiersAreFarApart, LogoutTokensAreAcceptedOnce};
-ghost use Rattle.rp_answer.specs.Laws.{CodesHaveTheirHash, AccessTokensHaveTheirHash, LoginObjectsAreNoIdTokens, LoginObjectsAreNoLogoutTokens};
+ghost use Rattle.rp_answer.specs.Laws.{LoginsStand, PendingExchangesStand, SessionsStand, SeenLogoutTokensStand, DeadSidsStand};
+ghost use Rattle.rp_answer.specs.Laws.{AuthorizationRequestsHaveACause, TokenRequestsHaveACause, FragmentPagesHaveACause, UserInfoRequestsHaveACause};
+ghost use Rattle.rp_answer.specs.Laws.{LoginsHaveACause, UserPagesHaveACause, EmptyVisitsHaveACause, SignOutsHaveACause, LogoutsHaveACause, RefusalsHaveACause};
+ghost use Rattle.rp_answer.specs.Laws.{FullTablesHaveACause, PendingExchangesAreDrawn, SessionsAreDrawn, DrawnWordsHaveOneText, SessionsNeedALogin};
+ghost use Rattle.rp_answer.specs.Laws.{LoginsEnterOnce, DeadSidsAreFew, SessionsEndIfEnded, OtherSessionsAreKept, LiveSessionsAreKept};
+ghost use Rattle.rp_answer.specs.Laws.{EqualIdentifiersAreFarApart, LogoutTokensAreAcceptedOnce, CodesHaveTheirHash, AccessTokensHaveTheirHash};
+ghost use Rattle.rp_answer.specs.Laws.{LoginObjectsAreNoIdTokens, LoginObjectsAreNoLogoutTokens};
 
 /// A row is found after a past exactly where some pair made it, no later pair made one of its name or ended it, and it is
 /// as the later pairs left it.
@@ -98,7 +99,7 @@ pub fn dead_sids_were_named()
 /// In any legal past, at most as many session identifiers are remembered at the moment of the next pair as logout tokens. So a
 /// logout token for which there is room has room for its `sid` (our choice).
 pub fn dead_sids_are_few()
-    ensures { (s : PartySetup) (past : RpPast) (p : RpPair) → IsLegalRp s (p ∷ past) → length (live_deads past p.entry.at) ≤ length (live_seens past p.entry.at) }
+    ensures { DeadSidsAreFew }
 {}
 
 /// A session is no longer found exactly where its browser leaves, or a logout token is accepted that means it (OpenID Connect
