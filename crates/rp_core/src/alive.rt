@@ -4,13 +4,16 @@ ghost use Rattle.std.specs.Prelude.{◌≡◌, ◌≤◌};
 ghost use Rattle.std.specs.Option.{option_copied};
 ghost use Rattle.sso_base.specs.Legal.{last_moment};
 ghost use Rattle.rp_login.specs.declared.rows.Stage.TheVariants as stage;
+ghost use Rattle.rp_exchange.specs.declared.reply.RpReply.TheVariants.{Entered};
 ghost use Rattle.rp_answer.specs.Alive as spec;
+ghost use Rattle.rp_answer.specs.Asked.{claims_judged as claims_judged_of, sid_in};
 ghost use Rattle.rp_answer.specs.Pendings.{live_pending};
 ghost use Rattle.rp_answer.specs.Setup.{party_of};
 ghost use Rattle.rp_core.specs.Relying.{past_of};
 
 use crate::making::claims_judged;
 use crate::state::RpCore;
+use oidc_words::Types;
 use rp_exchange::{RpAsk, RpNo, RpReply};
 use rp_login::{DeadRow, Stage};
 use sso_base::{Moment, Text, Word};
@@ -25,15 +28,35 @@ fn text_if(text: &Option<Text>) -> Option<&Text>
     }
 }
 
+// The `sid` of the claims of the ID Token that is verified.
+fn sid_claimed<'a>(types: &Types, ask: &'a RpAsk) -> Option<&'a Text>
+    ensures { option_copied result ≡ sid_in (claims_judged_of types.now ask.now) }
+{
+    match claims_judged(types, ask) {
+        Some(claims) => text_if(&claims.sid),
+        None => None,
+    }
+}
+
+// A session begins, unless its `sid` is remembered.
+fn enter_unless(session: Word, sub: Text, dead: Option<&DeadRow>) -> RpReply
+    ensures { result ≡ spec.enter_unless (Entered session sub) (option_copied dead.entry) }
+{
+    match dead {
+        Some(dead) => RpReply::Refused {
+            why: RpNo::EndedSid(dead.place),
+        },
+        None => RpReply::Entered { session, sub },
+    }
+}
+
 // The reply, unless it is a session whose `sid` is remembered.
 pub(crate) fn unless_dead(reply: RpReply, dead: Option<&DeadRow>) -> RpReply
     ensures { result ≡ spec.unless_dead reply (option_copied dead.entry) }
 {
-    match (&reply, dead) {
-        (RpReply::Entered { .. }, Some(dead)) => RpReply::Refused {
-            why: RpNo::EndedSid(dead.place),
-        },
-        _ => reply,
+    match reply {
+        RpReply::Entered { session, sub } => enter_unless(session, sub, dead),
+        reply => reply,
     }
 }
 
@@ -56,10 +79,7 @@ impl RpCore {
     {
         match ask {
             RpAsk::Info { pending, .. } => self.sid_waiting(at, *pending),
-            _ => match claims_judged(&self.setup.party().types, ask) {
-                Some(claims) => text_if(&claims.sid),
-                None => None,
-            },
+            _ => sid_claimed(&self.setup.party().types, ask),
         }
     }
 
