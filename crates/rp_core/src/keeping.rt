@@ -3,7 +3,7 @@
 ghost use Rattle.std.specs.Prelude.{◌≡◌, true, false, filter_map, IfSome, None};
 ghost use Rattle.sso_base.specs.Rows.{without};
 ghost use Rattle.held_rows.specs.Held.{MayAddRow};
-ghost use Rattle.rp_login.specs.Tables.{ArePendings};
+ghost use Rattle.rp_login.specs.Tables.{ArePendings, dead_ended};
 ghost use Rattle.rp_login.specs.Rows.{login_name, login_begun, pending_name, pending_begun, visit_name, visit_begun};
 ghost use Rattle.rp_login.specs.Rows.{seen_name, seen_begun, dead_name, dead_begun};
 ghost use Rattle.rp_answer.specs.Past.{RpPast};
@@ -175,13 +175,20 @@ fn add_seen(tables: &mut Logins, row: Option<SeenRow>)
     }
 }
 
+// Removes the earlier record of a session identifier, if there is one.
+fn end_earlier(tables: &mut Logins, row: &DeadRow)
+    ensures { tables.new ≡ dead_ended row.now.sid tables.old }
+{
+    tables.end_dead(row.sid.as_str().as_bytes());
+}
+
 // Adds a session identifier. Its earlier record is removed.
 fn add_dead(tables: &mut Logins, row: Option<DeadRow>)
     requires may { IfSome row (λ r. MayAddRow dead_name dead_begun tables.old.reserved.deads (without dead_name r.sid tables.old.deads) r) }
     ensures { tables.new ≡ spec.dead_put row tables.old }
 {
     if let Some(row) = row {
-        tables.end_dead(row.sid.as_str().as_bytes());
+        end_earlier(tables, &row);
         tables.add_dead(row);
     }
 }
