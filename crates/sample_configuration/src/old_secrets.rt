@@ -11,27 +11,29 @@ pub fn in_second_version(alloc: Global, file: &str) -> Result<String, NoMemory> 
     Ok(file.replacen(alloc, "version = 1", "version = 2", 1)?)
 }
 
-// A secret of the client of a party. It has the same word after each name.
-fn secret_of(alloc: Global, party: &str, word: &str) -> Result<String, NoMemory> {
+/// The secret of the client of a party, as `shop-secret-shop-secret-shop-secret`, or its old secret, as
+/// `shop-oldies-shop-oldies-shop-oldies`.
+pub fn secret_of(alloc: Global, party: &str, is_old: bool) -> Result<String, NoMemory> {
+    let word = if is_old { "oldies" } else { "secret" };
     Ok(format!(in alloc; "{party}-{word}-{party}-{word}-{party}-{word}")?)
 }
 
-/// The configuration with an old secret for the client of this party, and these lines after it. For `shop` that is
-/// `shop-oldies-shop-oldies-shop-oldies`. A configuration without this client stays as it is.
+/// The configuration with the old secret of the client of this party, and these lines after it. A configuration without this
+/// client stays as it is.
 pub fn with_old_secret(
     alloc: Global,
     file: &str,
     party: &str,
     lines: &str,
 ) -> Result<String, NoMemory> {
-    let secret = secret_of(alloc, party, "secret")?;
-    let old = secret_of(alloc, party, "oldies")?;
+    let secret = secret_of(alloc, party, false)?;
+    let old = secret_of(alloc, party, true)?;
     let row = ["secret = \"", secret.as_str(), "\"\n"].concat(alloc)?;
     let rows = [row.as_str(), "old_secret = \"", old.as_str(), "\"\n", lines].concat(alloc)?;
     Ok(file.replacen(alloc, row.as_str(), rows.as_str(), 1)?)
 }
 
-/// The configuration with an old secret for the clients of `shop`, `news` and `mail`, and these lines after each.
+/// The configuration with the old secrets of the clients of `shop`, `news` and `mail`, and these lines after each.
 pub fn with_old_secrets(alloc: Global, file: &str, lines: &str) -> Result<String, NoMemory> {
     let first = with_old_secret(alloc, file, "shop", lines)?;
     let second = with_old_secret(alloc, first.as_str(), "news", lines)?;
