@@ -2,7 +2,7 @@
 
 use sample_configuration::{
     ALICE, ALICES_CLAIMS, BOB, MAIL_CLIENT, NEWS_CLIENT, OLD_SEALS, PROVIDER, SHOP_CLIENT,
-    in_second_version, with_old_secrets,
+    with_old_secrets, with_two_secrets,
 };
 use sso_base::NoMemory;
 use std::alloc::Global;
@@ -60,8 +60,7 @@ fn shop(alloc: Global) -> Result<String, NoMemory> {
 // The same clients, each with an old secret too and with these lines after it.
 fn two_secrets(alloc: Global, lines: &str) -> Result<String, NoMemory> {
     let file = shop(alloc)?;
-    let file = with_old_secrets(alloc, file.as_str(), lines)?;
-    in_second_version(alloc, file.as_str())
+    with_two_secrets(alloc, file.as_str(), lines)
 }
 
 // The same in the first version, which ignores the keys.

@@ -1,7 +1,7 @@
 // The calls of the table `party`.
 
 use crate::roles::{Role, Roles};
-use crate::setup::{ELSEWHERE, ELSEWHERE_AUTHORIZE, LOCAL, configuration, with_two_secrets};
+use crate::setup::{ELSEWHERE, ELSEWHERE_AUTHORIZE, LOCAL, configuration, configuration_with};
 use case_lines::number;
 use sso_base::NoMemory;
 use std::alloc::Global;
@@ -17,7 +17,7 @@ fn begin_changing_provider(
     roles: &mut Roles,
     secrets: &str,
 ) -> Result<String, NoMemory> {
-    let file = with_two_secrets(alloc, secrets)?;
+    let file = configuration_with(alloc, secrets)?;
     roles.begin_provider(alloc, file.as_str())
 }
 
@@ -34,7 +34,7 @@ fn begin_changing_party(
     name: &str,
     secrets: &str,
 ) -> Result<String, NoMemory> {
-    let file = with_two_secrets(alloc, secrets)?;
+    let file = configuration_with(alloc, secrets)?;
     roles.begin_party(alloc, file.as_str(), name, None)
 }
 

@@ -2,7 +2,7 @@
 
 use sample_configuration::{
     ALICE, ALICES_CLAIMS, BOB, MAIL_CLIENT, MAIL_PARTY, NEWS_CLIENT, NEWS_PARTY, OLD_SEALS,
-    PROVIDER, SHOP_CLIENT, SHOP_PARTY, in_second_version, with_old_secrets,
+    PROVIDER, SHOP_CLIENT, SHOP_PARTY, with_two_secrets,
 };
 use sso_base::NoMemory;
 use std::alloc::Global;
@@ -171,13 +171,12 @@ pub fn configuration(alloc: Global, issuer: &str) -> Result<String, NoMemory> {
 
 /// The configuration of the cases in which the clients of `shop`, `news` and `mail` have an old secret too. They seal with it if
 /// `secrets` is `old seals`.
-pub fn with_two_secrets(alloc: Global, secrets: &str) -> Result<String, NoMemory> {
+pub fn configuration_with(alloc: Global, secrets: &str) -> Result<String, NoMemory> {
     let lines = if secrets == "old seals" {
         OLD_SEALS
     } else {
         ""
     };
     let file = configuration(alloc, LOCAL)?;
-    let file = with_old_secrets(alloc, file.as_str(), lines)?;
-    in_second_version(alloc, file.as_str())
+    with_two_secrets(alloc, file.as_str(), lines)
 }

@@ -39,3 +39,9 @@ pub fn with_old_secrets(alloc: Global, file: &str, lines: &str) -> Result<String
     let second = with_old_secret(alloc, first.as_str(), "news", lines)?;
     with_old_secret(alloc, second.as_str(), "mail", lines)
 }
+
+/// The same in the second version.
+pub fn with_two_secrets(alloc: Global, file: &str, lines: &str) -> Result<String, NoMemory> {
+    let both = with_old_secrets(alloc, file, lines)?;
+    in_second_version(alloc, both.as_str())
+}
