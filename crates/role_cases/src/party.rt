@@ -173,6 +173,7 @@ impl RelyingParty {
     /// | `bring|MOMENT|COUNT|codes` | the answers to the responses of COUNT logins, each with a code |
     /// | `bring|MOMENT|COUNT|ID Tokens` | the same at `blog`, each with an ID Token for alice |
     /// | `bring|MOMENT|COUNT|logout tokens` | the answers to COUNT logout tokens for alice at `shop`, each with its own `jti` |
+    /// | `bring|MOMENT|COUNT|logout tokens of sessions` | the same, each for its own `sid`, from `s0` |
     /// | `held` | the entries of the tables for the words 1 to 63 |
     /// | `count` | how many requests were answered |
     pub fn answer(
