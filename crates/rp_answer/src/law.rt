@@ -89,14 +89,14 @@ pub fn seen_tokens_were_accepted()
     ensures { (past : RpPast) (jti : Text) (seen : SeenRow) → row_of seen_name jti (seens past) ≡ Some seen → AcceptedBy past seen }
 {}
 
-/// A session identifier is remembered where a pair accepted a logout token that has it, with the moment and the place of that
-/// pair (our choice).
+/// A session identifier is remembered only if a pair accepted a logout token that has it. The record has the moment and the
+/// place of that pair (our choice).
 pub fn dead_sids_were_named()
     ensures { (past : RpPast) (sid : Text) (dead : DeadRow) → row_of dead_name sid (deads past) ≡ Some dead → NamedBy past dead }
 {}
 
-/// In any legal past, at most as many session identifiers are remembered at the moment of the next pair as logout tokens. So a
-/// logout token for which there is room has room for its `sid` (our choice).
+/// In any legal past, at the moment of the next pair, no more session identifiers are remembered than logout tokens. So if
+/// there is room for a logout token, there is room for its `sid` (our choice).
 pub fn dead_sids_are_few()
     ensures { (s : PartySetup) (past : RpPast) (p : RpPair) → IsLegalRp s (p ∷ past) → length (live_deads past p.entry.at) ≤ length (live_seens past p.entry.at) }
 {}
