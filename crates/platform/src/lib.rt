@@ -37,7 +37,7 @@
 //! |---|---|
 //! | `ioctl`, `setsockopt` with `SO_SNDTIMEO`, `send` | the system does not take the reply at once: the rest waits, within its limit |
 //! | `shutdown`, `ioctl`, `setsockopt`, `recv` | bytes were not read: the reply ends first, and what still comes is read for a second |
-//! | `futex` | at each turn at the core (`turn_store`) |
+//! | `futex` | workers wait for one another's turn at the core (`turn_store`) |
 //! | `brk`, `mmap`, `mprotect` | the C library needs more memory, as the history grows |
 //!
 //! There are none for the time, which the system shows in the program's memory; for random words, whose stream is seeded once; and
