@@ -15,13 +15,15 @@ ghost use Rattle.client_keys.specs.Opening.{SealedFor, OpensFor, verdict_for};
 pub fn texts_open_for_their_client()
     ensures opens { (client : Client) (h p t : Text) → SealedFor client h p t → verdict_for client t ≡ Ok (opened h p) }
     ensures sealed { (client : Client) (t : Text) (u : Unsealed) → verdict_for client t ≡ Ok u → OpensFor client t u }
-    ensures alike { (client : Client) (secret t : Text) (u : Unsealed) → has_secret secret client ≡ true → verdict secret t ≡ Ok u → verdict_for client t ≡ Ok u }
+    ensures alike { (client : Client) (secret t : Text) (u : Unsealed) → has_secret secret client ≡ true → verdict secret t ≡ Ok u
+        → verdict_for client t ≡ Ok u }
 {}
 
 /// A text is rejected for its MAC if and only if it has a wrong MAC under each secret of the client. Any other error is the
 /// same under each secret.
 pub fn refusals_hold_under_each_secret()
     ensures mac { (client : Client) (secret t : Text) → verdict_for client t ≡ Err BadMac → has_secret secret client ≡ true → verdict secret t ≡ Err BadMac }
-    ensures macs { (client : Client) (t : Text) → ((secret : Text) → has_secret secret client ≡ true → verdict secret t ≡ Err BadMac) → verdict_for client t ≡ Err BadMac }
+    ensures macs { (client : Client) (t : Text) → ((secret : Text) → has_secret secret client ≡ true → verdict secret t ≡ Err BadMac)
+        → verdict_for client t ≡ Err BadMac }
     ensures others { (key other t : Text) (e : JwsNo) → verdict key t ≡ Err e → (e ≡ BadMac → ⊥) → verdict other t ≡ Err e }
 {}

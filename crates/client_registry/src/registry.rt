@@ -35,9 +35,27 @@ impl Model for Registry {
 
     ghost Value = { Configuration };
 
-    ghost view = { λ r. record { provider = r.provider; prefix = r.prefix; listen = r.listen; secure = r.secure; users = r.users.items; clients = r.clients.items; parties = r.parties.items; subjects = r.subjects.items } };
+    ghost view = { λ r. record {
+      provider = r.provider;
+      prefix = r.prefix;
+      listen = r.listen;
+      secure = r.secure;
+      users = r.users.items;
+      clients = r.clients.items;
+      parties = r.parties.items;
+      subjects = r.subjects.items;
+    } };
 
-    ghost invariant = { λ r. IsRegistry (record { provider = r.provider; prefix = r.prefix; listen = r.listen; secure = r.secure; users = r.users.items; clients = r.clients.items; parties = r.parties.items; subjects = r.subjects.items }) };
+    ghost invariant = { λ r. IsRegistry (record {
+      provider = r.provider;
+      prefix = r.prefix;
+      listen = r.listen;
+      secure = r.secure;
+      users = r.users.items;
+      clients = r.clients.items;
+      parties = r.parties.items;
+      subjects = r.subjects.items;
+    }) };
 }
 
 impl Registry {

@@ -18,5 +18,6 @@ IsNotNamed past sid = (later earlier : RpPast) (p : RpPair) (claims : LogoutClai
 abbrev pub IsAlive : Option Condition → Configuration → World → Place → Type 0
 IsAlive left_out c world (Provider from request p) = Unit {0}
 IsAlive left_out c world (Party n from request p) =
-    (sid : Text) → sid_judged (party_row c n).types (rp_past n world) p.entry.at p.entry.ask ≡ Some sid → Unless left_out no_logout (IsNotNamed (rp_past n world) sid)
+    (sid : Text) → sid_judged (party_row c n).types (rp_past n world) p.entry.at p.entry.ask ≡ Some sid
+    → Unless left_out no_logout (IsNotNamed (rp_past n world) sid)
 IsAlive left_out c world Nothing = Unit {0}

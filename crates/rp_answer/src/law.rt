@@ -98,7 +98,8 @@ pub fn dead_sids_were_named()
 /// In any legal past, at most as many session identifiers are remembered at the moment of the next pair as logout tokens. So a
 /// logout token for which there is room has room for its `sid` (our choice).
 pub fn dead_sids_are_few()
-    ensures { (s : PartySetup) (past : RpPast) (p : RpPair) → IsLegalRp s (p ∷ past) → length (live_deads past p.entry.at) ≤ length (live_seens past p.entry.at) }
+    ensures { (s : PartySetup) (past : RpPast) (p : RpPair) → IsLegalRp s (p ∷ past)
+        → length (live_deads past p.entry.at) ≤ length (live_seens past p.entry.at) }
 {}
 
 /// A session is no longer found exactly where its browser leaves, or a logout token is accepted that means it (OpenID Connect
