@@ -89,14 +89,7 @@ impl RpCore {
         requires { last_moment (past_of self.now) ≤ at }
         ensures { option_copied result ≡ deads.live_dead (past_of self.now) at sid.now }
     {
-        let Some(row) = self.logins.dead(sid) else {
-            return None;
-        };
-        if is_live(SEEN_LIFE, row.accepted, at) {
-            Some(row)
-        } else {
-            None
-        }
+        self.logins.live_dead(sid, at)
     }
 
     /// How many live sessions a logout token names.

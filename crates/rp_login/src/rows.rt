@@ -217,12 +217,13 @@ impl Row for SeenRow {
 
 impl Row for DeadRow {
     ghost use Rattle.oidc_words.specs.Lives.{seen_life};
+    ghost use Rattle.rp_login.specs.Rows.{dead_name, dead_begun};
 
-    ghost name = { λ row. row.sid };
+    ghost name = { dead_name };
 
     ghost key = { λ by row. one_of (Some row.sid) None None by };
 
-    ghost begun = { λ row. row.accepted };
+    ghost begun = { dead_begun };
 
     ghost IsSound = { AnyRow };
 
@@ -233,7 +234,7 @@ impl Row for DeadRow {
     fn key(&self, by: By) -> Option<&[u8]> {
         match by {
             By::Name => Some(self.sid.as_str().as_bytes()),
-            By::First | By::Second => None,
+            By::Group | By::OtherGroup => None,
         }
     }
 
