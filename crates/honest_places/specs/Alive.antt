@@ -12,7 +12,8 @@ use Rattle.honest_places.specs.Conditions.{Condition, no_logout, Unless}
 
 -- no pair of the past accepts a logout token with this `sid`
 abbrev pub IsNotNamed : RpPast → Text → Type 0
-IsNotNamed past sid = (later earlier : RpPast) (p : RpPair) (claims : LogoutClaims) → past ≡ later ++ p ∷ earlier → Accepts p claims → claims.sid ≡ Some sid → ⊥
+IsNotNamed past sid =
+    (later earlier : RpPast) (p : RpPair) (claims : LogoutClaims) → past ≡ later ++ p ∷ earlier → Accepts p claims → claims.sid ≡ Some sid → ⊥
 
 -- a place, after this world
 abbrev pub IsAlive : Option Condition → Configuration → World → Place → Type 0
