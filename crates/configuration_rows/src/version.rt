@@ -13,7 +13,7 @@ use toml::Value;
 pub enum Version {
     /// The first.
     First,
-    /// The second: a client may have an old secret beside its secret.
+    /// The second: a client may have an old secret in addition to its secret.
     Second,
 }
 

@@ -24,7 +24,7 @@ use std::alloc::Global;
 use std::sync::Wait;
 use turn_store::Pass;
 
-// What the request of a connection asks.
+// The parsed request of a connection.
 fn asked<X: Role, S: Source>(
     alloc: Global,
     role: &X,
@@ -65,7 +65,7 @@ fn answer_to<L: Link>(alloc: Global, link: &mut L, question: &Message) -> Result
     peer_answer(alloc, back)
 }
 
-// What the answer to the question of a reply asks.
+// The parsed answer to the question of a reply.
 fn asked_back<X: Role, L: Link>(
     alloc: Global,
     role: &X,
@@ -207,8 +207,8 @@ fn tell<X: Role, K: Sink, L: Link>(
     }
 }
 
-/// Serves one connection: it reads one request, steps the core, puts its questions to other servers, sends its notices, and writes
-/// the reply, or what stands in its place.
+/// Serves one connection: it reads one request, steps the core, puts its questions to other servers, sends its notices, and
+/// writes the reply, or what is sent in its place.
 pub fn serve_connection<
     R: Wait,
     X: Role,
