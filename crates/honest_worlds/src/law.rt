@@ -35,6 +35,8 @@ pub fn whole_logins_are_honest()
 /// - `token_in_time`: the browser brings the ID Token after six minutes. The party refuses the login.
 /// - `recent_sign_in`: the user signed in during an earlier login, and consents 61 seconds later. The party's `max_age` is 60 seconds,
 ///   so the provider refuses its authorization request.
+/// - `no_logout`: while the party waits for its tokens, somebody who has its client's secret sends it a logout token with the `sid`
+///   of the login. The party refuses the login.
 pub fn no_condition_can_be_left_out()
     ensures { (k : Condition) → (k ≡ free_rows → ⊥) → FailsWithout k }
 {}

@@ -4,7 +4,7 @@ ghost use Rattle.std.specs.Prelude.{◌≡◌, ℕ, List, Ok, Err};
 ghost use Rattle.claim_set.specs.Fitting.{ClaimsFit};
 ghost use Rattle.jws_compact.specs.declared.no.JwsNo.{JwsNo};
 ghost use Rattle.client_registry.specs.declared.records.Client.{Client};
-ghost use Rattle.client_keys.specs.Opening.{SealedFor, verdict_for};
+ghost use Rattle.client_keys.specs.Opening.{verdict_for};
 ghost use Rattle.request_params.specs.declared.params.Params.{Params};
 ghost use Rattle.request_object.specs.declared.no.ObjNo.TheVariants as no;
 ghost use Rattle.request_object.specs.Request.{request_members, request_text};
