@@ -12,7 +12,8 @@ ghost use Rattle.client_keys.specs.Opening.{SealedFor, OpensFor, verdict_for};
 ghost use Rattle.client_keys.specs.Laws.{TextsOfEachSecretAreOpened, MacsThatAreWrongUnderEachAreWrong};
 
 /// A text is opened for a client if and only if it is sealed under one of the client's secrets. Its header and payload are
-/// those that were sealed, whichever secret it was. So what one of the secrets opens is opened for the client.
+/// those that were sealed, whichever secret it was. So a text that opens under one of the secrets opens for the client, with
+/// the same contents.
 pub fn texts_open_for_their_client()
     ensures opens { (client : Client) (h p t : Text) → SealedFor client h p t → verdict_for client t ≡ Ok (opened h p) }
     ensures sealed { (client : Client) (t : Text) (u : Unsealed) → verdict_for client t ≡ Ok u → OpensFor client t u }

@@ -43,9 +43,9 @@ pub struct Client {
     pub id: Text,
     /// From 32 to 128 characters of visible ASCII.
     pub secret: Text,
-    /// Another secret, while the secret is changed: of the same length and characters. Both are accepted.
+    /// Another secret, while the secret is changed: also from 32 to 128 characters of visible ASCII. Both are accepted.
     pub old_secret: Option<Text>,
-    /// Whether the old secret seals. Only a client that has one seals with it.
+    /// Whether tokens are sealed under the old secret. It is true only if there is one.
     pub seals_old: bool,
     /// From 1 to 16 redirect URIs.
     pub redirects: Texts,

@@ -17,7 +17,7 @@ pub enum RegNo {
     TooLong,
     /// The bytes are not TOML in UTF-8.
     NotToml,
-    /// `version` is not the integer 1 or 2.
+    /// `version` is neither the integer 1 nor the integer 2.
     Version,
     /// The key at this path is absent, and it is neither optional nor has a default.
     Missing(Text),

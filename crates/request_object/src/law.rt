@@ -34,8 +34,7 @@ pub fn parameters_of_their_types_fit()
     ensures { (client : Client) (issuer : List ℕ) (p : Params) → HasTexts client issuer p → ClaimsFit (request_members client issuer p) }
 {}
 
-/// Reading the text that is written for parameters, of the same client and for the same issuer, returns these
-/// parameters.
+/// Reading the text that a client writes for parameters, with the same client and issuer, returns these parameters.
 pub fn sealed_requests_are_read()
     ensures { (client : Client) (issuer : List ℕ) (p : Params) → IsSealable client issuer p → request_read client issuer (request_text client issuer p) ≡ Ok p }
 {}

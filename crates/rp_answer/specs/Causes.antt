@@ -215,12 +215,13 @@ MayEnter s past e (ask.Tokens pending (Ok came) id) w sub = EnteredAfterExchange
 MayEnter s past e (ask.Info pending (Ok came)) w sub = EnteredAfterInfo s past e pending came w sub
 MayEnter s past e other w sub = ⊥
 
--- it begins: no `sid` that a logout token named is that of the last ID Token
+-- it begins: no remembered logout token has the `sid` of the last ID Token
 pub record EnteredCause (s : PartySetup) (past : RpPast) (e : Entry RpAsk) (asked : RpAsk) (w : Word) (sub : Text) : Type 0 where
   pub enters : MayEnter s past e asked w sub
   pub alive : dead_for (party_of s).types past e.at asked ≡ None
 
--- it does not: a logout token named the `sid` of the last ID Token, and was accepted by the pair with this number
+-- it does not: a remembered logout token has the `sid` of the last ID Token, and was accepted by the pair with this number,
+-- counted from 1
 pub record SidEnded (s : PartySetup) (past : RpPast) (e : Entry RpAsk) (asked : RpAsk) (place : ℕ) : Type 0 where
   pub word : Word
   pub sub : Text

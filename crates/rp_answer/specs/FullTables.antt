@@ -1,6 +1,6 @@
--- What the refusal `Full` says: the reply that there would be, were there always room, makes a row that has no place in its
--- table, next to the rows that live at the moment and that the step does not end. A reply makes at most one row besides what it
--- ends, so at most one table lacks a place for it.
+-- The cause of the refusal `Full`: the reply without the test for room makes a row that has no place in its table, next to the
+-- rows that live at the moment and that the step does not end. A reply makes at most one row in these tables, so at most one of
+-- them lacks a place. The `sid` of a logout token is in no list here: if the token has room, its `sid` has room.
 use Rattle.std.specs.Prelude.{◌≡◌, ℕ, true, Ok, ◌⊎◌}
 use Rattle.sso_base.specs.Words.{Word, Text, fresh_word}
 use Rattle.sso_base.specs.declared.history.Entry.{Entry}
@@ -32,7 +32,7 @@ pub record NoLoginPlace (past : RpPast) (e : Entry RpAsk) (told : RpReply) : Typ
   pub begins : told ≡ Ask to browser
   pub full : NoPlace login_name (fresh_word e.fresh 1) (live_logins past e.at)
 
--- a code is exchanged, or UserInfo is requested, under this word; the exchange that the `RpAsk` answers ends
+-- a code is exchanged, or UserInfo is asked for, under this word; the exchange that the ask answers ends
 pub record NoPendingPlace (types : Types) (past : RpPast) (e : Entry RpAsk) (told : RpReply) : Type 0 where
   pub word : Word
   pub message : Message

@@ -100,8 +100,8 @@ pub fn dead_sids_were_named()
     ensures { (past : RpPast) (sid : Text) (dead : DeadRow) → row_of dead_name sid (deads past) ≡ Some dead → NamedBy past dead }
 {}
 
-/// In any legal past, at most as many session identifiers are remembered at the moment of the next pair as logout tokens. So a
-/// logout token for which there is room has room for its `sid` (our choice).
+/// In any legal past, at the moment of the next pair, no more session identifiers are remembered than logout tokens. So if
+/// there is room for a logout token, there is room for its `sid` (our choice).
 pub fn dead_sids_are_few()
     ensures { (s : PartySetup) (past : RpPast) (p : RpPair) → IsLegalRp s (p ∷ past)
         → length (live_deads past p.entry.at) ≤ length (live_seens past p.entry.at) }

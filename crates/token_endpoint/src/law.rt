@@ -42,8 +42,7 @@ pub fn requests_are_granted_literally()
     ensures texts { (c : Configuration) (auth body : Option (List ℕ)) (g : Grant) → grant_read c auth body ≡ Ok g → IsUtf8 g.code × IsUtf8 g.redirect }
 {}
 
-/// A grant needs a secret of its client: the client is in the registry, and the request shows its id and its secret, or its old
-/// secret.
+/// A grant needs a secret of its client: the client is in the registry, and the request shows its id and either of its secrets.
 pub fn granted_clients_show_their_secret()
     ensures { GrantedClientsShowTheirSecret }
 {}

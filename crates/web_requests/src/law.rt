@@ -43,10 +43,10 @@ pub fn mixed_locations_differ_in_one_name()
     ensures exactly { MixesIfBothHaveTheName }
 {}
 
-/// An ID Token that is forged with its own subject is the one with the same claims under the client's secret, and so unchanged
-/// if it is sealed under it. With another subject it is read, for the client, as the claims with that subject. The request that
-/// follows a forged answer goes to the party with the answer's redirect URI. The party reads the parameters of the answer, with
-/// this ID Token in place of the original one.
+/// A forged ID Token is sealed under the client's secret, not under its old one. With its own subject it has the same claims,
+/// so it is unchanged if it was sealed under that secret. With another subject, the client reads it as the claims with that
+/// subject. The request that follows a forged answer goes to the party with the answer's redirect URI. The party reads the
+/// parameters of the answer, with this ID Token in place of the original one.
 pub fn forged_tokens_differ_in_the_subject()
     ensures own { OwnSubjectForgesNothing }
     ensures other { ForgedSubjectIsRead }
