@@ -54,7 +54,7 @@ pub struct Client {
     pub types: [bool; 6],
     /// Whether its subjects are pairwise (OpenID Connect Core 1.0, 8.1).
     pub pairwise: bool,
-    /// Whether the user is asked for consent.
+    /// Whether the user must consent.
     pub asks_consent: bool,
     /// The logout URI (OpenID Connect Back-Channel Logout 1.0, 2.2).
     pub logout: Option<Text>,

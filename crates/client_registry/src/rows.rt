@@ -291,7 +291,7 @@ pub(crate) fn clients_of(
     Ok(clients)
 }
 
-// The parties. That there are 2^32 clients, which no memory holds, is want of memory.
+// The parties. If there were 2^32 clients, which no memory holds, `NoMemory` would be returned.
 pub(crate) fn parties_of(
     alloc: Global,
     clients: &[Client],

@@ -25,9 +25,13 @@ pub enum RegNo {
     WrongKind(Text),
     /// The text at this path violates the rule for URLs, or a party's redirect URI violates its own.
     BadUrl(Text),
-    /// One of: this user id, client id, party name or redirect URI occurs twice; a client's id is the issuer; the client with
-    /// this id has a secret of an earlier client, old secrets included, or its two secrets are equal; two parties use the
-    /// client with this id; a party has the name `op`.
+    /// One of these, with that id or name:
+    ///
+    /// - a user id, client id, party name or redirect URI occurs twice;
+    /// - a client's id is the issuer;
+    /// - a secret of this client, the old one included, is a secret of an earlier client, or both its secrets are equal;
+    /// - two parties use this client;
+    /// - a party has the name `op`.
     Twice(Text),
     /// A secret of the client with this id, the old one included, has fewer than 32 characters.
     ShortSecret(Text),

@@ -117,7 +117,7 @@ fn is_password_of(user: &User, password: &str) -> bool
 }
 
 // The number of the user that has this id and this password. For an id that no user has, the password is proved with the salt and
-// the rounds of the first user, so that the time does not tell which ids are users'.
+// the rounds of the first user, so that the time does not show which ids are users'.
 #[tactic(auto, using(crate::proofs::SignedUsers::user_within, crate::proofs::SignedUsers::user_kept))]
 fn signed_user(registry: &Registry, id: &str, password: &str) -> Option<u32>
     ensures { result ≡ spec.signed_user registry.now id.now password.now }

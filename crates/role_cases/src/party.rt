@@ -228,7 +228,7 @@ impl RelyingParty {
         }
     }
 
-    /// What the call `ask` or `send` tells of a request, or of an answer of the provider.
+    /// The answer to the call `ask` or `send`: about a request, or about an answer of the provider.
     pub fn ask(
         &mut self,
         alloc: Global,

@@ -77,7 +77,8 @@ pub(crate) fn count_entry<C: Core>(
     requires legal { C.is_legal (C.setup core) (C.history core) }
     requires small { length (C.history core) ≤ most_pairs }
     ensures place { seat.new.table_id ≡ seat.old.table_id }
-    ensures free { (pair : Pair C.Ask C.Reply) → C.history core ≡ seat.old.me.0.taken ++ pair ∷ [] → seat.new.me ≡ (idle (map (with_entry (C.history core) pair) seat.old.me.0.passes), []) }
+    ensures free { (pair : Pair C.Ask C.Reply) → C.history core ≡ seat.old.me.0.taken ++ pair ∷ []
+        → seat.new.me ≡ (idle (map (with_entry (C.history core) pair) seat.old.me.0.passes), []) }
 {
     let _nothing = shared.exchange(seat, 0, Some(core));
     let _found = shared.fetch_add::<Counting<C>>(seat, 0, 1);
