@@ -2,9 +2,7 @@
 
 ghost use Rattle.std.specs.Prelude.{◌≡◌, ℕ, Some, is_some};
 ghost use Rattle.client_registry.specs.Configuration.{Configuration};
-ghost use Rattle.client_registry.specs.Secrets.{has_secret};
 ghost use Rattle.op_exchange.specs.declared.ask.OpAsk.TheVariants as op_ask;
-ghost use Rattle.rp_request.specs.Opened.{id_read_for, logout_read_for};
 ghost use Rattle.sso_places.specs.declared.types.Jar.{Jar};
 ghost use Rattle.sso_places.specs.declared.types.WorldReply.{WorldReply};
 ghost use Rattle.web_requests.specs.declared.location.Location.{Location};
