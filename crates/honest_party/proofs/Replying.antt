@@ -14,7 +14,7 @@ use Rattle.rp_login.specs.declared.rows.PendingRow.{PendingRow}
 use Rattle.rp_exchange.specs.declared.ask.RpAsk.{RpAsk}
 use Rattle.rp_exchange.specs.declared.no.RpNo.TheVariants as no
 use Rattle.rp_exchange.specs.declared.reply.RpReply.{RpReply}
-use Rattle.rp_exchange.specs.declared.reply.RpReply.TheVariants.{Refused, NotHere}
+use Rattle.rp_exchange.specs.declared.reply.RpReply.TheVariants.{Entered, Refused, NotHere}
 use Rattle.rp_exchange.specs.Asks.{is_prepared}
 use Rattle.rp_answer.specs.Past.{RpPast}
 use Rattle.rp_answer.specs.Setup.{PartySetup, party_of}

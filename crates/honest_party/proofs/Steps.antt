@@ -8,7 +8,7 @@ use Rattle.sso_base.specs.declared.message.Message.{Message}
 use Rattle.sso_base.proofs.RowLaws.{bytes_true, option_cases, row_has_name}
 use Rattle.oidc_words.specs.Words.{parameter_words}
 use Rattle.oidc_words.specs.Prompts.{none_word}
-use Rattle.oidc_words.specs.Lives.{login_life, pending_life}
+use Rattle.oidc_words.specs.Lives.{login_life, pending_life, seen_life}
 use Rattle.oidc_words.specs.declared.scopes.Scopes.{Scopes}
 use Rattle.oidc_words.specs.declared.response_types.Types.{Types}
 use Rattle.sso_base.specs.Texts.{has_text, is_other}
@@ -109,7 +109,7 @@ pub record WasFree (c : Configuration) (world : World) (x : Place) : Type 0 wher
 -- a session identifier that no token named is not remembered
 unnamed_is_gone : (past : RpPast) (at : ℕ) (sid : Text) → IsNotNamed past sid → live_dead past at sid ≡ None
 unnamed_is_gone past at sid none =
-    let L : Option DeadRow → Option DeadRow = λ o. option_and_then (if_lives 661 dead_begun at) o in
+    let L : Option DeadRow → Option DeadRow = λ o. option_and_then (if_lives seen_life dead_begun at) o in
     elim (option_cases (row_of dead_name sid (deads past))) [
       | inl gone ↦ ap L gone
       | inr found ↦

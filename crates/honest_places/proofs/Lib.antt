@@ -1,3 +1,4 @@
+mod AliveSamples
 pub mod Conditions
 pub mod OwnWish
 pub mod OwnWishValue

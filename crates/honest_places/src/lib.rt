@@ -3,7 +3,7 @@
 //! | Module | What it has | Its definitions, in `specs/` |
 //! |---|---|---|
 //! | | the conditions of an honest login, one by one | `Conditions` |
-//! | | the words that a request presents; being in time | `Shown`, `InTime` |
+//! | | the words that a request presents; being in time; no logout | `Shown`, `InTime`, `Alive` |
 //! | | the visitor who logs in; the login, place by place | `Login` |
 //! | | the outcome: `GoesWell`, and `HonestLoginsSucceed` in a world | `Outcome` |
 //! | `law` | a lemma: the provider accepts a party's own authorization requests | `OwnWish` |

@@ -1,6 +1,7 @@
 -- A world that has one login alone and keeps all premises, and what its next place has to keep, at the provider and at a party.
 use Rattle.std.proofs.Common.{◌≡◌, ℕ, false, List, ◌∷◌, Option, Some, None, refl, sym, ap, ◌∙◌}
 use Rattle.std.proofs.lemmas.Option.{same_Some}
+use Rattle.sso_base.specs.Words.{Text}
 use Rattle.sso_base.specs.declared.http.Ask.{Ask}
 use Rattle.client_registry.specs.Configuration.{Configuration}
 use Rattle.client_registry.specs.Numbers.{party_row}
@@ -10,6 +11,7 @@ use Rattle.op_answer.specs.Past.{OpPair}
 use Rattle.rp_exchange.specs.declared.ask.RpAsk.{RpAsk}
 use Rattle.rp_request.specs.Prepared.{prepared as rp_prepared}
 use Rattle.rp_answer.specs.Past.{RpPair}
+use Rattle.rp_answer.specs.Alive.{sid_judged}
 use Rattle.sso_places.specs.declared.types.Jar.{Jar}
 use Rattle.sso_places.specs.declared.types.To.{To}
 use Rattle.sso_places.specs.declared.types.To.TheVariants as to
@@ -22,8 +24,6 @@ use Rattle.sso_places.specs.World.{Place, Provider, Party, op_past, rp_past, rep
 use Rattle.web_requests.specs.declared.sent.Sent.{Sent}
 use Rattle.web_requests.specs.Asked.{AsksProvider, AsksParty}
 use Rattle.web_requests.specs.Sending.{sent}
-use Rattle.rp_answer.specs.Alive.{sid_judged}
-use Rattle.sso_base.specs.Words.{Text}
 use Rattle.honest_places.specs.Alive.{IsNotNamed}
 use Rattle.honest_places.specs.InTime.{IsOpInTime, IsRpInTime}
 use Rattle.honest_places.specs.Login.{Visitor, called_for, jar_after, FitsJar, is_full, IsHonest, went_on}

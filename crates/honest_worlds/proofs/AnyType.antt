@@ -20,10 +20,8 @@ use Rattle.auth_request.specs.declared.wish.Wish.{Wish}
 use Rattle.auth_request.specs.ClaimsParameter.{claims_of}
 use Rattle.auth_request.specs.Parameters.{asking_of}
 use Rattle.auth_request.specs.Values.{IsWishValue}
-use Rattle.id_token.specs.Sealing.{HasTexts}
 use Rattle.op_issue.specs.IdTokens.{id_claims}
 use Rattle.op_issue.specs.Issuing.{MayIssue}
-use Rattle.op_issue.proofs.Sealable.{has_texts}
 use Rattle.op_exchange.proofs.Sample.{wish}
 use Rattle.op_request.specs.Prepared.{signed_user}
 use Rattle.op_answer.proofs.FirstLogin.{signed_alice}
@@ -34,6 +32,7 @@ use Rattle.honest_places.specs.Login.{Visitor, wants_none, MayLogIn}
 use Rattle.honest_places.specs.OwnWish.{own_wish}
 use Rattle.honest_places.proofs.OwnWish.{own_types_are}
 use Rattle.honest_places.proofs.OwnWishValue.{own_wish_value, own_wish_issued}
+use Rattle.honest_worlds.proofs.ClaimValues.{claims_value}
 
 -- ---- the party
 
@@ -204,20 +203,4 @@ module _ (wants : Wants) where
 
   -- the claims of its ID Tokens are values of their types
   pub claims_are_values : (access for : Option Word) → IsIdValue (id_claims c ours signed_alice 1000 access for)
-  unfolding id_claims
-  claims_are_values access for =
-      let texts : HasTexts (id_claims c ours signed_alice 1000 access for) = has_texts c ours signed_alice 1000 access for may_issue ours_value in
-      record {
-        iss = texts.iss;
-        sub = IsUtf8-are_ascii (codes "alice") refl;
-        aud = texts.aud;
-        azp = tt;
-        exp = omega arith;
-        iat = omega arith;
-        auth_time = omega arith;
-        nonce = texts.nonce;
-        sid = texts.sid;
-        at_hash = texts.at_hash;
-        c_hash = texts.c_hash;
-        more = texts.more;
-      }
+  claims_are_values access for = claims_value c ours access for may_issue ours_value refl

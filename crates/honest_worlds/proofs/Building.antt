@@ -4,12 +4,14 @@ use Rattle.std.proofs.Common.{◌≡◌, ◌≤◌, ◌<◌, ℕ, true, false, L
 use Rattle.sso_base.specs.Legal.{IsEntry}
 use Rattle.sso_base.specs.Rows.{lives}
 use Rattle.sso_base.specs.Values.{latest_moment}
-use Rattle.oidc_words.specs.Lives.{turn_life, session_life, login_life}
+use Rattle.oidc_words.specs.Lives.{turn_life, session_life, code_usable, login_life, pending_life}
 use Rattle.client_registry.specs.Configuration.{Configuration}
 use Rattle.client_registry.specs.Registered.{IsRegistry}
 use Rattle.code_grant.specs.declared.rows.TurnRow.{TurnRow}
 use Rattle.code_grant.specs.declared.rows.SessionRow.{SessionRow}
+use Rattle.code_grant.specs.declared.rows.CodeRow.{CodeRow}
 use Rattle.rp_login.specs.declared.rows.LoginRow.{LoginRow}
+use Rattle.rp_login.specs.declared.rows.PendingRow.{PendingRow}
 use Rattle.rp_exchange.specs.declared.reply.RpReply.{RpReply}
 use Rattle.rp_exchange.specs.Values.{IsRpAsk}
 use Rattle.rp_request.specs.Prepared.{prepared as rp_prepared}
@@ -22,7 +24,7 @@ use Rattle.sso_places.specs.Site.{own_site, setup_at}
 use Rattle.sso_places.specs.World.{Place, Party, World, reply_at}
 use Rattle.sso_places.proofs.SmallSite.{all_words, legal_entry}
 use Rattle.sso_places.proofs.LoginByCode.{begins}
-use Rattle.honest_places.specs.Conditions.{Condition, within_lives, Unless}
+use Rattle.honest_places.specs.Conditions.{Condition, within_lives, code_in_time, Unless}
 use Rattle.honest_places.specs.Login.{Visitor, MayLogInBut, IsHonestBut, Continues, went_on}
 use Rattle.honest_places.specs.Outcome.{leads_on}
 use Rattle.honest_worlds.specs.Needed.{FailsWithout}
@@ -34,7 +36,7 @@ use Rattle.honest_worlds.proofs.Growing.{Stands, nothing_stands, party_stands}
 pub entry_then : {A : Type 0} (IsAsk : A → Type 0) (at n : ℕ) (asked : A) → at ≤ latest_moment → all_words (words n) ≡ true → IsAsk asked → IsEntry IsAsk (record { at = at; fresh = words n; ask = asked })
 entry_then IsAsk at n asked known all asks = record { moment = known; four = refl; words = (legal_entry IsAsk n asked all asks).words; ask = asks }
 
--- a turn, a session and a login live at a moment, unless this condition is left out
+-- what a request names is in time at a moment, unless this condition is left out
 module _ (left_out : Option Condition) (at : ℕ) where
   abbrev pub TurnLives : TurnRow → Type 0
   TurnLives row = Unless left_out within_lives (lives turn_life row.begun at ≡ true)
@@ -42,8 +44,14 @@ module _ (left_out : Option Condition) (at : ℕ) where
   abbrev pub SessionLives : SessionRow → Type 0
   SessionLives row = Unless left_out within_lives (lives session_life row.auth_time at ≡ true)
 
+  abbrev pub CodeLives : CodeRow → Type 0
+  CodeLives row = Unless left_out code_in_time (lives code_usable row.issued at ≡ true)
+
   abbrev pub LoginLives : LoginRow → Type 0
   LoginLives row = Unless left_out within_lives (lives login_life row.begun at ≡ true)
+
+  abbrev pub PendingLives : PendingRow → Type 0
+  PendingLives row = Unless left_out within_lives (lives pending_life row.since at ≡ true)
 
 -- what is true for the row that stands, if one does, is true for each that is said to stand
 pub of_row : {R : Type 0} (P : R → Type 0) (o : Option R) → IfSome o P → (row : R) → o ≡ Some row → P row

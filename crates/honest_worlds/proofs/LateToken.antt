@@ -5,7 +5,6 @@ use Rattle.sso_base.specs.Words.{Text, word_text}
 use Rattle.sso_base.specs.declared.history.Entry.{Entry}
 use Rattle.sso_base.specs.declared.http.Ask.{Ask}
 use Rattle.sso_base.proofs.OnLiterals.{base64url_on_literals}
-use Rattle.sso_base.proofs.Utf8Bytes.{IsUtf8-are_ascii}
 use Rattle.sso_base.proofs.WordUtf8.{IsUtf8-word_text}
 use Rattle.oidc_words.specs.Claims.{scopes_with_any}
 use Rattle.oidc_words.specs.Scopes.{joined}
@@ -22,7 +21,6 @@ use Rattle.auth_answer.specs.Reading.{IsHeard}
 use Rattle.user_interaction.specs.Need.{needed, needed_scopes}
 use Rattle.id_token.specs.declared.claims.IdClaims.{IdClaims}
 use Rattle.id_token.specs.declared.no.IdNo.TheVariants.{Expired}
-use Rattle.id_token.specs.Sealing.{HasTexts}
 use Rattle.login_request.specs.Request.{login_location}
 use Rattle.code_grant.specs.declared.rows.TurnRow.{TurnRow}
 use Rattle.op_exchange.specs.declared.ask.OpAsk.{OpAsk}
@@ -34,7 +32,6 @@ use Rattle.op_request.specs.Prepared.{prepared as op_prepared}
 use Rattle.op_issue.specs.IdTokens.{id_claims, issued_id}
 use Rattle.op_issue.specs.Issued.{issued}
 use Rattle.op_issue.specs.Issuing.{MayIssue}
-use Rattle.op_issue.proofs.Sealable.{has_texts}
 use Rattle.op_answer.specs.Turns.{turn_of}
 use Rattle.op_answer.specs.Answering.{op_answer}
 use Rattle.op_answer.proofs.FirstLogin as op
@@ -73,6 +70,7 @@ use Rattle.honest_worlds.proofs.Building.{entry_then, TurnLives, LoginLives, of_
 use Rattle.honest_worlds.proofs.Growing.{Stands, provider_stands, party_stands}
 use Rattle.honest_worlds.proofs.FirstPlaces.{alice_may, first_jar, party_jar}
 use Rattle.honest_worlds.proofs.NewsRequest.{reader, news_query, news_wish, wish_is_value}
+use Rattle.honest_worlds.proofs.ClaimValues.{claims_value}
 use Rattle.honest_worlds.proofs.NoLogout.{not_named}
 
 reader_may : MayLogInBut (Some token_in_time) configuration reader
@@ -216,23 +214,7 @@ unfolding rp_answer id_claims
 late_is_answered = refl
 
 claims_are_values : IsIdValue claims
-unfolding id_claims
-claims_are_values =
-    let texts : HasTexts claims = has_texts configuration (news_wish false) op.signed_alice 1000 (Some (word 12)) None may_issue (wish_is_value false) in
-    record {
-      iss = texts.iss;
-      sub = IsUtf8-are_ascii (codes "alice") refl;
-      aud = texts.aud;
-      azp = tt;
-      exp = omega arith;
-      iat = omega arith;
-      auth_time = omega arith;
-      nonce = texts.nonce;
-      sid = texts.sid;
-      at_hash = texts.at_hash;
-      c_hash = tt;
-      more = texts.more;
-    }
+claims_are_values = claims_value configuration (news_wish false) (Some (word 12)) None may_issue (wish_is_value false) refl
 
 heard_is_value : IsHeard heard
 heard_is_value = record {

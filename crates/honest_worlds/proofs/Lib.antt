@@ -1,6 +1,8 @@
 pub mod Alone
 pub mod AnyType
 pub mod Building
+pub mod ClaimValues
+pub mod EarlyLogout
 pub mod Exchanging
 pub mod FirstPlaces
 pub mod Growing
@@ -13,6 +15,7 @@ pub mod Needed
 pub mod NewsRequest
 pub mod NoLogout
 pub mod OtherCookie
+pub mod Redeeming
 pub mod Responding
 pub mod Sessions
 pub mod SilentParty

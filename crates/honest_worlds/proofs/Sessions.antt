@@ -42,6 +42,7 @@ did redeemed event =
       entered = entered_row (begun_at event) ∷ [];
       live = begun_at event ∷ [];
       ended = [];
+      dead = [];
     }
 
 founded : (redeemed : List ℕ) (event : ℕ) → IsFounded (did redeemed event) (begun_at event)

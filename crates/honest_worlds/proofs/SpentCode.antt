@@ -1,56 +1,34 @@
 -- `own_words` cannot be left out: somebody else got hold of the shop's token request and sends it first. So the code is spent, and the
 -- shop's own request is refused.
-use Rattle.std.proofs.Common.{◌≡◌, ◌∷◌, Some, None, refl, arith, true}
-use Rattle.sso_base.specs.Rows.{lives}
+use Rattle.std.proofs.Common.{◌≡◌, ◌∷◌, Some, refl, arith}
 use Rattle.sso_base.specs.Words.{word_of_text}
 use Rattle.sso_base.specs.declared.history.Entry.{Entry}
-use Rattle.oidc_words.specs.Lives.{code_usable}
 use Rattle.token_endpoint.specs.declared.error.TokenError.TheVariants.{InvalidGrant}
 use Rattle.code_grant.specs.declared.rows.CodeRow.{CodeRow}
 use Rattle.op_exchange.specs.declared.ask.OpAsk.{OpAsk}
 use Rattle.op_exchange.specs.declared.reply.OpReply.{OpReply}
-use Rattle.op_exchange.specs.declared.reply.OpReply.TheVariants.{Tokens, TokenRefused}
+use Rattle.op_exchange.specs.declared.reply.OpReply.TheVariants.{TokenRefused}
 use Rattle.op_exchange.specs.Values.{IsOpAsk}
-use Rattle.op_issue.specs.IdTokens.{issued_id}
 use Rattle.op_answer.specs.Codes.{code_of}
 use Rattle.op_answer.specs.Answering.{op_answer}
-use Rattle.op_answer.proofs.FirstLogin.{entry_at, pair_of, signed_alice}
-use Rattle.rp_answer.proofs.Sample.{word}
+use Rattle.op_answer.proofs.FirstLogin.{entry_at, pair_of}
 use Rattle.sso_places.specs.declared.types.To.TheVariants as to
 use Rattle.sso_places.specs.World.{Place, Provider, World, op_past, drawn}
 use Rattle.sso_places.proofs.SmallSite.{configuration, registry, are_distinct, legal_entry}
-use Rattle.sso_places.proofs.LoginByCode.{past_consent, redeems, our_wish, code_text, token_entry, token_is_asked, code_is}
+use Rattle.sso_places.proofs.LoginByCode.{past_consent, redeems, code_text, token_entry, token_is_asked, code_is}
 use Rattle.web_requests.specs.Sending.{sent}
-use Rattle.honest_places.specs.Conditions.{own_words, code_in_time, Unless}
+use Rattle.honest_places.specs.Conditions.{own_words}
 use Rattle.honest_places.specs.Login.{waited}
 use Rattle.honest_worlds.specs.Needed.{FailsWithout}
-use Rattle.honest_worlds.proofs.Building.{of_row, fails_there}
+use Rattle.honest_worlds.proofs.Building.{CodeLives, of_row, fails_there}
 use Rattle.honest_worlds.proofs.Growing.{Stands, provider_stands}
-use Rattle.honest_worlds.proofs.FirstPlaces.{alice, alice_may, grant_asks, exchanges, answered, exchanged, exchanged_stands, second_jar, carries, exchanged_honestly}
+use Rattle.honest_worlds.proofs.FirstPlaces.{alice, alice_may, grant_asks, exchanges, answered, exchanged, second_jar, carries, exchanged_honestly}
+use Rattle.honest_worlds.proofs.Redeeming.{tokens, redeems_from, redeemed, redeemed_stands}
 
--- ---- the stranger, who is browser 2
-
-abbrev tokens : OpReply
-tokens = Tokens (word 21) (issued_id configuration our_wish signed_alice 1000 (Some (word 21)) None)
-
-abbrev robs : Place
-robs = Provider 2 redeems (pair_of token_entry tokens)
+-- ---- the stranger, who is browser 2, gets the tokens
 
 abbrev robbed : World
-robbed = robs ∷ exchanged
-
-token_is_answered : op_answer configuration past_consent token_entry ≡ tokens
-unfolding op_answer
-token_is_answered = rw code_is refl
-
-robbed_stands : Stands configuration robbed
-robbed_stands = provider_stands configuration exchanged 2 redeems (pair_of token_entry tokens) exchanged_stands (record {
-  asked = token_is_asked;
-  entry = legal_entry IsOpAsk 21 token_entry.ask refl grant_asks;
-  after_own = omega arith;
-  after_all = omega arith;
-  answered = token_is_answered;
-})
+robbed = redeemed 2
 
 -- ---- the shop
 
@@ -68,7 +46,7 @@ unfolding op_answer
 second_is_answered = rw code_is refl
 
 stands : Stands configuration (fails ∷ robbed)
-stands = provider_stands configuration robbed 0 redeems (pair_of second_entry refused) robbed_stands (record {
+stands = provider_stands configuration robbed 0 redeems (pair_of second_entry refused) (redeemed_stands 2) (record {
   asked = token_is_asked;
   entry = legal_entry IsOpAsk 25 second_entry.ask refl grant_asks;
   after_own = omega arith;
@@ -76,16 +54,13 @@ stands = provider_stands configuration robbed 0 redeems (pair_of second_entry re
   answered = second_is_answered;
 })
 
-abbrev IsUsable : CodeRow → Type 0
-IsUsable row = Unless (Some own_words) code_in_time (lives code_usable row.issued 1000 ≡ true)
-
-in_time : (row : CodeRow) → code_of (op_past robbed) (word_of_text code_text) ≡ Some row → IsUsable row
-in_time = of_row IsUsable (code_of (op_past robbed) (word_of_text code_text)) (rw code_is (λ kept. refl))
+in_time : (row : CodeRow) → code_of (op_past robbed) (word_of_text code_text) ≡ Some row → CodeLives (Some own_words) 1000 row
+in_time = of_row (CodeLives (Some own_words) 1000) (code_of (op_past robbed) (word_of_text code_text)) (rw code_is (λ kept. refl))
 
 pub spent_code_fails : FailsWithout own_words
 spent_code_fails =
     fails_there configuration own_words alice robbed fails exchanges answered registry stands (are_distinct (drawn (fails ∷ robbed)) refl) (alice_may (Some own_words))
-    (waited exchanged exchanged robs (exchanged_honestly (Some own_words)) (λ kept. absurd (kept refl)))
+    (waited exchanged exchanged (redeems_from 2) (exchanged_honestly (Some own_words)) (λ kept. absurd (kept refl)))
     (record {
       jar = second_jar;
       done = sent 0 to.Provider redeems;

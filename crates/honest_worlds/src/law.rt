@@ -5,12 +5,12 @@ ghost use Rattle.honest_places.specs.Conditions.{Condition, free_rows};
 ghost use Rattle.honest_worlds.specs.Needed.{FailsWithout};
 ghost use Rattle.honest_worlds.specs.Whole.{IsWholeLogin};
 
-/// The definition of an honest login is met to its end: there is a whole login of each of the six response types, without UserInfo or
-/// with it. It has the login page, the consent page and the answer, then the exchange of the code and the UserInfo request where the
-/// party wants them, and the session.
+/// The definition of an honest login is met to its end: there is a whole login of each of the six response types, without
+/// UserInfo or with it. It has the login page, the consent page and the answer, then the exchange of the code and the UserInfo
+/// request if the party wants them, and the session.
 ///
-/// So the sign-on theorem is not empty: the worlds of these logins keep all its premises together, and each ends with a session that the
-/// sign-on machine and the party hold.
+/// So the sign-on theorem is not empty: the worlds of these logins keep all its premises together, and each ends with a session
+/// that the sign-on machine and the party hold.
 pub fn whole_logins_are_honest()
     ensures code { IsWholeLogin (codes "code") false 7 }
     ensures code_with_info { IsWholeLogin (codes "code") true 9 }
@@ -35,6 +35,8 @@ pub fn whole_logins_are_honest()
 /// - `token_in_time`: the browser brings the ID Token after six minutes. The party refuses the login.
 /// - `recent_sign_in`: the user signed in during an earlier login, and consents 61 seconds later. The party's `max_age` is 60 seconds,
 ///   so the provider refuses its authorization request.
+/// - `no_logout`: while the party waits for its tokens, somebody who has its client's secret sends it a logout token with the `sid`
+///   of the login. The party refuses the login.
 pub fn no_condition_can_be_left_out()
     ensures { (k : Condition) → (k ≡ free_rows → ⊥) → FailsWithout k }
 {}

@@ -72,7 +72,8 @@ impl OpCore {
         requires prepared { asks.is_prepared self.now.registry entry.now.ask ≡ true }
         requires turn { IfSome (option_copied turn) (λ row. is_own_turn self.now.registry row ≡ true) }
         requires own { IfSome (option_copied own) (λ row. is_own_session self.now.registry row ≡ true) }
-        ensures { IfOk result (λ r. r ≡ reply_for self.now.registry (past_of self.now) entry.now entry.now.ask (option_copied turn.entry) (option_copied own.entry)) }
+        ensures { IfOk result (λ r. r
+            ≡ reply_for self.now.registry (past_of self.now) entry.now entry.now.ask (option_copied turn.entry) (option_copied own.entry)) }
     {
         match &entry.ask {
             OpAsk::Authorize {

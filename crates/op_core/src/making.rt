@@ -436,7 +436,8 @@ impl OpCore {
         requires moment { last_moment (past_of self.now) ≤ entry.now.at }
         requires wish { IfSome (option_copied wish) (λ w. is_prepared_wish self.now.registry w ≡ true) }
         requires session { IfSome session.now (λ row. is_own_session self.now.registry row ≡ true) }
-        ensures row { IfOk result (λ row. row ≡ spec.access_put_by (past_of self.now) entry.now entry.now.ask reply.now (option_copied wish.entry) session.now) }
+        ensures row { IfOk result (λ row. row
+            ≡ spec.access_put_by (past_of self.now) entry.now entry.now.ask reply.now (option_copied wish.entry) session.now) }
         ensures own { IfOk result (λ row. IfSome row (λ token. is_own_token self.now.registry token ≡ true)) }
         ensures user { IfOk result (λ row. IfSome row (λ token. token.user < 512)) }
         ensures client { IfOk result (λ row. IfSome row (λ token. token.client < 128)) }
@@ -472,9 +473,12 @@ impl OpCore {
         requires session { IfSome session.now (λ row. is_own_session self.now.registry row ≡ true) }
         requires client { IfSome client (λ n. n < 128) }
         ensures turn { IfOk result (λ m. m.turn ≡ turns.turn_started entry.now.at entry.now.ask reply.now) }
-        ensures session { IfOk result (λ m. m.session ≡ spec.session_put_by (past_of self.now) entry.now client entry.now.ask (sessions.session_set entry.now.ask reply.now)) }
-        ensures code { IfOk result (λ m. m.code ≡ codes.code_made_by (length (past_of self.now)) entry.now.at (code_in reply.now) (option_copied wish.entry) session.now) }
-        ensures token { IfOk result (λ m. m.token ≡ spec.access_put_by (past_of self.now) entry.now entry.now.ask reply.now (option_copied wish.entry) session.now) }
+        ensures session { IfOk result (λ m. m.session
+            ≡ spec.session_put_by (past_of self.now) entry.now client entry.now.ask (sessions.session_set entry.now.ask reply.now)) }
+        ensures code { IfOk result (λ m. m.code
+            ≡ codes.code_made_by (length (past_of self.now)) entry.now.at (code_in reply.now) (option_copied wish.entry) session.now) }
+        ensures token { IfOk result (λ m. m.token
+            ≡ spec.access_put_by (past_of self.now) entry.now entry.now.ask reply.now (option_copied wish.entry) session.now) }
         ensures own_turn { IfOk result (λ m. IfSome m.turn (λ row. is_own_turn self.now.registry row ≡ true)) }
         ensures own_session { IfOk result (λ m. IfSome m.session (λ row. is_own_session self.now.registry row ≡ true)) }
         ensures own_code { IfOk result (λ m. IfSome m.code (λ row. is_own_code self.now.registry row ≡ true)) }

@@ -96,7 +96,9 @@ impl OpCore {
     pub(crate) fn decision(&self, alloc: Global, entry: &Entry<OpAsk>) -> Result<Decision, NoMemory>
         requires { last_moment (past_of self.now) ≤ entry.now.at }
         ensures answer { IfOk result (λ d. d.reply ≡ op_answer self.now.registry (past_of self.now) entry.now) }
-        ensures rows { IfOk result (λ d. spec.MakesRows (past_of self.now) (record { entry = entry.now; reply = d.reply }) d.outcome.made.turn d.outcome.made.session d.outcome.made.code d.outcome.made.token d.outcome.used d.outcome.client) }
+        ensures rows { IfOk result
+            (λ d. spec.MakesRows (past_of self.now) (record { entry = entry.now; reply = d.reply })
+            d.outcome.made.turn d.outcome.made.session d.outcome.made.code d.outcome.made.token d.outcome.used d.outcome.client) }
         ensures own_turn { IfOk result (λ d. IfSome d.outcome.made.turn (λ row. is_own_turn self.now.registry row ≡ true)) }
         ensures own_session { IfOk result (λ d. IfSome d.outcome.made.session (λ row. is_own_session self.now.registry row ≡ true)) }
         ensures own_code { IfOk result (λ d. IfSome d.outcome.made.code (λ row. is_own_code self.now.registry row ≡ true)) }

@@ -350,7 +350,8 @@ impl OpCore {
     ) -> Result<OpReply, NoMemory>
         requires turn { IfSome (option_copied turn) (λ row. is_own_turn self.now.registry row ≡ true) }
         requires own { IfSome (option_copied own) (λ row. is_own_session self.now.registry row ≡ true) }
-        ensures { IfOk result (λ r. r ≡ consent_for self.now.registry (past_of self.now) entry.now (option_copied turn.entry) (option_copied own.entry) agree browser presented) }
+        ensures { IfOk result (λ r. r
+            ≡ consent_for self.now.registry (past_of self.now) entry.now (option_copied turn.entry) (option_copied own.entry) agree browser presented) }
     {
         let Some(turn) = turn else {
             return Ok(OpReply::ErrorPage { why: PageNo::Turn });

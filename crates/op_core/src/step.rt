@@ -146,7 +146,9 @@ impl OpCore {
         requires moment { last_moment (past_of self.old) ≤ entry.at }
         requires answer { decision.reply ≡ op_answer self.old.registry (past_of self.old) entry }
         requires entry { IsEntry IsOpAsk entry }
-        requires rows { MakesRows (past_of self.old) (record { entry = entry; reply = decision.reply }) decision.outcome.made.turn decision.outcome.made.session decision.outcome.made.code decision.outcome.made.token decision.outcome.used decision.outcome.client }
+        requires rows { MakesRows (past_of self.old) (record { entry = entry; reply = decision.reply })
+            decision.outcome.made.turn decision.outcome.made.session decision.outcome.made.code
+            decision.outcome.made.token decision.outcome.used decision.outcome.client }
         requires own_turn { IfSome decision.outcome.made.turn (λ row. is_own_turn self.old.registry row ≡ true) }
         requires own_session { IfSome decision.outcome.made.session (λ row. is_own_session self.old.registry row ≡ true) }
         requires own_code { IfSome decision.outcome.made.code (λ row. is_own_code self.old.registry row ≡ true) }

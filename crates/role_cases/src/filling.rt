@@ -35,7 +35,7 @@ fn begin(
     })
 }
 
-// A login, and its response with a code. What is told of the latter.
+// A login, and its response with a code. Returns the answer to the latter.
 fn bring_code(
     alloc: Global,
     party: &mut RelyingParty,
@@ -70,7 +70,7 @@ fn token_text(token: &Option<Text>) -> &str {
     }
 }
 
-// A login, and its response with an ID Token. What is told of the latter.
+// A login, and its response with an ID Token. Returns the answer to the latter.
 fn bring_id_token(
     alloc: Global,
     party: &mut RelyingParty,
@@ -85,7 +85,7 @@ fn bring_id_token(
     party.ask(alloc, run, at, "ask", &fields)
 }
 
-// A logout token at `shop` with these claims. What is told of it.
+// A logout token at `shop` with these claims. Returns the answer to it.
 fn bring_logout_token(
     alloc: Global,
     party: &mut RelyingParty,
@@ -100,7 +100,7 @@ fn bring_logout_token(
     party.ask(alloc, run, at, "ask", &["POST", "/logout", form.as_str()])
 }
 
-// What is told of the last request of one round.
+// The answer to the last request of one round.
 fn bring_one(
     alloc: Global,
     party: &mut RelyingParty,
@@ -125,7 +125,7 @@ fn bring_one(
 }
 
 /// Brings so many of these: `codes` and `ID Tokens`, each to a login that is begun for it, `logout tokens` or `logout tokens of
-/// sessions`. What is told of the first, and how often that is told.
+/// sessions`. Returns the answer to the first, and how many have that answer.
 pub fn bring(
     alloc: Global,
     party: &mut RelyingParty,

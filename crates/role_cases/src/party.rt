@@ -238,7 +238,7 @@ impl RelyingParty {
         }
     }
 
-    /// What the call `ask`, `send` or `why` tells of a request, or of an answer of the provider.
+    /// The answer to the call `ask`, `send` or `why`: about a request, or about an answer of the provider.
     pub fn ask(
         &mut self,
         alloc: Global,

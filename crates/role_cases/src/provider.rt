@@ -16,7 +16,8 @@ const MAIL_TARGET: &str =
     "/authorize?client_id=mail-client&redirect_uri=http%3A%2F%2F127.0.0.1%3A8083%2Fcb&response_type=code&scope=openid&nonce=n";
 
 const MAIL_GRANT: &str =
-    "grant_type=authorization_code&client_id=mail-client&client_secret=mail-secret-mail-secret-mail-secret&redirect_uri=http%3A%2F%2F127.0.0.1%3A8083%2Fcb&code=";
+    "grant_type=authorization_code&client_id=mail-client&client_secret=mail-secret-mail-secret-mail-secret\
+     &redirect_uri=http%3A%2F%2F127.0.0.1%3A8083%2Fcb&code=";
 
 /// A provider, and its registry.
 #[derive(Drop)]

@@ -4,7 +4,8 @@ ghost use Rattle.std.specs.Prelude.{◌≡◌, true, false, filter_map, IfSome, 
 ghost use Rattle.sso_base.specs.Rows.{without};
 ghost use Rattle.held_rows.specs.Held.{MayAddRow};
 ghost use Rattle.rp_login.specs.Tables.{ArePendings};
-ghost use Rattle.rp_login.specs.Rows.{login_name, login_begun, pending_name, pending_begun, visit_name, visit_begun, seen_name, seen_begun, dead_name, dead_begun};
+ghost use Rattle.rp_login.specs.Rows.{login_name, login_begun, pending_name, pending_begun, visit_name, visit_begun};
+ghost use Rattle.rp_login.specs.Rows.{seen_name, seen_begun, dead_name, dead_begun};
 ghost use Rattle.rp_answer.specs.Past.{RpPast};
 ghost use Rattle.rp_answer.specs.Asked as asked;
 ghost use Rattle.rp_answer.specs.Logins as logins;
@@ -174,7 +175,7 @@ fn add_seen(tables: &mut Logins, row: Option<SeenRow>)
     }
 }
 
-// Adds a session identifier. Its earlier record is removed.
+// Adds the record of a session identifier, in place of an earlier one of the same identifier.
 fn add_dead(tables: &mut Logins, row: Option<DeadRow>)
     requires may { IfSome row (λ r. MayAddRow dead_name dead_begun tables.old.reserved.deads (without dead_name r.sid tables.old.deads) r) }
     ensures { tables.new ≡ spec.dead_put row tables.old }

@@ -75,9 +75,10 @@ pub fn seen_tokens_are_remembered()
 {}
 
 /// A session identifier that an accepted logout token named is found through all calls, except a purge 661 or more seconds
-/// later, until it is ended by its name. This is why no session of it begins meanwhile.
+/// later, until it is ended by its name. This is why no session with it begins meanwhile.
 pub fn dead_sids_are_remembered()
-    ensures { (row : DeadRow) (steps : List calls.Call) (t : Tables) → row_of dead_name row.sid t.deads ≡ Some row → calls.AllLeaveDead row.sid row.accepted steps → row_of dead_name row.sid (calls.after_all steps t).deads ≡ Some row }
+    ensures { (row : DeadRow) (steps : List calls.Call) (t : Tables) → row_of dead_name row.sid t.deads ≡ Some row
+        → calls.AllLeaveDead row.sid row.accepted steps → row_of dead_name row.sid (calls.after_all steps t).deads ≡ Some row }
 {}
 
 /// Exactly the sessions that match each given part end. The others stay in their order. The returned number is that of the

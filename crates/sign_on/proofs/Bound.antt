@@ -330,7 +330,7 @@ record IsBeside (earlier : World) (id access : Text) : Type 0 where
   replied : HasReplied earlier id claims
   hash : claims.at_hash ≡ Some (half_hash_of access)
 
-module _ (s : Site) (n from : ℕ) (request : WorldAsk) (p : RpPair) (earlier : World) (st : Stands s (Party n from request p) earlier) (id access : Text) where
+module _ (s : Site) (site : IsSite s) (n from : ℕ) (request : WorldAsk) (p : RpPair) (earlier : World) (st : Stands s (Party n from request p) earlier) (id access : Text) where
   beside_by : (asked : RpAsk) → p.entry.ask ≡ asked → CameTogether (setup_at s n) asked id access → (claims : IdClaims) → claims_judged (types_at s n) asked ≡ Some claims → is_some claims.at_hash ≡ true → (w : Word) (message : Message)
       → FetchCause (setup_at s n) (rp_past n earlier) p.entry asked w message → IsBeside earlier id access
   beside_by (ask.Callback (Ok heard) read browser) is came claims judged some w message cause =
@@ -369,7 +369,7 @@ module _ (s : Site) (world : World) (site : IsSite s) (legal : IsLegalWorld s wo
       let st : Stands s y earlier = stands s world later earlier y site legal distinct unleaked unforged joined parts in
       let own = party_legal s n from request p earlier st.legal in
       let beside : IsBeside earlier id access =
-      beside_by s n from request p earlier st id access p.entry.ask refl x.came x.claims x.judged x.hash x.word x.message (fetches_have_a_cause (setup_at s n) (rp_past n earlier) p.entry x.word x.message (sym own.3 ∙ x.replied)) in
+      beside_by s site n from request p earlier st id access p.entry.ask refl x.came x.claims x.judged x.hash x.word x.message (fetches_have_a_cause (setup_at s n) (rp_past n earlier) p.entry x.word x.message (sym own.3 ∙ x.replied)) in
       let replied : HasReplied earlier id beside.claims = beside.replied in
       let here : Place = Provider replied.from replied.request replied.pair in
       let has : Has world here = has_before world later (y ∷ earlier) here parts (inr replied.has) in

@@ -14,7 +14,7 @@ use Rattle.sso_model.specs.Rows.{Began, Answered, Entered, Live, Machine, Step, 
 use Rattle.sso_model.specs.Machine.{IsRun, IsAnsweredFor, after_all, dead_row}
 use Rattle.sso_model.proofs.ListLaws.{all_weaker, all_has, all_filter, all_append, has_append_right}
 use Rattle.sso_model.proofs.RunLaws.{apart_filter, apart_push}
-use Rattle.oidc_words.specs.Lives.{visit_life}
+use Rattle.oidc_words.specs.Lives.{visit_life, seen_life}
 use Rattle.oidc_words.specs.declared.response_types.Types.{Types}
 use Rattle.client_registry.specs.Configuration.{Configuration}
 use Rattle.client_registry.specs.declared.records.Client.{Client}
@@ -61,7 +61,6 @@ use Rattle.sso_model.proofs.ForgetRuns.{deads_filter}
 use Rattle.rp_login.specs.declared.rows.DeadRow.{DeadRow}
 use Rattle.rp_answer.specs.Deads.{deads, live_dead}
 use Rattle.rp_answer.specs.Alive.{sid_waiting, sid_judged, dead_for}
-use Rattle.std.proofs.lemmas.Grind.{common_steps}
 use Rattle.sso_places.specs.declared.types.WorldAsk.{WorldAsk}
 use Rattle.sso_places.specs.Each.{Each}
 use Rattle.sso_places.specs.Site.{Site, IsSite, setup_at, client_of_party, types_at}
@@ -82,7 +81,7 @@ use Rattle.sign_on.proofs.Shared.{own_browser, was_written, began_more, entered_
 use Rattle.sign_on.proofs.Registry.{subject_finds, parties_apart}
 use Rattle.sign_on.proofs.Keys.{id_sealed_for}
 use Rattle.sign_on.proofs.AskKinds.{IsRequest, as_request, IsTokens, as_tokens, IsInfo, as_info}
-use Rattle.sign_on.proofs.LiveRows.{settled, own_pushed, other_pushed, visits_pushed, live_pushed}
+use Rattle.sign_on.proofs.LiveRows.{not_le, settled, own_pushed, other_pushed, visits_pushed, live_pushed}
 use Rattle.sign_on.proofs.Pairs.{IsPlaceOf, pair_place, place_has, one_begun, entered_word, IsSender, sends, sender_has, sender_holds, joins}
 use Rattle.sign_on.proofs.RpPlaces.{lapsed, Does, agrees_by, others_agree, own_settled_agree, unforgotten}
 
@@ -530,9 +529,6 @@ others_before n live low =
     all_weaker (λ (row : Live). row.event ≤ n) (λ (row : Live). row.event ≢ suc n) live
     (λ row below same. let least : row.event ≤ n = below in let is : row.event ≡ suc n = same in absurd (omega arith)) low
 
-not_late_lives : (a b : ℕ) → not (nat_le a b) ≡ true → nat_lt b a ≡ true
-not_late_lives a b h = grind (arith, common_steps)
-
 -- no session identifier is dead that the party does not remember
 not_dead : (s : Site) (n at : ℕ) (world : World) (row : Live) (types : Types) (asked : RpAsk) → IsSite s → n < length s.configuration.parties → IsKept s world → row.client ≡ client_of_party s n
     → sid_judged types (rp_past n world) at asked ≡ Some row.sid → dead_for types (rp_past n world) at asked ≡ None → Lacks (unforgotten (rp_past n world) (client_of_party s n) at (machine_of s world).dead) (dead_row row)
@@ -546,12 +542,12 @@ not_dead s n at world row types asked site mine kept client sid alive has =
     let R : ℕ → Type 0 = λ k. row_of dead_name row.sid (deads (rp_past k world)) ≡ Some was.dead in
     let found : row_of dead_name row.sid (deads past) ≡ Some was.dead = subst R same was.remembered in
     let passes : test (dead_row row) ≡ true = filter_passes test m.dead (dead_row row) has in
-    let A : Option DeadRow → Bool = λ o. not ((row.client == client_of_party s n) && is_after 661 at (option_map dead_begun o)) in
-    let B : Bool → Bool = λ b. not (b && nat_le (was.dead.accepted + 661) at) in
-    let young : not (nat_le (was.dead.accepted + 661) at) ≡ true = sym (ap B (eq-eqb row.client (client_of_party s n) client)) ∙ sym (ap A found) ∙ passes in
-    let lives_now : nat_lt at (was.dead.accepted + 661) ≡ true = not_late_lives (was.dead.accepted + 661) at young in
+    let A : Option DeadRow → Bool = λ o. not ((row.client == client_of_party s n) && is_after seen_life at (option_map dead_begun o)) in
+    let B : Bool → Bool = λ b. not (b && nat_le (was.dead.accepted + seen_life) at) in
+    let young : not (nat_le (was.dead.accepted + seen_life) at) ≡ true = sym (ap B (eq-eqb row.client (client_of_party s n) client)) ∙ sym (ap A found) ∙ passes in
+    let lives_now : nat_lt at (was.dead.accepted + seen_life) ≡ true = sym (not_le (was.dead.accepted + seen_life) at) ∙ young in
     let D : Option Text → Option DeadRow = λ o. option_and_then (live_dead past at) o in
-    let I : Option DeadRow → Option DeadRow = λ o. option_and_then (if_lives 661 dead_begun at) o in
+    let I : Option DeadRow → Option DeadRow = λ o. option_and_then (if_lives seen_life dead_begun at) o in
     let C : Bool → Option DeadRow = λ b. cond b (Some was.dead) None in
     let never : Some was.dead ≡ None = sym (ap D sid ∙ ap I found ∙ ap C lives_now) ∙ alive in
     cc

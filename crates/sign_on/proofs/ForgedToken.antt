@@ -14,6 +14,7 @@ use Rattle.claim_set.proofs.OnLiterals.{claims_on_literals}
 use Rattle.jws_compact.specs.declared.sealing.Typ.TheVariants.{Jwt}
 use Rattle.jws_compact.specs.Jws.{seal_text}
 use Rattle.jws_compact.proofs.OnLiterals.{jws_on_literals}
+use Rattle.client_keys.specs.Opening.{opening}
 use Rattle.id_token.specs.declared.claims.IdClaims.{IdClaims}
 use Rattle.id_token.specs.HalfHash.{half_hash_of}
 use Rattle.id_token.specs.Reading.{raw_in, whole, id_of, id_read}
@@ -84,7 +85,7 @@ abbrev callback_entry : Entry RpAsk
 callback_entry = entry_at 1000 17 (ask.Callback (Ok heard) (Some (Ok claims)) (Some (word 1)))
 
 callback_is_asked : prepared configuration 1 brings_token ≡ callback_entry.ask
-unfolding prepared auth_answer_on_literals jws_on_literals claims_on_literals id_read id_of raw_in whole
+unfolding prepared opening auth_answer_on_literals jws_on_literals claims_on_literals id_read id_of raw_in whole
 callback_is_asked = refl
 
 callback_is_answered : rp_answer (setup_at site 1) past_front callback_entry ≡ entered_front
@@ -151,7 +152,8 @@ joined = ((tt, tt), tt)
 no_place_wrote_it : IsUnforged site forged → ⊥
 no_place_wrote_it unforged =
     let seals : is_sealed news_client.secret token ≡ true = read_is_sealed news_client.secret token claims is_read in
-    let F : Bool → Bool = λ b. (b && true) || false in
+    -- the client has no old secret
+    let F : Bool → Bool = λ b. ((b || false) && true) || false in
     let never : true ≡ false = sym (ap F seals) ∙ unforged.1 in
     absurd (cc)
 

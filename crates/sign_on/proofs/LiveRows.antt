@@ -30,7 +30,7 @@ use Rattle.sso_places.specs.Each.{Each}
 use Rattle.sso_places.specs.Agreement.{IsSameSession, rows_of}
 use Rattle.sign_on.proofs.Lists.{each_filter, filter_swap, filter_other, filter_both, filter_keeps, dropped, all_of}
 
-not_le : (a b : ℕ) → not (nat_le a b) ≡ nat_lt b a
+pub not_le : (a b : ℕ) → not (nat_le a b) ≡ nat_lt b a
 not_le a b =
     elim (leb_tells a b) [
       | inl e ↦ elim (bool_cases (nat_lt b a)) [ inl t ↦ (let low : b < a = ltb-true b a t in absurd (omega arith)) | inr f ↦ ap not e.0 ∙ sym f ]

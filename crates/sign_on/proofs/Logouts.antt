@@ -212,11 +212,12 @@ other_meant o row apart =
 too_late : (a b first second : ℕ) → a + 661 ≤ b → first ≡ second → first ≤ a + 60 → b ≤ second + 600 → ⊥
 too_late a b first second apart same issued recent = omega (arith, apart, same, issued, recent)
 
--- a pair of a legal past that accepts one has the cause of that
+-- what is true for the session identifier of a message, if it has one, and for the others, is true for each with it
 all_with : (P : Dead → Type 0) (only : Bool) (new : Dead) (rows : List Dead) → (only ≡ true → P new) → AllByRecursion P rows → AllByRecursion P (cond only (new ∷ without_dead new rows) rows)
 all_with P true new rows first rest = (first refl, all_filter P (λ other. not (is_dead new other)) rows rest)
 all_with P false new rows first rest = rest
 
+-- a pair of a legal past that accepts one has the cause of that
 cause_of : (s : PartySetup) (past : RpPast) (p : RpPair) (claims : LogoutClaims) → p.reply ≡ rp_answer s past p.entry → (accepts : Accepts p claims) → LogoutAccepted s past p.entry claims accepts.count
 cause_of s past p claims answered accepts =
     let C : RpAsk → Type 0 = λ a. EndedCause s past p.entry a accepts.count in

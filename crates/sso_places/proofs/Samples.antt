@@ -5,9 +5,10 @@ use Rattle.sso_base.specs.Words.{Word, Text, IsWord, word_text, word_of_text}
 use Rattle.sso_base.specs.Base64Url.{all_bytes}
 use Rattle.sso_base.proofs.RowLaws.{bytes_true}
 use Rattle.sso_base.proofs.Spelling.{IsBytes-from_all_bytes}
-use Rattle.sso_model.specs.Machine.{IsRun}
-use Rattle.sso_model.specs.Rows.{Began, Live, Sent, Machine, enter, see, drop, lapse, end, out, close, unnamed}
+use Rattle.sso_model.specs.Machine.{IsRun, after}
+use Rattle.sso_model.specs.Rows.{Began, Live, Sent, Dead, Machine, enter, see, drop, lapse, end, out, close, forget, unnamed}
 use Rattle.client_registry.specs.declared.records.Provider.{Provider as Trusted}
+use Rattle.client_registry.specs.Configuration.{Configuration}
 use Rattle.client_registry.specs.ClientSets.{no_clients}
 use Rattle.client_registry.specs.Numbers.{client_sealing}
 use Rattle.request_params.specs.declared.params.Params.{Params}
@@ -26,17 +27,18 @@ use Rattle.op_answer.proofs.FirstLogin as op
 use Rattle.op_request.specs.Prepared.{prepared}
 use Rattle.op_answer.proofs.Sessions.{alice_out, message_to_shop}
 use Rattle.rp_exchange.specs.declared.ask.RpAsk.TheVariants as rp_ask
-use Rattle.rp_exchange.specs.declared.reply.RpReply.TheVariants.{Ask, Fetch, Entered}
+use Rattle.rp_exchange.specs.declared.reply.RpReply.TheVariants.{Ask, Fetch, Entered, Nobody, Ended}
 use Rattle.rp_answer.specs.Past.{RpPair}
-use Rattle.rp_answer.proofs.Sample.{word, words, op as provider, shop, shop_client, shop_uri, hybrid_setup, registered, pair_of, entry_at}
+use Rattle.rp_answer.proofs.Sample.{word, words, op as provider, shop, shop_client, news_client, shop_uri, hybrid_setup, registered, pair_of, entry_at}
 use Rattle.rp_answer.proofs.FirstVisit as rp
-use Rattle.sso_places.specs.declared.types.WorldAsk.TheVariants.{Info}
+use Rattle.rp_answer.proofs.LoggedOut.{claims, logout_at}
+use Rattle.sso_places.specs.declared.types.WorldAsk.TheVariants.{Http, Info}
 use Rattle.sso_places.specs.declared.types.Broken.TheVariants.{Forged, Leaked, HashClash}
 use Rattle.sso_places.specs.Site.{Site, own_site, IsSite}
 use Rattle.sso_places.specs.World.{Place, Provider, Party, Nothing, World, place_at, from_of, op_place, entered_as}
 use Rattle.sso_places.specs.Told.{told_clients}
 use Rattle.sso_places.specs.Written.{rp_written, written_at}
-use Rattle.sso_places.specs.Tokens.{is_sealed}
+use Rattle.sso_places.specs.Tokens.{is_sealed, is_sealed_for}
 use Rattle.sso_places.specs.Checked.{object_in, checked}
 use Rattle.sso_places.specs.Premises.{IsJoined}
 use Rattle.sso_places.specs.Legal.{IsLegalWorld}
@@ -127,6 +129,42 @@ logout_ends_it code jti same = rw same refl
 unknown_logout : (code jti : Text) → bytes_eq (logout_id (word 29) 0) jti ≡ false → steps_at site (signed_out code) machine_told (logout jti) ≡ unnamed ∷ []
 unknown_logout code jti other = rw other refl
 
+-- its session identifier is dead then, since the message is for this session alone
+abbrev ended_sid : Dead
+ended_sid = record { client = 0; sid = word_text (word 10) }
+
+one_is_dead : (after machine_told (end message 1)).dead ≡ ended_sid ∷ []
+one_is_dead = refl
+
+-- ---- a dead session identifier is forgotten 661 seconds after the last logout token that named it, and not before
+
+-- at this moment the shop accepts a logout token with this `sid`
+abbrev named_at : ℕ → Place
+named_at at = Party 0 0 (Http (shows None None)) (pair_of (logout_at at (record claims { sid = Some (codes "sid") })) (Ended 1))
+
+abbrev dead : Dead
+dead = record { client = 0; sid = codes "sid" }
+
+abbrev machine_dead : Machine
+machine_dead = record machine_entered { live = []; dead = dead ∷ [] }
+
+-- a browser visits the party with this number, and nobody is logged in there
+abbrev nobody_at : ℕ → ℕ → Place
+nobody_at n at = Party n 1 (Http (shows None None)) (pair_of (entry_at at 41 (rp_ask.Visit None)) Nobody)
+
+still_remembered : steps_at site (named_at 1100 ∷ []) machine_dead (nobody_at 0 1760) ≡ []
+still_remembered = refl
+
+forgotten : steps_at site (named_at 1100 ∷ []) machine_dead (nobody_at 0 1761) ≡ forget dead ∷ []
+forgotten = refl
+
+named_again : steps_at site (named_at 1200 ∷ named_at 1100 ∷ []) machine_dead (nobody_at 0 1761) ≡ []
+named_again = refl
+
+-- the other party forgets none of the shop's
+other_party_forgets_none : steps_at site (named_at 1100 ∷ []) machine_dead (nobody_at 1 1761) ≡ []
+other_party_forgets_none = refl
+
 -- ---- numbers of places
 
 numbered : place_at (callback ∷ []) 1 ≡ Some callback
@@ -194,6 +232,27 @@ forged id seals = rw seals refl
 
 refused : (id : Text) → is_sealed (client_sealing configuration 0) id ≡ false → first_broken site (brings id ∷ []) ≡ None
 refused id seals = rw seals refl
+
+-- ---- a token is sealed for a client under its secret, and while that is changed under the old one; none is sealed for an unknown client
+
+abbrev changed : Configuration
+changed = record configuration { clients = (record shop_client { old_secret = Some (codes "old") }) ∷ news_client ∷ [] }
+
+sealed_under_the_secret : (id : Text) → is_sealed shop_client.secret id ≡ true → is_sealed_for changed (0, id) ≡ true
+sealed_under_the_secret id seals = rw seals refl
+
+sealed_under_the_old_secret : (id : Text) → is_sealed shop_client.secret id ≡ false → is_sealed (codes "old") id ≡ true → is_sealed_for changed (0, id) ≡ true
+sealed_under_the_old_secret id other seals = rw (other, seals) refl
+
+sealed_under_neither : (id : Text) → is_sealed shop_client.secret id ≡ false → is_sealed (codes "old") id ≡ false → is_sealed_for changed (0, id) ≡ false
+sealed_under_neither id other old = rw (other, old) refl
+
+sealed_for_nobody : (id : Text) → is_sealed_for changed (2, id) ≡ false
+sealed_for_nobody id = refl
+
+-- so a token under the old secret that no place wrote is forged
+forged_under_the_old_secret : (id : Text) → is_sealed shop_client.secret id ≡ false → is_sealed (codes "old") id ≡ true → first_broken (own_site changed) (brings id ∷ []) ≡ Some (Forged 1)
+forged_under_the_old_secret id other seals = rw (other, seals) refl
 
 -- ---- access tokens that have one half digest, and some that have not
 

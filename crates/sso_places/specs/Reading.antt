@@ -178,7 +178,7 @@ is_over world client at row =
 abbrev pub lapses : World → ℕ → ℕ → Machine → List Step
 lapses world client at m = map (λ (row : Live). lapse row.event) (filter (is_over world client at) m.live)
 
--- ---- forgets: the session identifiers at the client whose logout the party has forgotten, since it was accepted so long ago
+-- ---- forgets: the ended session identifiers of the client whose logout was accepted 661 seconds before, or more
 
 abbrev pub is_forgotten : RpPast → ℕ → ℕ → Dead → Bool
 is_forgotten past client at row =
@@ -193,8 +193,9 @@ forgets past client at m = map (λ (row : Dead). forget row) (filter (is_forgott
 abbrev pub steps_at : Site → World → Machine → Place → List Step
 steps_at s world m (Provider from request p) = provider_steps s.configuration world from (op_past world) p
 steps_at s world m (Party n from request p) =
-    lapses world (client_of_party s n) p.entry.at m ++ forgets (rp_past n world) (client_of_party s n) p.entry.at m
-    ++ party_steps s world m.out n from (rp_past n world) p p.entry.ask p.reply
+    lapses world (client_of_party s n) p.entry.at m
+    ++ (forgets (rp_past n world) (client_of_party s n) p.entry.at m
+    ++ party_steps s world m.out n from (rp_past n world) p p.entry.ask p.reply)
 steps_at s world m Nothing = []
 
 -- the machine after the steps of a world
