@@ -3,7 +3,6 @@
 ghost use Rattle.std.specs.Prelude.{◌≡◌, ◌++◌, ℕ, List, codes, Option, Ok, Err, option_map, option_and_then, IfSome};
 ghost use Rattle.std.specs.Str.{IsUtf8};
 ghost use Rattle.sso_base.specs.Words.{Word, word_of_text};
-ghost use Rattle.configuration_rows.specs.Rows.{answer_names};
 ghost use Rattle.request_params.specs.Reading.{value_of};
 ghost use Rattle.oidc_words.specs.declared.errors.Refusal.{Refusal};
 ghost use Rattle.oidc_words.specs.Lives.{access_life_text};

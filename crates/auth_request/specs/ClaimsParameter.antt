@@ -10,7 +10,7 @@ use Rattle.auth_request.specs.declared.claims_parameter.Asked.{Asked}
 
 -- ---- its form
 
--- what may stand for one claim (5.5.1)
+-- the possible values for one claim (5.5.1)
 abbrev pub is_claim_request : Data → Bool
 is_claim_request d = is_some (as_null d) || is_some (as_object d)
 
@@ -22,7 +22,7 @@ abbrev pub is_request_object : Option Members → Bool
 is_request_object None = false
 is_request_object (Some ms) = are_claim_requests ms
 
--- what may stand at `userinfo` and at `id_token`
+-- the possible values of `userinfo` and of `id_token`
 abbrev pub is_part : Option Data → Bool
 is_part None = true
 is_part (Some d) = is_request_object (as_object d)
@@ -30,7 +30,7 @@ is_part (Some d) = is_request_object (as_object d)
 abbrev pub is_claims_request : Data → Bool
 is_claims_request d = is_some (as_object d) && is_part (get (codes "userinfo") d) && is_part (get (codes "id_token") d)
 
--- ---- what it asks
+-- ---- what it requests
 
 -- the standard claims among the names, in their order
 abbrev pub standard_names : Members → List (List ℕ)
@@ -78,7 +78,7 @@ subs_in d = option_and_then subs_of (option_and_then (get (codes "sub")) (get (c
 abbrev pub asked_of : Data → Asked
 asked_of d = record { fits = true; subs = subs_in d; id_asked = names_at (codes "id_token") d; info_asked = names_at (codes "userinfo") d }
 
--- nothing is asked; whether that is because the parameter is absent, or because it has another form
+-- nothing is requested; whether that is because the parameter is absent, or because it has another form
 abbrev pub nothing : Bool → Asked
 nothing fits = record { fits = fits; subs = None; id_asked = []; info_asked = [] }
 
@@ -89,7 +89,7 @@ abbrev pub asked_by : Option Data → Asked
 asked_by None = nothing false
 asked_by (Some d) = asked_in d
 
--- what the parameter asks. It is plain JSON, in which numbers may have fractions.
+-- what the parameter requests. It is plain JSON, in which numbers may have fractions.
 unfoldable pub claims_of : Option (List ℕ) → Asked
 claims_of None = nothing true
 claims_of (Some t) = asked_by (read t)

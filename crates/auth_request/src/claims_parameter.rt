@@ -1,4 +1,4 @@
-// What the parameter `claims` asks (OpenID Connect Core 1.0, 5.5).
+// What the parameter `claims` requests (OpenID Connect Core 1.0, 5.5).
 
 ghost use Rattle.std.specs.Prelude.{◌≡◌, ◌++◌, IfOk, OnOk};
 ghost use Rattle.serde_json.specs.Find.{get, as_str};
@@ -11,7 +11,7 @@ use serde_json::{Map, Value};
 use sso_base::{NoMemory, Text, Texts};
 use std::alloc::Global;
 
-// What is asked, and whether the parameter has its form. In another form it asks nothing.
+// What is requested, and whether the parameter has its form. In another form it requests nothing.
 #[derive(Drop)]
 pub(crate) struct Asked {
     pub(crate) fits: bool,
@@ -35,7 +35,7 @@ fn nothing(alloc: Global, fits: bool) -> Asked
 
 // ---- its form
 
-// Whether this may stand for one claim (5.5.1).
+// Whether this is a possible value for one claim (5.5.1).
 fn is_claim_request(value: &Value) -> bool
     ensures { result ≡ spec.is_claim_request (view value.now) }
 {
@@ -72,7 +72,7 @@ fn is_claims_request(claims: &Value) -> bool
     claims.is_object() && has_part(claims, "userinfo") && has_part(claims, "id_token")
 }
 
-// ---- what it asks
+// ---- what it requests
 
 // The standard claims among the names.
 fn standard_names(alloc: Global, members: &Map<String, Value>) -> Result<Texts, NoMemory>
@@ -193,7 +193,7 @@ fn asked_in(alloc: Global, claims: &Value) -> Result<Asked, NoMemory>
     })
 }
 
-// What the text asks.
+// What the text requests.
 fn asked_by(alloc: Global, text: &str) -> Result<Asked, NoMemory>
     ensures { IfOk result (λ a. a ≡ spec.asked_by (read text.now)) }
 {
@@ -209,7 +209,7 @@ fn asked_by(alloc: Global, text: &str) -> Result<Asked, NoMemory>
     }
 }
 
-// What the parameter asks, as far as it is there.
+// What the parameter requests, if it is there.
 #[tactic(auto, unfolding(crate::specs::ClaimsParameter::claims_of))]
 pub(crate) fn claims_of(alloc: Global, claims: &Option<Text>) -> Result<Asked, NoMemory>
     ensures { IfOk result (λ a. a ≡ spec.claims_of claims.now) }

@@ -50,9 +50,11 @@ pub fn asked_claims_are_standard_members()
     ensures info_asked { UserInfoClaimsAreStandardMembers }
 {}
 
-/// A `claims` parameter of its form that asks for the claim `sub` in the ID Token names subjects exactly where it has `value`
-/// or `values` there; and a text that is not empty is among those that are kept exactly where `value` is it, or an element of
-/// `values` is (OpenID Connect Core 1.0, 5.5.1). No subject of a registry is empty.
+/// A `claims` parameter that has the right form, and requests the claim `sub` in the ID Token, names subjects if and only if it
+/// has `value` or `values` there (OpenID Connect Core 1.0, 5.5.1).
+///
+/// A text that is not empty is among the named subjects if and only if it is `value`, or an element of `values`. No subject of
+/// a registry is empty.
 pub fn named_subjects_are_kept()
     ensures there { SubjectsAreNamedByValueOrValues }
     ensures named { NamedSubjectsAreKept }

@@ -144,5 +144,7 @@ impl Test<Member> for InOther<'_> {
         self.other.as_bytes()
     }
 
-    ghost are_found = { λ t row passes. found_by t.other.now (is_given t.other.now) refl (λ held same. bytes_same held t.other.now same) row.other (and_parts (fits_text (option_map (λ g. g.now) t.group) row.group) (is_given t.other.now row.other) passes).1 };
+    ghost are_found = { λ t row passes. found_by t.other.now (is_given t.other.now) refl
+        (λ held same. bytes_same held t.other.now same) row.other
+        (and_parts (fits_text (option_map (λ g. g.now) t.group) row.group) (is_given t.other.now row.other) passes).1 };
 }

@@ -1,4 +1,4 @@
-// How answers are told.
+// How answers are written.
 
 use crate::fields::as_text;
 use claim_set::ClaimNo;
@@ -26,7 +26,7 @@ pub fn told_hex(alloc: Global, bytes: &[u8]) -> Result<String, NoMemory> {
     Ok(hex::encode(alloc, bytes)?)
 }
 
-/// The name of a refusal, and behind it what it names, where it names anything.
+/// The name of a refusal, and after it what it names, if it names anything.
 pub fn told_refusal(alloc: Global, (name, what): (&str, &str)) -> Result<String, NoMemory> {
     if what.is_empty() {
         return told(alloc, name);
@@ -44,7 +44,7 @@ pub fn claim_refusal(why: &ClaimNo) -> (&str, &str) {
     }
 }
 
-/// The text in quotes, or `-` where there is none.
+/// The text in quotes, or `-` if there is none.
 pub fn told_text(alloc: Global, text: &Option<Text>) -> Result<String, NoMemory> {
     match text {
         Some(text) => Ok(format!(in alloc; "{:?}", text.as_str())?),
@@ -52,7 +52,7 @@ pub fn told_text(alloc: Global, text: &Option<Text>) -> Result<String, NoMemory>
     }
 }
 
-/// A text in quotes. Where it ends with one character a hundred times or more, these are written as `COUNT*CHARACTER`.
+/// A text in quotes. If it ends with one character a hundred times or more, these are written as `COUNT*CHARACTER`.
 pub fn told_quoted(alloc: Global, text: &str) -> Result<String, NoMemory> {
     let last = text.chars().next_back().unwrap_or(' ');
     let rest = text.trim_end_matches(last);
@@ -66,7 +66,7 @@ pub fn told_quoted(alloc: Global, text: &str) -> Result<String, NoMemory> {
     }
 }
 
-/// The number, or `-` where there is none.
+/// The number, or `-` if there is none.
 pub fn told_number(alloc: Global, number: Option<u64>) -> Result<String, NoMemory> {
     match number {
         Some(number) => Ok(number.to_string(alloc)?),
@@ -82,7 +82,7 @@ pub fn push_part(list: &mut String, between: &str, part: &str) -> Result<(), All
     list.push_str(part)
 }
 
-/// Adds `name=value` to a list in which ` & ` stands between, where there is a value.
+/// Adds `name=value` to a list, with ` & ` in between, if there is a value.
 pub fn push_named(list: &mut String, name: &str, value: Option<&str>) -> Result<(), AllocError> {
     if let Some(value) = value {
         push_part(list, " & ", name)?;
@@ -92,7 +92,7 @@ pub fn push_named(list: &mut String, name: &str, value: Option<&str>) -> Result<
     Ok(())
 }
 
-/// The list, or this text where it is empty.
+/// The list, or this text if the list is empty.
 pub fn or_else(mut list: String, empty: &str) -> Result<String, NoMemory> {
     if list.is_empty() {
         list.push_str(empty)?;
@@ -119,7 +119,7 @@ pub fn told_texts(alloc: Global, texts: &Texts) -> Result<String, NoMemory> {
     or_else(list, "-")
 }
 
-/// Those parts whose flags are set, with this text between; `empty` where none is.
+/// The parts whose flags are set, with this text between them; `empty` if no flag is set.
 pub fn flagged(
     alloc: Global,
     parts: &[(bool, &str)],

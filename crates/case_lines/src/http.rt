@@ -39,8 +39,8 @@ fn push_body(alloc: Global, out: &mut String, body: &[u8]) -> Result<(), AllocEr
     push_field(out, "", text.as_str())
 }
 
-/// Adds the status, the fields and the body of a reply. A line feed in the body is written as `\n`. Of an empty body nothing is
-/// told, but for this text where there is one.
+/// Adds the status, the fields and the body of a reply. A line feed in the body is written as `\n`. For an empty body this text
+/// is added, if there is one.
 pub fn push_http(
     alloc: Global,
     out: &mut String,

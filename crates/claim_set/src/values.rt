@@ -1,5 +1,5 @@
-//! What a claim set says of its values, for the proofs: its texts are UTF-8, its numbers have 64 bits, and its names are in
-//! order. The call does nothing.
+//! What every claim set keeps, for the proofs: its texts are UTF-8, its numbers have 64 bits, and its names are in order. The
+//! call does nothing.
 
 ghost use Rattle.std.specs.Prelude.{◌≡◌, false};
 ghost use Rattle.serde_json.specs.View.{view, items_view, members_view};

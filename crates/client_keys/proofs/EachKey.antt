@@ -29,7 +29,7 @@ other_key k l t u e =
     let same : opened header.0 payload.0 ≡ u = ok_same _ _ good.1 in
     elim (bool_cases (bytes_eq mac.0 (hmac_of l (three.0.0 ++ 46 ∷ three.0.1)))) [
       inl is ↦ inl (rw (long.0, three.1, header.1, payload.1, mac.1, object.1, alg.0, crit.0, is) (ap ok_of same))
-      | inr no ↦ inr (rw (long.0, three.1, header.1, payload.1, mac.1, object.1, alg.0, crit.0, no))
+      | inr bad ↦ inr (rw (long.0, three.1, header.1, payload.1, mac.1, object.1, alg.0, crit.0, bad))
     ]
 
 opened_once : (k l t : Text) (u v : Unsealed) → verdict k t ≡ Ok u → verdict l t ≡ Ok v → u ≡ v
@@ -49,14 +49,13 @@ read_once {A} {E} wrap inside k l t x y one two =
 
 -- ---- any other error
 
-module _ {A B : Type 0} where
-  demand_alike : (first : JwsNo) (o : Option A) (f g : A → Result B JwsNo) (e : JwsNo) → demand first o f ≡ Err e → ((a : A) → f a ≡ Err e → g a ≡ Err e) → demand first o g ≡ Err e
-  demand_alike first None f g e h then = h
-  demand_alike first (Some a) f g e h then = then a h
+demand_alike : {A B : Type 0} (first : JwsNo) (o : Option A) (f g : A → Result B JwsNo) (e : JwsNo) → demand first o f ≡ Err e → ((a : A) → f a ≡ Err e → g a ≡ Err e) → demand first o g ≡ Err e
+demand_alike first None f g e h next = h
+demand_alike first (Some a) f g e h next = next a h
 
-  forbid_alike : (first : JwsNo) (b : Bool) (r s : Result B JwsNo) (e : JwsNo) → forbid first b r ≡ Err e → (r ≡ Err e → s ≡ Err e) → forbid first b s ≡ Err e
-  forbid_alike first true r s e h then = h
-  forbid_alike first false r s e h then = then h
+forbid_alike : {B : Type 0} (first : JwsNo) (b : Bool) (r s : Result B JwsNo) (e : JwsNo) → forbid first b r ≡ Err e → (r ≡ Err e → s ≡ Err e) → forbid first b s ≡ Err e
+forbid_alike first true r s e h next = h
+forbid_alike first false r s e h next = next h
 
 same_error : (e f : JwsNo) (r : Result Unsealed JwsNo) → r ≡ Err e → r ≡ Err f → e ≡ f
 same_error e f r h g = cc

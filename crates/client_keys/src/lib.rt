@@ -1,4 +1,5 @@
-//! The keys of a client's tokens: its secrets. A token that is sealed under either secret of a client is opened.
+//! The keys of a client's tokens: its secret and, while that is changed, its old secret. A token that is sealed under either of
+//! them is opened.
 //!
 //! | Module | What it has |
 //! |---|---|

@@ -15,4 +15,5 @@ pub mod Numbers
 pub mod ClientSets
 pub mod Causes
 mod Samples
+pub mod SampleRegistry
 pub mod Endpoints

@@ -141,8 +141,8 @@ client_lists v parties i d h =
 
 -- the old secret, in the second version
 record OldKept (v : Version) (d : Data) : Type 0 where
-  named : IfSome (old_secret_of v d) IsNamed
-  seals : (seals_old_of v d && is_none (old_secret_of v d)) ≡ false
+  pub named : IfSome (old_secret_of v d) IsNamed
+  pub seals : (seals_old_of v d && is_none (old_secret_of v d)) ≡ false
 
 named_at : (o : Option (List ℕ)) → IsNamed (unwrap_or o []) → IfSome o IsNamed
 named_at None h = tt

@@ -1,4 +1,4 @@
--- The secrets of a client. While its secret is changed, a client has an old secret beside it: both are accepted, and the
+-- The secrets of a client. While its secret is changed, a client has an old secret too. Both are accepted, and the
 -- configuration states which of them seals (our choice).
 use Rattle.std.specs.Prelude.{Bool, false, ◌||◌, List, [], ◌∷◌, ◌++◌, Option, Some, None, unwrap_or, if◌then◌else◌}
 use Rattle.std.specs.Str.{bytes_eq}

@@ -177,8 +177,10 @@ fn configured(alloc: Global, version: Version, root: &Value) -> Result<Registry,
 
 /// Reads a configuration, in TOML.
 ///
-/// Of any that is refused the first refusal that fits is answered, in the order of [`RegNo`]; of one kind, the first in
-/// the order of the rows: the provider, each user, each client and each party, key by key.
+/// # Errors
+///
+/// The first one that applies, in the order of [`RegNo`]. Of several with the same number, the first in the order of the rows
+/// is returned. The order is: the provider, each user, each client and each party, and within a row key by key.
 pub fn read_registry(alloc: Global, bytes: &[u8]) -> Result<Registry, RegNo>
     ensures answers { IfOk result (λ r. registry_read bytes.now ≡ Ok r) }
     ensures registry { IfOk result (λ r. IsRegistry r) }

@@ -43,9 +43,9 @@ pub struct Client {
     pub id: Text,
     /// From 32 to 128 characters of visible ASCII.
     pub secret: Text,
-    /// Another secret, while the secret is changed: of the same length and characters. Both are accepted.
+    /// Another secret, while the secret is changed: also from 32 to 128 characters of visible ASCII. Both are accepted.
     pub old_secret: Option<Text>,
-    /// Whether the old secret seals. Only a client that has one seals with it.
+    /// Whether tokens are sealed under the old secret. It is true only if there is one.
     pub seals_old: bool,
     /// From 1 to 16 redirect URIs.
     pub redirects: Texts,
@@ -54,7 +54,7 @@ pub struct Client {
     pub types: [bool; 6],
     /// Whether its subjects are pairwise (OpenID Connect Core 1.0, 8.1).
     pub pairwise: bool,
-    /// Whether the user is asked for consent.
+    /// Whether the user must consent.
     pub asks_consent: bool,
     /// The logout URI (OpenID Connect Back-Channel Logout 1.0, 2.2).
     pub logout: Option<Text>,

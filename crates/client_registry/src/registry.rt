@@ -35,9 +35,27 @@ impl Model for Registry {
 
     ghost Value = { Configuration };
 
-    ghost view = { λ r. record { provider = r.provider; prefix = r.prefix; listen = r.listen; secure = r.secure; users = r.users.items; clients = r.clients.items; parties = r.parties.items; subjects = r.subjects.items } };
+    ghost view = { λ r. record {
+      provider = r.provider;
+      prefix = r.prefix;
+      listen = r.listen;
+      secure = r.secure;
+      users = r.users.items;
+      clients = r.clients.items;
+      parties = r.parties.items;
+      subjects = r.subjects.items;
+    } };
 
-    ghost invariant = { λ r. IsRegistry (record { provider = r.provider; prefix = r.prefix; listen = r.listen; secure = r.secure; users = r.users.items; clients = r.clients.items; parties = r.parties.items; subjects = r.subjects.items }) };
+    ghost invariant = { λ r. IsRegistry (record {
+      provider = r.provider;
+      prefix = r.prefix;
+      listen = r.listen;
+      secure = r.secure;
+      users = r.users.items;
+      clients = r.clients.items;
+      parties = r.parties.items;
+      subjects = r.subjects.items;
+    }) };
 }
 
 impl Registry {
@@ -118,7 +136,7 @@ impl Registry {
         &self.parties[index as usize]
     }
 
-    /// The number of the user of this id. None exactly where no user has it.
+    /// The number of the user with this id. `None` if and only if no user has it.
     pub fn find_user(&self, id: &[u8]) -> Option<u32>
         ensures { result ≡ user_place id.now self.now.users }
     {
@@ -126,7 +144,7 @@ impl Registry {
         Some(place as u32)
     }
 
-    /// The number of the client of this id. None exactly where no client has it.
+    /// The number of the client with this id. `None` if and only if no client has it.
     pub fn find_client(&self, id: &[u8]) -> Option<u32>
         ensures { result ≡ client_place id.now self.now.clients }
     {
@@ -134,7 +152,7 @@ impl Registry {
         Some(place as u32)
     }
 
-    /// The number of the client that has this redirection URI (RFC 6749, 3.1.2.2). None exactly where no client has it.
+    /// The number of the client that has this redirection URI (RFC 6749, 3.1.2.2). `None` if and only if no client has it.
     pub fn client_of_uri(&self, uri: &str) -> Option<u32>
         ensures client { result ≡ redirect_place uri.now self.now.clients }
         ensures known { IfSome result (λ n. n < length self.now.clients) }
@@ -143,7 +161,7 @@ impl Registry {
         Some(place as u32)
     }
 
-    /// The number of the party of this name. None exactly where no party has it.
+    /// The number of the party with this name. `None` if and only if no party has it.
     pub fn find_party(&self, name: &[u8]) -> Option<u32>
         ensures { result ≡ party_place name.now self.now.parties }
     {

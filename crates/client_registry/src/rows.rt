@@ -10,10 +10,10 @@ use crate::records::{Client, Party, Provider, User};
 use claim_set::{ClaimSet, write_claims};
 use configuration_rows::claims::claims_of;
 use configuration_rows::party_rules::{has_type, response_texts};
-use configuration_rows::version::Version;
 use configuration_rows::values::{
     flag_at, hex_at, natural_at, text_at, text_or, texts_at, url_at, url_of,
 };
+use configuration_rows::version::Version;
 use oidc_words::{AUTHORIZE_PATH, OPENID, TOKEN_PATH, Types, USERINFO_PATH, number_of_type};
 use registered_url::{WebUrl, WebUrls};
 use sso_base::{Blob, NoMemory, Text, Texts};
@@ -291,7 +291,7 @@ pub(crate) fn clients_of(
     Ok(clients)
 }
 
-// The parties. That there are 2^32 clients, which no memory holds, is want of memory.
+// The parties. If there were 2^32 clients, which no memory holds, `NoMemory` would be returned.
 pub(crate) fn parties_of(
     alloc: Global,
     clients: &[Client],

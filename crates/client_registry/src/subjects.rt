@@ -16,7 +16,7 @@ use sso_base::{NoMemory, Text};
 use std::alloc::Global;
 use std::marker::Model;
 
-// The subjects of the users at one client, in order, seen as the list of them. They are many, and each is asked for by its
+// The subjects of the users at one client, in order, seen as the list of them. They are many, and each is requested by its
 // place.
 #[derive(Drop)]
 pub(crate) struct Subjects {
@@ -130,7 +130,7 @@ fn subjects_at(
     Ok(subjects)
 }
 
-// The first place at which the text stands.
+// The first place of the text.
 #[tactic(auto, using(sso_base::proofs::ListSteps::drop_at))]
 fn text_place(texts: &Subjects, text: &str) -> Option<usize>
     ensures { result ≡ spec.text_place text.now texts.now }
@@ -193,7 +193,7 @@ fn judge_subjects(
     Ok(())
 }
 
-// The subjects of the users at each client, and what the clients are guilty of where two users have one.
+// The subjects of the users at each client, and the errors of the clients at which two users have the same one.
 #[tactic(auto, unfolding(crate::specs::Rules::subjects_refusals))]
 pub(crate) fn subjects_of(
     refusals: &mut Refusals,

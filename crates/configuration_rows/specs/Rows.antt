@@ -1,5 +1,5 @@
--- The configuration: its keys, each with its rule, row by row, in the order of its table. The second version has two keys of a
--- client more than the first.
+-- The configuration: its keys, each with its rule, row by row, in the order of its table. The second version has two more keys
+-- for a client.
 use Rattle.std.specs.Prelude.{ℕ, ◌==◌, Bool, true, false, not, ◌&&◌, ◌||◌, List, [], ◌∷◌, ◌++◌, codes, Option, Some, None, is_some, if◌then◌else◌}
 use Rattle.std.specs.List.{list_any}
 use Rattle.std.specs.Str.{bytes_eq}
@@ -170,7 +170,7 @@ abbrev pub old_secret_rule : Bool → Row → Data → List RegNo
 old_secret_rule true row d = required row d (codes "old_secret") (Text (Name Visible 0 128))
 old_secret_rule false row d = optional row d (codes "old_secret") (Text (Name Visible 0 128))
 
--- the keys of the second version
+-- the keys that only the second version has
 abbrev pub old_secret_keys : Version → Row → Data → List RegNo
 old_secret_keys version.First row d = []
 old_secret_keys version.Second row d = old_secret_rule (seals_old d) row d ++ optional row d (codes "seals") (Text Seals)

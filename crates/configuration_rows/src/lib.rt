@@ -1,7 +1,7 @@
 //! The rows of a configuration file: its keys, each with its rule, and the errors of the rows.
 //!
 //! A configuration is TOML. Its keys are in one module, row by row, in the order in which errors of one kind are reported. The
-//! second version has two keys of a client more than the first.
+//! second version has two more keys for a client.
 //!
 //! | Module | What it has |
 //! |---|---|

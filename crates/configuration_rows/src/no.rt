@@ -17,7 +17,7 @@ pub enum RegNo {
     TooLong,
     /// The bytes are not TOML in UTF-8.
     NotToml,
-    /// `version` is not the integer 1 or 2.
+    /// `version` is neither the integer 1 nor the integer 2.
     Version,
     /// The key at this path is absent, and it is neither optional nor has a default.
     Missing(Text),
@@ -25,9 +25,13 @@ pub enum RegNo {
     WrongKind(Text),
     /// The text at this path violates the rule for URLs, or a party's redirect URI violates its own.
     BadUrl(Text),
-    /// One of: this user id, client id, party name or redirect URI occurs twice; a client's id is the issuer; a secret of the
-    /// client with this id, the old one included, is a secret of an earlier client, or both its secrets are equal; two parties
-    /// use the client with this id; a party has the name `op`.
+    /// One of these, with that id or name:
+    ///
+    /// - a user id, client id, party name or redirect URI occurs twice;
+    /// - a client's id is the issuer;
+    /// - a secret of this client, the old one included, is a secret of an earlier client, or both its secrets are equal;
+    /// - two parties use this client;
+    /// - a party has the name `op`.
     Twice(Text),
     /// A secret of the client with this id, the old one included, has fewer than 32 characters.
     ShortSecret(Text),

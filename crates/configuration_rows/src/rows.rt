@@ -1,5 +1,5 @@
-// The keys of the configuration, each with its rule, row by row, in the order of its table. The second version has two keys of
-// a client more than the first.
+// The keys of the configuration, each with its rule, row by row, in the order of its table. The second version has two more
+// keys for a client.
 
 ghost use Rattle.std.specs.Prelude.{◌≡◌, ◌++◌, map, OnOk};
 ghost use Rattle.toml.specs.Data.{table, no_members};
@@ -92,7 +92,7 @@ fn old_secret_rule(
     }
 }
 
-// Checks the keys of the second version.
+// Checks the keys that only the second version has.
 fn old_secret_keys(
     refusals: &mut Refusals,
     version: Version,

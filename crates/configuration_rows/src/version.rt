@@ -7,17 +7,17 @@ ghost use Rattle.configuration_rows.specs.Versions as spec;
 use crate::values::natural_at;
 use toml::Value;
 
-/// A version of the configuration. The second has all keys of the first, and two more keys of a client, which the first
-/// ignores: `old_secret` and `seals`.
+/// A version of the configuration. The second has all keys of the first, and two more keys for a client: `old_secret` and
+/// `seals`. In the first version both are ignored.
 #[derive(Clone, Copy)]
 pub enum Version {
     /// The first.
     First,
-    /// The second: a client may have an old secret beside its secret.
+    /// The second: a client may have two secrets.
     Second,
 }
 
-/// The version of a configuration; `None` if and only if `version` is not the integer 1 or 2.
+/// The version of a configuration; `None` if and only if `version` is neither the integer 1 nor the integer 2.
 #[tactic(auto, unfolding(crate::specs::Versions::version_in))]
 pub fn version_of(root: &Value) -> Option<Version>
     ensures version { result ≡ spec.version_of (view root.now) }

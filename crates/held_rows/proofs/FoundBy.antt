@@ -13,10 +13,10 @@ found_by bytes test none some (Some held) passes = ap Some (some held passes)
 -- a test that holds if and only if it has these bytes
 pub has_exactly : (b : Bool) (held : Option (List ℕ)) (bytes : List ℕ) → (b ≡ true → held ≡ Some bytes) → (held ≡ Some bytes → b ≡ true)
     → b ≡ is_word held bytes
-has_exactly true held bytes yes no = sym (ap (λ (o : Option (List ℕ)). is_word o bytes) (yes refl) ∙ bytes_true bytes bytes refl)
-has_exactly false None bytes yes no = refl
-has_exactly false (Some v) bytes yes no =
+has_exactly true held bytes has passes = sym (ap (λ (o : Option (List ℕ)). is_word o bytes) (has refl) ∙ bytes_true bytes bytes refl)
+has_exactly false None bytes has passes = refl
+has_exactly false (Some v) bytes has passes =
     elim (bool_cases (bytes_eq v bytes)) [
-      | inl e ↦ (let k : false ≡ true = no (ap Some (bytes_same v bytes e)) in cc)
+      | inl e ↦ (let k : false ≡ true = passes (ap Some (bytes_same v bytes e)) in cc)
       | inr e ↦ sym e
     ]

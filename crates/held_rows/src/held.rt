@@ -1,7 +1,7 @@
 // The rows of one table.
 
-ghost use Rattle.std.specs.Prelude.{◌≡◌, ℕ, ◌<◌, ◌≤◌, true, false, not, List, [], ◌∷◌, ◌++◌, length, filter, None, Some, Option};
-ghost use Rattle.std.specs.Prelude.{option_and_then, IsSome, IfSome, OnOk};
+ghost use Rattle.std.specs.Prelude.{◌≡◌, ℕ, ◌<◌, ◌≤◌, true, false, not, List, [], ◌∷◌, ◌++◌, length, filter};
+ghost use Rattle.std.specs.Prelude.{None, Some, Option, option_and_then, IsSome, IfSome, OnOk};
 ghost use Rattle.std.specs.List.{list_any};
 ghost use Rattle.std.specs.Option.{option_copied};
 ghost use Rattle.sso_base.specs.Rows.{without, put, row_of, live_rows, if_lives};

@@ -29,7 +29,7 @@ pub(crate) struct Issued<R> {
 #[derive(Drop)]
 pub(crate) struct Stored<R> {
     pub(crate) slots: SlotVec<Issued<R>>,
-    // The slots of the rows, in the order of issue. Rows mostly leave at its front.
+    // The slots of the rows, in the order of issue. Mostly the first rows leave.
     pub(crate) by_issue: VecDeque<u16>,
     // The slots of the rows, in the order of their names. Inserting or removing a row moves the shorter side.
     pub(crate) by_name: VecDeque<u16>,

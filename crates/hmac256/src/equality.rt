@@ -2,8 +2,8 @@
 
 ghost use Rattle.std.specs.Prelude.{◌≡◌, ◌↔◌, IsTrue};
 
-/// Whether the two are equal. Where they have one length, all of their bytes are looked at, wherever they differ: the time tells
-/// the lengths and whether these are equal, and nothing else of the bytes.
+/// Whether the two are equal. If they have one length, the code looks at all of their bytes, wherever they differ. So the time
+/// shows the lengths and whether these are equal, and nothing else about the bytes.
 #[tactic(auto, using(crate::proofs::Differences::difference_zero))]
 pub fn same(left: &[u8], right: &[u8]) -> bool
     ensures { IsTrue result ↔ (left.now ≡ right.now) }

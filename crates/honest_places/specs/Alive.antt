@@ -15,7 +15,7 @@ abbrev pub IsNotNamed : RpPast → Text → Type 0
 IsNotNamed past sid =
     (later earlier : RpPast) (p : RpPair) (claims : LogoutClaims) → past ≡ later ++ p ∷ earlier → Accepts p claims → claims.sid ≡ Some sid → ⊥
 
--- a place, after this world
+-- at a place of a party, after this world, no accepted logout token has the `sid` of the ID Token that is judged there
 abbrev pub IsAlive : Option Condition → Configuration → World → Place → Type 0
 IsAlive left_out c world (Provider from request p) = Unit {0}
 IsAlive left_out c world (Party n from request p) =

@@ -1,6 +1,6 @@
 -- An honest login among any other requests. A browser begins a login at a relying party, and then each time does what the last
 -- reply calls for. It sends the cookies that it was last given, in time, and the password of one user. Nobody else presents a
--- word of the login.
+-- word of the login, and the party has accepted no logout token of its session.
 use Rattle.std.specs.Prelude.{◌≡◌, ◌<◌, ℕ, Bool, true, false, List, [], ◌∷◌, length, Option, Some, None, option_and_then, if◌then◌else◌}
 use Rattle.std.specs.Str.{IsUtf8}
 use Rattle.sso_base.specs.Words.{Word, Text}

@@ -1,6 +1,6 @@
--- An honest login to its end, in a world that has no place besides: it keeps all that is asked of a login and of a world, and at its
--- last place the browser is let in as the user whose password it gave. So all premises of the sign-on theorem hold together in a world
--- that ends with a session.
+-- An honest login to its end, in a world that has no other place. It meets all conditions of a login and all premises of a world. At
+-- its last place the party accepts the login of the user whose password the browser gave. So all premises of the sign-on theorem hold
+-- together in a world that ends with a session.
 use Rattle.std.specs.Prelude.{◌≡◌, ℕ, Bool, true, List, ◌∷◌, length}
 use Rattle.std.specs.List.{list_any}
 use Rattle.sso_base.specs.Words.{Text}
@@ -16,7 +16,7 @@ use Rattle.honest_places.specs.Login.{Visitor, MayLogIn, IsHonest}
 use Rattle.honest_places.specs.Outcome.{LetsIn, gives_password}
 use Rattle.honest_worlds.specs.Session.{HoldsSession}
 
--- at a party of this response type, that asks for UserInfo or does not, and with this many places
+-- at a party of this response type, that requests UserInfo or does not, and with this many places
 pub record IsWholeLogin (response_type : Text) (asks_for_info : Bool) (places : ℕ) : Type 0 where
   pub configuration : Configuration
   pub visitor : Visitor

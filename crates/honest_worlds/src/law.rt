@@ -5,12 +5,12 @@ ghost use Rattle.honest_places.specs.Conditions.{Condition, free_rows};
 ghost use Rattle.honest_worlds.specs.Needed.{FailsWithout};
 ghost use Rattle.honest_worlds.specs.Whole.{IsWholeLogin};
 
-/// The definition of an honest login is met to its end: there is a whole login of each of the six response types, without UserInfo or
-/// with it. It has the login page, the consent page and the answer, then the exchange of the code and the UserInfo request where the
-/// party wants them, and the session.
+/// The definition of an honest login is met to its end: there is a whole login of each of the six response types, without
+/// UserInfo or with it. It has the login page, the consent page and the answer, then the exchange of the code and the UserInfo
+/// request if the party wants them, and the session.
 ///
-/// So the sign-on theorem is not empty: the worlds of these logins keep all its premises together, and each ends with a session that the
-/// sign-on machine and the party hold.
+/// So the sign-on theorem is not empty: the worlds of these logins keep all its premises together, and each ends with a session
+/// that the sign-on machine and the party hold.
 pub fn whole_logins_are_honest()
     ensures code { IsWholeLogin (codes "code") false 7 }
     ensures code_with_info { IsWholeLogin (codes "code") true 9 }

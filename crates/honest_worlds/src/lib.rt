@@ -1,5 +1,5 @@
-//! Worlds that show what the definition of an honest login is worth: whole logins keep it, and each of its conditions is needed. It has
-//! no running code, and nothing stands on it.
+//! Worlds that show what the definition of an honest login is worth: whole logins keep it, and each of its conditions is needed. It
+//! has no running code, and only `played_logins` uses it.
 //!
 //! | Module | What it has | Its definitions, in `specs/` |
 //! |---|---|---|

@@ -1,15 +1,12 @@
 -- The definitions of cookies and of replies, computed.
-use Rattle.std.proofs.Common.{◌≡◌, ℕ, true, false, [], ◌∷◌, ◌++◌, replicate, codes, Some, None, refl}
-use Rattle.sso_base.specs.Words.{Word}
+use Rattle.std.proofs.Common.{◌≡◌, true, false, [], ◌∷◌, codes, Some, None, refl}
 use Rattle.sso_base.proofs.OnLiterals.{base64url_on_literals}
+use Rattle.sso_base.proofs.SampleWords.{word}
 use Rattle.http_reply.specs.Cookies.{cookie}
 use Rattle.sso_base.specs.declared.http.Kind.TheVariants.{Empty, Plain, Html}
 use Rattle.http_reply.specs.Replies.{html, plain, empty, sent_to}
 use Rattle.http_reply.specs.Told.{is_under, words_named, sets_cookie}
 use Rattle.http_reply.specs.UserAgent.{is_cookie_name, cookie_read, set_cookie}
-
-abbrev word : ℕ → Word
-word n = replicate 31 0 ++ n ∷ []
 
 a_secure_cookie : cookie true (codes "op_s") (word 3) ≡ codes "op_s=AAAAAAAAAAAAAAAAAAAAAAAAAAAAAAAAAAAAAAAAAAM; Path=/; HttpOnly; SameSite=Lax; Secure"
 unfolding base64url_on_literals

@@ -1,4 +1,4 @@
-//! ID Tokens: the signed claims by which a provider tells a relying party who logged in (OpenID Connect Core 1.0, 2).
+//! ID Tokens: the signed claims by which a relying party learns from a provider who logged in (OpenID Connect Core 1.0, 2).
 //!
 //! The claims are a JSON object, sealed as in RFC 7515, 3.1. Moments and ages are whole seconds.
 //!

@@ -1,5 +1,5 @@
 -- The requests of two parties of a small registry, by computation. Sealing stays closed.
-use Rattle.std.proofs.Common.{◌≡◌, ◌++◌, ℕ, true, false, [], ◌∷◌, replicate, codes, Some, None, Ok, refl, arith}
+use Rattle.std.proofs.Common.{◌≡◌, ◌++◌, true, false, [], ◌∷◌, replicate, codes, Some, None, Ok, refl, arith}
 use Rattle.std.specs.Fmt.{digits}
 use Rattle.json.proofs.Printed.Utf8.{IsUtf8-are_ascii}
 use Rattle.url.proofs.OnLiterals.{url_on_literals}
@@ -7,6 +7,7 @@ use Rattle.registered_url.specs.declared.web_url.WebUrl.{WebUrl}
 use Rattle.registered_url.specs.Rule.{parts_of}
 use Rattle.sso_base.specs.Words.{Text, Word, IsWord, word_text}
 use Rattle.sso_base.proofs.OnLiterals.{base64url_on_literals}
+use Rattle.sso_base.proofs.SampleWords.{word}
 use Rattle.sso_base.proofs.Spelling.{IsBytes-from_all_bytes}
 use Rattle.oidc_words.specs.declared.response_types.Types.{Types}
 use Rattle.client_registry.specs.declared.records.Client.{Client}
@@ -190,9 +191,6 @@ client-of_an_unknown_one : party_client (record small { clients = shop ∷ [] })
 client-of_an_unknown_one = refl
 
 -- ---- for whom requests are made
-
-abbrev pub word : ℕ → Word
-word n = replicate 31 0 ++ n ∷ []
 
 abbrev pub issuer : Text
 issuer = codes "https://op"

@@ -15,9 +15,9 @@ pub fn login_requests_are_read()
     ensures read { LoginRequestsAreRead }
 {}
 
-/// If the party signs its requests, reading the form returns the parameters outside the request object. Reading the object,
-/// of the client and for the provider's issuer, returns the parameters of the login. Merging both gives these
-/// parameters with the object (OpenID Connect Core 1.0, 6.1).
+/// If the party signs its requests, reading the form returns the parameters outside the request object. Reading the object, as
+/// one of its client for the provider's issuer, returns the parameters of the login. Merging both gives these parameters with
+/// the object (OpenID Connect Core 1.0, 6.1).
 pub fn signed_login_requests_are_read()
     ensures beside { ParametersBesideAnObjectAreRead }
     ensures object { LoginObjectsAreRead }

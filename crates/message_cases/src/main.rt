@@ -9,7 +9,7 @@
 //! |---|---|
 //! | `registries` | the table of registries: what they consist of, and queries of one: |
 //! | `registries::urls` | `url`, `same_server`, `query_names` and `urls` |
-//! | `registries::configurations` | `registry`, `file`, `users` and `rows` read configurations |
+//! | `registries::configurations` | `registry`, `version`, `secrets`, `file`, `users` and `rows` read configurations |
 //! | `registries::registered` | `provider`, `find`, `row` and `subject` query the sample's registry |
 //! | `registries::discovery` | `document`, `discovery` and `less` |
 //! | `registries::sample` | none; the configuration of the other cases, and named texts |

@@ -34,6 +34,8 @@ impl Cases for RegistryCases {
             ["query_names", url] => urls::query_names(alloc, url),
             ["urls", one, other] => urls::urls(alloc, one, other),
             ["registry", old, new] => configurations::registry(alloc, old, new),
+            ["version", version, old, new] => configurations::version(alloc, version, old, new),
+            ["secrets", version, old, new] => configurations::secrets(alloc, version, old, new),
             ["file", text] => configurations::file(alloc, text),
             ["users", count, text] => configurations::users(alloc, count, text),
             ["rows", users, clients, parties] => {

@@ -1,4 +1,4 @@
-// What holds of every play, for the crates above.
+// What is true for every play, for the crates above.
 
 ghost use Rattle.std.specs.Prelude.{◌≡◌, ◌<◌, ◌^◌, ℕ, suc, length, None, Some};
 ghost use Rattle.client_registry.specs.Configuration.{Configuration};
@@ -11,8 +11,9 @@ ghost use Rattle.oidc_replay.specs.Laws.{RequestsAreFollowed, ResponsesAreFollow
 ghost use Rattle.oidc_replay.specs.Laws.{UserInfoRequestsAreCarried, TokenResponsesGoBack, UserInfoResponsesGoBack, ReadTokensWereGiven};
 ghost use Rattle.oidc_replay.specs.Laws.{UserInfoNeedsAHashedToken};
 
-/// Two premises of the sign-on theorem hold in every play of fewer than 2^60 lines by its making: all words that the roles draw differ,
-/// and what the provider answers comes under the number of the place that asked. Each trace that is read has fewer.
+/// Two premises of the sign-on theorem are true for every play of fewer than 2^60 lines, by the way in which plays are made.
+/// All words that the roles draw differ, and an answer of the provider comes under the number of the place that sent the
+/// request. Each trace that is read has fewer lines.
 pub fn plays_are_distinct_and_joined()
     ensures distinct { (c : Configuration) (told : Told) → length told.lines < 2 ^ 60 → HasDistinctWords (play_of c told).world }
     ensures joined { (c : Configuration) (told : Told) → length told.lines < 2 ^ 60 → IsJoined (play_of c told).world }
@@ -23,9 +24,13 @@ pub fn time_goes_on_in_plays()
     ensures { (c : Configuration) (told : Told) → IsReadFor c told → IsInOrder (play_of c told).world }
 {}
 
-/// What the last reply of a login asks for is what a line of a trace sends: `follow` for a location, `login` for the login page, `consent`
-/// with `yes` for the consent page, `carry` for a message of the party, and `back` for the provider's answer to it, each with the cookies
-/// that the browser has.
+/// The request that the last reply of a login calls for is what a line of a trace sends, with the cookies that the browser has:
+///
+/// - `follow` for a location,
+/// - `login` for the login page,
+/// - `consent` with `yes` for the consent page,
+/// - `carry` for a message of the party,
+/// - `back` for the provider's answer to it.
 pub fn lines_do_what_is_asked()
     ensures follow_request { RequestsAreFollowed }
     ensures follow_response { ResponsesAreFollowed }
@@ -43,15 +48,15 @@ pub fn plays_have_the_places_of_their_lines()
     ensures ended { (c : Configuration) (told : Told) (place : ℕ) → (play_of c told).ended ≡ Some place → place ≡ suc (length (play_of c told).world) }
 {}
 
-/// What is read as tokens was given as tokens: of all that the roles of a legal world print, only a token response of the provider is
-/// read as one, and as the access token and the ID Token that it gave (OpenID Connect Core 1.0, 3.1.3.3).
+/// Of all that the roles of a legal world print, only a token response of the provider is read as one. What is read are the
+/// access token and the ID Token that it has (OpenID Connect Core 1.0, 3.1.3.3).
 pub fn tokens_that_are_read_were_given()
     ensures { ReadTokensWereGiven }
 {}
 
-/// In a play the last ID Token of a login that asks for UserInfo has an `at_hash`: that of an authorization response must have it
-/// (OpenID Connect Core 1.0, 3.2.2.9), and that of a token response is the provider's own, which always has it (3.1.3.6), since in a
-/// play a party is handed what was printed.
+/// In a play the last ID Token of a login that requests UserInfo has an `at_hash`. The ID Token of an authorization response
+/// must have it (OpenID Connect Core 1.0, 3.2.2.9). The ID Token of a token response is the provider's own, because in a play a
+/// party is handed what was printed, and the provider's always has it (3.1.3.6).
 pub fn user_info_is_asked_for_with_hashed_tokens()
     ensures { UserInfoNeedsAHashedToken }
 {}

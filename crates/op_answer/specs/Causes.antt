@@ -1,4 +1,4 @@
--- What a reply of the provider says of the past and of the ask that led to it.
+-- What a reply of the provider implies about the past and the `OpAsk` that led to it.
 use Rattle.std.specs.Prelude.{◌≡◌, ◌≢◌, ℕ, Bool, true, false, List, [], Option, Some, None, option_map, Ok, Err, ◌⊎◌}
 use Rattle.sso_base.specs.Words.{Word, Text, is_word, fresh_word, word_of_text}
 use Rattle.sso_base.specs.Rows.{lives}
@@ -50,7 +50,7 @@ use Rattle.op_answer.specs.Room.{lacks_room}
 use Rattle.op_answer.specs.Answering.{op_reply}
 use Rattle.op_answer.specs.FullTables.{LacksPlace}
 
--- ---- every reply but NotHere and Full: a request gives the ask, and there was room
+-- ---- every reply except NotHere and Full: reading a request can give the `OpAsk`, and there was room
 
 abbrev pub is_own : OpReply → Bool
 is_own NotHere = false
@@ -62,7 +62,7 @@ pub record Stood (c : Configuration) (past : OpPast) (e : Entry OpAsk) (reply : 
   pub room : lacks_room past e reply ≡ false
   pub reply_is : op_reply c past e e.ask ≡ reply
 
--- A request gives the ask, each row that the reply makes has a place in its table, and this is why it comes.
+-- Reading a request can give the `OpAsk`, each row that the reply makes has a place in its table, and this is its cause.
 pub record Comes (c : Configuration) (past : OpPast) (e : Entry OpAsk) (reply : OpReply) (Cause : Type 0) : Type 0 where
   pub prepared : is_prepared c e.ask ≡ true
   pub placed : LacksPlace past e reply → ⊥
@@ -183,7 +183,7 @@ AnsweredCause c past e (ask.Login turn (Some user) browser presented) answer giv
 AnsweredCause c past e (ask.Consent turn true browser presented) answer given = AnsweredAfterYes c past e turn browser presented answer given
 AnsweredCause c past e other answer given = ⊥
 
--- ---- an error response: the judgement's, at once, after a right password, or to a consent form
+-- ---- an error response: that of the validation, at once, after a right password, or to a consent form
 
 pub record RefusedAtOnce
     (c : Configuration) (past : OpPast) (e : Entry OpAsk) (wish : Wish) (presented : Option Word) (refusal : Refusal)
@@ -238,7 +238,7 @@ RefusedCause c past e (ask.Login turn (Some user) browser presented) refusal giv
 RefusedCause c past e (ask.Consent turn agree browser presented) refusal given = RefusedAtConsent c past e turn agree browser presented refusal given
 RefusedCause c past e other refusal given = ⊥
 
--- ---- an error page: the judgement's, no live turn or no live session of it, another browser or session, or a repeated name
+-- ---- an error page: that of the validation, no live turn or no live session of it, another browser or session, or a repeated name
 
 pub record OtherBrowser (past : OpPast) (e : Entry OpAsk) (turn browser : Option Word) : Type 0 where
   pub row : TurnRow
@@ -290,7 +290,7 @@ TokenRefusedCause past e (ask.Token (Err why)) code = token_error why ≡ code
 TokenRefusedCause past e (ask.Token (Ok grant)) code = (redeem past e.at grant ≢ Redeemed) × (code ≡ InvalidGrant)
 TokenRefusedCause past e other code = ⊥
 
--- ---- a UserInfo response: the access token lives, and it is about the token's client, user, scope values and asked claims
+-- ---- a UserInfo response: the access token lives, and it is about the token's client, user, scope values and requested claims
 
 pub record InfoForToken (c : Configuration) (past : OpPast) (e : Entry OpAsk) (w : Word) (claims : Text) : Type 0 where
   pub token : TokenRow
@@ -309,7 +309,7 @@ InfoRefusedCause past e (ask.Info bearer.Unreadable) given = given ≡ true
 InfoRefusedCause past e (ask.Info (bearer.Given w)) given = (live_access_token past e.at w ≡ None) × (given ≡ true)
 InfoRefusedCause past e other given = ⊥
 
--- ---- a sign-out: of no live session, which tells nobody, or of the presented one, which tells those of the clients that it has
+-- ---- a sign-out: of no live session, which notifies nobody, or of the presented one, which notifies those of the clients that it has
 -- answered that have a logout URI
 
 pub record EndedSession (c : Configuration) (past : OpPast) (e : Entry OpAsk) (presented : Option Word) (messages : List Message) : Type 0 where

@@ -1,4 +1,4 @@
--- The words of the rows that stand after a legal past: each was drawn for the one pair that made the row. A code has what the
+-- The words of the rows that exist after a legal past: each was drawn for the one pair that made the row. A code has what the
 -- answer with it was about, and an access token what that answer or its code was about.
 use Rattle.std.specs.Prelude.{◌≡◌, ℕ, ◌∷◌, ◌++◌, length, Option, Some, None, Ok, ◌⊎◌}
 use Rattle.sso_base.specs.Words.{Word, Text, fresh_word, word_of_text}
@@ -90,7 +90,7 @@ pub record InResponse (earlier : OpPast) (maker : OpPair) (row : TokenRow) : Typ
   pub of_no_code : row.code ≡ None
   pub drawn : row.word ≡ fresh_word maker.entry.fresh 3
 
--- or for a code of the client that asked, which was held then, and is about what the code is about
+-- or for a code that was held then, of the client that sent the token request, and is about what the code is about
 pub record ForCode (earlier : OpPast) (maker : OpPair) (row : TokenRow) : Type 0 where
   pub grant : Grant
   pub asked : maker.entry.ask ≡ Token (Ok grant)

@@ -1,4 +1,4 @@
-// What holds of the provider's answers.
+// What is true for the provider's replies.
 
 ghost use Rattle.std.specs.Prelude.{◌≡◌, ◌≤◌, ◌↔◌, ℕ, true, List, length};
 ghost use Rattle.sso_base.specs.Values.{latest_moment};
@@ -21,8 +21,8 @@ ghost use Rattle.op_answer.specs.Laws.{SessionWordsNeedAPassword, TurnsAreDrawn,
 ghost use Rattle.op_answer.specs.Laws.{TurnsAreOwn, SessionsAreOwn, CodesAreOwn, AccessTokensAreOwn, LogoutTokensAreNoIdTokens, IdTokensAreNoLogoutTokens};
 ghost use Rattle.op_answer.specs.Laws.{LogoutTokensAreNoRequestObjects, IdTokensAreNoRequestObjects};
 
-/// A row is found after a past exactly where some pair made it, no later pair made one of its name or ended it, and it is
-/// as the later pairs left it.
+/// A row is found after a past if and only if some pair made it, no later pair made one of its name or ended it, and it is as
+/// the later pairs left it.
 pub fn rows_stand()
     ensures turns { TurnsStand }
     ensures sessions { SessionsStand }
@@ -30,10 +30,11 @@ pub fn rows_stand()
     ensures accesses { AccessTokensStand }
 {}
 
-/// Why each reply of the provider comes. A reply with these parts comes exactly where a request gives the ask, each row that
-/// the reply makes has a place in its table, and the past and the ask are as its cause says. A UserInfo request and a sign-out
-/// are always given by a request and make nothing, so their replies come exactly where the cause says. `Full` has its own law,
-/// below. The metadata, the keys and `NotHere` say nothing of the past.
+/// The cause of each reply of the provider. A reply with these parts is returned if and only if reading a request can give the
+/// `OpAsk`, each row that the reply makes has a place in its table, and the cause holds for the past and the `OpAsk`.
+///
+/// A request can always give a UserInfo request and a sign-out. They make no row, so their replies are returned if and only if
+/// the cause holds. `Full` has a law of its own, below. The metadata, the keys and `NotHere` do not depend on the past.
 pub fn replies_have_a_cause()
     ensures own { OwnRepliesHaveACause }
     ensures login_pages { LoginPagesHaveACause }
@@ -48,14 +49,15 @@ pub fn replies_have_a_cause()
     ensures sign_outs { SignOutsHaveACause }
 {}
 
-/// `Full` comes exactly where a request gives the ask, and a row that the reply would make has no place in its table: beside
-/// the rows that live at the moment, and that the step does not end, they are 65,536, or one of them has its word.
+/// `Full` is returned if and only if reading a request can give the `OpAsk`, and a row that the reply would make has no place
+/// in its table. A row has no place if 65,536 rows live at the moment, or if one that lives has its word. Rows that the step
+/// ends do not count.
 pub fn full_tables_are_full()
     ensures { (c : Configuration) (past : OpPast) (e : Entry OpAsk) → (op_answer c past e ≡ reply.Full) ↔ FullCause c past e }
 {}
 
-/// A user has granted a scope value to a client exactly where a consent form said yes to it: it was answered or refused, for
-/// a turn of the client and a session of the user, and the consent was about the scope value.
+/// A user has granted a scope value to a client if and only if some consent form said yes to it. The form was answered, with a
+/// response or an error, for a turn of the client and a session of the user, and the consent was about the scope value.
 pub fn grants_are_said_yes_to()
     ensures openid { (past : OpPast) (user client : ℕ) → ((grant_of past user client).openid ≡ true) ↔ Granted past user client (λ s. s.openid) }
     ensures profile { (past : OpPast) (user client : ℕ) → ((grant_of past user client).profile ≡ true) ↔ Granted past user client (λ s. s.profile) }
@@ -64,8 +66,8 @@ pub fn grants_are_said_yes_to()
     ensures phone { (past : OpPast) (user client : ℕ) → ((grant_of past user client).phone ≡ true) ↔ Granted past user client (λ s. s.phone) }
 {}
 
-/// After any legal past a code gets tokens at most once: no two pairs were answered tokens for the code that one pair made
-/// (RFC 6749, 4.1.2).
+/// After any legal past a code gets tokens at most once: no two pairs returned tokens for the code that one pair made (RFC
+/// 6749, 4.1.2).
 pub fn codes_are_answered_once()
     ensures { CodesAreAnsweredOnce }
 {}
@@ -76,12 +78,17 @@ pub fn session_words_need_a_password()
     ensures { SessionWordsNeedAPassword }
 {}
 
-/// In a legal past the word of a turn, the word and the name of a session, a code and an access token are drawn words of the one
-/// pair that made them: the second word of the four for a turn, the first and the second for a session, through all its renewals,
-/// the third for a code, and for an access token the fourth in a response and the first for a code. A code has the wish of the
-/// answer that it came with, and the user, the name and the login time of that answer's session. An access token of a response
-/// has the client, the scope values and the asked claims of the response's wish and the user of its session; one for a code has
-/// those of the code, which was held then and was of the client that asked.
+/// In a legal past these are drawn words of the one pair that made the row:
+///
+/// - the word of a turn: the second of the pair's four words;
+/// - the word and the name of a session: the first and the second, through all its renewals;
+/// - a code: the third;
+/// - an access token: the fourth in a response, and the first for a code.
+///
+/// A code has the wish of the response that it came with, and the user, the name and the login time of that response's session.
+/// An access token of a response has the client, the scope values and the requested claims of the response's wish, and the user
+/// of its session. An access token for a code has those of the code. The code was held at that time, and belonged to the client
+/// that sent the token request.
 pub fn rows_have_drawn_words()
     ensures turns { TurnsAreDrawn }
     ensures sessions { SessionsAreDrawn }

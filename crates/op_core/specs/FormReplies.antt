@@ -13,7 +13,6 @@ use Rattle.op_exchange.specs.declared.reply.OpReply.TheVariants.{ErrorPage}
 use Rattle.op_answer.specs.Past.{OpPast}
 use Rattle.op_answer.specs.Replies.{login, consent_in}
 use Rattle.op_answer.specs.Answering.{op_reply}
-use Rattle.op_core.specs.Providing.{Providing, past_of}
 
 -- the reply to a consent form of this turn, which has this live session
 abbrev pub consent_for : Configuration → OpPast → Entry OpAsk → Option TurnRow → Option SessionRow → Bool → Option Word → Option Word → OpReply
@@ -25,10 +24,3 @@ abbrev pub reply_for : Configuration → OpPast → Entry OpAsk → OpAsk → Op
 reply_for c past e (Login word signed browser session) turn own = login c past e turn signed browser session
 reply_for c past e (Consent word agree browser session) turn own = consent_for c past e turn own agree browser session
 reply_for c past e ask turn own = op_reply c past e ask
-
--- the same, of a provider after its history
-abbrev pub consent_told : Providing → Entry OpAsk → Option TurnRow → Option SessionRow → Bool → Option Word → Option Word → OpReply
-consent_told p e turn own agree browser presented = consent_for p.registry (past_of p) e turn own agree browser presented
-
-abbrev pub reply_told : Providing → Entry OpAsk → Option TurnRow → Option SessionRow → OpReply
-reply_told p e turn own = reply_for p.registry (past_of p) e e.ask turn own

@@ -68,28 +68,17 @@ session_put_by past e client (Login turn (Some user) b presented) (Some w) =
     Some (session_with client (session_after past e user presented))
 session_put_by past e client ask given = None
 
--- the same, by the client that was answered
-abbrev pub session_put_for : OpPast → Entry OpAsk → OpReply → Option ℕ → Option SessionRow
-session_put_for past e reply client = session_put_by past e client e.ask (session_set e.ask reply)
-
 abbrev pub session_put : OpPast → Entry OpAsk → OpReply → Option SessionRow
-session_put past e reply = session_put_for past e reply (client_found past e reply)
-
--- the code of a response, by the wish and the session that were found
-abbrev pub code_put_for : OpPast → ℕ → OpReply → Option Wish → Option SessionRow → Option CodeRow
-code_put_for past at reply wish session = code_made_by (length past) at (code_in reply) wish session
+session_put past e reply = session_put_by past e (client_found past e reply) e.ask (session_set e.ask reply)
 
 abbrev pub code_put : OpPast → Entry OpAsk → OpReply → Option CodeRow
-code_put past e reply = code_put_for past e.at reply (wish_found past e.at e.ask) (session_found past e e.ask)
+code_put past e reply =
+    code_made_by (length past) e.at (code_in reply) (wish_found past e.at e.ask) (session_found past e e.ask)
 
 abbrev pub access_put_by : OpPast → Entry OpAsk → OpAsk → OpReply → Option Wish → Option SessionRow → Option TokenRow
 access_put_by past e (Token (Ok grant)) (Tokens w id) wish session = access_for_code past e.at w grant.code
 access_put_by past e ask (Answered answer given) wish session = access_answered (length past) e.at answer.access wish session
 access_put_by past e ask reply wish session = None
 
--- the access token of a reply, by the wish and the session that were found
-abbrev pub access_put_for : OpPast → Entry OpAsk → OpReply → Option Wish → Option SessionRow → Option TokenRow
-access_put_for past e reply wish session = access_put_by past e e.ask reply wish session
-
 abbrev pub access_put : OpPast → Entry OpAsk → OpReply → Option TokenRow
-access_put past e reply = access_put_for past e reply (wish_found past e.at e.ask) (session_found past e e.ask)
+access_put past e reply = access_put_by past e e.ask reply (wish_found past e.at e.ask) (session_found past e e.ask)

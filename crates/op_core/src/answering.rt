@@ -8,7 +8,7 @@ ghost use Rattle.op_answer.specs.Answering as spec;
 ghost use Rattle.op_tables.specs.Agreeing.{is_own_turn, is_own_session};
 ghost use Rattle.op_core.specs.Providing.{past_of};
 ghost use Rattle.op_core.specs.Making.{turn_found, session_of_turn};
-ghost use Rattle.op_core.specs.FormReplies.{reply_told};
+ghost use Rattle.op_core.specs.FormReplies.{reply_for};
 
 use crate::state::OpCore;
 use auth_request::{PageNo, Verdict, Wish, is_short_nonce};
@@ -72,7 +72,8 @@ impl OpCore {
         requires prepared { asks.is_prepared self.now.registry entry.now.ask ≡ true }
         requires turn { IfSome (option_copied turn) (λ row. is_own_turn self.now.registry row ≡ true) }
         requires own { IfSome (option_copied own) (λ row. is_own_session self.now.registry row ≡ true) }
-        ensures { IfOk result (λ r. r ≡ reply_told self.now entry.now (option_copied turn.entry) (option_copied own.entry)) }
+        ensures { IfOk result (λ r. r
+            ≡ reply_for self.now.registry (past_of self.now) entry.now entry.now.ask (option_copied turn.entry) (option_copied own.entry)) }
     {
         match &entry.ask {
             OpAsk::Authorize {

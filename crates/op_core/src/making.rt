@@ -5,6 +5,7 @@ ghost use Rattle.std.specs.Option.{option_copied};
 ghost use Rattle.sso_base.specs.Legal.{last_moment};
 ghost use Rattle.code_grant.specs.declared.rows.TurnRow.{TurnRow};
 ghost use Rattle.op_exchange.specs.Asks.{is_prepared, is_prepared_wish};
+ghost use Rattle.op_exchange.specs.Replied.{code_in};
 ghost use Rattle.client_registry.specs.Numbers.{is_user};
 ghost use Rattle.op_core.specs.Providing.{past_of};
 ghost use Rattle.op_tables.specs.Agreeing.{is_own_turn, is_own_session, is_own_code, is_own_token};
@@ -300,7 +301,7 @@ impl OpCore {
         requires moment { last_moment (past_of self.now) ≤ entry.now.at }
         requires prepared { is_prepared self.now.registry entry.now.ask ≡ true }
         requires client { IfSome client (λ n. n < 128) }
-        ensures row { result ≡ spec.session_put_for (past_of self.now) entry.now reply.now client }
+        ensures row { result ≡ spec.session_put_by (past_of self.now) entry.now client entry.now.ask (sessions.session_set entry.now.ask reply.now) }
         ensures own { IfSome result (λ row. is_own_session self.now.registry row ≡ true) }
         ensures in_range { IfSome result (λ row. row.user < 512) }
     {
@@ -329,7 +330,7 @@ impl OpCore {
     ) -> Result<Option<CodeRow>, NoMemory>
         requires wish { IfSome (option_copied wish) (λ w. is_prepared_wish self.now.registry w ≡ true) }
         requires session { IfSome session.now (λ row. is_own_session self.now.registry row ≡ true) }
-        ensures row { IfOk result (λ row. row ≡ spec.code_put_for (past_of self.now) at reply.now (option_copied wish.entry) session.now) }
+        ensures row { IfOk result (λ row. row ≡ codes.code_made_by (length (past_of self.now)) at (code_in reply.now) (option_copied wish.entry) session.now) }
         ensures own { IfOk result (λ row. IfSome row (λ code. is_own_code self.now.registry code ≡ true)) }
         ensures user { IfOk result (λ row. IfSome row (λ code. code.user < 512)) }
         ensures client { IfOk result (λ row. IfSome row (λ code. code.wish.client < 128)) }
@@ -435,7 +436,8 @@ impl OpCore {
         requires moment { last_moment (past_of self.now) ≤ entry.now.at }
         requires wish { IfSome (option_copied wish) (λ w. is_prepared_wish self.now.registry w ≡ true) }
         requires session { IfSome session.now (λ row. is_own_session self.now.registry row ≡ true) }
-        ensures row { IfOk result (λ row. row ≡ spec.access_put_for (past_of self.now) entry.now reply.now (option_copied wish.entry) session.now) }
+        ensures row { IfOk result (λ row. row
+            ≡ spec.access_put_by (past_of self.now) entry.now entry.now.ask reply.now (option_copied wish.entry) session.now) }
         ensures own { IfOk result (λ row. IfSome row (λ token. is_own_token self.now.registry token ≡ true)) }
         ensures user { IfOk result (λ row. IfSome row (λ token. token.user < 512)) }
         ensures client { IfOk result (λ row. IfSome row (λ token. token.client < 128)) }
@@ -471,9 +473,12 @@ impl OpCore {
         requires session { IfSome session.now (λ row. is_own_session self.now.registry row ≡ true) }
         requires client { IfSome client (λ n. n < 128) }
         ensures turn { IfOk result (λ m. m.turn ≡ turns.turn_started entry.now.at entry.now.ask reply.now) }
-        ensures session { IfOk result (λ m. m.session ≡ spec.session_put_for (past_of self.now) entry.now reply.now client) }
-        ensures code { IfOk result (λ m. m.code ≡ spec.code_put_for (past_of self.now) entry.now.at reply.now (option_copied wish.entry) session.now) }
-        ensures token { IfOk result (λ m. m.token ≡ spec.access_put_for (past_of self.now) entry.now reply.now (option_copied wish.entry) session.now) }
+        ensures session { IfOk result (λ m. m.session
+            ≡ spec.session_put_by (past_of self.now) entry.now client entry.now.ask (sessions.session_set entry.now.ask reply.now)) }
+        ensures code { IfOk result (λ m. m.code
+            ≡ codes.code_made_by (length (past_of self.now)) entry.now.at (code_in reply.now) (option_copied wish.entry) session.now) }
+        ensures token { IfOk result (λ m. m.token
+            ≡ spec.access_put_by (past_of self.now) entry.now entry.now.ask reply.now (option_copied wish.entry) session.now) }
         ensures own_turn { IfOk result (λ m. IfSome m.turn (λ row. is_own_turn self.now.registry row ≡ true)) }
         ensures own_session { IfOk result (λ m. IfSome m.session (λ row. is_own_session self.now.registry row ≡ true)) }
         ensures own_code { IfOk result (λ m. IfSome m.code (λ row. is_own_code self.now.registry row ≡ true)) }

@@ -7,7 +7,7 @@ ghost use Rattle.op_exchange.specs.Asks.{is_prepared_wish, is_prepared_verdict};
 ghost use Rattle.op_exchange.specs.declared.reply.OpReply.TheVariants as reply;
 ghost use Rattle.client_registry.specs.Numbers.{is_user};
 ghost use Rattle.op_tables.specs.Agreeing.{is_own_turn, is_own_session};
-ghost use Rattle.op_core.specs.FormReplies.{consent_told};
+ghost use Rattle.op_core.specs.FormReplies.{consent_for};
 ghost use Rattle.op_core.specs.Providing.{past_of};
 ghost use Rattle.op_answer.specs.Replies as spec;
 ghost use Rattle.op_answer.specs.Causes.{need_at_once};
@@ -350,7 +350,8 @@ impl OpCore {
     ) -> Result<OpReply, NoMemory>
         requires turn { IfSome (option_copied turn) (λ row. is_own_turn self.now.registry row ≡ true) }
         requires own { IfSome (option_copied own) (λ row. is_own_session self.now.registry row ≡ true) }
-        ensures { IfOk result (λ r. r ≡ consent_told self.now entry.now (option_copied turn.entry) (option_copied own.entry) agree browser presented) }
+        ensures { IfOk result (λ r. r
+            ≡ consent_for self.now.registry (past_of self.now) entry.now (option_copied turn.entry) (option_copied own.entry) agree browser presented) }
     {
         let Some(turn) = turn else {
             return Ok(OpReply::ErrorPage { why: PageNo::Turn });

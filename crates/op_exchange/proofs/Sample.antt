@@ -1,39 +1,22 @@
 -- A registry with two users and one client that asks for consent, to try the definitions on.
-use Rattle.std.proofs.Common.{ℕ, ◌+◌, true, false, List, [], ◌∷◌, ◌++◌, replicate, Some, None, codes}
-use Rattle.sso_base.specs.Words.{Word, Text}
-use Rattle.client_registry.specs.declared.records.Provider.{Provider}
+use Rattle.std.proofs.Common.{true, false, [], ◌∷◌, Some, None, codes}
+use Rattle.sso_base.specs.Words.{Text}
+pub use Rattle.sso_base.proofs.SampleWords.{word, words}
 use Rattle.client_registry.specs.declared.records.User.{User}
 use Rattle.client_registry.specs.declared.records.Client.{Client}
-use Rattle.oidc_words.specs.declared.response_types.Types.{Types}
 use Rattle.client_registry.specs.Configuration.{Configuration}
+pub use Rattle.client_registry.proofs.SampleRegistry.{op, only_code}
 use Rattle.oidc_words.specs.declared.scopes.Scopes.{Scopes}
 use Rattle.auth_request.specs.declared.wish.Wish.{Wish}
 
-abbrev pub word : ℕ → Word
-word n = replicate 31 0 ++ n ∷ []
-
-abbrev pub words : ℕ → List Word
-words n = word n ∷ word (n + 1) ∷ word (n + 2) ∷ word (n + 3) ∷ []
-
 abbrev pub callback_uri : Text
 callback_uri = codes "http://127.0.0.1:8081/cb"
-
-abbrev pub op : Provider
-op = record {
-  issuer = codes "http://127.0.0.1:8080";
-  authorize = codes "http://127.0.0.1:8080/authorize";
-  token = codes "http://127.0.0.1:8080/token";
-  userinfo = Some (codes "http://127.0.0.1:8080/userinfo");
-}
 
 abbrev pub alice : User
 alice = record { id = codes "alice"; salt = []; rounds = 1; proof = []; claims = codes "{}" }
 
 abbrev pub bob : User
 bob = record { id = codes "bob"; salt = []; rounds = 1; proof = []; claims = codes "{}" }
-
-abbrev pub only_code : Types
-only_code = record { code = true; id_token = false; token = false }
 
 abbrev pub shop_client : Client
 shop_client =

@@ -1,10 +1,11 @@
 -- A small registry with one user and one client, and the login of that user, to try the definitions on.
-use Rattle.std.proofs.Common.{◌≡◌, ℕ, ◌+◌, ◌++◌, true, false, List, [], ◌∷◌, replicate, codes, Some, None, refl, arith}
+use Rattle.std.proofs.Common.{◌≡◌, true, false, [], ◌∷◌, replicate, codes, Some, None, refl, arith}
 use Rattle.json.specs.Print.{escape_byte}
 use Rattle.json.proofs.Printed.Utf8.{IsUtf8-are_ascii}
 use Rattle.serde_json.specs.Data.{string, Members, no_members, member}
 use Rattle.url.proofs.OnLiterals.{url_on_literals}
-use Rattle.sso_base.specs.Words.{Word, Text, IsWord}
+use Rattle.sso_base.specs.Words.{Text, IsWord}
+pub use Rattle.sso_base.proofs.SampleWords.{word, words}
 use Rattle.sso_base.proofs.Spelling.{IsBytes-from_all_bytes}
 use Rattle.claim_set.specs.Fitting.{ClaimsFit}
 use Rattle.claim_set.specs.Reading.{claims_text}
@@ -21,12 +22,6 @@ use Rattle.client_registry.proofs.KnownClaims.{known_put, known_none}
 use Rattle.client_registry.proofs.SubjectFacts.{user_id_is_subject}
 use Rattle.oidc_words.specs.Claims.{is_claim_of, profile_claims, email_claims, address_claims, phone_claims, flag_claims, seconds_claims}
 use Rattle.op_issue.specs.declared.issuing.Authentication.{Authentication}
-
-abbrev pub word : ℕ → Word
-word n = replicate 31 0 ++ n ∷ []
-
-abbrev pub words : ℕ → List Word
-words n = word n ∷ word (n + 1) ∷ word (n + 2) ∷ word (n + 3) ∷ []
 
 abbrev pub profile_scopes : Scopes
 profile_scopes = record { openid = true; profile = true; email = false; address = false; phone = false }

@@ -45,7 +45,7 @@ abbrev pub judged_whole : Configuration → Params → Option Params → Verdict
 judged_whole c beside None = judgement c beside true
 judged_whole c beside (Some whole) = judgement c whole false
 
--- a request object is read under the secret of its client, so it is ignored without a client
+-- a request object is read under a secret of its client, so it is ignored without a client
 abbrev pub judged_by : Configuration → Params → Option Client → Option Text → Verdict
 judged_by c params (Some client) (Some object) = judged_whole c params (with_object c client params object)
 judged_by c params client object = judgement c params false

@@ -117,7 +117,7 @@ fn is_password_of(user: &User, password: &str) -> bool
 }
 
 // The number of the user that has this id and this password. For an id that no user has, the password is proved with the salt and
-// the rounds of the first user, so that the time does not tell which ids are users'.
+// the rounds of the first user, so that the time does not show which ids are users'.
 #[tactic(auto, using(crate::proofs::SignedUsers::user_within, crate::proofs::SignedUsers::user_kept))]
 fn signed_user(registry: &Registry, id: &str, password: &str) -> Option<u32>
     ensures { result ≡ spec.signed_user registry.now id.now password.now }
@@ -212,7 +212,7 @@ fn token(alloc: Global, registry: &Registry, ask: &Ask) -> Result<OpAsk, NoMemor
 /// At `/authorize`, `/login` and `/consent`, a name that occurs twice in the form gives [`OpAsk::Twice`]; at `/authorize`,
 /// pairs with an empty value are ignored first. An absent field is empty, and so is an absent form.
 ///
-/// A request object is read if the client of the request is known, under that client's secret. Its parameters take precedence
+/// A request object is read under a secret of the request's client, if that client is known. Its parameters take precedence
 /// over those outside it (OpenID Connect Core 1.0, 6.1). If it is rejected, the parameters outside it are validated as a
 /// request whose object was rejected. A login is signed as the user whose id is `user`, if and only if the proof of `password`
 /// is that user's (RFC 8018).

@@ -1,4 +1,4 @@
--- What a door of the machine tells: its counts, and nothing else.
+-- What a door of the machine reports: its counts, and nothing else.
 use Rattle.std.specs.Prelude.{ℕ, None}
 use Rattle.server_desk.specs.Doors.{DoorState}
 

@@ -6,8 +6,8 @@ use server_desk::Clock;
 use sso_base::{LATEST_MOMENT, Moment};
 use std::time;
 
-/// The machine's clock. It does not tell its readings to come. Where it can't be read, as before 1970, it stands still, and
-/// at the latest moment it stops.
+/// The machine's clock. It does not report its future readings. If it can't be read, as before 1970, it returns the last
+/// reading again. At the latest moment it stops.
 #[derive(Drop)]
 pub struct SystemClock<'a, R: time::Clock> {
     clock: &'a R,
@@ -15,7 +15,7 @@ pub struct SystemClock<'a, R: time::Clock> {
 }
 
 impl<'a, R: time::Clock> SystemClock<'a, R> {
-    /// A clock that was not read yet, and stands at 1970.
+    /// A clock that was not read yet. Until it is, its last reading is 1970.
     pub fn new(clock: &'a R) -> SystemClock<'a, R> {
         SystemClock {
             clock,

@@ -4,13 +4,13 @@ ghost use Rattle.std.specs.Prelude.{◌≡◌, ◌≤◌, length, Option, None, 
 
 use crate::limit::Limit;
 use crate::read_ahead::ReadAhead;
-use crate::wire::send;
+use crate::wire::Wire;
 use server_desk::{Connection, Source, SourceFault};
 use sso_base::{Sink, SinkFault};
 use std::alloc::Global;
-use std::net::{Shutdown, TcpStream};
+use std::net::TcpStream;
 use std::sync::Arc;
-use std::time::Clock;
+use std::time::{Clock, Duration};
 
 /// How many seconds the reply may take to be written, from its first byte on.
 const WRITING: u64 = 10;
@@ -25,12 +25,14 @@ const DRAINED: usize = 1 << 20;
 #[derive(Drop)]
 pub struct TcpSource<'a, R: Clock> {
     clock: &'a R,
-    stream: Arc<TcpStream, Global>,
+    wire: Arc<Wire, Global>,
     ahead: ReadAhead,
     /// In how much time all has to come; none where the clock failed.
     limit: Option<Limit>,
     /// How many seconds no byte may come.
     silence: u64,
+    /// How long a read waits, as it was set last; none where it was not set.
+    last: Option<Duration>,
     faults: u64,
 }
 
@@ -38,15 +40,15 @@ pub struct TcpSource<'a, R: Clock> {
 #[derive(Drop)]
 pub struct TcpSink<'a, R: Clock> {
     clock: &'a R,
-    stream: Arc<TcpStream, Global>,
+    wire: Arc<Wire, Global>,
     /// In how much time all has to go; none before the first write.
     limit: Option<Limit>,
     faults: u64,
 }
 
-/// A stream as a connection: all of it is read within the first limit, no byte in so many seconds is a fault, and all is
+/// A new stream as a connection: all of it is read within the first limit, no byte in so many seconds is a fault, and all is
 /// written within the second limit, or in 10 seconds from the first byte on. It reads ahead into this room, or into new
-/// room where there is none. None where the stream fails or memory runs out.
+/// room where there is none. None where memory runs out.
 pub fn connection_over<'a, R: Clock + AllocGlobal>(
     rt: &'a R,
     stream: TcpStream,
@@ -58,21 +60,21 @@ pub fn connection_over<'a, R: Clock + AllocGlobal>(
     ensures source { IfSome result (λ c. ⟦<TcpSource<'a, R> as Source>⟧.faults c.source ≡ 0) }
     ensures sink { IfSome result (λ c. ⟦<TcpSink<'a, R> as Sink>⟧.faults c.sink ≡ 0) }
 {
-    stream.set_nodelay(true).ok()?;
     let ahead = ReadAhead::new(rt.alloc(), room).ok()?;
-    let stream = Arc::new(rt.alloc(), stream).ok()?;
-    let other = Arc::try_clone(&stream).ok()?;
+    let wire = Arc::new(rt.alloc(), Wire::new(stream)).ok()?;
+    let other = Arc::try_clone(&wire).ok()?;
     let source = TcpSource {
         clock: rt,
-        stream,
+        wire,
         ahead,
         limit: reading,
         silence,
+        last: None,
         faults: 0,
     };
     let sink = TcpSink {
         clock: rt,
-        stream: other,
+        wire: other,
         limit: writing,
         faults: 0,
     };
@@ -86,15 +88,7 @@ impl<'a, R: Clock> TcpSource<'a, R> {
     {
         let limit = self.limit?;
         self.ahead
-            .fill(self.clock, &self.stream, &limit, self.silence)
-    }
-
-    // Whether bytes lie there that were not read. It does not wait. Where none lie there, later reads do not wait either.
-    fn is_behind(&self) -> bool {
-        let mut byte = [0u8; 1];
-        self.stream.set_nonblocking(true).is_ok()
-            && matches!(self.stream.peek(&mut byte), Ok(1))
-            && self.stream.set_nonblocking(false).is_ok()
+            .fill(self.clock, &self.wire, &limit, self.silence, &mut self.last)
     }
 
     // Takes in what still comes, for a moment.
@@ -104,7 +98,10 @@ impl<'a, R: Clock> TcpSource<'a, R> {
         };
         let mut drained = 0usize;
         while drained < DRAINED {
-            match self.ahead.fill(self.clock, &self.stream, &limit, DRAINING) {
+            match self
+                .ahead
+                .fill(self.clock, &self.wire, &limit, DRAINING, &mut self.last)
+            {
                 Some(count) if 0 < count => drained = drained.saturating_add(count),
                 _ => return,
             }
@@ -134,9 +131,11 @@ impl<'a, R: Clock> TcpSink<'a, R> {
     {
         if self.limit.is_none() {
             self.limit = Limit::start(self.clock, WRITING);
+            // The system mostly takes a reply at once. What it does not take waits, within the limit.
+            let _ = self.wire.set_waits(false);
         }
         let limit = self.limit?;
-        send(self.clock, &self.stream, piece, &limit)
+        self.wire.send(self.clock, piece, &limit)
     }
 }
 
@@ -157,12 +156,13 @@ impl<'a, R: Clock> Sink for TcpSink<'a, R> {
 }
 
 /// Ends a connection. Where bytes lie there that were not read, as of a request that was refused before its end, it first
-/// takes in what still comes, since the system would else reset the connection, and the reply might be lost. It answers
-/// the room into which bytes were read ahead, for another connection.
+/// ends the reply and takes in what still comes, since the system would else reset the connection, and the reply might be lost
+/// (RFC 9112, 9.6). Otherwise the reply ends as the stream is closed. It answers the room into which bytes were read ahead, for
+/// another connection.
 pub fn finish<R: Clock>(connection: Connection<TcpSource<'_, R>, TcpSink<'_, R>>) -> Vec<u8> {
     let Connection { mut source, sink } = connection;
-    let _ = sink.stream.shutdown(Shutdown::Write);
-    if source.is_behind() {
+    if sink.wire.is_behind() {
+        let _ = sink.wire.end();
         source.drain();
     }
     source.ahead.into_room()

@@ -17,8 +17,8 @@ use std::time::Clock;
 /// How many connections a desk serves: more than a server sees in its life.
 const TURNS: u64 = 1 << 56;
 
-/// A desk over this machine's network, clock and random bytes. Its door does not listen yet. It fails where the machine
-/// gives no random bytes.
+/// A desk over this machine's network, clock and random bytes. Its door does not listen yet. An error is returned if the
+/// machine gives no random bytes.
 pub fn desk<'a, R>(
     rt: &'a R,
 ) -> io::Result<Desk<TcpDoor<'a, R>, TcpLink<'a, R>, SystemClock<'a, R>, RandomDraw>>

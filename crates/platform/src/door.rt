@@ -16,7 +16,7 @@ use std::{io, thread};
 /// How often it is tried to take the next connection before that is a fault.
 const TRIES: u64 = 4_294_967_296;
 
-/// How many milliseconds are waited where descriptors or memory are short.
+/// How many milliseconds are waited if descriptors or memory are short.
 const SHORTAGE: u64 = 50;
 
 /// How many seconds a request may take in all, from its connection on.
@@ -25,7 +25,7 @@ const READING: u64 = 30;
 /// How many seconds no byte of it may come.
 const SILENCE: u64 = 10;
 
-/// A TCP listener. It does not tell where it listens, what comes and what was served.
+/// A TCP listener. It does not report where it listens, what comes and what was served.
 #[derive(Drop)]
 pub struct TcpDoor<'a, R: Net<Listener = TcpListener, Stream = TcpStream> + Clock> {
     rt: &'a R,
@@ -67,7 +67,7 @@ enum NotTaken {
     Broken,
 }
 
-// Linux tells the failures of a connection that waits at the call that takes it (accept(2)). Its numbers are named here
+// Linux reports the failures of a connection that waits at the call that takes it (accept(2)). Its numbers are named here
 // where they have no `ErrorKind`.
 fn not_taken(error: &io::Error) -> NotTaken {
     match error.raw_os_error() {
@@ -89,7 +89,7 @@ fn not_taken(error: &io::Error) -> NotTaken {
     }
 }
 
-// The next connection. None where the listener is broken.
+// The next connection. `None` if the listener is broken.
 fn next_of<'a, R: Clock + AllocGlobal>(
     rt: &'a R,
     listener: &TcpListener,

@@ -9,14 +9,14 @@ use sso_base::Word;
 use std::io;
 use std::random::RandomSource;
 
-/// A stream of ChaCha20 that the machine seeded. It does not tell its words to come.
+/// A stream of ChaCha20 that the machine seeded. It does not report its future words.
 #[derive(Drop)]
 pub struct RandomDraw {
     generator: ChaCha20Rng,
 }
 
 impl RandomDraw {
-    /// A stream with a new seed. It fails where the machine gives none.
+    /// A stream with a new seed. An error is returned if the machine gives none.
     pub fn new<S: RandomSource>(source: &S) -> io::Result<RandomDraw> {
         Ok(RandomDraw {
             generator: rand::make_rng::<ChaCha20Rng, _>(source)?,

@@ -13,7 +13,7 @@ pub struct Limit {
 }
 
 impl Limit {
-    /// So many seconds from now on. None where the clock can't be read.
+    /// So many seconds from now on. `None` if the clock can't be read.
     pub fn start<C: Clock>(clock: &C, seconds: u64) -> Option<Limit> {
         let start = Instant::now(clock).ok()?;
         Some(Limit {
@@ -22,7 +22,7 @@ impl Limit {
         })
     }
 
-    /// What is left of it, at most so many seconds. None where nothing is left, or the clock can't be read.
+    /// What is left of it, at most so many seconds. `None` if nothing is left, or if the clock can't be read.
     pub fn left<C: Clock>(&self, clock: &C, seconds: u64) -> Option<Duration>
         ensures { IfSome result (λ left. as_nanos left ≤ seconds * 1_000_000_000) }
     {

@@ -92,6 +92,8 @@ fn exchange_within<R: Net<Stream = TcpStream> + Clock + AllocGlobal>(
 {
     let limit = Limit::start(rt, EXCHANGE)?;
     let stream = connect(rt, to, &limit)?;
+    // Nothing ends the message, so its last bytes are not to wait until the first ones have arrived.
+    stream.set_nodelay(true).ok()?;
     let mut connection = connection_over(rt, stream, None, Some(limit), EXCHANGE, Some(limit))?;
     write_whole(&mut connection.sink, asked).ok()?;
     read_whole(&mut connection.source, room).ok()

@@ -3,11 +3,10 @@
 ghost use Rattle.std.specs.Prelude.{◌≡◌, [], nat_eq, ◌+◌, ◌-◌, ◌++◌, ◌≤◌, min, length, take, drop, IfSome, IfOk};
 
 use crate::limit::Limit;
-use crate::wire::receive;
+use crate::wire::Wire;
 use std::alloc::{AllocError, Global};
 use std::marker::Model;
-use std::net::TcpStream;
-use std::time::Clock;
+use std::time::{Clock, Duration};
 
 /// How many bytes are read ahead at most.
 const AHEAD: usize = 4096;
@@ -52,17 +51,19 @@ impl ReadAhead {
     }
 
     /// Reads once, in place of what was left, and answers how many bytes came. It waits within the limit, and no longer
-    /// than so many seconds. None where the stream fails or time is up.
+    /// than so many seconds. `last` is how long a read waits, as it was set last, and as it is set now. None where the stream fails
+    /// or time is up.
     pub fn fill<C: Clock>(
         &mut self,
         clock: &C,
-        stream: &TcpStream,
+        wire: &Wire,
         limit: &Limit,
         seconds: u64,
+        last: &mut Option<Duration>,
     ) -> Option<usize>
         ensures { IfSome result (λ count. count ≡ length self.new) }
     {
-        let count = receive(clock, stream, self.room.as_mut_slice(), limit, seconds)?;
+        let count = wire.receive(clock, self.room.as_mut_slice(), limit, seconds, last)?;
         self.place = 0;
         self.end = count;
         Some(count)

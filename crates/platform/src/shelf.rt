@@ -11,7 +11,7 @@ use std::rt::Files;
 /// How many reads in a row may be interrupted before that is a fault.
 const PATIENCE: u64 = 4_294_967_296;
 
-/// The files of this machine, by their paths. It does not tell what it holds.
+/// The files of this machine, by their paths. It does not report what it holds.
 #[derive(Drop)]
 pub struct FileShelf<'a, R: Files> {
     files: &'a R,
@@ -27,7 +27,7 @@ impl<'a, R: Files> FileShelf<'a, R> {
     }
 }
 
-/// Why a file was not read: want of memory is no fault of the shelf.
+/// Why a file was not read. Out of memory is no fault of the shelf.
 fn why(error: &io::Error) -> ShelfNo {
     if error.kind() == ErrorKind::OutOfMemory {
         ShelfNo::NoMemory
@@ -36,7 +36,7 @@ fn why(error: &io::Error) -> ShelfNo {
     }
 }
 
-/// Reads once, and again after each interrupted read. It answers how many bytes came, 0 at the end.
+/// Reads once, and again after each interrupted read. Returns how many bytes came, 0 at the end.
 fn read_once<F: Read>(file: &mut F, into: &mut [u8]) -> Result<usize, ShelfNo>
     ensures length { length into.new ≡ length into.old }
     ensures bound { IfOk result (λ count. count ≤ length into.old) }

@@ -8,7 +8,7 @@ use std::io::{ErrorKind, Write};
 /// How many writes in a row may be interrupted before that is a fault.
 const PATIENCE: u64 = 4_294_967_296;
 
-/// A writer as a sink, as standard output. It does not tell what it took.
+/// A writer as a sink, as standard output. It does not report what it took.
 #[derive(Drop)]
 pub struct WriterSink<W> {
     writer: W,
@@ -24,8 +24,8 @@ impl<W: Write> WriterSink<W> {
     }
 }
 
-/// Writes once, and again after each interrupted write. None where the writer fails, takes nothing of a piece that is not
-/// empty, or says that it took more than the piece has.
+/// Writes once, and again after each interrupted write. `None` if the writer fails, takes nothing of a piece that is not empty,
+/// or reports that it took more than the piece has.
 fn write_once<W: Write>(writer: &mut W, piece: &[u8]) -> Option<usize> {
     for _ in 0..PATIENCE {
         match writer.write(piece) {

@@ -7,7 +7,7 @@ use sso_base::{NoMemory, Text};
 use std::alloc::Global;
 use std::env::{Env, FillError};
 
-/// The bytes of the word at this place, where the program's name is at 0; None where there is no such word.
+/// The bytes of the word with this number; number 0 is the program's name. `None` if there is no such word.
 fn read_word<E: Env>(alloc: Global, env: &E, place: usize) -> Result<Option<Vec<u8>>, NoMemory> {
     let mut room = 256usize;
     for _ in 0..usize::BITS {

@@ -183,6 +183,24 @@ where
     told_both(alloc, &read, &back)
 }
 
+/// `machine|large`: the result for a client that begins late to read a reply, which is larger than what the machine takes at once.
+pub fn large<R>(rt: &R, alloc: Global) -> Result<String, NoMemory>
+where
+    R: Threads + Net<Listener = TcpListener, Stream = TcpStream> + Clock + Sync + AllocGlobal,
+{
+    let reply = vec![in alloc; b'b'; 20_000_000]?;
+    let mut door = TcpDoor::new(rt);
+    let Some(place) = listen(alloc, &mut door)? else {
+        return told(alloc, "no port is free");
+    };
+    let (read, back) = join(
+        rt,
+        || serve(alloc, &mut door, 5, 5, reply.as_slice()),
+        || ask(rt, alloc, &place, b"asked", b""),
+    );
+    told_both(alloc, &read, &back)
+}
+
 fn told_answer(alloc: Global, answer: &Result<Blob, LinkNo>) -> Result<String, NoMemory> {
     match answer {
         Ok(bytes) => told_quoted(alloc, as_text(bytes.as_bytes())),

@@ -1,4 +1,4 @@
-// A network in memory, over which a link is asked.
+// A network in memory, over which a link sends.
 
 use crate::loopback::told_closed;
 use case_lines::{or_else, push_part};
@@ -18,7 +18,7 @@ struct Known {
     tried: AtomicU64,
 }
 
-// A network on which each name has these addresses, and nobody takes a connection. Its clock stands still.
+// A network on which each name has these addresses, and nobody takes a connection. The time of its clock never changes.
 #[derive(Drop)]
 struct Network {
     alloc: Global,
@@ -104,8 +104,9 @@ fn told_tried(alloc: Global, network: &Network) -> Result<String, NoMemory> {
     or_else(out, "none")
 }
 
-/// `tries|ADDRESS|..`: what a link answers that is asked for a name with these addresses on a network where nobody takes a connection, how
-/// often it has failed before and after, and to which of them it tried to connect, each with the number of times.
+/// `tries|ADDRESS|..`: a link sends to a name with these addresses, on a network where nobody takes a connection. The answer is
+/// what the link returns, its number of failures before and after, and the addresses to which it tried to connect, each with
+/// the number of times.
 pub fn tries(alloc: Global, fields: &[&str]) -> Result<String, NoMemory> {
     let network = network_in(alloc, fields)?;
     let place = Text::new(alloc, "op.example:80")?;

@@ -48,6 +48,7 @@ where
         "draw" => draw(rt, alloc),
         "door" => loopback::door(rt, alloc),
         "unread" => loopback::unread(rt, alloc),
+        "large" => loopback::large(rt, alloc),
         "link" => loopback::link(rt, alloc),
         "elsewhere" => loopback::elsewhere(rt, alloc),
         "keys" => loopback::keys(rt, alloc),

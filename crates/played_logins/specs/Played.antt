@@ -7,7 +7,7 @@ use Rattle.oidc_replay.specs.declared.replaying.ReplayEnd.TheVariants.{Met}
 use Rattle.oidc_replay.specs.End.{end_of}
 use Rattle.oidc_replay.specs.Theorem.{world_played}
 
--- Its bytes can be read for the registry of a whole login at a party of this response type, that asks for UserInfo or does not. The
+-- Its bytes can be read for the registry of a whole login at a party of this response type, that requests UserInfo or does not. The
 -- world of its play is that login, which has so many places, and the play ends with no premise that fails.
 pub record IsPlayedLogin (trace response_type : Text) (asks_for_info : Bool) (places : ℕ) : Type 0 where
   pub login : IsWholeLogin response_type asks_for_info places

@@ -11,7 +11,7 @@
 //! | `requests::parameters` | `form`, `merge`, `location`, `query` and `fragment` |
 //! | `requests::judgement` | `judge` and `judge_whole` |
 //! | `requests::needs` | `need` and `needed_scopes` |
-//! | `requests::request_objects` | `object`, `unseal_request` and `seal_request`: request objects |
+//! | `requests::request_objects` | `object`, `object_under`, `unseal_request` and `seal_request`: request objects |
 //! | `requests::sample` | none; the configuration of the cases, and named texts |
 #![tactic(auto)]
 

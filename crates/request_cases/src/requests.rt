@@ -39,14 +39,28 @@ impl Cases for RequestCases {
             ["judge_whole", changes] => judgement::judge_whole(alloc, registry, changes),
             ["need", changes, session, at] => needs::need(alloc, registry, changes, session, at),
             ["needed_scopes", changes] => needs::scopes_needed(alloc, registry, changes),
-            ["object", key, claims] => request_objects::object(alloc, registry, key, claims),
-            ["unseal_request", object] => request_objects::unseal(alloc, registry, object),
-            ["seal_request", pairs] => request_objects::seal(alloc, registry, pairs),
-            _ => told(alloc, "no such call"),
+            _ => object_answer(alloc, registry, fields),
         }
     }
 
     fn text(&self, name: &str) -> Option<&str> {
         sample::text(name)
+    }
+}
+
+// The answers to the calls about request objects.
+fn object_answer(alloc: Global, registry: &Registry, fields: &[&str]) -> Result<String, NoMemory> {
+    match fields {
+        ["object", id, claims] => request_objects::object(alloc, registry, id, claims),
+        ["object_under", key, claims] => {
+            request_objects::object_under(alloc, registry, key, claims)
+        }
+        ["unseal_request", object] => {
+            request_objects::unseal(alloc, registry, "mail-client", object)
+        }
+        ["unseal_request", id, object] => request_objects::unseal(alloc, registry, id, object),
+        ["seal_request", pairs] => request_objects::seal(alloc, registry, "mail-client", pairs),
+        ["seal_request", id, pairs] => request_objects::seal(alloc, registry, id, pairs),
+        _ => told(alloc, "no such call"),
     }
 }

@@ -4,7 +4,7 @@ ghost use Rattle.std.specs.Prelude.{◌≡◌, ℕ, List, Ok, Err};
 ghost use Rattle.claim_set.specs.Fitting.{ClaimsFit};
 ghost use Rattle.jws_compact.specs.declared.no.JwsNo.{JwsNo};
 ghost use Rattle.client_registry.specs.declared.records.Client.{Client};
-ghost use Rattle.client_keys.specs.Opening.{SealedFor, verdict_for};
+ghost use Rattle.client_keys.specs.Opening.{verdict_for};
 ghost use Rattle.request_params.specs.declared.params.Params.{Params};
 ghost use Rattle.request_object.specs.declared.no.ObjNo.TheVariants as no;
 ghost use Rattle.request_object.specs.Request.{request_members, request_text};
@@ -34,8 +34,7 @@ pub fn parameters_of_their_types_fit()
     ensures { (client : Client) (issuer : List ℕ) (p : Params) → HasTexts client issuer p → ClaimsFit (request_members client issuer p) }
 {}
 
-/// Reading the text that is written for parameters, of the same client and for the same issuer, returns these
-/// parameters.
+/// Reading the text that a client writes for parameters, with the same client and issuer, returns these parameters.
 pub fn sealed_requests_are_read()
     ensures { (client : Client) (issuer : List ℕ) (p : Params) → IsSealable client issuer p → request_read client issuer (request_text client issuer p) ≡ Ok p }
 {}

@@ -10,7 +10,7 @@ use sso_base::NoMemory;
 pub enum ObjNo {
     /// Memory ran out.
     NoMemory,
-    /// It is not a sealed text under the client's secret, for this reason. The reason is never [`JwsNo::NoMemory`].
+    /// It is not a sealed text under a secret of the client, for this reason. The reason is never [`JwsNo::NoMemory`].
     Jws(JwsNo),
     /// Its payload is no claim set, or a claim has another kind: the first such claim in the order of their names. Parameters
     /// and `iss` must be strings, except that `max_age` may be a number from 0 to 2^40 - 1 and `claims` an object. `aud` must

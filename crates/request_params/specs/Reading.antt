@@ -1,6 +1,7 @@
 -- Reading an authorization request: its parameters are the pairs of a form (OpenID Connect Core 1.0, 3.1.2.1; RFC 6749, 3.1).
 -- Pairs with other names or with empty values are ignored, and no name may occur twice.
-use Rattle.std.specs.Prelude.{◌≡◌, ℕ, Bool, ◌&&◌, List, [], ◌∷◌, ◌++◌, length, filter, nat_lt, Option, Some, None, is_some, Result, Ok, Err, IsTrue, IsFalse, ⊤, if◌then◌else◌}
+use Rattle.std.specs.Prelude.{◌≡◌, ℕ, Bool, ◌&&◌, List, [], ◌∷◌, ◌++◌, length, filter, nat_lt, Option, Some, None, is_some}
+use Rattle.std.specs.Prelude.{Result, Ok, Err, IsTrue, IsFalse, ⊤, if◌then◌else◌}
 use Rattle.std.specs.List.{list_any}
 use Rattle.std.specs.Str.{bytes_eq}
 use Rattle.sso_base.specs.Words.{Text}

@@ -24,7 +24,7 @@ pub struct Params {
     pub nonce: Option<Text>,
     /// How the response is sent (OpenID Connect Core 1.0, 3.1.2.1).
     pub response_mode: Option<Text>,
-    /// Whether the user is asked to log in or to consent (OpenID Connect Core 1.0, 3.1.2.1).
+    /// Whether the user is prompted to log in or to consent (OpenID Connect Core 1.0, 3.1.2.1).
     pub prompt: Option<Text>,
     /// How long ago the user may have logged in, in seconds (OpenID Connect Core 1.0, 3.1.2.1).
     pub max_age: Option<Text>,

@@ -1,7 +1,8 @@
 // The configurations of the table `provider`, by the names in its call `provider`.
 
 use sample_configuration::{
-    ALICE, ALICES_CLAIMS, BOB, MAIL_CLIENT, NEWS_CLIENT, PROVIDER, SHOP_CLIENT,
+    ALICE, ALICES_CLAIMS, BOB, MAIL_CLIENT, NEWS_CLIENT, OLD_SEALS, PROVIDER, SHOP_CLIENT,
+    with_old_secrets, with_two_secrets,
 };
 use sso_base::NoMemory;
 use std::alloc::Global;
@@ -56,6 +57,18 @@ fn shop(alloc: Global) -> Result<String, NoMemory> {
     Ok([users.as_str(), clients.as_str()].concat(alloc)?)
 }
 
+// The same clients, each with an old secret too and with these lines after it.
+fn two_secrets(alloc: Global, lines: &str) -> Result<String, NoMemory> {
+    let file = shop(alloc)?;
+    with_two_secrets(alloc, file.as_str(), lines)
+}
+
+// The same in the first version, which ignores the keys.
+fn ignored_secrets(alloc: Global) -> Result<String, NoMemory> {
+    let file = shop(alloc)?;
+    with_old_secrets(alloc, file.as_str(), OLD_SEALS)
+}
+
 // The head of a configuration whose provider has this issuer.
 fn provider_at(alloc: Global, issuer: &str) -> Result<String, NoMemory> {
     Ok(PROVIDER.replacen(alloc, "http://127.0.0.1:8080", issuer, 1)?)
@@ -85,6 +98,9 @@ fn https(alloc: Global) -> Result<String, NoMemory> {
 pub fn configuration(alloc: Global, name: &str) -> Result<String, NoMemory> {
     match name {
         "shop" => shop(alloc),
+        "two secrets" => two_secrets(alloc, ""),
+        "old seals" => two_secrets(alloc, OLD_SEALS),
+        "first version" => ignored_secrets(alloc),
         "below a path" => below_a_path(alloc),
         "https" => https(alloc),
         _ => Ok(String::new(alloc)),

@@ -35,7 +35,7 @@ fn begin(
     })
 }
 
-// A login, and its response with a code. What is told of the latter.
+// A login, and its response with a code. Returns the answer to the latter.
 fn bring_code(
     alloc: Global,
     party: &mut RelyingParty,
@@ -70,7 +70,7 @@ fn token_text(token: &Option<Text>) -> &str {
     }
 }
 
-// A login, and its response with an ID Token. What is told of the latter.
+// A login, and its response with an ID Token. Returns the answer to the latter.
 fn bring_id_token(
     alloc: Global,
     party: &mut RelyingParty,
@@ -85,22 +85,22 @@ fn bring_id_token(
     party.ask(alloc, run, at, "ask", &fields)
 }
 
-// A logout token of alice at `shop`, whose identifier has this number. What is told of it.
+// A logout token at `shop` with these claims. Returns the answer to it.
 fn bring_logout_token(
     alloc: Global,
     party: &mut RelyingParty,
     run: &mut Run,
     at: Moment,
-    number: u32,
+    claims: &str,
 ) -> Result<String, NoMemory> {
     let seconds = at.seconds();
-    let name = format!(in alloc; "logout shop,{seconds},jti=a{number},sub=alice")?;
+    let name = format!(in alloc; "logout shop,{seconds},{claims}")?;
     let token = sealed::token(alloc, name.as_str())?;
     let form = format!(in alloc; "logout_token={}", token_text(&token))?;
     party.ask(alloc, run, at, "ask", &["POST", "/logout", form.as_str()])
 }
 
-// What is told of the last request of one round.
+// The answer to the last request of one round.
 fn bring_one(
     alloc: Global,
     party: &mut RelyingParty,
@@ -112,13 +112,20 @@ fn bring_one(
     match what {
         "codes" => bring_code(alloc, party, run, at),
         "ID Tokens" => bring_id_token(alloc, party, run, at),
-        "logout tokens" => bring_logout_token(alloc, party, run, at, number),
+        "logout tokens" => {
+            let claims = format!(in alloc; "jti=a{number},sub=alice")?;
+            bring_logout_token(alloc, party, run, at, claims.as_str())
+        }
+        "logout tokens of sessions" => {
+            let claims = format!(in alloc; "jti=a{number},sid=s{number}")?;
+            bring_logout_token(alloc, party, run, at, claims.as_str())
+        }
         _ => told(alloc, "no such call"),
     }
 }
 
-/// Brings so many of these: `codes` and `ID Tokens`, each to a login that is begun for it, or `logout tokens`. What is told of the first,
-/// and how often that is told.
+/// Brings so many of these: `codes` and `ID Tokens`, each to a login that is begun for it, `logout tokens` or `logout tokens of
+/// sessions`. Returns the answer to the first, and how many have that answer.
 pub fn bring(
     alloc: Global,
     party: &mut RelyingParty,

@@ -14,6 +14,7 @@
 //! | | any other | is a call of that provider |
 //! | `party` | `party|NAME`, `party|NAME|elsewhere` | begins a relying party, at the provider of the cases or at another |
 //! | | `provider` | begins the provider of the cases |
+//! | | `party|NAME|SECRETS`, `provider|SECRETS` | the same with two secrets of clients, where SECRETS is `two secrets` or `old seals` |
 //! | | `provider|..` | is a call of that provider, after the first field |
 //! | | any other | is a call of the relying party |
 //! | both | `times|COUNT|..` | makes the call that follows COUNT times |

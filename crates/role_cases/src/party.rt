@@ -10,7 +10,7 @@ use case_lines::{
 };
 use client_registry::{Provider, RegNo, Registry, read_registry};
 use rp_core::RpCore;
-use rp_exchange::{RpAsk, RpReply};
+use rp_exchange::{RpAsk, RpNo, RpReply};
 use rp_login::{Logins, PendingRow, SessionRow, Stage};
 use rp_request::{prepare_info, prepare_rp, prepare_tokens};
 use rp_response::{rp_http, rp_line};
@@ -132,7 +132,11 @@ impl Telling for RelyingParty {
         let messages = messages_in(alloc, reply)?;
         run.keep(rp_http(alloc, &self.registry, self.party, reply)?, messages);
         let line = rp_line(alloc, reply)?;
-        run.told(alloc, call, line.as_str())
+        let mut out = run.told(alloc, call, line.as_str())?;
+        if call == "why" {
+            push_place(alloc, &mut out, reply)?;
+        }
+        Ok(out)
     }
 
     fn try_nothing(&mut self, alloc: Global, at: Moment) -> Option<bool> {
@@ -163,10 +167,13 @@ impl RelyingParty {
     /// | `ask|MOMENT|tokens|EXCHANGE|STATUS|BODY` | the line of the reply to the token endpoint's answer in this exchange |
     /// | `ask|MOMENT|info|EXCHANGE|STATUS|BODY` | the line of the reply to UserInfo's answer in this exchange |
     /// | `send|..`, with the same fields | the line, the reply in HTTP, and the message in it |
+    /// | `why|..`, with the same fields | the line, and the place of the earlier request that a refusal names |
+    /// | `remembered|MOMENT|SID` | the place of the last logout token that named this session, and when it was accepted |
     /// | `fill|MOMENT|COUNT` | how often nothing is found by requests for something that does not exist |
     /// | `bring|MOMENT|COUNT|codes` | the answers to the responses of COUNT logins, each with a code |
     /// | `bring|MOMENT|COUNT|ID Tokens` | the same at `blog`, each with an ID Token for alice |
     /// | `bring|MOMENT|COUNT|logout tokens` | the answers to COUNT logout tokens for alice at `shop`, each with its own `jti` |
+    /// | `bring|MOMENT|COUNT|logout tokens of sessions` | the same, each for its own `sid`, from `s0` |
     /// | `held` | the entries of the tables for the words 1 to 63 |
     /// | `count` | how many requests were answered |
     pub fn answer(
@@ -193,7 +200,10 @@ impl RelyingParty {
         match fields {
             ["fill", _, count] => fill(alloc, self, at, number(count)),
             ["bring", _, count, what] => bring(alloc, self, run, at, number(count), what),
-            [call @ ("ask" | "send"), _, asked @ ..] => self.ask(alloc, run, at, call, asked),
+            ["remembered", _, sid] => remembered(alloc, self.core.tables(), at, sid),
+            [call @ ("ask" | "send" | "why"), _, asked @ ..] => {
+                self.ask(alloc, run, at, call, asked)
+            }
             _ => told(alloc, "no such call"),
         }
     }
@@ -228,7 +238,7 @@ impl RelyingParty {
         }
     }
 
-    /// What the call `ask` or `send` tells of a request, or of an answer of the provider.
+    /// The answer to the call `ask`, `send` or `why`: about a request, or about an answer of the provider.
     pub fn ask(
         &mut self,
         alloc: Global,
@@ -241,6 +251,25 @@ impl RelyingParty {
         let answer = self.core.step(alloc, at, run.words(), asked);
         step_told(alloc, run, call, self, &answer)
     }
+}
+
+// The place of the earlier request that a refusal names.
+fn place_named(why: &RpNo) -> Option<u64> {
+    match why {
+        RpNo::Seen(place) | RpNo::EndedSid(place) => Some(*place),
+        _ => None,
+    }
+}
+
+// Adds that place.
+fn push_place(alloc: Global, out: &mut String, reply: &RpReply) -> Result<(), NoMemory> {
+    let RpReply::Refused { why } = reply else {
+        return Ok(());
+    };
+    if let Some(place) = place_named(why) {
+        out.push_str(format!(in alloc; ", place {place}")?.as_str())?;
+    }
+    Ok(())
 }
 
 fn nothing_found(answer: &Result<RpReply, CoreNo>) -> Option<bool> {
@@ -323,4 +352,15 @@ fn held(alloc: Global, tables: &Logins) -> Result<String, NoMemory> {
         push_held(alloc, &mut out, tables, number)?;
     }
     or_else(out, "nothing")
+}
+
+// The logout token that named this session last, if it is remembered.
+fn remembered(alloc: Global, tables: &Logins, at: Moment, sid: &str) -> Result<String, NoMemory> {
+    match tables.live_dead(sid.as_bytes(), at) {
+        Some(row) => {
+            let (place, accepted) = (row.place, row.accepted.seconds());
+            Ok(format!(in alloc; "place {place} at {accepted}")?)
+        }
+        None => told(alloc, "nothing"),
+    }
 }

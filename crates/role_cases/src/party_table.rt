@@ -1,7 +1,7 @@
 // The calls of the table `party`.
 
 use crate::roles::{Role, Roles};
-use crate::setup::{ELSEWHERE, ELSEWHERE_AUTHORIZE, LOCAL, configuration};
+use crate::setup::{ELSEWHERE, ELSEWHERE_AUTHORIZE, LOCAL, configuration, configuration_with};
 use case_lines::number;
 use sso_base::NoMemory;
 use std::alloc::Global;
@@ -11,9 +11,30 @@ fn begin_provider(alloc: Global, roles: &mut Roles) -> Result<String, NoMemory> 
     roles.begin_provider(alloc, file.as_str())
 }
 
+// The same if clients have two secrets.
+fn begin_changing_provider(
+    alloc: Global,
+    roles: &mut Roles,
+    secrets: &str,
+) -> Result<String, NoMemory> {
+    let file = configuration_with(alloc, secrets)?;
+    roles.begin_provider(alloc, file.as_str())
+}
+
 // Begins a relying party of the provider of the cases.
 fn begin_party(alloc: Global, roles: &mut Roles, name: &str) -> Result<String, NoMemory> {
     let file = configuration(alloc, LOCAL)?;
+    roles.begin_party(alloc, file.as_str(), name, None)
+}
+
+// The same if its client has two secrets.
+fn begin_changing_party(
+    alloc: Global,
+    roles: &mut Roles,
+    name: &str,
+    secrets: &str,
+) -> Result<String, NoMemory> {
+    let file = configuration_with(alloc, secrets)?;
     roles.begin_party(alloc, file.as_str(), name, None)
 }
 
@@ -23,13 +44,18 @@ fn begin_elsewhere(alloc: Global, roles: &mut Roles, name: &str) -> Result<Strin
     roles.begin_party(alloc, file.as_str(), name, Some(ELSEWHERE_AUTHORIZE))
 }
 
-/// The answer to a call: `party|NAME`, `party|NAME|elsewhere` and `provider` begin a role. A call after `provider` goes to the
-/// provider, and every other call to the relying party, as often as `times|COUNT` before it says.
+/// The answer to a call: `party|NAME`, `party|NAME|elsewhere` and `provider` begin a role. With `two secrets` or `old seals` at the
+/// end, clients have two secrets. A call after `provider` goes to the provider, and every other call to the relying party, as often
+/// as `times|COUNT` before it says.
 pub fn answer(alloc: Global, roles: &mut Roles, fields: &[&str]) -> Result<String, NoMemory> {
     match fields {
         ["party", name] => begin_party(alloc, roles, name),
         ["party", name, "elsewhere"] => begin_elsewhere(alloc, roles, name),
+        ["party", name, secrets] => begin_changing_party(alloc, roles, name, secrets),
         ["provider"] => begin_provider(alloc, roles),
+        ["provider", secrets @ ("two secrets" | "old seals")] => {
+            begin_changing_provider(alloc, roles, secrets)
+        }
         ["provider", call @ ..] => roles.ask_provider(alloc, call),
         ["times", count, call @ ..] => { roles.ask_often(alloc, Role::Party, number(count), call) }
         _ => roles.ask_party(alloc, fields),

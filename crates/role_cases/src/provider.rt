@@ -2,7 +2,7 @@
 
 use crate::telling::{Telling, fill, step_told};
 use case_lines::{Run, field, moment, number, request, told, told_bytes, word_of, words_of_place};
-use client_registry::{RegNo, Registry, read_registry};
+use client_registry::{Client, RegNo, Registry, read_registry};
 use jws_compact::{JwsNo, Unsealed, unseal};
 use op_core::OpCore;
 use op_exchange::{OpAsk, OpReply};
@@ -16,7 +16,8 @@ const MAIL_TARGET: &str =
     "/authorize?client_id=mail-client&redirect_uri=http%3A%2F%2F127.0.0.1%3A8083%2Fcb&response_type=code&scope=openid&nonce=n";
 
 const MAIL_GRANT: &str =
-    "grant_type=authorization_code&client_id=mail-client&client_secret=mail-secret-mail-secret-mail-secret&redirect_uri=http%3A%2F%2F127.0.0.1%3A8083%2Fcb&code=";
+    "grant_type=authorization_code&client_id=mail-client&client_secret=mail-secret-mail-secret-mail-secret\
+     &redirect_uri=http%3A%2F%2F127.0.0.1%3A8083%2Fcb&code=";
 
 /// A provider, and its registry.
 #[derive(Drop)]
@@ -94,6 +95,7 @@ impl Provider {
     /// | `holds|WORD` | the entries of the tables for the word |
     /// | `count` | the number of answered requests |
     /// | `payload|CLIENT|TOKEN` | the payload of a token that is sealed under the secret of the client with this id |
+    /// | `old payload|CLIENT|TOKEN` | the same under its old secret |
     pub fn answer(
         &mut self,
         alloc: Global,
@@ -103,7 +105,8 @@ impl Provider {
         match fields {
             ["holds", word] => told(alloc, self.name_held(word_of(word))),
             ["count"] => Ok(self.core.count().to_string(alloc)?),
-            ["payload", client, token] => self.payload(alloc, client, token),
+            ["payload", client, token] => self.payload(alloc, client, false, token),
+            ["old payload", client, token] => self.payload(alloc, client, true, token),
             _ => match moment(field(fields, 1)) {
                 Some(at) => self.answer_at(alloc, run, at, fields),
                 None => told(alloc, "no such call"),
@@ -275,15 +278,32 @@ impl Provider {
 
     // ---- payloads of tokens
 
-    fn payload(&self, alloc: Global, client: &str, token: &str) -> Result<String, NoMemory> {
+    fn payload(
+        &self,
+        alloc: Global,
+        client: &str,
+        is_old: bool,
+        token: &str,
+    ) -> Result<String, NoMemory> {
         match self.registry.find_client(client.as_bytes()) {
             Some(place) if place < self.registry.clients() => {
-                let secret = self.registry.client(place).secret.as_str();
+                let secret = secret_of(self.registry.client(place), is_old);
                 let opened = unseal(alloc, secret.as_bytes(), token.as_bytes());
                 payload_told(alloc, &opened)
             }
             _ => told(alloc, "no such client"),
         }
+    }
+}
+
+// The secret of a client, or its old secret, which is the empty text if it has none.
+fn secret_of(client: &Client, is_old: bool) -> &str {
+    if !is_old {
+        return client.secret.as_str();
+    }
+    match &client.old_secret {
+        Some(old) => old.as_str(),
+        None => "",
     }
 }
 

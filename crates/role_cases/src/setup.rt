@@ -1,8 +1,8 @@
 // The relying parties of the table `party` and their provider.
 
 use sample_configuration::{
-    ALICE, ALICES_CLAIMS, BOB, MAIL_CLIENT, MAIL_PARTY, NEWS_CLIENT, NEWS_PARTY, PROVIDER,
-    SHOP_CLIENT, SHOP_PARTY,
+    ALICE, ALICES_CLAIMS, BOB, MAIL_CLIENT, MAIL_PARTY, NEWS_CLIENT, NEWS_PARTY, OLD_SEALS,
+    PROVIDER, SHOP_CLIENT, SHOP_PARTY, with_two_secrets,
 };
 use sso_base::NoMemory;
 use std::alloc::Global;
@@ -167,4 +167,16 @@ pub fn configuration(alloc: Global, issuer: &str) -> Result<String, NoMemory> {
     ]
     .concat(alloc)?;
     Ok([provider.as_str(), clients.as_str(), parties.as_str()].concat(alloc)?)
+}
+
+/// The configuration of the cases in which the clients of `shop`, `news` and `mail` have an old secret too. They seal with it if
+/// `secrets` is `old seals`.
+pub fn configuration_with(alloc: Global, secrets: &str) -> Result<String, NoMemory> {
+    let lines = if secrets == "old seals" {
+        OLD_SEALS
+    } else {
+        ""
+    };
+    let file = configuration(alloc, LOCAL)?;
+    with_two_secrets(alloc, file.as_str(), lines)
 }

@@ -3,14 +3,16 @@
 use Rattle.std.proofs.Common.{ℕ, true, false, List, [], ◌∷◌, Some, codes}
 use Rattle.sso_base.specs.declared.history.Entry.{Entry}
 use Rattle.sso_base.specs.Words.{Text}
+pub use Rattle.sso_base.proofs.SampleWords.{word, words}
 use Rattle.id_token.specs.declared.claims.IdClaims.{IdClaims}
 use Rattle.client_registry.specs.declared.records.Party.{Party}
 use Rattle.oidc_words.specs.declared.response_types.Types.{Types}
 use Rattle.client_registry.specs.Configuration.{Configuration}
+pub use Rattle.client_registry.proofs.SampleRegistry.{op, only_code}
 use Rattle.rp_exchange.specs.declared.ask.RpAsk.{RpAsk}
 use Rattle.rp_exchange.specs.declared.reply.RpReply.{RpReply}
 use Rattle.rp_exchange.proofs.Sample.{front, alice}
-pub use Rattle.rp_exchange.proofs.Sample.{word, words, op, only_code, shop_client, shop, news_client, news, sample}
+pub use Rattle.rp_exchange.proofs.Sample.{shop_client, shop, news_client, news, sample}
 use Rattle.rp_answer.specs.Past.{RpPair}
 use Rattle.rp_answer.specs.Setup.{PartySetup}
 

@@ -19,8 +19,7 @@ use Rattle.rp_answer.specs.Deads.{live_dead}
 abbrev pub sid_waiting : Option PendingRow → Option Text
 sid_waiting pending = option_and_then (λ (row : PendingRow). row.sid) pending
 
--- the `sid` of the last ID Token that was verified for the session that would begin; for a UserInfo response, it was verified
--- before
+-- the `sid` of the last ID Token of the session that would begin; if a UserInfo response comes, that token was verified before
 abbrev pub sid_judged : Types → RpPast → ℕ → RpAsk → Option Text
 sid_judged types past at (Info w came) = sid_waiting (live_pending types past at w stage.Info)
 sid_judged types past at asked = sid_in (claims_judged types asked)
@@ -33,7 +32,7 @@ abbrev pub enter_unless : RpReply → Option DeadRow → RpReply
 enter_unless reply None = reply
 enter_unless reply (Some dead) = Refused (EndedSid dead.place)
 
--- only a session that would begin is refused
+-- only a reply that begins a session is replaced
 abbrev pub unless_dead : RpReply → Option DeadRow → RpReply
 unless_dead (Entered w sub) dead = enter_unless (Entered w sub) dead
 unless_dead reply dead = reply

@@ -1,4 +1,4 @@
--- What a reply of a relying party says of the past and of the ask that led to it.
+-- What a reply of a relying party implies about the past and the `RpAsk` that led to it.
 use Rattle.std.specs.Prelude.{◌≡◌, ℕ, Bool, true, false, Option, Some, None, is_some, Result, Ok, Err, ◌⊎◌}
 use Rattle.sso_base.specs.Words.{Word, Text, is_word, fresh_word}
 use Rattle.sso_base.specs.Texts.{is_other}
@@ -49,7 +49,7 @@ use Rattle.rp_answer.specs.Room.{table_lacking}
 use Rattle.rp_answer.specs.Answering.{rp_told}
 use Rattle.rp_answer.specs.FullTables.{LacksPlace, FullCause}
 
--- ---- every reply but NotHere and the refusal Full: a request gives the ask, and there was room
+-- ---- every reply except NotHere and the refusal Full: reading a request can give the `RpAsk`, and there was room
 
 abbrev pub is_own : RpReply → Bool
 is_own NotHere = false
@@ -61,7 +61,7 @@ pub record Stood (s : PartySetup) (past : RpPast) (e : Entry RpAsk) (reply : RpR
   pub room : table_lacking (party_of s).types past e reply ≡ None
   pub reply_is : rp_told s past e e.ask ≡ reply
 
--- A request gives the ask, the row that the reply makes has a place in its table, and this is why it comes.
+-- Reading a request can give the `RpAsk`, the row that the reply makes has a place in its table, and this is its cause.
 pub record Comes (s : PartySetup) (past : RpPast) (e : Entry RpAsk) (reply : RpReply) (Cause : Type 0) : Type 0 where
   pub prepared : is_prepared e.ask ≡ true
   pub placed : (table : RpTable) → LacksPlace (party_of s).types past e reply table → ⊥
@@ -80,7 +80,7 @@ pub record WholeResponse (s : PartySetup) (past : RpPast) (e : Entry RpAsk) (hea
   pub no_error : heard.error ≡ None
   pub whole : part_missing (party_of s).types heard ≡ None
 
--- the claims of an ID Token were read and judged good by these rules
+-- the claims of an ID Token were read, and verified by these rules
 pub record GoodClaims (rules : IdRules) (at : ℕ) (id : Option (Result IdClaims IdNo)) (claims : IdClaims) : Type 0 where
   pub read : id ≡ Some (Ok claims)
   pub good : Unit {0}
@@ -135,7 +135,7 @@ abbrev pub FragmentCause : RpAsk → Type 0
 FragmentCause ask.Fragment = Unit {0}
 FragmentCause other = ⊥
 
--- ---- a UserInfo request: the same without a code, or an accepted ID Token for a live exchange; the party asks for UserInfo at
+-- ---- a UserInfo request: the same without a code, or an accepted ID Token for a live exchange; the party requests UserInfo at
 -- this endpoint, and there is an access token
 
 pub record FetchedAtOnce
@@ -173,7 +173,7 @@ FetchCause s past e other w message = ⊥
 
 -- ---- a session: the same without UserInfo, or a UserInfo response of the subject before
 
--- UserInfo is not asked for: there is no endpoint for it, or no access token
+-- UserInfo is not requested: there is no endpoint for it, or no access token
 abbrev pub NotFetched : Option Text → Option Text → Type 0
 NotFetched endpoint access = (endpoint ≡ None) ⊎ (access ≡ None)
 
@@ -215,12 +215,13 @@ MayEnter s past e (ask.Tokens pending (Ok came) id) w sub = EnteredAfterExchange
 MayEnter s past e (ask.Info pending (Ok came)) w sub = EnteredAfterInfo s past e pending came w sub
 MayEnter s past e other w sub = ⊥
 
--- it begins: no `sid` that a logout token named is that of the last ID Token
+-- it begins: no remembered logout token has the `sid` of the last ID Token
 pub record EnteredCause (s : PartySetup) (past : RpPast) (e : Entry RpAsk) (asked : RpAsk) (w : Word) (sub : Text) : Type 0 where
   pub enters : MayEnter s past e asked w sub
   pub alive : dead_for (party_of s).types past e.at asked ≡ None
 
--- it does not: a logout token named the `sid` of the last ID Token, and was accepted by the pair with this number
+-- it does not: a remembered logout token has the `sid` of the last ID Token, and was accepted by the pair with this number,
+-- counted from 1
 pub record SidEnded (s : PartySetup) (past : RpPast) (e : Entry RpAsk) (asked : RpAsk) (place : ℕ) : Type 0 where
   pub word : Word
   pub sub : Text

@@ -1,5 +1,5 @@
--- The session identifiers that accepted logout tokens named. While one is remembered, no session of it begins: its logout came
--- first (our choice).
+-- The session identifiers that accepted logout tokens named. While one is remembered, no session with it begins: its logout
+-- came first (our choice).
 use Rattle.std.specs.Prelude.{ℕ, ◌+◌, List, length, Option, Some, option_map, option_and_then}
 use Rattle.sso_base.specs.Words.{Text}
 use Rattle.sso_base.specs.Rows.{rows_by, row_of, live_rows, if_lives}
@@ -19,14 +19,14 @@ dead_at before at sid = record { sid = sid; place = before + 1; accepted = at }
 abbrev pub dead_of : ℕ → ℕ → LogoutClaims → Option DeadRow
 dead_of before at claims = option_map (dead_at before at) claims.sid
 
--- One is recorded if a token is accepted that has it.
+-- a pair that accepts a logout token with a `sid` records this `sid`
 abbrev pub dead_by : ℕ → ℕ → RpAsk → RpReply → Option DeadRow
 dead_by before at asked reply = option_and_then (dead_of before at) (token_accepted asked reply)
 
 abbrev pub dead_made : List DeadRow → RpPast → RpPair → Option DeadRow
 dead_made held past p = dead_by (length past) p.entry.at p.entry.ask p.reply
 
--- Only its life ends it, and a later token that has it.
+-- no pair ends a record; it lives for its time, or until a later token with this `sid` replaces it
 abbrev pub dead_kept : RpPast → RpPair → DeadRow → Option DeadRow
 dead_kept past p row = Some row
 

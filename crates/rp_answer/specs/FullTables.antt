@@ -1,6 +1,6 @@
--- What the refusal `Full` says: the reply that there would be, were there always room, makes a row that has no place in its
--- table, beside the rows that live at the moment and that the step does not end. A reply makes at most one row besides what it
--- ends, so at most one table lacks a place for it.
+-- The cause of the refusal `Full`: the reply without the test for room makes a row that has no place in its table, next to the
+-- rows that live at the moment and that the step does not end. A reply makes at most one row in these tables, so at most one of
+-- them lacks a place. The `sid` of a logout token is in no list here: if the token has room, its `sid` has room.
 use Rattle.std.specs.Prelude.{◌≡◌, ℕ, true, Ok, ◌⊎◌}
 use Rattle.sso_base.specs.Words.{Word, Text, fresh_word}
 use Rattle.sso_base.specs.declared.history.Entry.{Entry}

@@ -23,7 +23,7 @@ use Rattle.rp_answer.specs.Seens.{live_seens}
 abbrev pub if_full : RpTable → Bool → Option RpTable
 if_full table full = if full then Some table else None
 
--- the pending exchanges beside the one that a token response ends
+-- the pending exchanges except the one that a token response ends
 abbrev pub beside_answered : RpAsk → List PendingRow → List PendingRow
 beside_answered (ask.Tokens answered came id) rows = without pending_name answered rows
 beside_answered asked rows = rows

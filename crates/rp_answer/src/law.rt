@@ -1,4 +1,4 @@
-// What holds of a relying party's answers.
+// What is true for a relying party's replies.
 
 ghost use Rattle.std.specs.Prelude.{◌≡◌, ◌≤◌, ◌↔◌, true, List, length, Some};
 ghost use Rattle.sso_base.specs.Words.{Word, Text};
@@ -27,8 +27,8 @@ ghost use Rattle.rp_answer.specs.Laws.{LoginsEnterOnce, DeadSidsAreFew, Sessions
 ghost use Rattle.rp_answer.specs.Laws.{EqualIdentifiersAreFarApart, LogoutTokensAreAcceptedOnce, CodesHaveTheirHash, AccessTokensHaveTheirHash};
 ghost use Rattle.rp_answer.specs.Laws.{LoginObjectsAreNoIdTokens, LoginObjectsAreNoLogoutTokens};
 
-/// A row is found after a past exactly where some pair made it, no later pair made one of its name or ended it, and it is
-/// as the later pairs left it.
+/// A row is found after a past if and only if some pair made it, no later pair made one of its name or ended it, and it is as
+/// the later pairs left it.
 pub fn rows_stand()
     ensures logins { LoginsStand }
     ensures pendings { PendingExchangesStand }
@@ -37,9 +37,10 @@ pub fn rows_stand()
     ensures deads { DeadSidsStand }
 {}
 
-/// Why each reply of a relying party comes. A reply with these parts comes exactly where a request gives the ask, the row that
-/// the reply makes has a place in its table, and the past and the ask are as its cause says. The cause of the refusal `Full` is
-/// that a table is full, which has its own law, below. `NotHere` says nothing of the past.
+/// The cause of each reply of a relying party. A reply with these parts is returned if and only if reading a request can give
+/// the `RpAsk`, the row that the reply makes has a place in its table, and the cause holds for the past and the `RpAsk`.
+///
+/// The refusal `Full` has a law of its own, below: a table is full. `NotHere` does not depend on the past.
 pub fn replies_have_a_cause()
     ensures own { (s : PartySetup) (past : RpPast) (e : Entry RpAsk) (r : RpReply) → is_own r ≡ true → (rp_answer s past e ≡ r) ↔ Stood s past e r }
     ensures asks { AuthorizationRequestsHaveACause }
@@ -54,17 +55,19 @@ pub fn replies_have_a_cause()
     ensures refusals { RefusalsHaveACause }
 {}
 
-/// The refusal `Full` of a table comes exactly where a request gives the ask, and a row of this table that the reply would make
-/// has no place in it: beside the rows that live at the moment, and that the step does not end, they are 65,536, or one of them
-/// has its word, or the `jti` of a logout token. At most one table lacks a place.
+/// The refusal `Full` of a table is returned if and only if reading a request can give the `RpAsk`, and a row of this table
+/// that the reply would make has no place in it. A row has no place if 65,536 rows live at the moment, or if one that lives has
+/// its word, or the `jti` of its logout token. Rows that the step ends do not count. At most one table lacks a place.
 pub fn full_tables_are_full()
     ensures { FullTablesHaveACause }
 {}
 
-/// The state and the nonce of a login, and the word of a pending exchange or of a session, are drawn words of the one pair that
-/// made it; a UserInfo request that follows an exchange has the word of that exchange. What waits has the nonce and the begin of
-/// its login, and was sent by a pair that answered with a message of this very word. A session has the nonce of the login that
-/// entered, and the subject and the `sid` of the ID Token that was judged for it. The text of a drawn word determines it.
+/// The state and the nonce of a login, the word of a pending exchange and the word of a session are drawn words of the one pair
+/// that made the row. A UserInfo request after a token response has the word of that exchange.
+///
+/// A pending exchange has the nonce and the begin time of its login, and its request was sent by a pair whose reply has a
+/// message with this word. A session has the nonce of the login that entered, and the subject and the `sid` of the ID Token
+/// that was verified for it. The text of a drawn word determines the word.
 pub fn words_are_drawn()
     ensures logins { (past : RpPast) (state : Word) (login : LoginRow) → row_of login_name state (logins past) ≡ Some login → BegunBy past login }
     ensures pendings { PendingExchangesAreDrawn }
@@ -72,39 +75,43 @@ pub fn words_are_drawn()
     ensures texts { DrawnWordsHaveOneText }
 {}
 
-/// In any legal past a session begins only where the browser that began a login brought the response of its state, and with
-/// an ID Token of the login's nonce that was judged good (OpenID Connect Core 1.0, 3.1.3.7, 3.2.2.11 and 3.3.2.12): it came with
-/// this very ask, or, where UserInfo came, with the ask after which that was asked for. It is this login that enters.
+/// In any legal past a session begins only if the browser that began a login brought the response with the login's state, and
+/// an ID Token with the login's nonce was verified and accepted (OpenID Connect Core 1.0, 3.1.3.7, 3.2.2.11 and 3.3.2.12).
+///
+/// The ID Token came with this very request. If UserInfo came, the ID Token came with the request after which UserInfo was
+/// requested. The login that enters is this one.
 pub fn sessions_need_a_login()
     ensures { SessionsNeedALogin }
 {}
 
-/// A login enters at most once: no two pairs let in the login that one pair began. This holds of any past, legal or not.
+/// A login enters at most once: no two pairs accept the login that one pair began. This is true for any past, legal or not.
 pub fn logins_enter_once()
     ensures { LoginsEnterOnce }
 {}
 
-/// A logout token is remembered by its `jti` where a pair accepted it, with the moment and the place of that pair (OpenID Connect
-/// Back-Channel Logout 1.0, 2.6, step 8).
+/// A logout token is remembered by its `jti` only if a pair accepted it. The record has the time and the position of that pair
+/// (OpenID Connect Back-Channel Logout 1.0, 2.6, step 8).
 pub fn seen_tokens_were_accepted()
     ensures { (past : RpPast) (jti : Text) (seen : SeenRow) → row_of seen_name jti (seens past) ≡ Some seen → AcceptedBy past seen }
 {}
 
-/// A session identifier is remembered where a pair accepted a logout token that has it, with the moment and the place of that
-/// pair (our choice).
+/// A session identifier is remembered only if a pair accepted a logout token that has it. The record has the time and the
+/// position of that pair (our choice).
 pub fn dead_sids_were_named()
     ensures { (past : RpPast) (sid : Text) (dead : DeadRow) → row_of dead_name sid (deads past) ≡ Some dead → NamedBy past dead }
 {}
 
-/// In any legal past, at most as many session identifiers are remembered at the moment of the next pair as logout tokens. So a
-/// logout token for which there is room has room for its `sid` (our choice).
+/// In any legal past, at the moment of the next pair, no more session identifiers are remembered than logout tokens. So if
+/// there is room for a logout token, there is room for its `sid` (our choice).
 pub fn dead_sids_are_few()
     ensures { DeadSidsAreFew }
 {}
 
-/// A session is no longer found exactly where its browser leaves, or a logout token is accepted that means it (OpenID Connect
-/// Back-Channel Logout 1.0, 2.7). Any other pair leaves it as it is, unless it makes another session of its word; in a legal past
-/// none does so while the session lives, which is for 28,800 seconds.
+/// A session is no longer found after a pair if and only if its browser leaves there, or a logout token that means the session
+/// is accepted there (OpenID Connect Back-Channel Logout 1.0, 2.7).
+///
+/// Any other pair leaves the session as it is, unless it makes another session with its word. In a legal past no pair does so
+/// while the session lives, which is for 28,800 seconds.
 pub fn sessions_end_by_leaving_and_logout()
     ensures ended { SessionsEndIfEnded }
     ensures kept { OtherSessionsAreKept }
@@ -118,9 +125,11 @@ pub fn logout_tokens_are_accepted_once()
     ensures once { LogoutTokensAreAcceptedOnce }
 {}
 
-/// Where a response type has an ID Token, the code that is exchanged came with an ID Token that has its `c_hash` (OpenID Connect
-/// Core 1.0, 3.3.2.10). UserInfo is asked for with an access token that came with an ID Token: one of an authorization response
-/// has its `at_hash` (3.2.2.9), one of a token response has it where it has an `at_hash` (3.1.3.8).
+/// If a response type has an ID Token, the code that is exchanged came with an ID Token that has its `c_hash` (OpenID Connect
+/// Core 1.0, 3.3.2.10).
+///
+/// UserInfo is requested with an access token that came with an ID Token. The ID Token of an authorization response has the
+/// `at_hash` of that access token (3.2.2.9). The ID Token of a token response has it if it has any `at_hash` (3.1.3.8).
 pub fn codes_and_access_tokens_have_their_hash()
     ensures codes { CodesHaveTheirHash }
     ensures access { AccessTokensHaveTheirHash }

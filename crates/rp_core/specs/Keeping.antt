@@ -100,7 +100,7 @@ abbrev pub seen_put : Option SeenRow → Tables → Tables
 seen_put None t = t
 seen_put (Some row) t = with_seen row t
 
--- a later one replaces that of the same `sid`
+-- the record of a session identifier takes the place of an earlier one of the same identifier
 abbrev pub dead_put : Option DeadRow → Tables → Tables
 dead_put None t = t
 dead_put (Some row) t = with_dead row (dead_ended row.sid t)

@@ -1,4 +1,4 @@
-// Whether a logout came before its login: no session begins with a `sid` that an accepted logout token named.
+// Whether a logout came before its login: no session begins with a `sid` that a remembered logout token has.
 
 ghost use Rattle.std.specs.Prelude.{◌≡◌, ◌≤◌};
 ghost use Rattle.std.specs.Option.{option_copied};
@@ -72,7 +72,7 @@ impl RpCore {
         }
     }
 
-    // The `sid` of the last ID Token that was verified for the session that would begin.
+    // The `sid` of the last ID Token of the session that would begin.
     fn sid_judged<'a>(&'a self, at: Moment, ask: &'a RpAsk) -> Option<&'a Text>
         requires { last_moment (past_of self.now) ≤ at }
         ensures { option_copied result ≡ spec.sid_judged (party_of self.now.setup).types (past_of self.now) at ask.now }

@@ -182,7 +182,7 @@ fn end_earlier(tables: &mut Logins, row: &DeadRow)
     tables.end_dead(row.sid.as_str().as_bytes());
 }
 
-// Adds a session identifier. Its earlier record is removed.
+// Adds the record of a session identifier, in place of an earlier one of the same identifier.
 fn add_dead(tables: &mut Logins, row: Option<DeadRow>)
     requires may { IfSome row (λ r. MayAddRow dead_name dead_begun tables.old.reserved.deads (without dead_name r.sid tables.old.deads) r) }
     ensures { tables.new ≡ spec.dead_put row tables.old }

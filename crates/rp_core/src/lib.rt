@@ -9,6 +9,7 @@
 //! | `state` | [`RpCore`], a relying party with its history and its tables |
 //! | `step` | one step |
 //! | `answering`, `responding`, `exchanging`, `logging_out` | the reply, from the live rows |
+//! | `alive` | whether a logout came before its login |
 //! | `questions`, `room` | lookups in the tables, and whether they have room |
 //! | `making` | the rows that a reply makes |
 //! | `keeping` | updating the tables with a pair |

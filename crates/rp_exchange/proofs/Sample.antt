@@ -1,34 +1,18 @@
 -- A registry with two relying parties, one that exchanges a code and one that is answered in the fragment, to try the definitions on.
-use Rattle.std.proofs.Common.{ℕ, ◌+◌, true, false, List, [], ◌∷◌, ◌++◌, replicate, Some, None, codes}
-use Rattle.sso_base.specs.Words.{Word, Text}
+use Rattle.std.proofs.Common.{ℕ, true, false, [], ◌∷◌, Some, None, codes}
+use Rattle.sso_base.specs.Words.{Text}
+pub use Rattle.sso_base.proofs.SampleWords.{word, words}
 use Rattle.serde_json.specs.Data.{no_members}
 use Rattle.registered_url.specs.declared.web_url.WebUrl.{WebUrl}
-use Rattle.client_registry.specs.declared.records.Provider.{Provider}
 use Rattle.client_registry.specs.declared.records.Client.{Client}
 use Rattle.client_registry.specs.declared.records.Party.{Party}
 use Rattle.oidc_words.specs.declared.response_types.Types.{Types}
 use Rattle.client_registry.specs.Configuration.{Configuration}
+pub use Rattle.client_registry.proofs.SampleRegistry.{op, only_code}
 use Rattle.id_token.specs.declared.claims.IdClaims.{IdClaims}
-
-abbrev pub word : ℕ → Word
-word n = replicate 31 0 ++ n ∷ []
-
-abbrev pub words : ℕ → List Word
-words n = word n ∷ word (n + 1) ∷ word (n + 2) ∷ word (n + 3) ∷ []
-
-abbrev pub op : Provider
-op = record {
-  issuer = codes "http://127.0.0.1:8080";
-  authorize = codes "http://127.0.0.1:8080/authorize";
-  token = codes "http://127.0.0.1:8080/token";
-  userinfo = Some (codes "http://127.0.0.1:8080/userinfo");
-}
 
 abbrev pub url_at : ℕ → Text → WebUrl
 url_at port path = record { secure = false; host = codes "127.0.0.1"; port = port; path = path; query = None }
-
-abbrev pub only_code : Types
-only_code = record { code = true; id_token = false; token = false }
 
 abbrev pub front : Types
 front = record { code = false; id_token = true; token = true }

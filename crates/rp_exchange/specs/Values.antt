@@ -91,7 +91,7 @@ IsLogoutNoValue (logout_no.TooOld iat) = IsWide iat
 IsLogoutNoValue (logout_no.FromFuture iat) = IsWide iat
 IsLogoutNoValue other = Unit {0}
 
--- ---- asks
+-- ---- requests
 
 abbrev pub IsHeardRead : Result Heard AnswerNo → Type 0
 IsHeardRead (Ok heard) = IsHeard heard

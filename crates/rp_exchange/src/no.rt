@@ -56,7 +56,7 @@ pub enum RpNo {
     Logout(LogoutNo),
     /// The logout token was accepted before, by the pair with this number in the party's history, counted from 1 (2.6, step 8).
     Seen(u64),
-    /// The session identifier of the last ID Token was ended by a logout token that is still remembered. That token was
-    /// accepted by the pair with this number in the party's history, counted from 1 (2.7).
+    /// A logout token that is still remembered has the `sid` of the last ID Token, so the session ended before it began. The
+    /// logout token was accepted by the pair with this number in the party's history, counted from 1 (2.7).
     EndedSid(u64),
 }

@@ -1,4 +1,4 @@
-// What the types of an ask say of its values, for the proofs: texts are UTF-8, words have 32 bytes, and numbers their size.
+// What the types of an `RpAsk` say about its values, for the proofs: texts are UTF-8, words have 32 bytes, and numbers their size.
 
 ghost use Rattle.std.specs.Prelude.{◌<◌, ◌^◌};
 ghost use Rattle.sso_base.specs.Legal.{IsEntry};
@@ -162,7 +162,7 @@ fn know_logout(claims: &Result<LogoutClaims, LogoutNo>)
     }
 }
 
-// An ask holds values of their types.
+// An `RpAsk` holds values of their types.
 fn know_ask(ask: &RpAsk)
     ensures { spec.IsRpAsk ask.now }
 {
@@ -192,7 +192,8 @@ fn know_ask(ask: &RpAsk)
     }
 }
 
-/// An entry has a moment and four words, and its ask holds values of their types. It says so for the proofs and does nothing.
+/// An entry has a moment and four words, and its request has values of their types. This is for the proofs: the call does
+/// nothing.
 pub fn know_rp_entry(entry: &Entry<RpAsk>)
     ensures { IsEntry spec.IsRpAsk entry.now }
 {

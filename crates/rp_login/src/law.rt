@@ -75,7 +75,7 @@ pub fn seen_tokens_are_remembered()
 {}
 
 /// A session identifier that an accepted logout token named is found through all calls, except a purge 661 or more seconds
-/// later, until it is ended by its name. This is why no session of it begins meanwhile.
+/// later, until it is ended by its name. This is why no session with it begins meanwhile.
 pub fn dead_sids_are_remembered()
     ensures { DeadSidsAreRemembered }
 {}

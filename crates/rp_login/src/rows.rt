@@ -81,8 +81,8 @@ pub struct SeenRow {
     pub accepted: Moment,
 }
 
-/// A session identifier that an accepted logout token named. No session of it begins while it is remembered, which is as long
-/// as its logout token: 661 seconds (our choice; OpenID Connect Back-Channel Logout 1.0, 2.7).
+/// A session identifier that an accepted logout token named. It is remembered for 661 seconds, as long as that token is. No
+/// session with it begins meanwhile (our choice; OpenID Connect Back-Channel Logout 1.0, 2.7).
 #[derive(Drop)]
 pub struct DeadRow {
     /// The token's `sid` (OpenID Connect Back-Channel Logout 1.0, 2.4).

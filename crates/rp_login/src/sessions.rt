@@ -64,7 +64,9 @@ impl Test<SessionRow> for OfSid<'_> {
         self.sid
     }
 
-    ghost are_found = { λ t visit passes. found_by t.sid.now (fits_text (Some t.sid.now)) refl (λ held fits. sym (bytes_same t.sid.now held fits)) visit.sid (and_parts (fits_text (option_map (λ p. p.now) t.sub) (Some visit.sub)) (fits_text (Some t.sid.now) visit.sid) passes).1 };
+    ghost are_found = { λ t visit passes. found_by t.sid.now (fits_text (Some t.sid.now)) refl
+        (λ held fits. sym (bytes_same t.sid.now held fits)) visit.sid
+        (and_parts (fits_text (option_map (λ p. p.now) t.sub) (Some visit.sub)) (fits_text (Some t.sid.now) visit.sid) passes).1 };
 }
 
 // The sessions with a subject.
@@ -92,7 +94,8 @@ impl Test<SessionRow> for OfSub<'_> {
         self.sub
     }
 
-    ghost are_found = { λ t visit passes. ap Some (sym (bytes_same t.sub.now visit.sub (and_parts (bytes_eq t.sub.now visit.sub) (fits_text None visit.sid) passes).0)) };
+    ghost are_found = { λ t visit passes. ap Some (sym (bytes_same t.sub.now visit.sub
+        (and_parts (bytes_eq t.sub.now visit.sub) (fits_text None visit.sid) passes).0)) };
 }
 
 impl Logins {

@@ -48,7 +48,7 @@ pub fn plain_bodies_are_lines()
     ensures empty { (c : Configuration) (n : ℕ) (r : RpReply) → (http_of c n r).kind ≡ kind.Empty → (http_of c n r).body ≡ [] }
 {}
 
-/// A message to the provider contains the client's secret or an access token. No reply to a user agent and no line shows the
+/// A message to the provider contains a secret of the client or an access token. No reply to a user agent and no line shows the
 /// message or the word of its exchange.
 pub fn messages_are_not_told()
     ensures exchange { (c : Configuration) (n : ℕ) (v w : Word) (m k : Message) → http_of c n (reply.Exchange v m) ≡ http_of c n (reply.Exchange w k) }

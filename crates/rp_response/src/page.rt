@@ -7,7 +7,9 @@ use sso_base::{Blob, NoMemory};
 use std::alloc::Global;
 
 const PAGE: &str =
-    "<!doctype html><title>Login</title><form method=\"post\"></form><script>var f=document.forms[0];new URLSearchParams(location.hash.slice(1)).forEach(function(v,k){var i=document.createElement(\"input\");i.type=\"hidden\";i.name=k;i.value=v;f.appendChild(i)});f.submit()</script>";
+    "<!doctype html><title>Login</title><form method=\"post\"></form><script>\
+     var f=document.forms[0];new URLSearchParams(location.hash.slice(1)).forEach(function(v,k){\
+     var i=document.createElement(\"input\");i.type=\"hidden\";i.name=k;i.value=v;f.appendChild(i)});f.submit()</script>";
 
 // The page, which is the same for every party.
 #[tactic(auto, unfolding(crate::specs::Page::fragment_page))]

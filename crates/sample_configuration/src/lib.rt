@@ -5,11 +5,16 @@
 //! |---|---|
 //! | `rows` | rows of configurations |
 //! | `whole` | [`sample`], the configuration of `examples/sample.toml`, and [`news_alone`], a part of it |
+//! | `old_secrets` | configurations whose clients have an old secret too, as [`with_two_secrets`], and the secrets |
 #![tactic(auto)]
 
+mod old_secrets;
 mod rows;
 mod whole;
 
+pub use old_secrets::{
+    OLD_SEALS, in_second_version, secret_of, with_old_secret, with_old_secrets, with_two_secrets,
+};
 pub use rows::{
     ALICE, ALICES_CLAIMS, ANY_CLIENT, BOB, ESCAPED_CLIENT, MAIL_CLIENT, MAIL_PARTY, NEWS_CLIENT,
     NEWS_PARTY, PROVIDER, SHOP_CLIENT, SHOP_PARTY,

@@ -19,7 +19,7 @@ use std::thread::Threads;
 
 // ---- the link and the sink
 
-/// A link that counts its calls where others see it, and over which nothing comes back. It does not tell what was exchanged.
+/// A link that counts its calls where others see it, and over which nothing comes back. It does not report what was exchanged.
 #[derive(Drop)]
 pub struct CountedLink<'a> {
     seen: &'a AtomicU64,
@@ -42,7 +42,7 @@ impl<'a> Link for CountedLink<'a> {
     }
 }
 
-/// A sink that takes nothing before the link was called so often. It does not tell what it took.
+/// A sink that takes nothing before the link was called so often. It does not report what it took.
 #[derive(Drop)]
 pub struct LateSink<'a> {
     sink: MemorySink,
@@ -161,8 +161,8 @@ fn push_written(alloc: Global, out: &mut String, desk: &LateDesk) -> Result<(), 
     Ok(())
 }
 
-/// `late|DESK`: one desk `TURNS > PART > PART > ..`, where a part is the bytes of a connection, or `after COUNT BYTES` for one that takes
-/// nothing before so many calls of the link. Behind the text stands what was written to each of the latter.
+/// `late|DESK`: one desk `TURNS > PART > PART > ..`. A part is the bytes of a connection, or `after COUNT BYTES` for one that
+/// takes nothing before so many calls of the link. After the text comes what was written to each of the latter.
 pub fn answer<R: Threads + Wait + Sync>(
     rt: &R,
     alloc: Global,

@@ -9,8 +9,8 @@ use server_desk::{Connection, Door, DoorFault, MemorySource};
 use sso_base::{MemorySink, NoMemory, Text};
 use std::alloc::Global;
 
-/// A door that gives a login, then its callback with the code `x`, and then is closed. The connections to come and those served
-/// are not known.
+/// A door that gives a login, then its callback with the code `x`, and then is closed. It does not report its future
+/// connections and those that were served.
 #[derive(Drop)]
 pub struct LoginDoor {
     alloc: Global,

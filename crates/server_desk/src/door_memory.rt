@@ -32,7 +32,15 @@ impl<S: Drop, K: Drop> Model for MemoryDoor<S, K> {
 
     ghost Value = { DoorMemory S K };
 
-    ghost view = { λ d. record { place = d.place; coming = d.coming.items; served = d.served.items; given = d.given; out = d.out; closings = d.closings; faults = d.faults } };
+    ghost view = { λ d. record {
+      place = d.place;
+      coming = d.coming.items;
+      served = d.served.items;
+      given = d.given;
+      out = d.out;
+      closings = d.closings;
+      faults = d.faults;
+    } };
 
     ghost invariant = { λ d. length d.served.items + d.out + length d.coming.items ≤ vec_capacity d.served };
 }

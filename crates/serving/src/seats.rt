@@ -142,8 +142,22 @@ where
         seats,
         count,
         &|_, seat: &mut Seat<X::Core, D, L, C, W>|
-            requires { X.ready backend.now.role.now × IsPassOf X.Core.setup X.Core.is_legal backend.now.store.now seat.now.pass × ((D.state seat.now.desk.door).given < 2 ^ 63) × (seat.now.desk.turns ≤ 2 ^ 56) × (seat.now.worked.served ≡ 0) }
-            ensures { IsPassOf X.Core.setup X.Core.is_legal backend.entry.now.store.now seat.exit.now.pass × SeatServed (record { state = D.state; closings = D.closings; door_faults = D.faults; link_state = L.state; moments = C.ahead; words = W.ahead; left = D.Source.left; read_faults = D.Source.faults; taken = D.Sink.taken; write_faults = D.Sink.faults }) (X.manner backend.entry.now.role.now) seat.entry.now seat.exit.now }
+            requires { X.ready backend.now.role.now
+                × IsPassOf X.Core.setup X.Core.is_legal backend.now.store.now seat.now.pass × ((D.state seat.now.desk.door).given < 2 ^ 63)
+                × (seat.now.desk.turns ≤ 2 ^ 56) × (seat.now.worked.served ≡ 0) }
+            ensures { IsPassOf X.Core.setup X.Core.is_legal backend.entry.now.store.now seat.exit.now.pass
+                × SeatServed (record {
+                  state = D.state;
+                  closings = D.closings;
+                  door_faults = D.faults;
+                  link_state = L.state;
+                  moments = C.ahead;
+                  words = W.ahead;
+                  left = D.Source.left;
+                  read_faults = D.Source.faults;
+                  taken = D.Sink.taken;
+                  write_faults = D.Sink.faults;
+                }) (X.manner backend.entry.now.role.now) seat.entry.now seat.exit.now }
         { serve_seat(backend, seat) },
     );
 }

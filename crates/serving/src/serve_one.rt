@@ -24,7 +24,7 @@ use std::alloc::Global;
 use std::sync::Wait;
 use turn_store::Pass;
 
-// What the request of a connection asks.
+// The parsed request of a connection.
 fn asked<X: Role, S: Source>(
     alloc: Global,
     role: &X,
@@ -65,7 +65,7 @@ fn answer_to<L: Link>(alloc: Global, link: &mut L, question: &Message) -> Result
     peer_answer(alloc, back)
 }
 
-// What the answer to the question of a reply asks.
+// The parsed answer to the question of a reply.
 fn asked_back<X: Role, L: Link>(
     alloc: Global,
     role: &X,
@@ -94,7 +94,11 @@ fn follow<R: Wait, X: Role, L: Link, C: Clock, W: Draw>(
     requires places { places.old ≤ 2 }
     ensures pass { IsPassOf X.Core.setup X.Core.is_legal backend.now.store.now pass.new }
     ensures number { number_of pass.new ≡ number_of pass.old }
-    ensures followed { (w : Work X.Core.Ask X.Core.Reply) × Did pass.old pass.new (L.state tools.old.link) (L.state tools.new.link) (C.ahead tools.old.clock) (C.ahead tools.new.clock) (W.ahead tools.old.draw) (W.ahead tools.new.draw) w × spec.Round (X.manner backend.now.role.now) X.rounds (front_of pass.new) reply w result × (places.new ≡ places.old + length w.steps) }
+    ensures followed { (w : Work X.Core.Ask X.Core.Reply)
+        × Did pass.old pass.new (L.state tools.old.link) (L.state tools.new.link)
+        (C.ahead tools.old.clock) (C.ahead tools.new.clock) (W.ahead tools.old.draw) (W.ahead tools.new.draw) w
+        × spec.Round (X.manner backend.now.role.now) X.rounds (front_of pass.new) reply w result
+        × (places.new ≡ places.old + length w.steps) }
 {
     let ask = match backend.role.question(&reply) {
         None => return Ok(reply),
@@ -126,7 +130,11 @@ fn last_reply<R: Wait, X: Role, L: Link, C: Clock, W: Draw>(
     ensures pass { IsPassOf X.Core.setup X.Core.is_legal backend.now.store.now pass.new }
     ensures number { number_of pass.new ≡ number_of pass.old }
     ensures places { places.new ≤ 3 }
-    ensures followed { (w : Work X.Core.Ask X.Core.Reply) × Did pass.old pass.new (L.state tools.old.link) (L.state tools.new.link) (C.ahead tools.old.clock) (C.ahead tools.new.clock) (W.ahead tools.old.draw) (W.ahead tools.new.draw) w × spec.Rest (X.manner backend.now.role.now) (front_of pass.new) reply w.steps w.calls result × (places.new ≡ places.old + length w.steps) }
+    ensures followed { (w : Work X.Core.Ask X.Core.Reply)
+        × Did pass.old pass.new (L.state tools.old.link) (L.state tools.new.link)
+        (C.ahead tools.old.clock) (C.ahead tools.new.clock) (W.ahead tools.old.draw) (W.ahead tools.new.draw) w
+        × spec.Rest (X.manner backend.now.role.now) (front_of pass.new) reply w.steps w.calls result
+        × (places.new ≡ places.old + length w.steps) }
 {
     let second = follow(backend, pass, tools, places, reply)?;
     follow(backend, pass, tools, places, second)
@@ -147,7 +155,13 @@ fn reply_to<R: Wait, X: Role, S: Source, L: Link, C: Clock, W: Draw>(
     ensures number { number_of pass.new ≡ number_of pass.old }
     ensures places { places.new ≤ 3 }
     ensures memory { result ≢ Err (NoReply.Http HttpNo.NoMemory) }
-    ensures replied { (w : Work X.Core.Ask X.Core.Reply) × Did pass.old pass.new (L.state tools.old.link) (L.state tools.new.link) (C.ahead tools.old.clock) (C.ahead tools.new.clock) (W.ahead tools.old.draw) (W.ahead tools.new.draw) w × spec.IsRun (X.manner backend.now.role.now) (S.left source.old) (S.left source.new) w.steps w.calls × spec.Cause (X.manner backend.now.role.now) (S.left source.old) (S.left source.new) (S.faults source.old) (S.faults source.new) (front_of pass.new) w.steps w.calls result × (places.new ≡ length w.steps) }
+    ensures replied { (w : Work X.Core.Ask X.Core.Reply)
+        × Did pass.old pass.new (L.state tools.old.link) (L.state tools.new.link)
+        (C.ahead tools.old.clock) (C.ahead tools.new.clock) (W.ahead tools.old.draw) (W.ahead tools.new.draw) w
+        × spec.IsRun (X.manner backend.now.role.now) (S.left source.old) (S.left source.new) w.steps w.calls
+        × spec.Cause (X.manner backend.now.role.now) (S.left source.old) (S.left source.new) (S.faults source.old) (S.faults source.new)
+        (front_of pass.new) w.steps w.calls result
+        × (places.new ≡ length w.steps) }
 {
     let ask = asked(backend.alloc, backend.role, source)?;
     let first = step(backend, pass, &mut tools.clock, &mut tools.draw, ask)?;
@@ -193,8 +207,8 @@ fn tell<X: Role, K: Sink, L: Link>(
     }
 }
 
-/// Serves one connection: it reads one request, steps the core, puts its questions to other servers, sends its notices, and writes
-/// the reply, or what stands in its place.
+/// Serves one connection: it reads one request, steps the core, puts its questions to other servers, sends its notices, and
+/// writes the reply, or what is sent in its place.
 pub fn serve_connection<
     R: Wait,
     X: Role,
@@ -213,7 +227,11 @@ pub fn serve_connection<
     requires pass { IsPassOf X.Core.setup X.Core.is_legal backend.now.store.now pass.old }
     ensures pass { IsPassOf X.Core.setup X.Core.is_legal backend.now.store.now pass.new }
     ensures number { number_of pass.new ≡ number_of pass.old }
-    ensures served { (w : Work X.Core.Ask X.Core.Reply) × Did pass.old pass.new (L.state tools.old.link) (L.state tools.new.link) (C.ahead tools.old.clock) (C.ahead tools.new.clock) (W.ahead tools.old.draw) (W.ahead tools.new.draw) w × spec.Serves (X.manner backend.now.role.now) S.left S.faults K.taken K.faults (front_of pass.new) connection.old connection.new w result }
+    ensures served { (w : Work X.Core.Ask X.Core.Reply)
+        × Did pass.old pass.new (L.state tools.old.link) (L.state tools.new.link)
+        (C.ahead tools.old.clock) (C.ahead tools.new.clock) (W.ahead tools.old.draw) (W.ahead tools.new.draw) w
+        × spec.Serves (X.manner backend.now.role.now) S.left S.faults K.taken K.faults
+        (front_of pass.new) connection.old connection.new w result }
     ensures link { result.end ≡ ServedEnd.Link → Rose (L.state tools.old.link).faults (L.state tools.new.link).faults }
 {
     let mut places = 0;

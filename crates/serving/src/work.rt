@@ -69,7 +69,12 @@ fn serve_next<R: Wait, X: Role, D: Door, L: Link, C: Clock, W: Draw>(
     ensures faults { D.faults desk.old.door ≤ D.faults desk.new.door }
     ensures closed { result ≡ Next.Closed → Rose (D.closings desk.old.door) (D.closings desk.new.door) }
     ensures fault { result ≡ Next.Fault → Rose (D.faults desk.old.door) (D.faults desk.new.door) }
-    ensures worked { (services : List (spec.Service D.Source D.Sink X.Core.Ask X.Core.Reply)) × MadeAll pass.old pass.new (spec.steps_in services) × spec.AtDesk (X.manner backend.now.role.now) D.Source.left D.Source.faults D.Sink.taken D.Sink.faults (front_of pass.new) (D.state desk.old.door) (D.state desk.new.door) (L.state desk.old.tools.link) (L.state desk.new.tools.link) (C.ahead desk.old.tools.clock) (C.ahead desk.new.tools.clock) (W.ahead desk.old.tools.draw) (W.ahead desk.new.tools.draw) services × spec.IsNumber result (length services) }
+    ensures worked { (services : List (spec.Service D.Source D.Sink X.Core.Ask X.Core.Reply))
+        × MadeAll pass.old pass.new (spec.steps_in services)
+        × spec.AtDesk (X.manner backend.now.role.now) D.Source.left D.Source.faults D.Sink.taken D.Sink.faults (front_of pass.new)
+        (D.state desk.old.door) (D.state desk.new.door) (L.state desk.old.tools.link) (L.state desk.new.tools.link)
+        (C.ahead desk.old.tools.clock) (C.ahead desk.new.tools.clock) (W.ahead desk.old.tools.draw) (W.ahead desk.new.tools.draw) services
+        × spec.IsNumber result (length services) }
 {
     match desk.door.next() {
         Ok(Some(mut connection)) => {
@@ -103,7 +108,12 @@ pub fn serve_desk<R: Wait, X: Role, D: Door, L: Link, C: Clock, W: Draw>(
     ensures used { (result.end ≡ WorkEnd.Turns → result.served ≡ desk.old.turns) × (result.served ≡ desk.old.turns → result.end ≡ WorkEnd.Turns) }
     ensures closed { result.end ≡ WorkEnd.DoorClosed → Rose (D.closings desk.old.door) (D.closings desk.new.door) }
     ensures fault { result.end ≡ WorkEnd.DoorFault → Rose (D.faults desk.old.door) (D.faults desk.new.door) }
-    ensures worked { (services : List (spec.Service D.Source D.Sink X.Core.Ask X.Core.Reply)) × MadeAll pass.old pass.new (spec.steps_in services) × spec.AtDesk (X.manner backend.now.role.now) D.Source.left D.Source.faults D.Sink.taken D.Sink.faults (front_of pass.new) (D.state desk.old.door) (D.state desk.new.door) (L.state desk.old.tools.link) (L.state desk.new.tools.link) (C.ahead desk.old.tools.clock) (C.ahead desk.new.tools.clock) (W.ahead desk.old.tools.draw) (W.ahead desk.new.tools.draw) services × (result.served ≡ length services) }
+    ensures worked { (services : List (spec.Service D.Source D.Sink X.Core.Ask X.Core.Reply))
+        × MadeAll pass.old pass.new (spec.steps_in services)
+        × spec.AtDesk (X.manner backend.now.role.now) D.Source.left D.Source.faults D.Sink.taken D.Sink.faults (front_of pass.new)
+        (D.state desk.old.door) (D.state desk.new.door) (L.state desk.old.tools.link) (L.state desk.new.tools.link)
+        (C.ahead desk.old.tools.clock) (C.ahead desk.new.tools.clock) (W.ahead desk.old.tools.draw) (W.ahead desk.new.tools.draw) services
+        × (result.served ≡ length services) }
 {
     for served in 0..desk.turns {
         match serve_next(backend, pass, desk) {

@@ -13,7 +13,8 @@ use std::alloc::Global;
 
 /// The reply if memory ran out. It takes no memory.
 const MEMORY: &[u8] =
-    b"HTTP/1.1 503 Service Unavailable\r\nCache-Control: no-store\r\nContent-Type: text/plain; charset=utf-8\r\nContent-Length: 7\r\nConnection: close\r\n\r\nmemory\n";
+    b"HTTP/1.1 503 Service Unavailable\r\nCache-Control: no-store\r\nContent-Type: text/plain; charset=utf-8\r\n\
+      Content-Length: 7\r\nConnection: close\r\n\r\nmemory\n";
 
 // Writes the bytes, and returns this end, or that the sink failed.
 fn write_end<K: Sink>(sink: &mut K, bytes: &[u8], end: ServedEnd) -> ServedEnd

@@ -136,7 +136,8 @@ fn op_words<R: Threads + Wait + Sync, H: Shelf, D: Door, L: Link, C: Clock, W: D
 ) -> Result<Outcome, NoMemory>
     requires few { length desks.old.items ≤ 64 }
     requires desks { All (λ desk. (desk.turns ≤ 2 ^ 56) × ((D.state desk.door).given < 2 ^ 63)) desks.old.items }
-    ensures may { IfOk result (λ outcome. MayServeOp ⟦<Desk<D, L, C, W> as Tells>⟧.telling desks.old.items desks.new.items (H.contents shelf.old) (H.faults shelf.old) (H.faults shelf.new) config.now outcome) }
+    ensures may { IfOk result (λ outcome. MayServeOp ⟦<Desk<D, L, C, W> as Tells>⟧.telling desks.old.items desks.new.items
+        (H.contents shelf.old) (H.faults shelf.old) (H.faults shelf.new) config.now outcome) }
     ensures kept { H.contents shelf.new ≡ H.contents shelf.old }
     ensures later { H.faults shelf.old ≤ H.faults shelf.new }
 {
@@ -159,7 +160,8 @@ fn rp_words<R: Threads + Wait + Sync, H: Shelf, D: Door, L: Link, C: Clock, W: D
 ) -> Result<Outcome, NoMemory>
     requires few { length desks.old.items ≤ 64 }
     requires desks { All (λ desk. (desk.turns ≤ 2 ^ 56) × ((D.state desk.door).given < 2 ^ 63)) desks.old.items }
-    ensures may { IfOk result (λ outcome. MayServeRp ⟦<Desk<D, L, C, W> as Tells>⟧.telling desks.old.items desks.new.items (H.contents shelf.old) (H.faults shelf.old) (H.faults shelf.new) config.now name.now metadata.now outcome) }
+    ensures may { IfOk result (λ outcome. MayServeRp ⟦<Desk<D, L, C, W> as Tells>⟧.telling desks.old.items desks.new.items
+        (H.contents shelf.old) (H.faults shelf.old) (H.faults shelf.new) config.now name.now metadata.now outcome) }
     ensures kept { H.contents shelf.new ≡ H.contents shelf.old }
     ensures later { H.faults shelf.old ≤ H.faults shelf.new }
 {
@@ -182,7 +184,8 @@ pub fn answer_words<R: Threads + Wait + Sync, H: Shelf, D: Door, L: Link, C: Clo
 ) -> Result<Outcome, NoMemory>
     requires few { length desks.old.items ≤ 64 }
     requires desks { All (λ desk. (desk.turns ≤ 2 ^ 56) × ((D.state desk.door).given < 2 ^ 63)) desks.old.items }
-    ensures may { IfOk result (λ outcome. MayAnswer ⟦<Desk<D, L, C, W> as Tells>⟧.telling desks.old.items desks.new.items (H.contents shelf.old) (H.faults shelf.old) (H.faults shelf.new) (command_of words.now) outcome) }
+    ensures may { IfOk result (λ outcome. MayAnswer ⟦<Desk<D, L, C, W> as Tells>⟧.telling desks.old.items desks.new.items
+        (H.contents shelf.old) (H.faults shelf.old) (H.faults shelf.new) (command_of words.now) outcome) }
     ensures idle { is_serving (command_of words.now) ≡ false → desks.new.items ≡ desks.old.items }
     ensures kept { H.contents shelf.new ≡ H.contents shelf.old }
     ensures later { H.faults shelf.old ≤ H.faults shelf.new }

@@ -10,12 +10,14 @@
 //! | `storms` | the outcomes of `storm` | `Answer` |
 //! | `servers` | the outcomes of `op` and `rp` | `Asked`, `Outcomes` |
 //! | `configuration` | the outcomes for a rejected configuration | `Answer` |
+//! | `refusal` | why a command is refused, as it is displayed, and the outcome | `Refused` |
 //! | `token` | the outcomes of `token` | `Answer` |
 #![tactic(auto)]
 
 mod command;
 mod configuration;
 mod outcome;
+mod refusal;
 mod replaying;
 mod servers;
 mod storms;

@@ -1,7 +1,6 @@
 //! The outcome for a configuration and a trace.
 
-ghost use Rattle.std.specs.Prelude.{◌≡◌, ◌++◌, Ok, IfOk, string_bytes};
-ghost use Rattle.std.specs.Fmt.{decimal};
+ghost use Rattle.std.specs.Prelude.{◌≡◌, Ok, IfOk};
 ghost use Rattle.trace_lines.specs.Trace.{trace_told};
 ghost use Rattle.trace_lines.specs.Order.{IsReadFor};
 ghost use Rattle.oidc_replay.specs.Theorem.{PlaysWell};
@@ -11,6 +10,7 @@ ghost use Rattle.sso.specs.Outcomes.{PlaysOver, Plays};
 
 use crate::configuration::refuse_registry;
 use crate::outcome::Outcome;
+use crate::refusal::{Refusal, refused};
 use client_registry::{RegNo, Registry, read_registry};
 use oidc_replay::{ReplayEnd, Trace, TraceNo, read_trace, replay};
 use sso_base::{Blob, NoMemory};
@@ -27,42 +27,13 @@ pub(crate) fn end_status(end: &ReplayEnd) -> u8
     }
 }
 
-// The name of a refusal, with its line number.
-fn with_line(alloc: Global, name: &str, line: u64) -> Result<String, NoMemory>
-    ensures { IfOk result (λ text. string_bytes text ≡ name.now ++ decimal line) }
-{
-    Ok(format!(in alloc; "{name}{line}")?)
-}
-
-// The printed name of a refusal of a trace, with the number of its first bad line.
-#[tactic(auto, unfolding(crate::specs::Answer::trace_name))]
-fn name_of(alloc: Global, why: &TraceNo) -> Result<String, NoMemory>
-    ensures { IfOk result (λ text. string_bytes text ≡ spec.trace_name why.now) }
-{
-    match why {
-        TraceNo::NoMemory => Ok(String::new(alloc)),
-        TraceNo::Size => Ok(String::from_str(alloc, "Size")?),
-        TraceNo::Header => Ok(String::from_str(alloc, "Header")?),
-        TraceNo::LineTooLong(line) => with_line(alloc, "LineTooLong ", *line),
-        TraceNo::Word(line) => with_line(alloc, "Word ", *line),
-        TraceNo::Number(line) => with_line(alloc, "Number ", *line),
-        TraceNo::Backwards(line) => with_line(alloc, "Backwards ", *line),
-        TraceNo::NoSuchReply(line) => with_line(alloc, "NoSuchReply ", *line),
-        TraceNo::NoSuchParty(line) => with_line(alloc, "NoSuchParty ", *line),
-    }
-}
-
 // The outcome for a rejected trace.
 #[tactic(auto, unfolding(crate::specs::Answer::refused_text))]
-pub(crate) fn refuse_trace(alloc: Global, why: &TraceNo) -> Result<Outcome, NoMemory>
-    ensures { IfOk result (λ outcome. outcome ≡ record { status = 4; text = refused_text why.now }) }
+pub(crate) fn refuse_trace(alloc: Global, why: TraceNo) -> Result<Outcome, NoMemory>
+    ensures { IfOk result (λ outcome. outcome ≡ record { status = 4; text = refused_text why }) }
 {
-    let name = name_of(alloc, why)?;
-    let text = format!(in alloc; "trace {name}\n")?;
-    Ok(Outcome {
-        status: 4,
-        text: Blob::new(alloc, text.as_bytes())?,
-    })
+    let why = Refusal::Trace(why);
+    refused(alloc, &why)
 }
 
 // The outcome for a trace that was read for the registry.
@@ -88,7 +59,7 @@ fn answer_trace(alloc: Global, registry: Registry, trace: Blob) -> Result<Outcom
     match told {
         Ok(trace) => answer_play(alloc, registry, &trace),
         Err(TraceNo::NoMemory) => Err(NoMemory),
-        Err(why) => refuse_trace(alloc, &why),
+        Err(why) => refuse_trace(alloc, why),
     }
 }
 
@@ -101,6 +72,6 @@ pub fn answer_replay(alloc: Global, config: Blob, trace: Blob) -> Result<Outcome
     match read_registry(alloc, config.as_bytes()) {
         Ok(registry) => answer_trace(alloc, registry, trace),
         Err(RegNo::NoMemory) => Err(NoMemory),
-        Err(why) => refuse_registry(alloc, &why),
+        Err(why) => refuse_registry(alloc, why),
     }
 }

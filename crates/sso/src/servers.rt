@@ -1,14 +1,15 @@
 //! The outcomes of serving the provider of a configuration, or one of its parties.
 
-ghost use Rattle.std.specs.Prelude.{◌≡◌, ◌^◌, ◌≤◌, ◌<◌, false, length, Ok, IfOk};
+ghost use Rattle.std.specs.Prelude.{◌≡◌, ◌^◌, ◌≤◌, ◌<◌, false, length, Ok, IfOk, codes};
 ghost use Rattle.std.specs.List.{All};
 ghost use Rattle.rp_accept.specs.Serving.{setup_of};
 ghost use Rattle.sso.specs.Asked as spec;
 ghost use Rattle.sso.specs.Asked.{metadata_refusal, server_answer, op_asked, rp_asked, name_asked};
 ghost use Rattle.sso.specs.Outcomes.{ServedOp, ServedRp};
 
-use crate::configuration::{refuse_configuration, refuse_registry};
+use crate::configuration::{refuse_party, refuse_registry};
 use crate::outcome::Outcome;
+use crate::refusal::{Refusal, refused};
 use client_registry::{Provider, RegNo, Registry, read_registry};
 use discovery_doc::{DiscNo, read_discovery};
 use server_desk::{Clock, Desk, Door, Draw, Link};
@@ -79,35 +80,26 @@ pub fn answer_op<R: Threads + Wait + Sync, D: Door, L: Link, C: Clock, W: Draw>(
     match read_registry(alloc, config) {
         Ok(registry) => serve_provider(rt, alloc, &registry, desks),
         Err(RegNo::NoMemory) => Err(NoMemory),
-        Err(why) => refuse_registry(alloc, &why),
+        Err(why) => refuse_registry(alloc, why),
     }
 }
 
-/// The printed name of a refusal of metadata.
-#[tactic(auto, unfolding(crate::specs::Asked::metadata_name))]
-fn metadata_name(why: &DiscNo) -> &'static str
-    ensures { result.now ≡ spec.metadata_name why.now }
-{
-    match why {
-        DiscNo::NoMemory => "",
-        DiscNo::NotObject => "NotObject",
-        DiscNo::Missing(_) => "Missing",
-        DiscNo::IssuerDiffers => "IssuerDiffers",
-        DiscNo::NoHs256 => "NoHs256",
-        DiscNo::BadUrl(_) => "BadUrl",
-    }
-}
-
-/// The outcome for rejected metadata, given the refusal's name.
+/// The outcome for metadata that are too long.
 #[tactic(auto, unfolding(crate::specs::Asked::metadata_text))]
-fn refuse_metadata(alloc: Global, name: &str) -> Result<Outcome, NoMemory>
-    ensures { IfOk result (λ outcome. outcome ≡ metadata_refusal name.now) }
+fn refuse_size(alloc: Global) -> Result<Outcome, NoMemory>
+    ensures { IfOk result (λ outcome. outcome ≡ metadata_refusal (codes "Size")) }
 {
-    let text = format!(in alloc; "discovery {name}\n")?;
-    Ok(Outcome {
-        status: 10,
-        text: Blob::new(alloc, text.as_bytes())?,
-    })
+    let why = Refusal::MetadataSize;
+    refused(alloc, &why)
+}
+
+/// The outcome for metadata that reading rejects.
+#[tactic(auto, unfolding(crate::specs::Asked::metadata_text))]
+fn refuse_metadata(alloc: Global, why: DiscNo) -> Result<Outcome, NoMemory>
+    ensures { IfOk result (λ outcome. outcome ≡ metadata_refusal (spec.metadata_name why)) }
+{
+    let why = Refusal::Metadata(why);
+    refused(alloc, &why)
 }
 
 /// The provider that the metadata describe, or the outcome if they are rejected.
@@ -120,12 +112,12 @@ fn described(
     ensures { IfOk result (λ provider. provider ≡ spec.described registry.now metadata.now) }
 {
     if metadata.len() > MOST_METADATA {
-        return Ok(Err(refuse_metadata(alloc, "Size")?));
+        return Ok(Err(refuse_size(alloc)?));
     }
     match read_discovery(alloc, &registry.provider().issuer, metadata) {
         Ok(provider) => Ok(Ok(provider)),
         Err(DiscNo::NoMemory) => Err(NoMemory),
-        Err(why) => Ok(Err(refuse_metadata(alloc, metadata_name(&why))?)),
+        Err(why) => Ok(Err(refuse_metadata(alloc, why)?)),
     }
 }
 
@@ -176,7 +168,7 @@ fn serve_party<R: Threads + Wait + Sync, D: Door, L: Link, C: Clock, W: Draw>(
     ensures { IfOk result (ServedRp ⟦<Desk<D, L, C, W> as Tells>⟧.telling desks.old.items desks.new.items (name_asked registry.now name.now metadata.now)) }
 {
     let Some(party) = registry.find_party(name.as_str().as_bytes()) else {
-        return refuse_configuration(alloc, "NoParty");
+        return refuse_party(alloc);
     };
     match trusted(alloc, registry, metadata)? {
         Ok(provider) => serve_trusting(rt, alloc, registry, party, provider, desks),
@@ -202,6 +194,6 @@ pub fn answer_rp<R: Threads + Wait + Sync, D: Door, L: Link, C: Clock, W: Draw>(
     match read_registry(alloc, config) {
         Ok(registry) => serve_party(rt, alloc, &registry, name, metadata, desks),
         Err(RegNo::NoMemory) => Err(NoMemory),
-        Err(why) => refuse_registry(alloc, &why),
+        Err(why) => refuse_registry(alloc, why),
     }
 }

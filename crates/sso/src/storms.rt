@@ -54,7 +54,7 @@ fn answer_over(
     match told {
         Ok(trace) => answer_play(alloc, registry, &trace, number, count),
         Err(TraceNo::NoMemory) => Err(NoMemory),
-        Err(why) => refuse_trace(alloc, &why),
+        Err(why) => refuse_trace(alloc, why),
     }
 }
 
@@ -70,6 +70,6 @@ pub fn answer_storm(alloc: Global, number: u32, count: u32) -> Result<Outcome, N
     match read_registry(alloc, config.as_bytes()) {
         Ok(registry) => answer_over(alloc, registry, number, count),
         Err(RegNo::NoMemory) => Err(NoMemory),
-        Err(why) => refuse_registry(alloc, &why),
+        Err(why) => refuse_registry(alloc, why),
     }
 }

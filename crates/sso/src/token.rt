@@ -1,9 +1,11 @@
 //! The outcome for a secret and a token.
 
-ghost use Rattle.std.specs.Prelude.{◌≡◌, IfOk};
-ghost use Rattle.sso.specs.Answer.{without_feed, token_text, payload_answer, token_refusal, token_answer};
+ghost use Rattle.std.specs.Prelude.{◌≡◌, IfOk, codes};
+ghost use Rattle.jws_compact.specs.Names.{jws_name};
+ghost use Rattle.sso.specs.Answer.{without_feed, payload_answer, token_refusal, token_answer};
 
 use crate::outcome::Outcome;
+use crate::refusal::{Refusal, refused};
 use jws_compact::{JwsNo, unseal};
 use sso_base::{Blob, NoMemory};
 use std::alloc::Global;
@@ -18,16 +20,22 @@ fn without_feed(bytes: &[u8]) -> &[u8]
     bytes.strip_suffix(b"\n").unwrap_or(bytes)
 }
 
-/// The outcome for a rejected token, given the refusal's name.
+/// The outcome for a secret that is empty or too long.
 #[tactic(auto, unfolding(crate::specs::Answer::token_text))]
-fn refusal(alloc: Global, name: &str) -> Result<Outcome, NoMemory>
-    ensures { IfOk result (λ outcome. outcome ≡ token_refusal name.now) }
+fn refuse_secret(alloc: Global) -> Result<Outcome, NoMemory>
+    ensures { IfOk result (λ outcome. outcome ≡ token_refusal (codes "Secret")) }
 {
-    let text = format!(in alloc; "token {name}\n")?;
-    Ok(Outcome {
-        status: 10,
-        text: Blob::new(alloc, text.as_bytes())?,
-    })
+    let why = Refusal::Secret;
+    refused(alloc, &why)
+}
+
+/// The outcome for a rejected token.
+#[tactic(auto, unfolding(crate::specs::Answer::token_text))]
+fn refuse_token(alloc: Global, why: JwsNo) -> Result<Outcome, NoMemory>
+    ensures { IfOk result (λ outcome. outcome ≡ token_refusal (jws_name why)) }
+{
+    let why = Refusal::Token(why);
+    refused(alloc, &why)
 }
 
 /// The outcome for a token with this payload.
@@ -49,11 +57,11 @@ pub fn answer_token(alloc: Global, secret: &[u8], token: &[u8]) -> Result<Outcom
 {
     let secret = without_feed(secret);
     if secret.is_empty() || secret.len() > MOST_SECRET {
-        return refusal(alloc, "Secret");
+        return refuse_secret(alloc);
     }
     match unseal(alloc, secret, without_feed(token)) {
         Ok(unsealed) => opening(alloc, unsealed.payload.as_bytes()),
         Err(JwsNo::NoMemory) => Err(NoMemory),
-        Err(why) => refusal(alloc, why.name()),
+        Err(why) => refuse_token(alloc, why),
     }
 }

@@ -43,7 +43,19 @@ fn run<R: Threads + Wait + Sync, H: Shelf, K: Sink, D: Door, L: Link, C: Clock, 
 ) -> u8
     requires few { length desks.old.items ≤ 64 }
     requires desks { All (λ desk. (desk.turns ≤ 2 ^ 56) × ((D.state desk.door).given < 2 ^ 63)) desks.old.items }
-    ensures ended { Ended (record { tells = ⟦<Desk<D, L, C, W> as Tells>⟧.telling; olds = desks.old.items; news = desks.new.items; contents = H.contents shelf.old; shelf_before = H.faults shelf.old; shelf_after = H.faults shelf.new; words = words.now; before = K.faults out.old; after = K.faults out.new; old = K.taken out.old; new = K.taken out.new }) result }
+    ensures ended { Ended (record {
+      tells = ⟦<Desk<D, L, C, W> as Tells>⟧.telling;
+      olds = desks.old.items;
+      news = desks.new.items;
+      contents = H.contents shelf.old;
+      shelf_before = H.faults shelf.old;
+      shelf_after = H.faults shelf.new;
+      words = words.now;
+      before = K.faults out.old;
+      after = K.faults out.new;
+      old = K.taken out.old;
+      new = K.taken out.new;
+    }) result }
     ensures words { is_command words.now ≡ false → IsStatus 2 result }
     ensures storm { (number count : ℕ) → command_of words.now ≡ Some (Storm number count) → IsStatus (storm_answer number count).status result }
     ensures contents { (contents : List Content) → H.contents shelf.old ≡ Some contents → IsStatusOf (status_for contents (command_of words.now)) result }
@@ -107,8 +119,12 @@ pub fn sso<R: Threads + Wait + Sync, H: Shelf, K: Sink, D: Door, L: Link, C: Clo
     ensures storm_full { result ≡ 8 → AsksStorm words.now → Storms words.now 8 (K.taken out.old) (K.taken out.new) }
     ensures play { (result ≡ 7) ⊎ (result ≡ 8) → asks_play (command_of words.now) ≡ true }
     ensures opened { result ≡ 0 → AsksToken words.now → OpensToken (H.contents shelf.old) words.now (K.taken out.old) (K.taken out.new) }
-    ensures provider { result ≡ 0 → AsksOp words.now → RunsProvider ⟦<Desk<D, L, C, W> as Tells>⟧.telling desks.old.items desks.new.items (H.contents shelf.old) words.now false (K.taken out.old) (K.taken out.new) }
-    ensures party { result ≡ 0 → AsksRp words.now → RunsParty ⟦<Desk<D, L, C, W> as Tells>⟧.telling desks.old.items desks.new.items (H.contents shelf.old) words.now false (K.taken out.old) (K.taken out.new) }
+    ensures provider { result ≡ 0 → AsksOp words.now
+        → RunsProvider ⟦<Desk<D, L, C, W> as Tells>⟧.telling desks.old.items desks.new.items
+        (H.contents shelf.old) words.now false (K.taken out.old) (K.taken out.new) }
+    ensures party { result ≡ 0 → AsksRp words.now
+        → RunsParty ⟦<Desk<D, L, C, W> as Tells>⟧.telling desks.old.items desks.new.items
+        (H.contents shelf.old) words.now false (K.taken out.old) (K.taken out.new) }
     ensures command { result ≡ 0 → is_command words.now ≡ true }
 
     ensures memory { result ≡ 1 → K.taken out.new ≡ K.taken out.old }
@@ -118,8 +134,12 @@ pub fn sso<R: Threads + Wait + Sync, H: Shelf, K: Sink, D: Door, L: Link, C: Clo
     ensures trace { result ≡ 4 → RefusesTrace (H.contents shelf.old) words.now (K.taken out.old) (K.taken out.new) }
     ensures accepted { result ≡ 4 → asks_storm (command_of words.now) ≡ false }
     ensures shelf { result ≡ 5 → ReportsShelf (H.faults shelf.old) (H.faults shelf.new) words.now (K.taken out.old) (K.taken out.new) }
-    ensures sink { result ≡ 6 → StopsWriting ⟦<Desk<D, L, C, W> as Tells>⟧.telling desks.old.items desks.new.items (H.contents shelf.old) (H.faults shelf.old) (H.faults shelf.new) words.now (K.faults out.old) (K.faults out.new) (K.taken out.old) (K.taken out.new) }
-    ensures door { result ≡ 9 → RunsServer ⟦<Desk<D, L, C, W> as Tells>⟧.telling desks.old.items desks.new.items (H.contents shelf.old) words.now true (K.taken out.old) (K.taken out.new) }
+    ensures sink { result ≡ 6
+        → StopsWriting ⟦<Desk<D, L, C, W> as Tells>⟧.telling desks.old.items desks.new.items (H.contents shelf.old)
+        (H.faults shelf.old) (H.faults shelf.new) words.now (K.faults out.old) (K.faults out.new) (K.taken out.old) (K.taken out.new) }
+    ensures door { result ≡ 9
+        → RunsServer ⟦<Desk<D, L, C, W> as Tells>⟧.telling desks.old.items desks.new.items
+        (H.contents shelf.old) words.now true (K.taken out.old) (K.taken out.new) }
     ensures refused { result ≡ 10 → RefusesTokenOrMetadata (H.contents shelf.old) words.now (K.taken out.old) (K.taken out.new) }
 
     // Which status is returned: by the words alone, and by the contents of a shelf, if they are known.

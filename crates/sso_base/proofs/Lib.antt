@@ -16,4 +16,5 @@ pub mod DrawnWords
 pub mod Answering
 pub mod Utf8Bytes
 pub mod TextBuffers
+pub mod SampleWords
 mod Samples

@@ -39,8 +39,8 @@ holds_as E P a b h holds = subst P (one_value E a b h) holds
 -- ---- an error that none of the conditions has is not the first
 
 pub none_among : {E : Type 0} (is : E → Bool) (cs : List (Bool × E)) (e : E) → AllByRecursion (λ (c : Bool × E). is c.1 ≡ false) cs → is e ≡ true → first_refusal cs ≡ Err e → ⊥
-none_among is [] e all yes h = cc
-none_among is ((true, n) ∷ cs) e all yes h =
+none_among is [] e all holds h = cc
+none_among is ((true, n) ∷ cs) e all holds h =
     let same : n ≡ e = cc in
-    true≢false (sym yes ∙ sym (ap is same) ∙ all.0)
-none_among is ((false, n) ∷ cs) e all yes h = none_among is cs e all.1 yes h
+    true≢false (sym holds ∙ sym (ap is same) ∙ all.0)
+none_among is ((false, n) ∷ cs) e all holds h = none_among is cs e all.1 holds h

@@ -471,10 +471,10 @@ is_question-not_another_mark = refl
 
 -- ---- membership in a list
 
-has-the_second : Has (1 ∷ 2 ∷ []) 2
+has-the_second : Has {A = ℕ} (1 ∷ 2 ∷ []) 2
 has-the_second = inr (inl refl)
 
-has-not_another : Has (1 ∷ []) 2 → ⊥
+has-not_another : Has {A = ℕ} (1 ∷ []) 2 → ⊥
 has-not_another (inl is) = omega (arith, is)
 has-not_another (inr later) = later
 

@@ -49,7 +49,7 @@ pub record IsWeighed {A R : Type 0} (weighs : A → ℕ) (history : List (Pair A
 
 -- this is the refusal of a history of this weight, whose limit leaves no room for this much more
 abbrev pub IsFullRefusal : ℕ → ℕ → CoreNo → Type 0
-IsFullRefusal weight more no = (no ≡ JournalFull weight) × (most_weight < weight + more)
+IsFullRefusal weight more refusal = (refusal ≡ JournalFull weight) × (most_weight < weight + more)
 
 -- if a call is refused so, it is for a history of this weight and for this much more
 abbrev pub ReportsFull : {A : Type 0} → Result A CoreNo → ℕ → ℕ → Type 0

@@ -1,4 +1,4 @@
--- Texts in one buffer: behind each stands a byte that no text in UTF-8 has (RFC 3629, 1).
+-- Texts in one buffer: after each there is a byte that no text in UTF-8 has (RFC 3629, 1).
 use Rattle.std.specs.Prelude.{◌≡◌, ℕ, Bool, ◌==◌, List, [], ◌∷◌, ◌++◌, if◌then◌else◌}
 use Rattle.std.specs.List.{onto_first}
 use Rattle.sso_base.specs.Words.{Text}

@@ -13,7 +13,7 @@ use crate::text::Text;
 use std::alloc::Global;
 use std::marker::Model;
 
-// What stands behind each text: no text in UTF-8 has this byte.
+// The byte after each text: no text in UTF-8 has it.
 const END: u8 = 255;
 
 /// Texts in order, seen as the list of them.

@@ -6,7 +6,7 @@ ghost use Rattle.sso_base.specs.Weights as spec;
 use crate::text::Text;
 use crate::texts::Texts;
 
-/// What an ask weighs that holds no texts, and any ask at least.
+/// The weight of a request without texts. Every request weighs at least as much.
 pub const EMPTY_WEIGHT: u64 = 1024;
 
 /// The bytes of a text that may be there.

@@ -52,7 +52,7 @@ pub record IsEnded (bytes : List ℕ) : Type 0 where
   pub first : has_head seen ≡ false
   pub ends : ends_head (last ∷ seen) ≡ true
 
--- the reader took this byte, and this tells whether it ends the head
+-- the reader took this byte, and this says whether it ends the head
 abbrev pub TakesByte : Reader → Reader → ℕ → Bool → Type 0
 TakesByte old new byte ends =
     (new.bytes.items ≡ old.bytes.items ++ byte ∷ []) × Tracks new × (ends ≡ ends_head (byte ∷ reverse old.bytes.items))

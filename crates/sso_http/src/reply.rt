@@ -106,8 +106,9 @@ fn put_body(alloc: Global, out: &mut String, reply: &HttpReply) -> Result<(), No
     put_last(out)
 }
 
-/// The bytes of a reply (RFC 9112, 4 to 6): the status line, the fields that apply, and the body, whose type is named where it is
-/// not empty. Every reply says that nobody keeps it (RFC 9111, 5.2.2.5) and that the connection ends (RFC 9110, 7.6.1).
+/// The bytes of a reply (RFC 9112, 4 to 6): the status line, the fields that apply, and the body. The type of the body is named
+/// if the body is not empty. Every reply says that nobody keeps it (RFC 9111, 5.2.2.5) and that the connection ends (RFC 9110,
+/// 7.6.1).
 ///
 /// Texts are written as they are: whoever makes a reply keeps line ends out of them.
 #[tactic(auto, unfolding(crate::specs::Replies::reply_bytes))]

@@ -24,7 +24,7 @@ of_itself row = and_from (eqb row.client row.client) (bytes_eq row.sid row.sid) 
 
 -- the step that forgets one keeps another
 not_of_other : (row other : Dead) → other ≢ row → not (is_dead row other) ≡ true
-not_of_other row other differ = elim (bool_cases (is_dead row other)) [ inl same ↦ absurd (differ (same_row row other same)) | inr no ↦ ap not no ]
+not_of_other row other differ = elim (bool_cases (is_dead row other)) [ inl same ↦ absurd (differ (same_row row other same)) | inr apart ↦ ap not apart ]
 
 -- ---- a dead session identifier stays until it is forgotten
 
@@ -35,7 +35,7 @@ kept_with : (only : Bool) (new row : Dead) (rows : List Dead) → Has rows row �
 kept_with true new row rows has =
     elim (bool_cases (is_dead new row)) [
       | inl same ↦ inl (sym (same_row new row same))
-      | inr no ↦ inr (has_filter (λ other. not (is_dead new other)) rows row (ap not no) has)
+      | inr apart ↦ inr (has_filter (λ other. not (is_dead new other)) rows row (ap not apart) has)
     ]
 kept_with false new row rows has = has
 
@@ -89,13 +89,13 @@ none_left row (x ∷ rows) =
     let Kept : Bool → Type 0 = λ b. AllByRecursion (λ (y : Dead). y ≢ row) (cond (not b) (x ∷ without_dead row rows) (without_dead row rows)) in
     elim (bool_cases (is_dead row x)) [
       | inl same ↦ subst Kept (sym same) (none_left row rows)
-      | inr no ↦ subst Kept (sym no) (λ equal. differs x row no equal, none_left row rows)
+      | inr apart ↦ subst Kept (sym apart) (λ equal. differs x row apart equal, none_left row rows)
     ]
   where
     differs : (y row : Dead) → is_dead row y ≡ false → y ≡ row → ⊥
-    differs y row no equal =
+    differs y row apart equal =
         let here : is_dead row y ≡ true = ap (is_dead row) equal ∙ of_itself row in
-        let clash : false ≡ true = sym no ∙ here in
+        let clash : false ≡ true = sym apart ∙ here in
         cc
 
 pub deads_with : (only : Bool) (new : Dead) (rows : List Dead) → DeadApart rows → DeadApart (cond only (new ∷ without_dead new rows) rows)

@@ -37,7 +37,8 @@ is_dead row other = (other.client == row.client) && bytes_eq other.sid row.sid
 abbrev pub without_dead : Dead → List Dead → List Dead
 without_dead row rows = filter (λ other. not (is_dead row other)) rows
 
--- with the session identifier of a message, once, if the message ends only the sessions with this identifier
+-- the rows with the session identifier of a message, if the message ends only the sessions with this identifier; it is there
+-- once
 abbrev pub with_dead : Sent → List Dead → List Dead
 with_dead message rows = if message.only then dead_of message ∷ without_dead (dead_of message) rows else rows
 

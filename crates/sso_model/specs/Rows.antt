@@ -37,7 +37,7 @@ pub record Entered : Type 0 where
   pub client : ℕ
   pub nonce : Option (List ℕ)
 
--- a session identifier of which a client accepted a logout message, and still remembers it
+-- a session identifier that a client remembers: it accepted a logout message for the sessions with this identifier
 pub record Dead : Type 0 where
   pub client : ℕ
   pub sid : List ℕ

@@ -27,8 +27,8 @@ pub fn named_sessions_end()
     ensures others { OtherSessionsStay }
 {}
 
-/// After a client accepted a logout message that has a session identifier, no login with this identifier is entered at this
-/// client, until the client forgets the identifier. Nothing else removes it.
+/// After a client accepted a logout message for a session identifier, no session with this identifier begins at this client,
+/// until the client forgets the identifier. No other step removes it.
 pub fn ended_sids_stay_out()
     ensures ended { (m : Machine) (message : Sent) (count : ℕ) → message.only ≡ true → Has (after m (end message count)).dead (dead_of message) }
     ensures stays { (m : Machine) (step : Step) (row : Dead) → Has m.dead row → (step ≡ forget row → ⊥) → Has (after m step).dead row }

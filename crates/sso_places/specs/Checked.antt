@@ -1,4 +1,4 @@
--- The tokens that a place checks under the secret of a client: those that parsing its request verifies.
+-- The tokens that a place checks under a secret of a client: those that parsing its request verifies.
 use Rattle.std.specs.Prelude.{ℕ, List, [], ◌∷◌, Some, Result, Ok, Err}
 use Rattle.sso_base.specs.declared.http.Ask.{Ask}
 use Rattle.client_registry.specs.Configuration.{Configuration}

@@ -178,7 +178,7 @@ is_over world client at row =
 abbrev pub lapses : World → ℕ → ℕ → Machine → List Step
 lapses world client at m = map (λ (row : Live). lapse row.event) (filter (is_over world client at) m.live)
 
--- ---- forgets: the session identifiers at the client whose logout the party has forgotten, since it was accepted so long ago
+-- ---- forgets: the ended session identifiers of the client whose logout was accepted 661 seconds before, or more
 
 abbrev pub is_forgotten : RpPast → ℕ → ℕ → Dead → Bool
 is_forgotten past client at row =

@@ -1,5 +1,5 @@
--- Tokens as text, each with the number of the client whose secret is its key (OpenID Connect Core 1.0, 10.1). While a client
--- has two secrets, it is either of them.
+-- Tokens as text, each with the number of the client whose secret is its key (OpenID Connect Core 1.0, 10.1). If a client has
+-- two secrets, the key is one of them.
 use Rattle.std.specs.Prelude.{ℕ, Bool, false, ◌==◌, ◌&&◌, ◌||◌, List, [], ◌∷◌, Option, Some, None, is_some}
 use Rattle.std.specs.Result.{result_ok}
 use Rattle.std.specs.Str.{bytes_eq}

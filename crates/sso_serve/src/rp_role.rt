@@ -79,5 +79,6 @@ impl<'a> Role for RpRole<'a> {
 
     ghost few_rounds = { λ _ reply. rp_few_rounds reply };
 
-    ghost fewer_rounds = { λ role s before pair reply answer legal asked question. rp_fewer_rounds role.registry.now role.party s before pair reply answer legal asked question };
+    ghost fewer_rounds = { λ role s before pair reply answer legal asked question.
+        rp_fewer_rounds role.registry.now role.party s before pair reply answer legal asked question };
 }

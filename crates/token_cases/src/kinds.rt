@@ -1,6 +1,7 @@
 // Each kind of sealed text, read as another. All are sealed under the secret of the client `c`.
 
 use crate::ids::told_subject;
+use crate::keys::client_with;
 use crate::sealed::sealed_under;
 use crate::{ids, logouts};
 use case_lines::told;
@@ -8,10 +9,9 @@ use client_registry::Client;
 use id_token::{check_id, read_id};
 use jws_compact::Typ;
 use logout_token::read_logout;
-use registered_url::WebUrls;
 use request_object::{ObjNo, unseal_request};
 use request_params::Params;
-use sso_base::{NoMemory, Text, Texts};
+use sso_base::{NoMemory, Text};
 use std::alloc::Global;
 
 /// The answer of a call of this module; none if the call is another module's.
@@ -20,24 +20,6 @@ pub fn answer(alloc: Global, fields: &[&str]) -> Option<Result<String, NoMemory>
         ["read as", reader, kind] => Some(read_as(alloc, reader, kind)),
         _ => None,
     }
-}
-
-// The client.
-fn client(alloc: Global) -> Result<Client, NoMemory> {
-    Ok(Client {
-        id: Text::new(alloc, "c")?,
-        secret: Text::new(alloc, "secret")?,
-        old_secret: None,
-        seals_old: false,
-        redirects: Texts::new(alloc),
-        types: [true, false, false, false, false, false],
-        pairwise: false,
-        asks_consent: false,
-        logout: None,
-        logout_session: false,
-        redirect_urls: WebUrls::new(alloc),
-        logout_url: None,
-    })
 }
 
 // A request object of the client for the provider `i` (OpenID Connect Core 1.0, 6.1).
@@ -109,7 +91,7 @@ fn unsealed_by(alloc: Global, client: &Client, text: &[u8]) -> Result<String, No
 }
 
 fn as_request_object(alloc: Global, text: &[u8]) -> Result<String, NoMemory> {
-    let client = client(alloc)?;
+    let client = client_with(alloc, "secret", "-")?;
     unsealed_by(alloc, &client, text)
 }
 

@@ -14,11 +14,13 @@
 //! | `ids` | ID Tokens |
 //! | `logouts` | logout tokens |
 //! | `kinds` | each kind of sealed text, read as another |
+//! | `keys` | texts that are opened under a secret of their client |
 //! | `names` | none; the named texts |
 #![tactic(auto)]
 
 mod claims;
 mod ids;
+mod keys;
 mod kinds;
 mod logouts;
 mod macs;
@@ -38,6 +40,9 @@ struct TokenCases {}
 // The answer of a call about MACs and sealed texts, if there is one with this name.
 fn of_texts(alloc: Global, fields: &[&str]) -> Option<Result<String, NoMemory>> {
     if let Some(answer) = macs::answer(alloc, fields) {
+        return Some(answer);
+    }
+    if let Some(answer) = keys::answer(alloc, fields) {
         return Some(answer);
     }
     sealed::answer(alloc, fields)

@@ -52,8 +52,8 @@ fn sealed(alloc: Global, typ: &str, key: &str, payload: &str) -> Result<String, 
     }
 }
 
-// The contents of a sealed text, or why there are none.
-fn told_unsealed(alloc: Global, answer: &Result<Unsealed, JwsNo>) -> Result<String, NoMemory> {
+/// The contents of a sealed text, or why there are none.
+pub fn told_unsealed(alloc: Global, answer: &Result<Unsealed, JwsNo>) -> Result<String, NoMemory> {
     match answer {
         Ok(unsealed) => {
             let typ = told_text(alloc, &unsealed.typ)?;

@@ -1,5 +1,5 @@
 -- Laws about token requests and token responses. Each is a clause of a function of `law.rt`, which says it in words.
-use Rattle.std.specs.Prelude.{◌≡◌, ◌++◌, ℕ, List, codes, Option, Some, Ok, Err, IsOk}
+use Rattle.std.specs.Prelude.{◌≡◌, ◌++◌, ℕ, true, List, codes, Option, Some, Ok, Err, IsOk}
 use Rattle.std.specs.Str.{IsUtf8}
 use Rattle.form_urlencoded.specs.Form.{byte_serialize}
 use Rattle.json.specs.Print.{quoted}

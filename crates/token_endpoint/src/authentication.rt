@@ -40,7 +40,8 @@ fn is_old(shown: &[u8], old: &Option<Text>) -> bool
     }
 }
 
-// Whether this is a secret of the client. Both secrets are compared in any case, and the time does not tell where they differ.
+// Whether this is a secret of the client. Both secrets are always compared, and the time does not depend on where the texts
+// differ.
 fn is_secret_of(client: &Client, secret: &Text) -> bool
     ensures { result ≡ secrets.has_secret secret.now client.now }
 {

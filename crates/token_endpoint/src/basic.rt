@@ -14,7 +14,7 @@ use request_params::{scheme_of, split_once};
 use sso_base::{NoMemory, Text};
 use std::alloc::Global;
 
-/// The credentials of a client: its id and its secret.
+/// The credentials of a client: its id and a secret.
 #[derive(Drop)]
 pub(crate) struct Credentials {
     pub(crate) id: Text,

@@ -16,7 +16,7 @@ use std::alloc::Global;
 /// The contents of an authenticated token request for a code (RFC 6749, 4.1.3).
 #[derive(Drop)]
 pub struct Grant {
-    /// The number of the client in the registry, counted from 0. The request shows its secret.
+    /// The number of the client in the registry, counted from 0. The request shows a secret of this client.
     pub client: u32,
     /// The authorization code.
     pub code: Text,
@@ -72,7 +72,7 @@ fn granted(
 /// Reads a token request for a code (RFC 6749, 4.1.3; OpenID Connect Core 1.0, 3.1.3.1) from its `Authorization` header and its
 /// body, a form.
 ///
-/// The client shows its secret in one of two ways (RFC 6749, 2.3.1; OpenID Connect Core 1.0, 9).
+/// The client shows a secret in one of two ways (RFC 6749, 2.3.1; OpenID Connect Core 1.0, 9).
 ///
 /// - By HTTP Basic: the header is `Basic` in any case, one space, and strict base64 with padding of the id, `:` and the secret,
 ///   each encoded as in a form. The first `:` separates them. The scheme is the text before the first space, or the whole

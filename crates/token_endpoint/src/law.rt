@@ -8,7 +8,6 @@ ghost use Rattle.sso_base.specs.declared.message.Answered.{Answered};
 ghost use Rattle.claim_set.specs.declared.no.ClaimNo.{ClaimNo};
 ghost use Rattle.claim_set.specs.Reading.{Reads, claims_read};
 ghost use Rattle.client_registry.specs.Configuration.{Configuration};
-ghost use Rattle.client_registry.specs.Secrets.{has_secret};
 ghost use Rattle.client_registry.specs.Registered.{IsRegistry};
 ghost use Rattle.token_endpoint.specs.declared.basic.Credentials.{Credentials};
 ghost use Rattle.token_endpoint.specs.declared.granting.Grant.{Grant};
@@ -20,7 +19,6 @@ ghost use Rattle.token_endpoint.specs.declared.no.TokensNo.TheVariants as tokens
 ghost use Rattle.token_endpoint.specs.declared.reading.Tokens.{Tokens};
 ghost use Rattle.token_endpoint.specs.Basic.{is_basic_scheme, basic_header, basic_read, IsBasic};
 ghost use Rattle.token_endpoint.specs.Request.{grant_read};
-ghost use Rattle.token_endpoint.specs.Authentication.{credentials};
 ghost use Rattle.token_endpoint.specs.Granted.{IsGrant, Cause};
 ghost use Rattle.token_endpoint.specs.Errors.{error_code, error_text};
 ghost use Rattle.token_endpoint.specs.Answer.{tokens_read, HasTokens, token_refusals};
@@ -44,8 +42,7 @@ pub fn requests_are_granted_literally()
     ensures texts { (c : Configuration) (auth body : Option (List ℕ)) (g : Grant) → grant_read c auth body ≡ Ok g → IsUtf8 g.code × IsUtf8 g.redirect }
 {}
 
-/// A grant needs a secret of its client: the client is in the registry, and the request shows its id and its secret, or its old
-/// secret.
+/// A grant needs a secret of its client: the client is in the registry, and the request shows its id and either of its secrets.
 pub fn granted_clients_show_their_secret()
     ensures { GrantedClientsShowTheirSecret }
 {}

@@ -1,7 +1,7 @@
 //! The formats of the token endpoint: token requests for a code, and responses to them, each read and written (RFC 6749, 4.1.3,
 //! 5.1 and 5.2; OpenID Connect Core 1.0, 3.1.3).
 //!
-//! A client shows its secret by HTTP Basic or by parameters of the request (RFC 6749, 2.3.1; OpenID Connect Core 1.0, 9,
+//! A client shows a secret by HTTP Basic or by parameters of the request (RFC 6749, 2.3.1; OpenID Connect Core 1.0, 9,
 //! `client_secret_basic` and `client_secret_post`). A request is granted to a client only with a secret of that client.
 //!
 //! | Module | What it has |

@@ -8,7 +8,8 @@ use sso_base::{NoMemory, Text};
 use std::alloc::Global;
 use std::collections::BTreeSet;
 
-/// The first name that stands again. A set has the names so far, so a body of many names costs no square of their number.
+/// The first name that occurs again. A set has the names so far, so the time for a body of many names does not grow with the
+/// square of their number.
 pub(crate) fn first_repeated(alloc: Global, parameters: &[Pair]) -> Result<Option<&Text>, NoMemory>
     ensures { IfOk result (λ o. option_map (λ t. t.now) o ≡ first_repeated_of parameters.now) }
 {

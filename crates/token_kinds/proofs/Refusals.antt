@@ -1,4 +1,4 @@
--- Under the client's own secret, a text of one kind is refused as one of another for the first reason.
+-- Under a secret of the client, a text of one kind is refused as one of another for the first reason.
 use Rattle.std.proofs.Common.{◌≡◌, ℕ, List, Bool, true, false, Option, Some, None, option_map, Err, codes, refl}
 use Rattle.std.specs.Str.{bytes_eq}
 use Rattle.std.proofs.lemmas.Slice.Eq.{bytes_eq-Decides}

@@ -1,5 +1,5 @@
 -- Laws about request objects and tokens. Each is a clause of a function of `requests.rt`, which says it in words.
-use Rattle.std.specs.Prelude.{◌≡◌, ℕ, List, Ok, Err, codes}
+use Rattle.std.specs.Prelude.{◌≡◌, ℕ, true, List, Ok, Err, codes}
 use Rattle.claim_set.specs.Building.{HasNone}
 use Rattle.client_registry.specs.declared.records.Client.{Client}
 use Rattle.client_registry.specs.Secrets.{has_secret, sealing}

@@ -1,6 +1,5 @@
 // No request object is accepted as a token, and no token as a request object.
 
-ghost use Rattle.client_registry.specs.Secrets.{sealing, has_secret};
 ghost use Rattle.token_kinds.specs.RequestLaws.{RequestObjectsAreNoIdTokens, RequestObjectsAreNotReadAsIdTokens, SealedRequestObjectsAreNoIdTokens};
 ghost use Rattle.token_kinds.specs.RequestLaws.{RequestObjectsHaveNoSubject, RequestObjectsAreNoLogoutTokens, RequestObjectsAreNotReadAsLogoutTokens};
 ghost use Rattle.token_kinds.specs.RequestLaws.{SealedRequestObjectsAreNoLogoutTokens, RequestObjectsHaveNoTimeOfIssue, IdTokensAreNoRequestObjects};

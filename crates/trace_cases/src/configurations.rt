@@ -3,7 +3,8 @@
 use client_registry::{Registry, read_registry};
 use sample_configuration::{
     ALICE, ALICES_CLAIMS, ANY_CLIENT, BOB, MAIL_CLIENT, MAIL_PARTY, NEWS_CLIENT, NEWS_PARTY,
-    PROVIDER, SHOP_CLIENT, SHOP_PARTY, news_alone, sample,
+    OLD_SEALS, PROVIDER, SHOP_CLIENT, SHOP_PARTY, news_alone, sample, with_old_secrets,
+    with_two_secrets,
 };
 use sso_base::NoMemory;
 use std::alloc::Global;
@@ -68,6 +69,13 @@ userinfo = true
 signed = true
 "#;
 
+// The line of the logout URI of `news`, and the same with a line after which logout tokens for `news` have a `sid`.
+const NEWS_LOGOUT: &str = "logout_uri = \"http://127.0.0.1:8082/logout\"\n";
+
+const NEWS_LOGOUT_OF_SESSIONS: &str = "logout_uri = \"http://127.0.0.1:8082/logout\"
+logout_session = true
+";
+
 fn wide(alloc: Global) -> Result<String, NoMemory> {
     Ok([
         WIDE_PROVIDER,
@@ -88,6 +96,23 @@ fn sample_with(alloc: Global, response_type: &str) -> Result<String, NoMemory> {
     Ok(sample(alloc)?.replace(alloc, "code id_token", response_type)?)
 }
 
+// The sample with an old secret for each client, and these lines after it.
+fn two_secrets(alloc: Global, lines: &str) -> Result<String, NoMemory> {
+    let file = sample(alloc)?;
+    with_two_secrets(alloc, file.as_str(), lines)
+}
+
+// The same in the first version, which ignores the old secrets.
+fn ignored_secrets(alloc: Global) -> Result<String, NoMemory> {
+    let file = sample(alloc)?;
+    with_old_secrets(alloc, file.as_str(), OLD_SEALS)
+}
+
+// The sample in which logout tokens for `news` have a `sid`, as those for `shop` have.
+fn two_sids(alloc: Global) -> Result<String, NoMemory> {
+    Ok(sample(alloc)?.replace(alloc, NEWS_LOGOUT, NEWS_LOGOUT_OF_SESSIONS)?)
+}
+
 /// The registry for which the traces of the table `lines` are read.
 pub fn registry(alloc: Global) -> Result<Option<Registry>, NoMemory> {
     let file = [
@@ -103,12 +128,17 @@ pub fn registry(alloc: Global) -> Result<Option<Registry>, NoMemory> {
     Ok(read_registry(alloc, file.as_bytes()).ok())
 }
 
-/// The configuration with this name: `sample`, `news`, `wide`, or a response type.
+/// The configuration with this name: `sample`, `news`, `wide`, `two secrets`, `old seals`, `first version`, `two sids`, or a
+/// response type.
 pub fn configuration(alloc: Global, name: &str) -> Result<String, NoMemory> {
     match name {
         "sample" => sample(alloc),
         "news" => news_alone(alloc),
         "wide" => wide(alloc),
+        "two secrets" => two_secrets(alloc, ""),
+        "old seals" => two_secrets(alloc, OLD_SEALS),
+        "first version" => ignored_secrets(alloc),
+        "two sids" => two_sids(alloc),
         _ => sample_with(alloc, name),
     }
 }

@@ -7,7 +7,7 @@ use client_registry::{RegNo, read_registry};
 use sso_base::NoMemory;
 use std::alloc::Global;
 
-// The answers to longer and longer fronts: those that are told, and the last one, with the length of the first front that had it.
+// The answers to longer and longer prefixes: those that are written, and the last one, with the length of its first prefix.
 #[derive(Drop)]
 struct Runs {
     told: String,
@@ -22,7 +22,7 @@ impl Runs {
         Ok(push_part(&mut self.told, "; ", part.as_str())?)
     }
 
-    // Takes the answer to the front of this length.
+    // Takes the answer to the prefix of this length.
     fn take(&mut self, alloc: Global, length: usize, answer: String) -> Result<(), NoMemory> {
         if answer.as_str() == self.last.as_str() {
             return Ok(());
@@ -59,9 +59,9 @@ fn all_runs(alloc: Global, configuration: &str, file: &[u8]) -> Result<Runs, NoM
     Ok(runs)
 }
 
-/// `fronts|NAME|LINES`: what is answered where the bytes of these lines end after each of them, over the configuration of this name: the
-/// play of those that are a trace, as `whole` tells it, and of the others the refusal. Lengths with one answer in a row are told as
-/// `FIRST-LAST`.
+/// `fronts|NAME|LINES`: the answer for each prefix of the bytes of these lines, over the configuration with this name. For a
+/// prefix that is a trace it is the play, as `whole` prints it, and for any other the refusal. Lengths in a row that have the
+/// same answer are written as `FIRST-LAST`.
 pub fn fronts(alloc: Global, name: &str, lines: &str) -> Result<String, NoMemory> {
     let configuration = configuration(alloc, name)?;
     let mut file = String::new(alloc);

@@ -56,7 +56,7 @@ module _ {C A R : Type 0} where
   abbrev pub setup_of : {S : Type 0} → (C → S) → Turn C A R → S
   setup_of setup turn = setup (start_of turn)
 
--- It is a pass of this store: it knows the store's setup, its front is a legal history for it, and it holds the places of its
+-- It is a pass of this store: it knows the store's setup, its prefix is a legal history for it, and it holds the places of its
 -- calls.
 pub record IsPassOf {C S A R : Type 0} (setup : C → S) (is_legal : S → List (Pair A R) → Type 0) (turn : Turn C A R) (pass : Pass C A R) : Type 0 where
   pub table : pass.seat.table_id ≡ turn.table.shared.table_id

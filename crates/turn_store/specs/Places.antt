@@ -21,7 +21,7 @@ numbers_from first zero = []
 numbers_from first (suc count) = first ∷ numbers_from (suc first) count
 
 module _ {E : Type 0} where
-  -- the front is a prefix of the whole
+  -- the first list is a prefix of the second
   abbrev pub Begins : List E → List E → Type 0
   Begins front whole = (rest : List E) × (whole ≡ front ++ rest)
 

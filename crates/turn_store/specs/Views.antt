@@ -17,7 +17,7 @@ module _ {C E : Type 0} where
   new_passes start first zero = []
   new_passes start first (suc count) = new_pass start first ∷ new_passes start (suc first) count
 
-  -- The pass knows the initial core. Its front is a prefix of the history, and its calls are in its front.
+  -- The pass knows the initial core and a prefix of the history, and its calls are in that prefix.
   abbrev pub IsSoundPass : C → List E → PassView C E → Type 0
   IsSoundPass start history pass = (pass.start ≡ start) × Begins pass.front history × AllByRecursion (StandsIn pass.front) pass.calls
 

@@ -44,20 +44,20 @@ impl<C: Core> Turn<C> {
         if pass.calls.reserve(1).is_err() {
             return Err(CoreNo::NoMemory);
         }
-        let mut core = take_turn(rt, &self.table.shared, &mut pass.seat);
+        let mut core = take_turn(rt, &self.table.shared, &self.waiting, &mut pass.seat);
         match core.step(alloc, at, fresh, ask) {
             Ok(reply) => {
                 let place = core.count();
-                count_entry(&self.table.shared, &mut pass.seat, core);
+                count_entry(&self.table.shared, &self.waiting, &mut pass.seat, core);
                 pass.calls.push_reserved(place);
                 Ok(Placed { reply, place })
             }
             Err(CoreNo::NoMemory) => {
-                leave_turn(&self.table.shared, &mut pass.seat, core);
+                leave_turn(&self.table.shared, &self.waiting, &mut pass.seat, core);
                 Err(CoreNo::NoMemory)
             }
             Err(CoreNo::JournalFull(weight)) => {
-                leave_full(&self.table.shared, &mut pass.seat, core);
+                leave_full(&self.table.shared, &self.waiting, &mut pass.seat, core);
                 Err(CoreNo::JournalFull(weight))
             }
         }

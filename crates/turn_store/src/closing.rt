@@ -52,7 +52,12 @@ impl<C: Core> Turn<C> {
         ensures lists { result.calls ≡ map (λ pass. places_of (calls_of pass)) passes.items }
         ensures once { IsEachOnce (length (C.history result.core)) result.calls }
     {
-        let Turn { table, mut lists } = self;
+        let Turn {
+            table,
+            waiting,
+            mut lists,
+        } = self;
+        drop(waiting);
         let Pass { mut seat, calls } = passes.remove(0);
         lists.push_reserved(Places { list: calls });
         gather(&table.shared, &mut seat, &mut lists, passes);

@@ -14,6 +14,7 @@ use atomic_table::Table;
 use sso_base::{Core, NoMemory};
 use std::alloc::Global;
 use std::snapshot::Snapshot;
+use std::sync::atomic::AtomicU64;
 
 // Deals the passes of a seat, each to a seat of its own, in their order.
 fn deal<C: Core>(
@@ -70,7 +71,12 @@ impl<C: Core> Turn<C> {
         let Ok((table, seat)) = Table::new(alloc, &[0], slots, &start) else {
             return Err(NoMemory);
         };
-        let turn = Turn { table, lists };
+        let waiting = AtomicU64::new(0);
+        let turn = Turn {
+            table,
+            waiting,
+            lists,
+        };
         let dealt = deal(&turn.table.shared, alloc, seat, dealt, passes);
         Ok((turn, dealt))
     }

@@ -5,6 +5,7 @@ ghost use Rattle.std.specs.Prelude.{◌≡◌, ◌≤◌, ◌<◌, length, vec_c
 use crate::calls::Places;
 use crate::rule::{TurnSeat, TurnTable};
 use sso_base::Core;
+use std::sync::atomic::AtomicU64;
 
 /// The right of one thread to call, one call after another. It is numbered among the passes of its store.
 #[derive(Drop)]
@@ -18,6 +19,8 @@ pub struct Pass<C: Core> {
 #[derive(Drop)]
 pub struct Turn<C: Core> {
     pub(crate) table: TurnTable<C>,
+    // The number of threads that sleep until the turn is given back, or are about to.
+    pub(crate) waiting: AtomicU64,
     // It is empty, and its capacity suffices for the lists of `Calls`, so that closing takes no memory.
     pub(crate) lists: Vec<Places>,
     ghost counts: { (table.shared.table_id.words ≡ 1) × (table.shared.table_id.slots ≡ 1) },

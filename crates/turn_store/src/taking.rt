@@ -11,11 +11,32 @@ ghost use Rattle.turn_store.specs.Steps.{FitsCore};
 use crate::rule::{Counting, Leaving, LeavingFull, Passing, SharedTurn, Taking, TurnSeat};
 use sso_base::Core;
 use std::sync::Wait;
+use std::sync::atomic::{AtomicU64, Ordering};
+
+// Sleeps until the turn is given back, if the word of the taken turn is still this one.
+fn sleep_on<C: Core, R: Wait>(rt: &R, shared: &SharedTurn<C>, waiting: &AtomicU64, word: u64)
+    requires { shared.now.table_id.words ≡ 1 }
+{
+    waiting.fetch_add(1, Ordering::SeqCst);
+    shared.park(rt, 0, (word % (1 << 32)) as u32);
+    waiting.fetch_sub(1, Ordering::SeqCst);
+}
+
+// Wakes one of the threads that wait, after the turn was given back. Where none waits, the system is not called. A thread that is
+// counted only after this look sleeps only if the turn was taken again, and that turn ends with a look too.
+fn wake_next<C: Core>(shared: &SharedTurn<C>, waiting: &AtomicU64)
+    requires { shared.now.table_id.words ≡ 1 }
+{
+    if waiting.load(Ordering::SeqCst) > 0 {
+        shared.wake_one(0);
+    }
+}
 
 // Waits for the turn, and takes the core. A waiting seat sleeps, and tries again when the turn was given back.
 pub(crate) fn take_turn<C: Core, R: Wait>(
     rt: &R,
     shared: &SharedTurn<C>,
+    waiting: &AtomicU64,
     seat: &mut TurnSeat<C>,
 ) -> C
     requires place { seat.old.table_id ≡ shared.now.table_id }
@@ -35,14 +56,19 @@ pub(crate) fn take_turn<C: Core, R: Wait>(
                 return core.unwrap();
             }
         } else {
-            shared.park(rt, 0, (word % (1 << 32)) as u32);
+            sleep_on(rt, shared, waiting, word);
         }
     }
     unreachable!()
 }
 
 // Gives the turn back, with one more entry.
-pub(crate) fn count_entry<C: Core>(shared: &SharedTurn<C>, seat: &mut TurnSeat<C>, core: C)
+pub(crate) fn count_entry<C: Core>(
+    shared: &SharedTurn<C>,
+    waiting: &AtomicU64,
+    seat: &mut TurnSeat<C>,
+    core: C,
+)
     requires place { seat.old.table_id ≡ shared.now.table_id }
     requires counts { (shared.now.table_id.words ≡ 1) × (shared.now.table_id.slots ≡ 1) }
     requires turn { seat.old.me ≡ (at_turn seat.old.me.0 seat.old.me.0.taken, (0, None) ∷ []) }
@@ -51,15 +77,21 @@ pub(crate) fn count_entry<C: Core>(shared: &SharedTurn<C>, seat: &mut TurnSeat<C
     requires legal { C.is_legal (C.setup core) (C.history core) }
     requires small { length (C.history core) ≤ most_pairs }
     ensures place { seat.new.table_id ≡ seat.old.table_id }
-    ensures free { (pair : Pair C.Ask C.Reply) → C.history core ≡ seat.old.me.0.taken ++ pair ∷ [] → seat.new.me ≡ (idle (map (with_entry (C.history core) pair) seat.old.me.0.passes), []) }
+    ensures free { (pair : Pair C.Ask C.Reply) → C.history core ≡ seat.old.me.0.taken ++ pair ∷ []
+        → seat.new.me ≡ (idle (map (with_entry (C.history core) pair) seat.old.me.0.passes), []) }
 {
     let _nothing = shared.exchange(seat, 0, Some(core));
     let _found = shared.fetch_add::<Counting<C>>(seat, 0, 1);
-    shared.wake_one(0);
+    wake_next(shared, waiting);
 }
 
 // Gives the turn back, with the history unchanged.
-pub(crate) fn leave_turn<C: Core>(shared: &SharedTurn<C>, seat: &mut TurnSeat<C>, core: C)
+pub(crate) fn leave_turn<C: Core>(
+    shared: &SharedTurn<C>,
+    waiting: &AtomicU64,
+    seat: &mut TurnSeat<C>,
+    core: C,
+)
     requires place { seat.old.table_id ≡ shared.now.table_id }
     requires counts { (shared.now.table_id.words ≡ 1) × (shared.now.table_id.slots ≡ 1) }
     requires turn { seat.old.me ≡ (at_turn seat.old.me.0 (C.history core), (0, None) ∷ []) }
@@ -70,11 +102,16 @@ pub(crate) fn leave_turn<C: Core>(shared: &SharedTurn<C>, seat: &mut TurnSeat<C>
 {
     let _nothing = shared.exchange(seat, 0, Some(core));
     let _found = shared.fetch_sub::<Leaving<C>>(seat, 0, 1);
-    shared.wake_one(0);
+    wake_next(shared, waiting);
 }
 
 // The same, and the pass has seen that history.
-pub(crate) fn leave_full<C: Core>(shared: &SharedTurn<C>, seat: &mut TurnSeat<C>, core: C)
+pub(crate) fn leave_full<C: Core>(
+    shared: &SharedTurn<C>,
+    waiting: &AtomicU64,
+    seat: &mut TurnSeat<C>,
+    core: C,
+)
     requires place { seat.old.table_id ≡ shared.now.table_id }
     requires counts { (shared.now.table_id.words ≡ 1) × (shared.now.table_id.slots ≡ 1) }
     requires turn { seat.old.me ≡ (at_turn seat.old.me.0 (C.history core), (0, None) ∷ []) }
@@ -85,7 +122,7 @@ pub(crate) fn leave_full<C: Core>(shared: &SharedTurn<C>, seat: &mut TurnSeat<C>
 {
     let _nothing = shared.exchange(seat, 0, Some(core));
     let _found = shared.fetch_sub::<LeavingFull<C>>(seat, 0, 1);
-    shared.wake_one(0);
+    wake_next(shared, waiting);
 }
 
 // Gives the first pass of a seat to a new one.

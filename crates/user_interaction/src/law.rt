@@ -23,7 +23,7 @@ pub fn silent_requests_show_no_page()
     ensures consent { SilentRequestsShowNoConsentPage }
 {}
 
-/// The user is never asked to consent to a client that does not require consent.
+/// No consent page is shown for a client that does not require consent.
 pub fn given_consent_is_not_asked()
     ensures { GivenConsentIsNotAsked }
 {}

@@ -102,7 +102,7 @@ fn forged_answer(
 }
 
 /// The location of an answer with a forged ID Token: it has the same claims except for the subject, which is this user. It is
-/// sealed under the secret of the client with the redirect URI. `None` in these cases:
+/// sealed under the secret, not the old one, of the client with the redirect URI. `None` in these cases:
 ///
 /// - The reply is not an answer, or the answer has no ID Token of that client.
 /// - The user is not a valid subject (OpenID Connect Core 1.0, 2), or the claims would become too long to be sealed.

@@ -2,9 +2,7 @@
 
 ghost use Rattle.std.specs.Prelude.{◌≡◌, ℕ, Some, is_some};
 ghost use Rattle.client_registry.specs.Configuration.{Configuration};
-ghost use Rattle.client_registry.specs.Secrets.{has_secret};
 ghost use Rattle.op_exchange.specs.declared.ask.OpAsk.TheVariants as op_ask;
-ghost use Rattle.rp_request.specs.Opened.{id_read_for, logout_read_for};
 ghost use Rattle.sso_places.specs.declared.types.Jar.{Jar};
 ghost use Rattle.sso_places.specs.declared.types.WorldReply.{WorldReply};
 ghost use Rattle.web_requests.specs.declared.location.Location.{Location};
@@ -43,10 +41,10 @@ pub fn mixed_locations_differ_in_one_name()
     ensures exactly { MixesIfBothHaveTheName }
 {}
 
-/// An ID Token that is forged with its own subject is the one with the same claims under the client's secret, and so unchanged
-/// if it is sealed under it. With another subject it is read, for the client, as the claims with that subject. The request that
-/// follows a forged answer goes to the party with the answer's redirect URI. The party reads the parameters of the answer, with
-/// this ID Token in place of the original one.
+/// A forged ID Token is sealed under the client's secret, not under its old one. With its own subject it has the same claims,
+/// so it is unchanged if it was sealed under that secret. With another subject, the client reads it as the claims with that
+/// subject. The request that follows a forged answer goes to the party with the answer's redirect URI. The party reads the
+/// parameters of the answer, with this ID Token in place of the original one.
 pub fn forged_tokens_differ_in_the_subject()
     ensures own { OwnSubjectForgesNothing }
     ensures other { ForgedSubjectIsRead }

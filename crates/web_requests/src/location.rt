@@ -30,9 +30,9 @@ pub enum Location {
     Client {
         /// The redirection URI.
         redirect: Text,
-        /// Whether the authorization response stands in the fragment, else in the query.
+        /// Whether the authorization response is in the fragment. If not, it is in the query.
         fragment: bool,
-        /// The authorization response, as a form; in the query behind what stands there already.
+        /// The authorization response, as a form. In the query it comes after what is registered there.
         form: Blob,
     },
 }
@@ -176,12 +176,12 @@ fn query_in(location: &Text) -> &str
     }
 }
 
-/// Where a reply sends a browser on (RFC 9110, 10.2.2): an authorization request of a party to the provider (OpenID Connect Core
-/// 1.0, 3.1.2.1), an answer or a refusal of the provider to its redirection URI (3.1.2.5 and 3.1.2.6). None for any other reply,
-/// also for a login that entered.
+/// The location to which a reply sends a browser (RFC 9110, 10.2.2): an authorization request of a party to the provider
+/// (OpenID Connect Core 1.0, 3.1.2.1), or a response of the provider to its redirection URI (3.1.2.5 and 3.1.2.6). `None` for
+/// any other reply, also for a login that succeeded.
 ///
-/// No location is read as a URL again: the request is what follows the first `?` of its location, and a response in the query
-/// stands behind the query that is registered (RFC 6749, 3.1.2).
+/// No location is read as a URL again. The request is what follows the first `?` of its location. A response in the query comes
+/// after the query that is registered (RFC 6749, 3.1.2).
 #[tactic(auto, unfolding(crate::specs::Locations::location_of))]
 pub fn location_of(
     alloc: Global,

@@ -1,9 +1,9 @@
 // Reads configurations.
 
 use crate::registries::sample::{ALONE, changed};
-use case_lines::{told_refusal, written};
-use client_registry::{RegNo, Registry, read_registry};
-use sso_base::NoMemory;
+use case_lines::{told, told_refusal, written};
+use client_registry::{Client, RegNo, Registry, read_registry};
+use sso_base::{NoMemory, Text};
 use std::alloc::Global;
 
 // The name of a refusal, and its text, or the first of several texts.
@@ -44,13 +44,52 @@ fn read(alloc: Global, file: &[u8]) -> Result<String, NoMemory> {
     told_registry(alloc, &answer)
 }
 
-/// `registry|OLD|NEW`: the sample with the first OLD replaced by NEW. ` / ` is a line feed.
-pub fn registry(alloc: Global, old: &str, new: &str) -> Result<String, NoMemory> {
+// The sample with the first OLD replaced by NEW.
+fn sample_with(alloc: Global, old: &str, new: &str) -> Result<String, NoMemory> {
     let old = case_lines::given(old).unwrap_or("");
     let new = case_lines::given(new).unwrap_or("");
     let new = written(alloc, new.replace(alloc, " / ", "\n")?.as_str())?;
-    let file = changed(alloc, old, new.as_str())?;
+    changed(alloc, old, new.as_str())
+}
+
+/// `registry|OLD|NEW`: the sample with the first OLD replaced by NEW. ` / ` is a line feed.
+pub fn registry(alloc: Global, old: &str, new: &str) -> Result<String, NoMemory> {
+    let file = sample_with(alloc, old, new)?;
     read(alloc, file.as_bytes())
+}
+
+// The same with this version.
+fn sample_of(alloc: Global, version: &str, old: &str, new: &str) -> Result<String, NoMemory> {
+    let file = sample_with(alloc, old, new)?;
+    let line = ["version = ", version].concat(alloc)?;
+    Ok(file.as_str().replacen(alloc, "version = 1", line.as_str(), 1)?)
+}
+
+/// `version|VERSION|OLD|NEW`: the same with this version.
+pub fn version(alloc: Global, version: &str, old: &str, new: &str) -> Result<String, NoMemory> {
+    let file = sample_of(alloc, version, old, new)?;
+    read(alloc, file.as_bytes())
+}
+
+fn told_secrets(alloc: Global, client: &Client) -> Result<String, NoMemory> {
+    let (secret, sealing) = (client.secret.as_str(), client.sealing().as_str());
+    let old = client.old_secret.as_ref().map_or("-", Text::as_str);
+    Ok(format!(in alloc; "secret {secret}, old secret {old}, seals with {sealing}")?)
+}
+
+fn first_secrets(alloc: Global, answer: &Result<Registry, RegNo>) -> Result<String, NoMemory> {
+    match answer {
+        Ok(registry) if 0 < registry.clients() => told_secrets(alloc, registry.client(0)),
+        Ok(_) => told(alloc, "no client"),
+        Err(why) => told_refusal(alloc, refusal(why)),
+    }
+}
+
+/// `secrets|VERSION|OLD|NEW`: the secrets of its first client, and the one with which that seals.
+pub fn secrets(alloc: Global, version: &str, old: &str, new: &str) -> Result<String, NoMemory> {
+    let file = sample_of(alloc, version, old, new)?;
+    let answer = read_registry(alloc, file.as_bytes());
+    first_secrets(alloc, &answer)
 }
 
 /// `file|TEXT`: a whole file. ` / ` is a line feed.

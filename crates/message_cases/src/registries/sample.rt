@@ -73,7 +73,17 @@ pub fn changed(alloc: Global, old: &str, new: &str) -> Result<String, NoMemory> 
 
 /// The discovery document of the sample's provider.
 pub const DOCUMENT: &str =
-    r#"{"authorization_endpoint":"http://127.0.0.1:8080/authorize","backchannel_logout_session_supported":true,"backchannel_logout_supported":true,"claims_parameter_supported":true,"id_token_signing_alg_values_supported":["HS256"],"issuer":"http://127.0.0.1:8080","jwks_uri":"http://127.0.0.1:8080/jwks","request_object_signing_alg_values_supported":["HS256"],"request_parameter_supported":true,"request_uri_parameter_supported":false,"response_modes_supported":["query","fragment"],"response_types_supported":["code","id_token","id_token token","code id_token","code token","code id_token token"],"scopes_supported":["openid","profile","email","address","phone"],"subject_types_supported":["public","pairwise"],"token_endpoint":"http://127.0.0.1:8080/token","token_endpoint_auth_methods_supported":["client_secret_basic","client_secret_post"],"userinfo_endpoint":"http://127.0.0.1:8080/userinfo"}"#;
+    "{\"authorization_endpoint\":\"http://127.0.0.1:8080/authorize\",\"backchannel_logout_session_supported\":true,\
+     \"backchannel_logout_supported\":true,\"claims_parameter_supported\":true,\
+     \"id_token_signing_alg_values_supported\":[\"HS256\"],\"issuer\":\"http://127.0.0.1:8080\",\
+     \"jwks_uri\":\"http://127.0.0.1:8080/jwks\",\"request_object_signing_alg_values_supported\":[\"HS256\"],\
+     \"request_parameter_supported\":true,\"request_uri_parameter_supported\":false,\
+     \"response_modes_supported\":[\"query\",\"fragment\"],\
+     \"response_types_supported\":[\"code\",\"id_token\",\"id_token token\",\"code id_token\",\"code token\",\"code id_token token\"],\
+     \"scopes_supported\":[\"openid\",\"profile\",\"email\",\"address\",\"phone\"],\
+     \"subject_types_supported\":[\"public\",\"pairwise\"],\"token_endpoint\":\"http://127.0.0.1:8080/token\",\
+     \"token_endpoint_auth_methods_supported\":[\"client_secret_basic\",\"client_secret_post\"],\
+     \"userinfo_endpoint\":\"http://127.0.0.1:8080/userinfo\"}";
 
 /// The text with this name.
 pub fn text(name: &str) -> Option<&'static str> {

@@ -1,4 +1,4 @@
-// Writes and reads request objects of the client `mail-client`.
+// Writes and reads request objects.
 
 use crate::requests::parameters::params_of;
 use case_lines::{claim_refusal, or_else, push_named, told, told_refusal};
@@ -60,15 +60,35 @@ fn read_as(
     told_object(alloc, &answer)
 }
 
-/// `unseal_request|OBJECT`: the parameters of a request object, or why it is refused.
-pub fn unseal(alloc: Global, registry: &Registry, object: &str) -> Result<String, NoMemory> {
-    match client_of(registry, "mail-client") {
+/// `unseal_request|CLIENT|OBJECT`: the parameters of a request object of a client, or why it is refused. The client is
+/// `mail-client` if none is given.
+pub fn unseal(
+    alloc: Global,
+    registry: &Registry,
+    id: &str,
+    object: &str,
+) -> Result<String, NoMemory> {
+    match client_of(registry, id) {
         Some(client) => read_as(alloc, registry, client, object),
         None => told(alloc, "no such client"),
     }
 }
 
-/// `object|CLIENT|CLAIMS`: the claims are sealed under the secret of a client, and the object is read.
+/// `object_under|SECRET|CLAIMS`: the claims are sealed under this secret, and the object is read for `mail-client`.
+pub fn object_under(
+    alloc: Global,
+    registry: &Registry,
+    secret: &str,
+    claims: &str,
+) -> Result<String, NoMemory> {
+    if claims.len() > 6000 {
+        return told(alloc, "not to be sealed");
+    }
+    let object = seal_jws(alloc, secret.as_bytes(), Typ::Jwt, claims.as_bytes())?;
+    unseal(alloc, registry, "mail-client", object.as_str())
+}
+
+/// `object|CLIENT|CLAIMS`: the same under the secret of a client.
 pub fn object(
     alloc: Global,
     registry: &Registry,
@@ -76,12 +96,8 @@ pub fn object(
     claims: &str,
 ) -> Result<String, NoMemory> {
     match client_of(registry, id) {
-        Some(client) if claims.len() <= 6000 => {
-            let key = client.secret.as_str().as_bytes();
-            let object = seal_jws(alloc, key, Typ::Jwt, claims.as_bytes())?;
-            unseal(alloc, registry, object.as_str())
-        }
-        _ => told(alloc, "not to be sealed"),
+        Some(client) => object_under(alloc, registry, client.secret.as_str(), claims),
+        None => told(alloc, "not to be sealed"),
     }
 }
 
@@ -120,9 +136,10 @@ fn sealed_pairs(
     told_sealed(alloc, &sealed)
 }
 
-/// `seal_request|NAME=VALUE & ..`: the number of bytes of the claims, and the request object with these parameters.
-pub fn seal(alloc: Global, registry: &Registry, pairs: &str) -> Result<String, NoMemory> {
-    match client_of(registry, "mail-client") {
+/// `seal_request|CLIENT|NAME=VALUE & ..`: the number of bytes of the claims, and the request object of a client with these
+/// parameters. The client is `mail-client` if none is given.
+pub fn seal(alloc: Global, registry: &Registry, id: &str, pairs: &str) -> Result<String, NoMemory> {
+    match client_of(registry, id) {
         Some(client) => sealed_pairs(alloc, client, &registry.provider().issuer, pairs),
         None => told(alloc, "no such client"),
     }

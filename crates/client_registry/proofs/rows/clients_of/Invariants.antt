@@ -5,4 +5,4 @@ use Rattle.client_registry.proofs.rows.clients_of.Given as goal
 
 -- the records of the rows so far
 abbrev pub invariant-loop-row : goal.invariant-loop-row
-invariant-loop-row l = l.clients.items ≡ map client_of_row (map view (take l.row-index l.rows))
+invariant-loop-row l = l.clients.items ≡ map (client_of_row l.version) (map view (take l.row-index l.rows))
