@@ -1,6 +1,7 @@
 -- The request object of a login is no token; and the signed login of a small registry, of which this is so.
 use Rattle.std.proofs.Common.{◌≡◌, ℕ, Ok}
 use Rattle.sso_base.specs.Words.{Text, Word}
+use Rattle.sso_base.proofs.SampleWords.{word}
 use Rattle.id_token.specs.declared.claims.IdClaims.{IdClaims}
 use Rattle.id_token.specs.Reading.{id_read}
 use Rattle.logout_token.specs.declared.claims.LogoutClaims.{LogoutClaims}
@@ -11,7 +12,7 @@ use Rattle.client_registry.specs.Numbers.{party_row, party_client}
 use Rattle.login_request.specs.Parties.{MayAsk}
 use Rattle.login_request.specs.Request.{login_params, login_object}
 use Rattle.login_request.proofs.Printed.{login_sealable}
-use Rattle.login_request.proofs.Samples.{mail, mail_party, small, issuer, word, mail_may}
+use Rattle.login_request.proofs.Samples.{mail, mail_party, small, issuer, mail_may}
 
 pub object_no_id : (c : Configuration) (n : ℕ) (from : Text) (state nonce : Word) (key : Text) (x : IdClaims) → MayAsk c n from state nonce
     → id_read key (login_object (party_client c n) (party_row c n) from state nonce) ≡ Ok x → ⊥

@@ -7,6 +7,7 @@ use Rattle.sso_base.specs.Words.{Text, IsWord, word_text}
 use Rattle.sso_base.specs.declared.http.Kind.TheVariants.{Plain}
 use Rattle.sso_base.specs.declared.http.Method.TheVariants.{Get, Post}
 use Rattle.sso_base.proofs.OnLiterals.{base64url_on_literals}
+use Rattle.sso_base.proofs.SampleWords.{word}
 use Rattle.sso_base.proofs.Spelling.{IsBytes-from_all_bytes}
 use Rattle.sso_base.proofs.Utf8Bytes.{IsUtf8-are_ascii}
 use Rattle.oidc_words.specs.declared.errors.AuthError.TheVariants.{AccessDenied}
@@ -32,7 +33,7 @@ use Rattle.token_endpoint.specs.Request.{token_message}
 use Rattle.userinfo.specs.Request.{info_message}
 use Rattle.userinfo.specs.declared.header.Bearer.TheVariants.{Given}
 use Rattle.login_request.specs.Request.{login_object, login_location}
-use Rattle.login_request.proofs.Samples.{small, shop, mail, shop_party, mail_party, mail_may, word}
+use Rattle.login_request.proofs.Samples.{small, shop, mail, shop_party, mail_party, mail_may}
 use Rattle.op_exchange.specs.declared.ask.OpAsk.{OpAsk}
 use Rattle.op_exchange.specs.declared.ask.OpAsk.TheVariants as op_ask
 use Rattle.op_exchange.specs.declared.reply.OpReply.TheVariants as op
