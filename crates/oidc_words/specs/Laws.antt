@@ -11,10 +11,10 @@ abbrev pub ResponseTypesAreReadInAnyOrder : Type 0
 ResponseTypesAreReadInAnyOrder =
     (n : ℕ) → n < 6
     → AllByRecursion (λ ws. type_number (join_with_byte 32 ws) ≡ Some n)
-        (orders (chosen (type_choices (types_of_number (Some n)))))
+    (orders (chosen (type_choices (types_of_number (Some n)))))
 
 abbrev pub ResponseTypesAreTheirWords : Type 0
 ResponseTypesAreTheirWords =
     (t : Text) → is_response_type t ≡ true
     → types_of_number (type_number t)
-        ≡ record { code = has_word code_word t; id_token = has_word id_token_word t; token = has_word token_word t }
+    ≡ record { code = has_word code_word t; id_token = has_word id_token_word t; token = has_word token_word t }

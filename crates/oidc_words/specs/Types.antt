@@ -49,7 +49,7 @@ spellings =
     ∷ (codes "code id_token" ∷ codes "id_token code" ∷ [])
     ∷ (codes "code token" ∷ codes "token code" ∷ [])
     ∷ (codes "code id_token token" ∷ codes "code token id_token" ∷ codes "id_token code token" ∷ codes "id_token token code"
-         ∷ codes "token code id_token" ∷ codes "token id_token code" ∷ [])
+    ∷ codes "token code id_token" ∷ codes "token id_token code" ∷ [])
     ∷ []
 
 -- the number of a response type among the six, counted from 0
