@@ -4,7 +4,7 @@ ghost use Rattle.std.specs.Prelude.{◌≡◌, ◌&&◌, Some, option_map, refl}
 ghost use Rattle.std.proofs.lemmas.Bool.{and_parts};
 ghost use Rattle.sso_base.specs.Texts.{is_given};
 ghost use Rattle.sso_base.proofs.RowLaws.{bytes_same};
-ghost use Rattle.held_rows.proofs.FoundBy.{found_by};
+ghost use Rattle.held_rows.specs.FoundBy.{found_by};
 ghost use Rattle.held_rows.specs.Held.{AnyRow, one_of};
 ghost use Rattle.held_rows.specs.declared.row.By.TheVariants.{Group, OtherGroup};
 ghost use Rattle.base_cases.specs.Groups.{fits_text};

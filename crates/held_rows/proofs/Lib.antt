@@ -21,4 +21,4 @@ pub mod Serials
 pub mod StoredAdd
 pub mod StoredChange
 pub mod StoredRemove
-pub mod FoundBy
+pub mod Exactly

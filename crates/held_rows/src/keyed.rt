@@ -3,7 +3,7 @@
 ghost use Rattle.std.specs.Prelude.{◌≡◌, true, Some, refl};
 ghost use Rattle.sso_base.specs.Words.{is_word};
 ghost use Rattle.sso_base.proofs.RowLaws.{bytes_same};
-ghost use Rattle.held_rows.proofs.FoundBy.{found_by};
+ghost use Rattle.held_rows.specs.FoundBy.{found_by};
 
 use crate::row::{By, Row, Test};
 use sso_base::Word;

@@ -7,7 +7,7 @@ ghost use Rattle.std.proofs.Common.{sym, ap};
 ghost use Rattle.std.proofs.lemmas.Bool.{and_parts};
 ghost use Rattle.sso_base.specs.Rows.{row_of, if_lives};
 ghost use Rattle.sso_base.proofs.RowLaws.{bytes_same};
-ghost use Rattle.held_rows.proofs.FoundBy.{found_by};
+ghost use Rattle.held_rows.specs.FoundBy.{found_by};
 ghost use Rattle.held_rows.specs.Held.{none_after, most_rows};
 ghost use Rattle.held_rows.specs.declared.row.By.TheVariants.{Group, OtherGroup};
 ghost use Rattle.rp_login.specs.Named.{fits_text, is_meant};

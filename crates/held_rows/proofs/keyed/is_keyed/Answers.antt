@@ -1,4 +1,4 @@
-use Rattle.held_rows.proofs.FoundBy.{has_exactly}
+use Rattle.held_rows.proofs.Exactly.{has_exactly}
 use Rattle.held_rows.proofs.keyed.is_keyed.Goals as goal
 
 pub returns : goal.returns
