@@ -77,7 +77,7 @@ mutual
   members_inj no_members no_members p = refl
   members_inj (member k d ms) (member l e ns) p =
       same_member (text_code.inj k l (ap (λ g. left (right g)) p)) (data_inj d e (ap (λ g. left (right (right g))) p))
-          (members_inj ms ns (ap (λ g. right (right (right g))) p))
+      (members_inj ms ns (ap (λ g. right (right (right g))) p))
   members_inj x y p = absurd (omega (arith, ap tag p))
 
 abbrev pub members_code : Coded Members
