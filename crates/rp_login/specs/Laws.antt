@@ -109,31 +109,31 @@ abbrev pub PurgesLeaveLiveLogins : Type 0
 PurgesLeaveLiveLogins =
     (at : ℕ) (state : Word) (t : Tables) → AreLogins t.logins
     → row_of login_name state (calls.after (calls.purge at) t).logins
-        ≡ option_and_then (if_lives login_life login_begun at) (row_of login_name state t.logins)
+    ≡ option_and_then (if_lives login_life login_begun at) (row_of login_name state t.logins)
 
 abbrev pub PurgesLeaveLiveExchanges : Type 0
 PurgesLeaveLiveExchanges =
     (at : ℕ) (w : Word) (t : Tables) → ArePendings t.pendings
     → row_of pending_name w (calls.after (calls.purge at) t).pendings
-        ≡ option_and_then (if_lives pending_life pending_begun at) (row_of pending_name w t.pendings)
+    ≡ option_and_then (if_lives pending_life pending_begun at) (row_of pending_name w t.pendings)
 
 abbrev pub PurgesLeaveLiveSessions : Type 0
 PurgesLeaveLiveSessions =
     (at : ℕ) (w : Word) (t : Tables) → AreVisits t.visits
     → row_of visit_name w (calls.after (calls.purge at) t).visits
-        ≡ option_and_then (if_lives visit_life visit_begun at) (row_of visit_name w t.visits)
+    ≡ option_and_then (if_lives visit_life visit_begun at) (row_of visit_name w t.visits)
 
 abbrev pub PurgesLeaveLiveIdentifiers : Type 0
 PurgesLeaveLiveIdentifiers =
     (at : ℕ) (jti : Text) (t : Tables) → AreSeens t.seens
     → row_of seen_name jti (calls.after (calls.purge at) t).seens
-        ≡ option_and_then (if_lives seen_life seen_begun at) (row_of seen_name jti t.seens)
+    ≡ option_and_then (if_lives seen_life seen_begun at) (row_of seen_name jti t.seens)
 
 abbrev pub PurgesLeaveLiveDeadSids : Type 0
 PurgesLeaveLiveDeadSids =
     (at : ℕ) (sid : Text) (t : Tables) → AreDeads t.deads
     → row_of dead_name sid (calls.after (calls.purge at) t).deads
-        ≡ option_and_then (if_lives seen_life dead_begun at) (row_of dead_name sid t.deads)
+    ≡ option_and_then (if_lives seen_life dead_begun at) (row_of dead_name sid t.deads)
 
 abbrev pub SeenTokensAreRemembered : Type 0
 SeenTokensAreRemembered =
@@ -162,5 +162,5 @@ abbrev pub SessionsKeepTheirOrder : Type 0
 SessionsKeepTheirOrder =
     (sub sid : Option Text) (front rest : List SessionRow) (t : Tables) → t.visits ≡ front ++ rest
     → (calls.after (calls.end_named sub sid) t).visits
-        ≡ (calls.after (calls.end_named sub sid) (record t { visits = front })).visits
-            ++ (calls.after (calls.end_named sub sid) (record t { visits = rest })).visits
+    ≡ (calls.after (calls.end_named sub sid) (record t { visits = front })).visits
+    ++ (calls.after (calls.end_named sub sid) (record t { visits = rest })).visits
