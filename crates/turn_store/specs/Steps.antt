@@ -20,7 +20,7 @@ module _ {C S E : Type 0} (history : C → List E) (setup : C → S) (is_legal :
   abbrev pub IsAtTurn : Me (Option C) (SeatView C E) → Me (Option C) (SeatView C E) → Type 0
   IsAtTurn before after =
       (core : C) × AllByRecursion (FitsCore core) before.0.passes × (length (history core) ≤ most_pairs)
-          × (after ≡ (at_turn before.0 (history core), (0, Some core) ∷ []))
+      × (after ≡ (at_turn before.0 (history core), (0, Some core) ∷ []))
 
   -- a compare-and-exchange, which takes the turn or changes nothing
   abbrev pub Takes : Step (Option C) → Me (Option C) (SeatView C E) → ℕ → Me (Option C) (SeatView C E) → Type 0
