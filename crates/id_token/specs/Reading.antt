@@ -37,8 +37,17 @@ raw_in ms =
     and_then (text_claim (codes "sub") ms) (λ given.
     and_then (if_subject given) (λ sub.
     Ok (record {
-      at_hash = at_hash; aud = aud; auth_time = auth_time; azp = azp; c_hash = c_hash; exp = exp; iat = iat; iss = iss;
-      nonce = nonce; sid = sid; sub = sub;
+      at_hash = at_hash;
+      aud = aud;
+      auth_time = auth_time;
+      azp = azp;
+      c_hash = c_hash;
+      exp = exp;
+      iat = iat;
+      iss = iss;
+      nonce = nonce;
+      sid = sid;
+      sub = sub;
     })))))))))))))
 
 -- the required claims
@@ -50,8 +59,18 @@ whole r more =
     demand (Missing (codes "exp")) r.exp (λ exp.
     demand (Missing (codes "iat")) r.iat (λ iat.
     Ok (record {
-      iss = iss; sub = sub; aud = aud; azp = r.azp; exp = exp; iat = iat; auth_time = r.auth_time; nonce = r.nonce;
-      sid = r.sid; at_hash = r.at_hash; c_hash = r.c_hash; more = more;
+      iss = iss;
+      sub = sub;
+      aud = aud;
+      azp = r.azp;
+      exp = exp;
+      iat = iat;
+      auth_time = r.auth_time;
+      nonce = r.nonce;
+      sid = r.sid;
+      at_hash = r.at_hash;
+      c_hash = r.c_hash;
+      more = more;
     }))))))
 
 -- the ID Token in a claim set
