@@ -74,7 +74,7 @@ misplaced parties (Some id) (Some u) = list_any (is_apart id u) parties
 abbrev pub logout_rule : List Data → Row → Data → List RegNo
 logout_rule parties row client =
     note_if (misplaced parties (text_at (codes "id") client) (url_at (codes "logout_uri") client))
-        (no.WrongKind (path_text row (codes "logout_uri")))
+    (no.WrongKind (path_text row (codes "logout_uri")))
 
 -- the first client with this id
 abbrev pub client_with : List ℕ → List Data → Option Data
