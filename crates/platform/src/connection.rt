@@ -87,8 +87,7 @@ impl<'a, R: Clock> TcpSource<'a, R> {
         ensures { self.new.faults ≡ self.old.faults }
     {
         let limit = self.limit?;
-        self.ahead
-            .fill(self.clock, &self.wire, &limit, self.silence, &mut self.last)
+        self.ahead.fill(self.clock, &self.wire, &limit, self.silence, &mut self.last)
     }
 
     // Takes in what still comes, for a moment.
