@@ -24,7 +24,7 @@ use Rattle.sso_http.specs.Fields.{values_of}
 use Rattle.sso_http.specs.Peers.{front_of, cut_body, peer_body, with_status, answered, IsAnswer}
 use Rattle.sso_http.specs.Replies.{reason, status_line, type_of, pragma_line, type_line, cookie_lines, answer_lines, head_lines, reply_bytes}
 use Rattle.sso_http.specs.Sendable.{is_field_text, is_field_text_if, IsSendable}
-use Rattle.sso_http.specs.Writing.{line_end, field, field_if, last_lines, no_store}
+use Rattle.sso_http.specs.Writing.{field, field_if, last_lines, no_store}
 use Rattle.sso_http.proofs.HeadLines.{all_back}
 use Rattle.sso_http.proofs.Numbers.{and_true, own}
 
