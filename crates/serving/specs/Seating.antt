@@ -79,7 +79,7 @@ module _ {O A R D L C W : Type 0} where
     pub idle : old.listens ≡ false → (new ≡ old) × (services ≡ [])
     pub ended : old.listens ≡ true
         → ((new.worked.end ≡ DoorFault) × Failed t old.desk new.desk)
-            ⊎ ((is_fault new.worked.end ≡ false) × EndedWell t old.desk new.desk)
+        ⊎ ((is_fault new.worked.end ≡ false) × EndedWell t old.desk new.desk)
 
   abbrev pub SeatsServed : {S K : Type 0} → Telling D L C W S K → Manner A R → List (Seat O D L C W A R) → List (Seat O D L C W A R) → Type 0
   SeatsServed t m [] [] = Unit {0}
@@ -90,11 +90,11 @@ module _ {O A R D L C W : Type 0} where
   abbrev pub OpenedAndServed : {S K : Type 0} → Telling D L C W S K → Manner A R → Text → List (Seat O D L C W A R) → List (Seat O D L C W A R) → Type 0
   OpenedAndServed t m place olds news =
       (opened : List (Seat O D L C W A R)) × Opened t.state t.closings t.door_faults place olds opened
-          × SeatsServed t m opened news
+      × SeatsServed t m opened news
 
 -- a seat at which nobody has served: its pass is of this store, and its door and its desk have room for all turns
 abbrev pub MayServe : {O Setup A R D L C W S K : Type 0} → (O → Setup) → (Setup → List (Pair A R) → Type 0)
     → (D → DoorState S K) → Turn O A R → Seat O D L C W A R → Type 0
 MayServe setup is_legal state store seat =
     IsPassOf setup is_legal store seat.pass × ((state seat.desk.door).given < 2 ^ 63) × (seat.desk.turns ≤ 2 ^ 56)
-        × (seat.worked.served ≡ 0)
+    × (seat.worked.served ≡ 0)

@@ -132,7 +132,7 @@ module _ {A R : Type 0} (m : Manner A R) where
   RoundMade rounds reply steps calls next =
       ((steps ≡ []) × (calls ≡ []) × (next ≡ reply) × (m.question reply ≡ None))
       ⊎ ((s : Stepped A R) × (call : LinkCall) × (steps ≡ s ∷ []) × (calls ≡ call ∷ []) × (next ≡ s.reply) × Asks reply call
-           × IsAskedBack reply call s.asked × (rounds s.reply < rounds reply))
+      × IsAskedBack reply call s.asked × (rounds s.reply < rounds reply))
 
   -- why such a round made no step
   abbrev pub RoundFailed : List (Pair A R) → R → List LinkCall → NoReply → Type 0

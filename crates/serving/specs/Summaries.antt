@@ -50,8 +50,8 @@ module _ {D L C W S K : Type 0} (t : Telling D L C W S K) where
     abbrev pub ServedAt : List (Pair A R) → Desk D L C W → Desk D L C W → List (Service S K A R) → Type 0
     ServedAt history old new services =
         AtDesk m t.left t.read_faults t.taken t.write_faults history (t.state old.door) (t.state new.door)
-            (t.link_state old.tools.link) (t.link_state new.tools.link) (t.moments old.tools.clock) (t.moments new.tools.clock) (t.words old.tools.draw)
-            (t.words new.tools.draw) services
+        (t.link_state old.tools.link) (t.link_state new.tools.link) (t.moments old.tools.clock) (t.moments new.tools.clock) (t.words old.tools.draw)
+        (t.words new.tools.draw) services
 
     -- One desk: it ended well or its door failed. If the first door could not listen, it served nobody. A door that did not
     -- fail listens at the right place. Its steps are in the history, in their order.
@@ -121,6 +121,6 @@ pub record Summarises
   pub none : olds ≡ [] → (s.served ≡ 0) × (s.entries ≡ 0) × (s.fault ≡ false) × (s.closed ≡ None) × (news ≡ [])
   pub some : 0 < length olds
       → (closed : Closed Core) × (s.closed ≡ Some closed)
-          × ClosedSo t m setup history_of is_legal configured place olds news closed s.served s.entries
+      × ClosedSo t m setup history_of is_legal configured place olds news closed s.served s.entries
   pub failed : s.fault ≡ true → SomeFailed t olds news
   pub well : s.fault ≡ false → AllEndedWell t olds news

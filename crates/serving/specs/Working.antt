@@ -45,7 +45,7 @@ module _ {S K A R : Type 0} where
   DrawnIn moments words reading [] = Unit {0}
   DrawnIn moments words reading (s ∷ services) =
       DrawnFrom moments words reading s.work.steps × (length s.work.steps ≤ s.work.readings)
-          × DrawnIn moments words (reading + s.work.readings) services
+      × DrawnIn moments words (reading + s.work.readings) services
 
   -- one of these connections ended this way
   abbrev pub SomeEnded : ServedEnd → List (Service S K A R) → Type 0
@@ -63,8 +63,8 @@ module _ {S K A R : Type 0} where
     abbrev pub ServesAll : List (Pair A R) → List (Service S K A R) → Type 0
     ServesAll history services =
         AllByRecursion
-            (λ (s : Service S K A R). Serves m left read_faults taken write_faults history s.came s.went s.work s.served)
-            services
+        (λ (s : Service S K A R). Serves m left read_faults taken write_faults history s.came s.went s.work s.served)
+        services
 
     -- that is all that was done with the door, the link, the clock and the draw of a desk; if a connection ended because of the
     -- link, the link failed
