@@ -74,7 +74,7 @@ module _ (secret h p t : Text) where
   by_old : (old : Text) → Sealed old h p t → verdict (opening_by secret (Some old) t) t ≡ Ok (opened h p)
   by_old old s =
       elim (bool_cases (has_bad_mac secret t)) [
-        inl bad ↦ ap (λ b. verdict (cond b old secret) t) bad ∙ sealed_verdict old h p t s
+        | inl bad ↦ ap (λ b. verdict (cond b old secret) t) bad ∙ sealed_verdict old h p t s
         | inr fine ↦ ap (λ b. verdict (cond b old secret) t) fine ∙ not_bad old secret h p t s fine
       ]
 
@@ -136,7 +136,7 @@ bad_under secret None k t (inl is) h = subst (λ x. verdict x t ≡ Err BadMac) 
 bad_under secret None k t (inr is) h = absurd (cc)
 bad_under secret (Some old) k t own h =
     elim (bool_cases (has_bad_mac secret t)) [
-      inl bad ↦ under bad own
+      | inl bad ↦ under bad own
       | inr fine ↦ absurd (true≢false (sym (ap is_bad_mac (sym (ap (λ b. verdict (cond b old secret) t) fine) ∙ h)) ∙ fine))
     ]
   where

@@ -24,11 +24,7 @@ fn has_bad_mac(alloc: Global, key: &Text, text: &[u8]) -> Result<bool, NoMemory>
 /// text is wrong under the secret. So a text is opened if it is sealed under either secret, and its MAC is wrong if and only if
 /// it is wrong under both.
 #[tactic(auto, unfolding(crate::specs::Opening::opening))]
-pub fn opening_key<'a>(
-    alloc: Global,
-    client: &'a Client,
-    text: &[u8],
-) -> Result<&'a Text, NoMemory>
+pub fn opening_key<'a>(alloc: Global, client: &'a Client, text: &[u8]) -> Result<&'a Text, NoMemory>
     ensures { IfOk result (λ key. key.now ≡ spec.opening client.now text.now) }
 {
     let Some(old) = &client.old_secret else {
