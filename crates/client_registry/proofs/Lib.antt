@@ -6,6 +6,7 @@ pub mod KnownClaims
 pub mod HeldClaims
 pub mod SpelledBytes
 pub mod SecretFacts
+pub mod RowSteps
 pub mod RowFacts
 pub mod RowRules
 pub mod SubjectFacts
