@@ -64,8 +64,14 @@ last_in ms =
     and_then (text_claim (codes "scope") ms) (λ scope.
     and_then (text_claim (codes "state") ms) (λ state.
     Ok (record {
-      redirect_uri = redirect_uri; registration = registration; request = request; request_uri = request_uri;
-      response_mode = response_mode; response_type = response_type; scope = scope; state = state;
+      redirect_uri = redirect_uri;
+      registration = registration;
+      request = request;
+      request_uri = request_uri;
+      response_mode = response_mode;
+      response_type = response_type;
+      scope = scope;
+      state = state;
     })))))))))
 
 abbrev pub raw_in : Members → Result RawRequest ClaimNo
