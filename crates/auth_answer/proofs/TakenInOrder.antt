@@ -30,9 +30,9 @@ taken : (form : List ℕ) → tell (with_pairs no_parts (form_pairs form)) ≡ a
 unfolding answer_read
 taken form =
     ap tell (
-      taken_in_order part_text part_name_of part_of parts_by with_part Twice (λ (p : Pair). true) names_part with_pair
-      part_name_some part_of-parts_by parts_by-same (λ name value parts. refl) (λ p. sym (part_named p.0) ∙ and_true (is_some (part_name_of p.0))) (λ parts p. refl)
-      (form_pairs form)
+    taken_in_order part_text part_name_of part_of parts_by with_part Twice (λ (p : Pair). true) names_part with_pair
+    part_name_some part_of-parts_by parts_by-same (λ name value parts. refl) (λ p. sym (part_named p.0) ∙ and_true (is_some (part_name_of p.0))) (λ parts p. refl)
+    (form_pairs form)
     )
     ∙ told (first_repeated (heard_pairs form)) (parts_in (heard_pairs form))
 
