@@ -10,7 +10,7 @@ use Rattle.sso_base.specs.Words.{Text}
 use Rattle.sso_base.specs.Texts.{has_text}
 use Rattle.client_registry.specs.Registered.{IsSubject}
 use Rattle.oidc_words.specs.Words.{is_filled}
-use Rattle.auth_request.specs.ClaimsParameter.{is_claims_request, if_filled, one_text, item_texts, texts_among, value_texts, values_texts, subs_of, claims_of}
+use Rattle.auth_request.specs.ClaimsParameter.{is_claims_request, one_text, item_texts, texts_among, value_texts, values_texts, subs_of, claims_of}
 use Rattle.auth_request.specs.NamedSubjects.{is_this, has_item, is_among, names_subject}
 
 or_by : (a b c : Bool) → ((a || b) || c) ≡ (a || (b || c))

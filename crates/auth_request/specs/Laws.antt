@@ -44,13 +44,13 @@ abbrev pub IdTokenClaimsAreStandardMembers : Type 0
 IdTokenClaimsAreStandardMembers =
     (t : List ℕ) (d : Data) (q : List ℕ) → read t ≡ Some d → is_claims_request d ≡ true
     → has_text q (claims_of (Some t)).id_asked
-        ≡ (is_standard_claim q && is_some (option_and_then (get q) (get (codes "id_token") d)))
+    ≡ (is_standard_claim q && is_some (option_and_then (get q) (get (codes "id_token") d)))
 
 abbrev pub UserInfoClaimsAreStandardMembers : Type 0
 UserInfoClaimsAreStandardMembers =
     (t : List ℕ) (d : Data) (q : List ℕ) → read t ≡ Some d → is_claims_request d ≡ true
     → has_text q (claims_of (Some t)).info_asked
-        ≡ (is_standard_claim q && is_some (option_and_then (get q) (get (codes "userinfo") d)))
+    ≡ (is_standard_claim q && is_some (option_and_then (get q) (get (codes "userinfo") d)))
 
 abbrev pub SubjectsAreNamedByValueOrValues : Type 0
 SubjectsAreNamedByValueOrValues =

@@ -1,5 +1,5 @@
 -- Who is named by a request for the claim `sub` (OpenID Connect Core 1.0, 5.5.1).
-use Rattle.std.specs.Prelude.{Bool, false, ◌||◌, List, codes, Option, Some, None, option_and_then}
+use Rattle.std.specs.Prelude.{Bool, false, ◌||◌, codes, Option, Some, None, option_and_then}
 use Rattle.std.specs.Str.{bytes_eq}
 use Rattle.serde_json.specs.Data.{Data, Items, no_items, item}
 use Rattle.serde_json.specs.Find.{get, as_str, as_array}
