@@ -49,7 +49,7 @@ CodesAreRedeemedOnce =
     (t : Tables)
     → redemption w client redirect at t ≡ answer.Redeemed → calls.NoneIssues w steps
     → redemption w again elsewhere later (calls.after_all steps (calls.after (calls.redeem w client redirect at) t))
-        ≢ answer.Redeemed
+    ≢ answer.Redeemed
 
 -- ---- the tokens of a code
 
@@ -86,13 +86,13 @@ abbrev pub OtherRedemptionsDoNotCount : Type 0
 OtherRedemptionsDoNotCount =
     (w v : Word) (client other : ℕ) (redirect elsewhere : List ℕ) (at before : ℕ) (t : Tables) → bytes_eq v w ≡ false
     → redemption w client redirect at (calls.after (calls.redeem v other elsewhere before) t)
-        ≡ redemption w client redirect at t
+    ≡ redemption w client redirect at t
 
 abbrev pub PurgesDoNotCount : Type 0
 PurgesDoNotCount =
     (w : Word) (client : ℕ) (redirect : List ℕ) (at : ℕ) (t : Tables) → IsDistinct code_name t.codes
     → redemption w client redirect at (purged at t)
-        ≡ redeem_of client redirect at (option_and_then (if_lives code_life code_begun at) (row_of code_name w t.codes))
+    ≡ redeem_of client redirect at (option_and_then (if_lives code_life code_begun at) (row_of code_name w t.codes))
 
 -- ---- consents
 
