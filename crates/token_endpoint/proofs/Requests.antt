@@ -55,8 +55,8 @@ code_is ps n g h =
       ap (λ (x : Grant). x.client) this,
     )
 
-one_value : (o : Option Text) (v : Text) → o ≡ Some v → (t : Text) → o ≡ Some t → t ≡ v
-one_value o v h t k = cc
+same_given : (o : Option Text) (v : Text) → o ≡ Some v → (t : Text) → o ≡ Some t → t ≡ v
+same_given o v h t k = cc
 
 is_code : (ps : List Pair) (g : Grant) → AsksFor ps g → code_read ps g.client ≡ Ok g
 unfolding code_read
@@ -68,7 +68,7 @@ is_code ps g a =
     (is_none (value_of (codes "code") ps))
     (is_none (value_of (codes "redirect_uri") ps))
     OtherGrant (Missing (codes "grant_type")) (Missing (codes "code")) (Missing (codes "redirect_uri"))
-    (is_same (codes "authorization_code") (value_of (codes "grant_type") ps) (one_value (value_of (codes "grant_type") ps) (codes "authorization_code") a.grant_type))
+    (is_same (codes "authorization_code") (value_of (codes "grant_type") ps) (same_given (value_of (codes "grant_type") ps) (codes "authorization_code") a.grant_type))
     (ap is_none a.grant_type) (ap is_none a.code) (ap is_none a.redirect) in
     let this : grant_in ps g.client ≡ g = λ i. record {
       client = g.client;

@@ -28,8 +28,8 @@ abbrev pub GrantedClientsShowTheirSecret : Type 0
 GrantedClientsShowTheirSecret =
     (c : Configuration) (auth body : Option (List ℕ)) (g : Grant) → grant_read c auth body ≡ Ok g
     → (client : Client) × (client_at c g.client ≡ Some client)
-        × ((form : List ℕ) × (body ≡ Some form)
-             × ((secret : Text) × (has_secret secret client ≡ true) × Shows auth (form_pairs form) (credentials client.id secret)))
+    × ((form : List ℕ) × (body ≡ Some form)
+    × ((secret : Text) × (has_secret secret client ≡ true) × Shows auth (form_pairs form) (credentials client.id secret)))
 
 abbrev pub RefusedRequestsHaveACause : Type 0
 RefusedRequestsHaveACause =
@@ -46,14 +46,14 @@ PrintedRequestsAreGranted =
     (c : Configuration) (n : ℕ) (k : Client) (endpoint code redirect : Text) → IsRegistry c → client_at c n ≡ Some k
     → IsUtf8 code → IsUtf8 redirect
     → grant_read c (token_message k endpoint code redirect).auth (token_message k endpoint code redirect).body
-        ≡ Ok (record { client = n; code = code; redirect = redirect })
+    ≡ Ok (record { client = n; code = code; redirect = redirect })
 
 abbrev pub WrittenRequestsHaveTheirText : Type 0
 WrittenRequestsHaveTheirText =
     (k : Client) (endpoint code redirect : Text)
     → (token_message k endpoint code redirect).body
-        ≡ Some (codes "grant_type=authorization_code&code="
-                  ++ (byte_serialize code ++ (codes "&redirect_uri=" ++ byte_serialize redirect)))
+    ≡ Some (codes "grant_type=authorization_code&code="
+    ++ (byte_serialize code ++ (codes "&redirect_uri=" ++ byte_serialize redirect)))
 
 -- ---- responses
 
@@ -61,9 +61,9 @@ abbrev pub TokenResponsesHaveTheirText : Type 0
 TokenResponsesHaveTheirText =
     (access id : Text)
     → tokens_text access id
-        ≡ codes "{\"access_token\":"
-            ++ (quoted access
-                  ++ (codes ",\"expires_in\":3600,\"id_token\":" ++ (quoted id ++ codes ",\"token_type\":\"Bearer\"}")))
+    ≡ codes "{\"access_token\":"
+    ++ (quoted access
+    ++ (codes ",\"expires_in\":3600,\"id_token\":" ++ (quoted id ++ codes ",\"token_type\":\"Bearer\"}")))
 
 abbrev pub RefusedResponsesHaveTheFirstReason : Type 0
 RefusedResponsesHaveTheFirstReason =
