@@ -23,7 +23,7 @@ abbrev pub WrittenTokensAreRead : Type 0
 WrittenTokensAreRead =
     (c : Configuration) (w : Word) (id : Text) → IsUtf8 id
     → tokens_read (record { status = (http_of c (reply.Tokens w id)).status; body = (http_of c (reply.Tokens w id)).body })
-        ≡ Ok (record { access = word_text w; id = id })
+    ≡ Ok (record { access = word_text w; id = id })
 
 -- ---- pages
 
@@ -31,31 +31,31 @@ abbrev pub LoginFormsArePostedToTheProvider : Type 0
 LoginFormsArePostedToTheProvider =
     (c : Configuration) (turn browser : Word) (again : Bool)
     → HasSubslice (http_of c (reply.LoginPage turn browser again)).body
-        (codes "<form method=\"post\" action=\"" ++ (c.prefix ++ (login_path ++ codes "\">")))
+    (codes "<form method=\"post\" action=\"" ++ (c.prefix ++ (login_path ++ codes "\">")))
 
 abbrev pub LoginFormsHaveTheirTurn : Type 0
 LoginFormsHaveTheirTurn =
     (c : Configuration) (turn browser : Word) (again : Bool)
     → HasSubslice (http_of c (reply.LoginPage turn browser again)).body
-        (codes "<input type=\"hidden\" name=\"" ++ (turn_field ++ (codes "\" value=\"" ++ (word_text turn ++ codes "\">"))))
+    (codes "<input type=\"hidden\" name=\"" ++ (turn_field ++ (codes "\" value=\"" ++ (word_text turn ++ codes "\">"))))
 
 abbrev pub ConsentFormsArePostedToTheProvider : Type 0
 ConsentFormsArePostedToTheProvider =
     (c : Configuration) (turn browser : Word) (given : Option Word) (client : Text) (scopes : Scopes)
     → HasSubslice (http_of c (reply.ConsentPage turn browser given client scopes)).body
-        (codes "<form method=\"post\" action=\"" ++ (c.prefix ++ (consent_path ++ codes "\">")))
+    (codes "<form method=\"post\" action=\"" ++ (c.prefix ++ (consent_path ++ codes "\">")))
 
 abbrev pub ConsentFormsHaveTheirTurn : Type 0
 ConsentFormsHaveTheirTurn =
     (c : Configuration) (turn browser : Word) (given : Option Word) (client : Text) (scopes : Scopes)
     → HasSubslice (http_of c (reply.ConsentPage turn browser given client scopes)).body
-        (codes "<input type=\"hidden\" name=\"" ++ (turn_field ++ (codes "\" value=\"" ++ (word_text turn ++ codes "\">"))))
+    (codes "<input type=\"hidden\" name=\"" ++ (turn_field ++ (codes "\" value=\"" ++ (word_text turn ++ codes "\">"))))
 
 abbrev pub ConsentPagesNameClientAndScopes : Type 0
 ConsentPagesNameClientAndScopes =
     (c : Configuration) (turn browser : Word) (given : Option Word) (client : Text) (scopes : Scopes)
     → HasSubslice (http_of c (reply.ConsentPage turn browser given client scopes)).body
-        (codes "<p>" ++ (client ++ (codes ": " ++ (scope_text scopes ++ codes "</p>"))))
+    (codes "<p>" ++ (client ++ (codes ": " ++ (scope_text scopes ++ codes "</p>"))))
 
 -- ---- lines
 
