@@ -21,14 +21,14 @@ abbrev pub LocationsHaveTheSentParameters : Type 0
 LocationsHaveTheSentParameters =
     (client : Client) (party : Party) (provider : Provider) (state nonce : Word)
     → login_location client party provider state nonce
-        ≡ provider.authorize ++ query_mark provider.authorize ++ request_form (sent_params client party provider state nonce)
+    ≡ provider.authorize ++ query_mark provider.authorize ++ request_form (sent_params client party provider state nonce)
 
 abbrev pub LoginRequestsAreRead : Type 0
 LoginRequestsAreRead =
     (c : Configuration) (n : ℕ) (provider : Provider) (state nonce : Word) → MayAsk c n provider.issuer state nonce
     → (party_row c n).signed ≡ false
     → form.request_read (request_form (sent_params (party_client c n) (party_row c n) provider state nonce))
-        ≡ Ok (login_params (party_client c n) (party_row c n) state nonce)
+    ≡ Ok (login_params (party_client c n) (party_row c n) state nonce)
 
 -- ---- signed requests
 
@@ -37,29 +37,29 @@ ParametersBesideAnObjectAreRead =
     (c : Configuration) (n : ℕ) (provider : Provider) (state nonce : Word) → MayAsk c n provider.issuer state nonce
     → (party_row c n).signed ≡ true
     → form.request_read (request_form (sent_params (party_client c n) (party_row c n) provider state nonce))
-        ≡ Ok (outer_params (party_client c n) (party_row c n)
-                (request_text (party_client c n) provider.issuer (login_params (party_client c n) (party_row c n) state nonce)))
+    ≡ Ok (outer_params (party_client c n) (party_row c n)
+    (request_text (party_client c n) provider.issuer (login_params (party_client c n) (party_row c n) state nonce)))
 
 abbrev pub LoginObjectsAreRead : Type 0
 LoginObjectsAreRead =
     (c : Configuration) (n : ℕ) (issuer : Text) (state nonce : Word) → MayAsk c n issuer state nonce
     → object.request_read (party_client c n) issuer
-        (request_text (party_client c n) issuer (login_params (party_client c n) (party_row c n) state nonce))
-        ≡ Ok (login_params (party_client c n) (party_row c n) state nonce)
+    (request_text (party_client c n) issuer (login_params (party_client c n) (party_row c n) state nonce))
+    ≡ Ok (login_params (party_client c n) (party_row c n) state nonce)
 
 abbrev pub SignedRequestsAreWhole : Type 0
 SignedRequestsAreWhole =
     (client : Client) (party : Party) (state nonce : Word) (request : Text)
     → request_merged (outer_params client party request) (login_params client party state nonce)
-        ≡ Ok (record (login_params client party state nonce) { request = Some request })
+    ≡ Ok (record (login_params client party state nonce) { request = Some request })
 
 abbrev pub SignedLocationsEndWithTheObject : Type 0
 SignedLocationsEndWithTheObject =
     (c : Configuration) (n : ℕ) (provider : Provider) (state nonce : Word) → MayAsk c n provider.issuer state nonce
     → (party_row c n).signed ≡ true
     → (front : Text)
-        × (login_location (party_client c n) (party_row c n) provider state nonce
-             ≡ front ++ codes "&request=" ++ login_object (party_client c n) (party_row c n) provider.issuer state nonce)
+    × (login_location (party_client c n) (party_row c n) provider state nonce
+    ≡ front ++ codes "&request=" ++ login_object (party_client c n) (party_row c n) provider.issuer state nonce)
 
 -- ---- state and nonce
 
@@ -68,5 +68,5 @@ LoginRequestsHaveTheirWords =
     (c : Configuration) (n : ℕ) (provider : Provider) (state nonce other_state other_nonce : Word)
     → MayAsk c n provider.issuer state nonce → MayAsk c n provider.issuer other_state other_nonce
     → login_location (party_client c n) (party_row c n) provider state nonce
-        ≡ login_location (party_client c n) (party_row c n) provider other_state other_nonce
+    ≡ login_location (party_client c n) (party_row c n) provider other_state other_nonce
     → (state ≡ other_state) × (nonce ≡ other_nonce)
