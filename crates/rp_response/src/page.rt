@@ -6,8 +6,7 @@ ghost use Rattle.rp_response.specs.Page as spec;
 use sso_base::{Blob, NoMemory};
 use std::alloc::Global;
 
-const PAGE: &str =
-    "<!doctype html><title>Login</title><form method=\"post\"></form><script>\
+const PAGE: &str = "<!doctype html><title>Login</title><form method=\"post\"></form><script>\
      var f=document.forms[0];new URLSearchParams(location.hash.slice(1)).forEach(function(v,k){\
      var i=document.createElement(\"input\");i.type=\"hidden\";i.name=k;i.value=v;f.appendChild(i)});f.submit()</script>";
 
