@@ -129,12 +129,7 @@ fn callback(
 }
 
 // A request to the redirect URI: for the fragment page, or with an authorization response.
-fn redirected(
-    alloc: Global,
-    client: &Client,
-    types: &Types,
-    ask: &Ask,
-) -> Result<RpAsk, NoMemory>
+fn redirected(alloc: Global, client: &Client, types: &Types, ask: &Ask) -> Result<RpAsk, NoMemory>
     ensures { IfOk result (λ asked. asked ≡ spec.redirected client.now types.now ask.now) }
 {
     if wants_page(types, ask) {
