@@ -84,27 +84,27 @@ abbrev pub LoginPagesHaveACause : Type 0
 LoginPagesHaveACause =
     (c : Configuration) (past : OpPast) (e : Entry OpAsk) (turn browser : Word) (again : Bool)
     → (op_answer c past e ≡ reply.LoginPage turn browser again)
-        ↔ Comes c past e (reply.LoginPage turn browser again) (LoginPageCause c past e e.ask turn browser again)
+    ↔ Comes c past e (reply.LoginPage turn browser again) (LoginPageCause c past e e.ask turn browser again)
 
 abbrev pub ConsentPagesHaveACause : Type 0
 ConsentPagesHaveACause =
     (c : Configuration) (past : OpPast) (e : Entry OpAsk) (turn browser : Word) (given : Option Word) (client : Text)
     (scopes : Scopes)
     → (op_answer c past e ≡ reply.ConsentPage turn browser given client scopes)
-        ↔ Comes c past e (reply.ConsentPage turn browser given client scopes)
-            (ConsentPageCause c past e e.ask turn browser given client scopes)
+    ↔ Comes c past e (reply.ConsentPage turn browser given client scopes)
+    (ConsentPageCause c past e e.ask turn browser given client scopes)
 
 abbrev pub ResponsesHaveACause : Type 0
 ResponsesHaveACause =
     (c : Configuration) (past : OpPast) (e : Entry OpAsk) (answer : Answer) (given : Option Word)
     → (op_answer c past e ≡ reply.Answered answer given)
-        ↔ Comes c past e (reply.Answered answer given) (AnsweredCause c past e e.ask answer given)
+    ↔ Comes c past e (reply.Answered answer given) (AnsweredCause c past e e.ask answer given)
 
 abbrev pub ErrorResponsesHaveACause : Type 0
 ErrorResponsesHaveACause =
     (c : Configuration) (past : OpPast) (e : Entry OpAsk) (refusal : Refusal) (given : Option Word)
     → (op_answer c past e ≡ reply.Refused refusal given)
-        ↔ Comes c past e (reply.Refused refusal given) (RefusedCause c past e e.ask refusal given)
+    ↔ Comes c past e (reply.Refused refusal given) (RefusedCause c past e e.ask refusal given)
 
 abbrev pub ErrorPagesHaveACause : Type 0
 ErrorPagesHaveACause =
@@ -115,13 +115,13 @@ abbrev pub TokenResponsesHaveACause : Type 0
 TokenResponsesHaveACause =
     (c : Configuration) (past : OpPast) (e : Entry OpAsk) (access : Word) (id : Text)
     → (op_answer c past e ≡ reply.Tokens access id)
-        ↔ Comes c past e (reply.Tokens access id) (TokensCause c past e e.ask access id)
+    ↔ Comes c past e (reply.Tokens access id) (TokensCause c past e e.ask access id)
 
 abbrev pub TokenErrorsHaveACause : Type 0
 TokenErrorsHaveACause =
     (c : Configuration) (past : OpPast) (e : Entry OpAsk) (code : TokenError)
     → (op_answer c past e ≡ reply.TokenRefused code)
-        ↔ Comes c past e (reply.TokenRefused code) (TokenRefusedCause past e e.ask code)
+    ↔ Comes c past e (reply.TokenRefused code) (TokenRefusedCause past e e.ask code)
 
 abbrev pub UserInfoHasACause : Type 0
 UserInfoHasACause =
