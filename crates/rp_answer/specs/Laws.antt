@@ -53,7 +53,7 @@ abbrev pub PendingExchangesStand : Type 0
 PendingExchangesStand =
     (types : Types) (past : RpPast) (w : Word) (row : PendingRow)
     → (row_of pending_name w (pendings types past) ≡ Some row)
-        ↔ Stands pending_name (pending_made types) pending_kept past w row
+    ↔ Stands pending_name (pending_made types) pending_kept past w row
 
 abbrev pub SessionsStand : Type 0
 SessionsStand =
@@ -81,7 +81,7 @@ abbrev pub TokenRequestsHaveACause : Type 0
 TokenRequestsHaveACause =
     (s : PartySetup) (past : RpPast) (e : Entry RpAsk) (w : Word) (message : Message)
     → (rp_answer s past e ≡ reply.Exchange w message)
-        ↔ Comes s past e (reply.Exchange w message) (ExchangeCause s past e e.ask w message)
+    ↔ Comes s past e (reply.Exchange w message) (ExchangeCause s past e e.ask w message)
 
 abbrev pub FragmentPagesHaveACause : Type 0
 FragmentPagesHaveACause =
@@ -92,7 +92,7 @@ abbrev pub UserInfoRequestsHaveACause : Type 0
 UserInfoRequestsHaveACause =
     (s : PartySetup) (past : RpPast) (e : Entry RpAsk) (w : Word) (message : Message)
     → (rp_answer s past e ≡ reply.Fetch w message)
-        ↔ Comes s past e (reply.Fetch w message) (FetchCause s past e e.ask w message)
+    ↔ Comes s past e (reply.Fetch w message) (FetchCause s past e e.ask w message)
 
 abbrev pub LoginsHaveACause : Type 0
 LoginsHaveACause =
