@@ -34,7 +34,7 @@ ShownPasswordsSignLogins =
     (c : Configuration) (request : Ask) (n : ℕ) → IsRegistry c → IsTo c request endpoint.Login
     → repeats_one login_names (fields_of request.body) ≡ false → ShowsPassword c (fields_of request.body) n
     → prepared c request
-        ≡ ask.Login (word_of_text (field turn_field (fields_of request.body))) (Some n) request.first request.second
+    ≡ ask.Login (word_of_text (field turn_field (fields_of request.body))) (Some n) request.first request.second
 
 abbrev pub LoginFormsHaveTheirTurn : Type 0
 LoginFormsHaveTheirTurn =

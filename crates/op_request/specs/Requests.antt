@@ -89,7 +89,7 @@ pub record RepeatsParameter (c : Configuration) (request : Ask) : Type 0 where
 abbrev pub RepeatsAName : Configuration → Ask → Type 0
 RepeatsAName c request =
     RepeatsParameter c request
-        ⊎ (RepeatsField c request endpoint.Login login_names ⊎ RepeatsField c request endpoint.Consent consent_names)
+    ⊎ (RepeatsField c request endpoint.Login login_names ⊎ RepeatsField c request endpoint.Consent consent_names)
 
 -- ---- an authorization request
 
