@@ -22,6 +22,7 @@ use Rattle.claim_set.proofs.OnLiterals.{claims_on_literals}
 use Rattle.jws_compact.specs.declared.sealing.Typ.TheVariants.{Jwt}
 use Rattle.jws_compact.specs.Jws.{seal_text}
 use Rattle.jws_compact.proofs.OnLiterals.{jws_on_literals}
+use Rattle.client_keys.specs.Opening.{opening}
 use Rattle.request_object.specs.Reading.{first_in, last_in, judged, request_of, request_read as object_read}
 use Rattle.token_endpoint.specs.declared.no.GrantNo.TheVariants.{BadForm}
 use Rattle.token_endpoint.specs.Request.{grant_read}
@@ -163,7 +164,7 @@ abbrev with_object : Ask
 with_object = got (codes "/op/authorize") (form ++ (codes "&request=" ++ object))
 
 authorize-with_an_object : prepared here with_object ≡ ask.Authorize (verdict.Grant (record wish { nonce = Some (codes "inside") })) (Some (word 5)) (Some (word 9))
-unfolding prepared request_params_on_literals judgement errors asking_of parameter_words claims_of spellings object_read request_of first_in last_in judged jws_on_literals claims_on_literals
+unfolding prepared request_params_on_literals judgement errors asking_of parameter_words claims_of spellings object_read opening request_of first_in last_in judged jws_on_literals claims_on_literals
 authorize-with_an_object = refl
 
 abbrev with_no_object : Ask
