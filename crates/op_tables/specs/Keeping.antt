@@ -151,19 +151,19 @@ token_put (Some row) t = record t { tokens = put access_name (Some row) t.tokens
 pub record IsUpdate (before after : Tables) (past : OpPast) (p : OpPair) : Type 0 where
   pub turns_are : after.turns
       ≡ put turn_name (turn_made (turns past) past p)
-          (filter_map (turn_kept past p) (live_rows turn_life turn_begun p.entry.at before.turns))
+      (filter_map (turn_kept past p) (live_rows turn_life turn_begun p.entry.at before.turns))
   pub sessions_are : after.sessions
       ≡ put session_name (session_made (sessions past) past p)
-          (filter_map (session_kept past p) (live_rows session_life session_begun p.entry.at before.sessions))
+      (filter_map (session_kept past p) (live_rows session_life session_begun p.entry.at before.sessions))
   pub codes_are : after.codes
       ≡ put code_name (code_made (codes_issued past) past p)
-          (filter_map (code_kept past p) (live_rows code_life code_begun p.entry.at before.codes))
+      (filter_map (code_kept past p) (live_rows code_life code_begun p.entry.at before.codes))
   pub tokens_are : after.tokens
       ≡ put access_name (access_made (accesses past) past p)
-          (filter_map (access_kept past p) (live_rows access_life access_begun p.entry.at before.tokens))
+      (filter_map (access_kept past p) (live_rows access_life access_begun p.entry.at before.tokens))
   pub grants_are : (user client : ℕ) → user < 512 → client < 128
       → granted_to user client after.consents
-          ≡ joined (granted_to user client before.consents) (granted_by past user client (turn_agreed past p.entry.ask p.reply))
+      ≡ joined (granted_to user client before.consents) (granted_by past user client (turn_agreed past p.entry.ask p.reply))
 
 -- the sessions are as the pair leaves them after its past, if it used this session and answered this client
 abbrev pub KeepsSessions : Tables → Tables → OpPair → Option Word → Option ℕ → Type 0
@@ -182,4 +182,4 @@ abbrev pub GrantsAgreement : Tables → Tables → OpPair → Type 0
 GrantsAgreement before after p =
     (past : OpPast) → FindsAgreement before past p.entry.ask p.reply → (user client : ℕ) → user < 512 → client < 128
     → granted_to user client after.consents
-        ≡ joined (granted_to user client before.consents) (granted_by past user client (turn_agreed past p.entry.ask p.reply))
+    ≡ joined (granted_to user client before.consents) (granted_by past user client (turn_agreed past p.entry.ask p.reply))
