@@ -25,7 +25,6 @@ use Rattle.token_endpoint.specs.Answer.{tokens_read}
 use Rattle.userinfo.specs.declared.no.InfoNo.{InfoNo}
 use Rattle.rp_exchange.specs.declared.ask.RpAsk.{RpAsk}
 use Rattle.rp_exchange.specs.declared.ask.RpAsk.TheVariants as ask
-use Rattle.rp_request.specs.declared.routes.Endpoint.{Endpoint}
 use Rattle.rp_request.specs.Routes.{logout_routes, routes_of, endpoint_asked}
 use Rattle.rp_request.specs.Prepared.{callback_asked, wants_page, redirected, asked_at, logout_path, prepared, tokens_asked, tokens_prepared, info_prepared}
 use Rattle.sso_places.specs.declared.types.WorldAsk.{WorldAsk}
@@ -51,22 +50,23 @@ redirected_kind client types request =
     let F : Bool → Bool = λ b. is_answer (cond b ask.Fragment C) in
     elim (bool_cases (wants_page types request)) [ inl page ↦ ap F page | inr none ↦ ap F none ∙ heard_kind client request.first (answer_read (form_of request.method request)) ]
 
--- at every endpoint of the list
-abbrev IsKind : Client → Types → Ask → Route Endpoint → Type 0
-IsKind client types request route = is_answer (asked_at client types request (Some route.1)) ≡ false
+-- at a route
+abbrev IsKind : {E : Type 0} → (Option E → RpAsk) → Route E → Type 0
+IsKind asked route = is_answer (asked (Some route.1)) ≡ false
 
-found_kind : (client : Client) (types : Types) (request : Ask) (routes : List (Route Endpoint)) (path : Text)
-    → AllByRecursion (IsKind client types request) routes → is_answer (asked_at client types request (endpoint_of routes path)) ≡ false
-found_kind client types request [] path all = refl
-found_kind client types request (route ∷ routes) path all =
-    let F : Bool → Bool = λ b. is_answer (asked_at client types request (cond b (Some route.1) (endpoint_of routes path))) in
-    elim (bool_cases (bytes_eq path route.0)) [ inl this ↦ ap F this ∙ all.0 | inr other ↦ ap F other ∙ found_kind client types request routes path all.1 ]
+-- at every endpoint of the list, and at none
+found_kind : {E : Type 0} (asked : Option E → RpAsk) (routes : List (Route E)) (path : Text)
+    → is_answer (asked None) ≡ false → AllByRecursion (IsKind asked) routes → is_answer (asked (endpoint_of routes path)) ≡ false
+found_kind asked [] path none all = none
+found_kind asked (route ∷ routes) path none all =
+    let F : Bool → Bool = λ b. is_answer (asked (cond b (Some route.1) (endpoint_of routes path))) in
+    elim (bool_cases (bytes_eq path route.0)) [ inl this ↦ ap F this ∙ all.0 | inr other ↦ ap F other ∙ found_kind asked routes path none all.1 ]
 
-logout_kinds : (client : Client) (types : Types) (request : Ask) (logout : Option Text) → AllByRecursion (IsKind client types request) (logout_routes logout)
+logout_kinds : (client : Client) (types : Types) (request : Ask) (logout : Option Text) → AllByRecursion (IsKind (asked_at client types request)) (logout_routes logout)
 logout_kinds client types request None = tt
 logout_kinds client types request (Some path) = (refl, tt)
 
-route_kinds : (client : Client) (types : Types) (request : Ask) (method : Method) (redirection : Text) (logout : Option Text) → AllByRecursion (IsKind client types request) (routes_of method redirection logout)
+route_kinds : (client : Client) (types : Types) (request : Ask) (method : Method) (redirection : Text) (logout : Option Text) → AllByRecursion (IsKind (asked_at client types request)) (routes_of method redirection logout)
 route_kinds client types request Get redirection logout = (refl, (refl, (redirected_kind client types request, tt)))
 route_kinds client types request Post redirection logout = (redirected_kind client types request, (refl, logout_kinds client types request logout))
 route_kinds client types request Other redirection logout = tt
@@ -77,7 +77,7 @@ party_kind c client types request None = refl
 party_kind c client types request (Some party) =
     let redirection : Text = party.redirect_url.path in
     let logout : Option Text = logout_path c party in
-    found_kind client types request (routes_of request.method redirection logout) request.path (route_kinds client types request request.method redirection logout)
+    found_kind (asked_at client types request) (routes_of request.method redirection logout) request.path refl (route_kinds client types request request.method redirection logout)
 
 request_kind : (c : Configuration) (n : ℕ) (request : Ask) → is_answer (prepared c n request) ≡ false
 unfolding prepared

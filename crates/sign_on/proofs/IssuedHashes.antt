@@ -74,8 +74,8 @@ issued_has_hash : (c : Configuration) (wish : Wish) (who : Authentication) (at :
 issued_has_hash c wish who at access key x may value read =
     let claims : IdClaims = id_claims c wish who at (Some access) None in
     let same : claims ≡ x =
-        id_once (client_sealing c wish.client) key (issued_id c wish who at (Some access) None) claims x
-          (is_read_back c wish who at (Some access) None may value) read in
+    id_once (client_sealing c wish.client) key (issued_id c wish who at (Some access) None) claims x
+    (is_read_back c wish who at (Some access) None may value) read in
     ap (λ (y : IdClaims). is_some y.at_hash) (sym same) ∙ hash_is_there c wish who at access
 
 -- ---- what the provider issues for a code of its past

@@ -35,24 +35,24 @@ LegalWorldsAreBound =
 abbrev pub LegalityIsNeeded : Type 0
 LegalityIsNeeded =
     ¬ ((s : Site) (world : World) → IsSite s → HasDistinctWords world → IsUnleaked world → IsUnforged s world → IsJoined world
-       → SignsOn s world)
+    → SignsOn s world)
 
 abbrev pub DistinctWordsAreNeeded : Type 0
 DistinctWordsAreNeeded =
     ¬ ((s : Site) (world : World) → IsSite s → IsLegalWorld s world → IsUnleaked world → IsUnforged s world → IsJoined world
-       → SignsOn s world)
+    → SignsOn s world)
 
 abbrev pub SecretCookiesAreNeeded : Type 0
 SecretCookiesAreNeeded =
     ¬ ((s : Site) (world : World) → IsSite s → IsLegalWorld s world → HasDistinctWords world → IsUnforged s world
-       → IsJoined world → SignsOn s world)
+    → IsJoined world → SignsOn s world)
 
 abbrev pub UnforgedTokensAreNeeded : Type 0
 UnforgedTokensAreNeeded =
     ¬ ((s : Site) (world : World) → IsSite s → IsLegalWorld s world → HasDistinctWords world → IsUnleaked world
-       → IsJoined world → SignsOn s world)
+    → IsJoined world → SignsOn s world)
 
 abbrev pub JoinedAnswersAreNeeded : Type 0
 JoinedAnswersAreNeeded =
     ¬ ((s : Site) (world : World) → IsSite s → IsLegalWorld s world → HasDistinctWords world → IsUnleaked world
-       → IsUnforged s world → SignsOn s world)
+    → IsUnforged s world → SignsOn s world)
