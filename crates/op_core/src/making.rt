@@ -173,11 +173,7 @@ impl OpCore {
     }
 
     // The wish of the request, or of the turn of its form.
-    pub(crate) fn wish_for<'a>(
-        &self,
-        ask: &'a OpAsk,
-        turn: Option<&'a TurnRow>,
-    ) -> Option<&'a Wish>
+    pub(crate) fn wish_for<'a>(&self, ask: &'a OpAsk, turn: Option<&'a TurnRow>) -> Option<&'a Wish>
         requires prepared { is_prepared self.now.registry ask.now ≡ true }
         requires turn { IfSome (option_copied turn) (λ row. is_own_turn self.now.registry row ≡ true) }
         ensures wish { option_copied result ≡ spec.wish_for ask.now (option_copied turn.entry) }
