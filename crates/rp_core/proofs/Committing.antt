@@ -30,6 +30,27 @@ with_room_keeps types past t k =
       begun = record { logins = k.begun.logins; pendings = k.begun.pendings; visits = k.begun.visits; seens = k.begun.seens; deads = k.begun.deads };
     }
 
+-- what is known before the tables are updated is what an update requires
+module _ (s : PartySetup) (history : List RpPair) (t : Tables) (p : RpPair) (login : Option LoginRow) (pending : Option PendingRow) (visit : Option SessionRow) (seen : Option SeenRow) (dead : Option DeadRow) where
+  abbrev pub MayFollow : Relying → Type 0
+  MayFollow r =
+      (last_moment (past_of r) ≤ p.entry.at)
+      × (p.reply ≡ rp_answer r.setup (past_of r) p.entry)
+      × MakesRows (party_of r.setup).types (past_of r) p login pending visit seen dead
+
+  may_update : Keeps s history t → IsEntry IsRpAsk p.entry → MayFollow (record { setup = s; history = history; tables = t })
+      → MayUpdate s (reverse history) (last_moment (reverse history)) (with_room t) p login pending visit seen dead
+  may_update keeps entry shown =
+      let past : RpPast = reverse history in
+      let kept : KeepsPast (party_of s).types past (with_room t) = with_room_keeps (party_of s).types past t keeps.tables in
+      record { order = shown.0; agrees = kept.agrees; begun = kept.begun; reply_is = shown.1; rows = shown.2; few = few_deads s past p (keeps.legal.past, entry, shown.0, shown.1) }
+
+  pub may_update_as : (r : Relying) → ◌≡◌ {A = Relying} (record { setup = s; history = history; tables = t }) r → Keeps s history t → IsEntry IsRpAsk p.entry → MayFollow r
+      → (d : PartySetup) × (past : RpPast) × (before : ℕ) × MayUpdate d past before (with_room t) p login pending visit seen dead
+  may_update_as r view keeps entry shown =
+      let S : Relying → Type 0 = λ x. MayFollow x in
+      (s, reverse history, last_moment (reverse history), may_update keeps entry (subst S (sym view) shown))
+
 module _ (s : PartySetup) (history items : List RpPair) (more : ℕ) (t u : Tables) (p : RpPair) (login : Option LoginRow) (pending : Option PendingRow) (visit : Option SessionRow) (seen : Option SeenRow) (dead : Option DeadRow) where
   -- what the step has shown when it takes the pair up, of the party as a value
   abbrev pub Shown : Relying → Type 0
@@ -47,7 +68,8 @@ module _ (s : PartySetup) (history items : List RpPair) (more : ℕ) (t u : Tabl
   committed keeps entry more_is items_are follows shown =
       let past : RpPast = reverse history in
       let kept : KeepsPast (party_of s).types past (with_room t) = with_room_keeps (party_of s).types past t keeps.tables in
-      let up : MayUpdate s past (last_moment past) (with_room t) p login pending visit seen dead = record { order = shown.0; agrees = kept.agrees; begun = kept.begun; reply_is = shown.1; rows = shown.2; few = few_deads s past p (keeps.legal.past, entry, shown.0, shown.1) } in
+      let up : MayUpdate s past (last_moment past) (with_room t) p login pending visit seen dead =
+          may_update s history t p login pending visit seen dead keeps entry (shown.0, shown.1, shown.2) in
       let one : IsUpdate (party_of s).types (with_room t) u past p = follows s past (last_moment past) up in
       let K : RpPast → Type 0 = λ q. KeepsPast (party_of s).types q u in
       let I : List RpPair → Type 0 = λ x. Keeps s x u in

@@ -29,19 +29,19 @@ use Rattle.rp_core.specs.declared.making.Made.{Made}
 pub record IsUpdate (types : Types) (before after : Tables) (past : RpPast) (p : RpPair) : Type 0 where
   pub logins_are : after.logins
       ≡ put login_name (login_made (logins past) past p)
-          (filter_map (login_kept past p) (live_rows login_life login_begun p.entry.at before.logins))
+      (filter_map (login_kept past p) (live_rows login_life login_begun p.entry.at before.logins))
   pub pendings_are : after.pendings
       ≡ put pending_name (pending_made types (pendings types past) past p)
-          (filter_map (pending_kept past p) (live_rows pending_life pending_begun p.entry.at before.pendings))
+      (filter_map (pending_kept past p) (live_rows pending_life pending_begun p.entry.at before.pendings))
   pub visits_are : after.visits
       ≡ put visit_name (visit_made types (visits types past) past p)
-          (filter_map (visit_kept past p) (live_rows visit_life visit_begun p.entry.at before.visits))
+      (filter_map (visit_kept past p) (live_rows visit_life visit_begun p.entry.at before.visits))
   pub seens_are : after.seens
       ≡ put seen_name (seen_made (seens past) past p)
-          (filter_map (seen_kept past p) (live_rows seen_life seen_begun p.entry.at before.seens))
+      (filter_map (seen_kept past p) (live_rows seen_life seen_begun p.entry.at before.seens))
   pub deads_are : after.deads
       ≡ put dead_name (dead_made (deads past) past p)
-          (filter_map (dead_kept past p) (live_rows seen_life dead_begun p.entry.at before.deads))
+      (filter_map (dead_kept past p) (live_rows seen_life dead_begun p.entry.at before.deads))
 
 -- The precondition of an update: the tables agree with the past, the reply is the answer after it, the rows are those it makes,
 -- and no more session identifiers are remembered than logout tokens.

@@ -1,5 +1,11 @@
-use Rattle.rp_core.proofs.Committing.{committed_as}
+use Rattle.rp_core.proofs.Committing.{may_update_as, committed_as}
 use Rattle.rp_core.proofs.state.RpCore.commit.Goals as goal
+
+pub take_in-requires-clause-may : goal.take_in-requires-clause-may
+take_in-requires-clause-may c =
+    may_update_as c.self.inside.setup c.self.inside.journal.pairs c.self.inside.logins (record { entry = c.args.entry; reply = c.args.reply })
+    c.args.made.login c.args.made.pending c.args.made.visit c.args.made.seen c.args.made.dead c.args.self.now c.self.view_is c.self.invariant c.requires.entry
+    (c.requires.moment, c.requires.answer, c.requires.rows)
 
 pub invariant_of-self-2 : goal.invariant_of-self-2
 invariant_of-self-2 c =
