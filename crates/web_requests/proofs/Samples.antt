@@ -459,7 +459,7 @@ registry_with_logout =
     }
 
 logout_request-is_read : AsksParty with_logout 0 1 (carried with_logout (reply.Provider (op.SignedOut (record { to = codes "https://c.d/out?k=v"; auth = None; body = Some (form_text (logout_pairs (codes "x.y.z"))) } ∷ []))) 0)
-    (rp_ask.Logout (logout_read_for mail (codes "x.y.z")))
+    (rp_ask.Logout (logout_read_for mail_with_logout (codes "x.y.z")))
 logout_request-is_read =
     logout_carried with_logout 1 (codes "https://c.d/out?k=v") (codes "x.y.z") (record { to = codes "https://c.d/out?k=v"; auth = None; body = Some (form_text (logout_pairs (codes "x.y.z"))) } ∷ []) 0 registry_with_logout refl refl refl
     (IsUtf8-are_ascii (codes "x.y.z") refl) refl

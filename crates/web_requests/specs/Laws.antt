@@ -56,10 +56,10 @@ abbrev pub AuthorizationRequestsAreFollowed : Type 0
 AuthorizationRequestsAreFollowed =
     (c : Configuration) (n : ℕ) (state nonce browser : Word) (from : ℕ) (jar : Jar) → MayAsk c n c.provider.issuer state nonce
     → AsksProvider c from
-        (reply_followed c from
-           (reply.Party (rp.Ask (login_location (party_client c n) (party_row c n) c.provider state nonce) browser)) jar)
-        (op_ask.Authorize (judgement c (whole_params (party_client c n) (party_row c n) c.provider state nonce) false)
-           jar.first jar.second)
+    (reply_followed c from
+    (reply.Party (rp.Ask (login_location (party_client c n) (party_row c n) c.provider state nonce) browser)) jar)
+    (op_ask.Authorize (judgement c (whole_params (party_client c n) (party_row c n) c.provider state nonce) false)
+    jar.first jar.second)
 
 abbrev pub ResponsesAreFollowed : Type 0
 ResponsesAreFollowed =
@@ -67,15 +67,15 @@ ResponsesAreFollowed =
     → n < length c.parties → (party_row c n).redirect ≡ answer.redirect → has_part answer ≡ true → IfSome answer.state IsUtf8
     → IfSome answer.id IsUtf8
     → AsksParty c from n (reply_followed c from (reply.Provider (op.Answered answer given)) jar)
-        (rp_ask.Callback (Ok (answer_heard answer (option_and_then word_of_text answer.state)))
-           (option_map (id_read_for (party_client c n)) answer.id) jar.first)
+    (rp_ask.Callback (Ok (answer_heard answer (option_and_then word_of_text answer.state)))
+    (option_map (id_read_for (party_client c n)) answer.id) jar.first)
 
 abbrev pub ErrorResponsesAreFollowed : Type 0
 ErrorResponsesAreFollowed =
     (c : Configuration) (n : ℕ) (refusal : Refusal) (given : Option Word) (from : ℕ) (jar : Jar) → IsRegistry c
     → n < length c.parties → (party_row c n).redirect ≡ refusal.redirect → IfSome refusal.state IsUtf8
     → AsksParty c from n (reply_followed c from (reply.Provider (op.Refused refusal given)) jar)
-        (rp_ask.Callback (Ok (refusal_heard refusal (option_and_then word_of_text refusal.state))) None jar.first)
+    (rp_ask.Callback (Ok (refusal_heard refusal (option_and_then word_of_text refusal.state))) None jar.first)
 
 -- ---- mixed locations
 
@@ -98,7 +98,7 @@ abbrev pub MixesIfBothHaveTheName : Type 0
 MixesIfBothHaveTheName =
     (name : Text) (location other : Location)
     → is_some (mixed name location other)
-        ≡ (has_name name (form_pairs (form_of location)) && has_name name (form_pairs (form_of other)))
+    ≡ (has_name name (form_pairs (form_of location)) && has_name name (form_pairs (form_of other)))
 
 -- ---- forged ID Tokens
 
@@ -121,10 +121,10 @@ ForgedResponsesAreFollowed =
     → has_secret secret (party_client c n) ≡ true → answer.id ≡ Some (id_text secret claims) → HasTexts claims → IsSealable claims → IfSome answer.state IsUtf8
     → forged c (reply.Provider (op.Answered answer given)) user ≡ Some l
     → AsksParty c from n (followed c from l jar)
-        (rp_ask.Callback
-           (Ok (answer_heard (with_id answer (id_text (party_client c n).secret (record claims { sub = user })))
-                  (option_and_then word_of_text answer.state)))
-           (Some (Ok (record claims { sub = user }))) jar.first)
+    (rp_ask.Callback
+    (Ok (answer_heard (with_id answer (id_text (party_client c n).secret (record claims { sub = user })))
+    (option_and_then word_of_text answer.state)))
+    (Some (Ok (record claims { sub = user }))) jar.first)
 
 -- ---- forms
 
@@ -133,7 +133,7 @@ LoginFormsAreRead =
     (c : Configuration) (turn browser : Word) (again : Bool) (user password : Text) (from : ℕ) (jar : Jar) → IsWord turn
     → IsUtf8 user → IsUtf8 password
     → AsksProvider c from (login_posted c from (reply.Provider (op.LoginPage turn browser again)) user password jar)
-        (op_ask.Login (Some turn) (signed_user c user password) jar.first jar.second)
+    (op_ask.Login (Some turn) (signed_user c user password) jar.first jar.second)
 
 abbrev pub ConsentFormsAreRead : Type 0
 ConsentFormsAreRead =
@@ -141,7 +141,7 @@ ConsentFormsAreRead =
     (jar : Jar)
     → IsWord turn
     → AsksProvider c from (consent_posted c from (reply.Provider (op.ConsentPage turn browser given client scopes)) agree jar)
-        (op_ask.Consent (Some turn) agree jar.first jar.second)
+    (op_ask.Consent (Some turn) agree jar.first jar.second)
 
 -- ---- requests that a browser sends on its own
 
@@ -167,14 +167,14 @@ TokenRequestsAreRead =
     (c : Configuration) (n : ℕ) (client : Client) (pending : Word) (code redirect : Text) → IsRegistry c
     → client_at c n ≡ Some client → IsUtf8 code → IsUtf8 redirect
     → AsksProvider c 0 (carried c (reply.Party (rp.Exchange pending (token_message client c.provider.token code redirect))) 0)
-        (op_ask.Token (Ok (record { client = n; code = code; redirect = redirect })))
+    (op_ask.Token (Ok (record { client = n; code = code; redirect = redirect })))
 
 abbrev pub UserInfoRequestsAreRead : Type 0
 UserInfoRequestsAreRead =
     (c : Configuration) (endpoint : Text) (pending access : Word) → IsRegistry c → c.provider.userinfo ≡ Some endpoint
     → IsWord access
     → AsksProvider c 0 (carried c (reply.Party (rp.Fetch pending (info_message endpoint (word_text access)))) 0)
-        (op_ask.Info (bearer.Given access))
+    (op_ask.Info (bearer.Given access))
 
 abbrev pub LogoutRequestsAreRead : Type 0
 LogoutRequestsAreRead =
@@ -183,24 +183,24 @@ LogoutRequestsAreRead =
     → IsUtf8 token
     → slice_get messages number ≡ Some (record { to = uri; auth = None; body = Some (form_text (logout_pairs token)) })
     → AsksParty c 0 n (carried c (reply.Provider (op.SignedOut messages)) number)
-        (rp_ask.Logout (logout_read_for (party_client c n) token))
+    (rp_ask.Logout (logout_read_for (party_client c n) token))
 
 abbrev pub TokenResponsesAreRead : Type 0
 TokenResponsesAreRead =
     (c : Configuration) (n from : ℕ) (pending access : Word) (message : Message) (id : Text) → IsUtf8 id
     → AnswersTokens c from n pending
-        (handed_back c from (role.Party n) (reply.Party (rp.Exchange pending message)) role.Provider
-           (reply.Provider (op.Tokens access id)))
-        (rp_ask.Tokens pending (Ok (record { access = word_text access; id = id })) (Some (id_read_for (party_client c n) id)))
+    (handed_back c from (role.Party n) (reply.Party (rp.Exchange pending message)) role.Provider
+    (reply.Provider (op.Tokens access id)))
+    (rp_ask.Tokens pending (Ok (record { access = word_text access; id = id })) (Some (id_read_for (party_client c n) id)))
 
 abbrev pub UserInfoResponsesAreRead : Type 0
 UserInfoResponsesAreRead =
     (c : Configuration) (n from client user : ℕ) (pending : Word) (message : Message) (scopes : Scopes) (asked : List Text)
     → IsRegistry c
     → AnswersInfo from n pending
-        (handed_back c from (role.Party n) (reply.Party (rp.Fetch pending message)) role.Provider
-           (reply.Provider (op.Info (claims_text (info_members c client user scopes asked)))))
-        (rp_ask.Info pending (Ok (subject_at c client user)))
+    (handed_back c from (role.Party n) (reply.Party (rp.Fetch pending message)) role.Provider
+    (reply.Provider (op.Info (claims_text (info_members c client user scopes asked)))))
+    (rp_ask.Info pending (Ok (subject_at c client user)))
 
 -- ---- receivers
 
