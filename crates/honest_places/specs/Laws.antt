@@ -16,4 +16,4 @@ abbrev pub OwnRequestsAreGranted : Type 0
 OwnRequestsAreGranted =
     (c : Configuration) (n : ℕ) (state nonce : Word) → MayAsk c n c.provider.issuer state nonce → wants_none c n ≡ false
     → judgement c (whole_params (party_client c n) (party_row c n) c.provider state nonce) false
-        ≡ Grant (own_wish c n state nonce)
+    ≡ Grant (own_wish c n state nonce)
