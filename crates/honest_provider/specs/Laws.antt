@@ -50,7 +50,7 @@ SessionsPersist =
     (c : Configuration) (w : Word) (later past : OpPast) (row : SessionRow) → IsLegalOp c (later ++ past)
     → AllByRecursion (Spares w) later → row_of session_name w (sessions past) ≡ Some row
     → (after : SessionRow) × (row_of session_name w (sessions (later ++ past)) ≡ Some after)
-        × (without_clients after ≡ without_clients row)
+    × (without_clients after ≡ without_clients row)
 
 -- ---- UserInfo
 

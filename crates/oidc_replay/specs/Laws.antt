@@ -59,7 +59,7 @@ LoginFormsAreFilledIn =
     (c : Configuration) (v : Visitor) (world : World) (jars : List JarNote) (k : ℕ) (last : Place) (earlier : List Place)
     → place_at world k ≡ Some last → (w b : Word) (again : Bool) → reply_at last ≡ reply.Provider (op.LoginPage w b again)
     → line_sent c world jars (line.Login v.browser k v.id v.password)
-        ≡ called_for c v (jar_of jars v.browser to.Provider) earlier (reply_at last)
+    ≡ called_for c v (jar_of jars v.browser to.Provider) earlier (reply_at last)
 
 abbrev pub ConsentFormsAreFilledIn : Type 0
 ConsentFormsAreFilledIn =
@@ -67,7 +67,7 @@ ConsentFormsAreFilledIn =
     → place_at world k ≡ Some last → (w b : Word) (given : Option Word) (client : Text) (scopes : Scopes)
     → reply_at last ≡ reply.Provider (op.ConsentPage w b given client scopes)
     → line_sent c world jars (line.Consent v.browser k true)
-        ≡ called_for c v (jar_of jars v.browser to.Provider) earlier (reply_at last)
+    ≡ called_for c v (jar_of jars v.browser to.Provider) earlier (reply_at last)
 
 abbrev pub TokenRequestsAreCarried : Type 0
 TokenRequestsAreCarried =
@@ -87,7 +87,7 @@ TokenResponsesGoBack =
     → place_at world k ≡ Some last → place_at world j ≡ Some asking → (access : Word) (id : Text)
     → reply_at last ≡ reply.Provider (op.Tokens access id)
     → line_sent c world jars (line.Back j k)
-        ≡ called_for c v (jar_of jars v.browser to.Provider) (asking ∷ rest) (reply_at last)
+    ≡ called_for c v (jar_of jars v.browser to.Provider) (asking ∷ rest) (reply_at last)
 
 abbrev pub UserInfoResponsesGoBack : Type 0
 UserInfoResponsesGoBack =
@@ -95,7 +95,7 @@ UserInfoResponsesGoBack =
     → place_at world k ≡ Some last → place_at world j ≡ Some asking → (claims : Text)
     → reply_at last ≡ reply.Provider (op.Info claims)
     → line_sent c world jars (line.Back j k)
-        ≡ called_for c v (jar_of jars v.browser to.Provider) (asking ∷ rest) (reply_at last)
+    ≡ called_for c v (jar_of jars v.browser to.Provider) (asking ∷ rest) (reply_at last)
 
 -- ---- tokens
 

@@ -44,7 +44,7 @@ pub record IsIndexed (c : Configuration) (index : Index) (behind : Option Forekn
   pub set : (w : Word) (from : ℕ) → (newest_sets behind world from w || set_for_other index.setters w from) ≡ set_elsewhere world from w
   pub wrote : (t : Text) (client : ℕ)
       → (list_any (is_token (client, t)) (newest_writes c behind world) || is_written_for index.written t client)
-          ≡ is_written (own_site c) world (client, t)
+      ≡ is_written (own_site c) world (client, t)
   pub issued : (half : Text) → option_or (issued_of index.halves half) (newest_issues half behind world) ≡ first_issued half world
 
 -- what is known of the newest place, if it is not indexed

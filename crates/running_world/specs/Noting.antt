@@ -104,7 +104,7 @@ abbrev pub ArePartlyNoted : List (List Text) → List (List Text) → List Token
 ArePartlyNoted before after texts =
     (t : Text) (client : ℕ)
     → (list_any (is_token (client, t)) texts || is_written_for after t client)
-        ≡ (list_any (is_token (client, t)) texts || is_written_for before t client)
+    ≡ (list_any (is_token (client, t)) texts || is_written_for before t client)
 
 -- ---- codes and access tokens
 
@@ -151,7 +151,7 @@ abbrev pub ArePartlyIssued : List (Text × Issued) → List (Text × Issued) →
 ArePartlyIssued before after place reply =
     (half : Text)
     → option_or (issued_of after half) (issued_here half place (issued_by reply))
-        ≡ option_or (issued_of before half) (issued_here half place (issued_by reply))
+    ≡ option_or (issued_of before half) (issued_here half place (issued_by reply))
 
 -- the place is indexed
 pub record IsNoted (c : Configuration) (before after : Index) (k : Kept) (place : ℕ) (fore : Foreknown) : Type 0 where

@@ -12,4 +12,4 @@ abbrev pub StormsAreAccepted : Type 0
 StormsAreAccepted =
     (c : Configuration) (number count : ℕ) → KnowsParties c → count ≤ 10000
     → (told : Told) × (trace_told c (trace_text number count) ≡ Ok told) × (told.seed ≡ seed_of number)
-        × (places_after told.lines ≡ places_before count)
+    × (places_after told.lines ≡ places_before count)

@@ -42,40 +42,34 @@ const GRANT_OF_SHOP: &str =
 // The ID Token that the provider seals for the client of `news` at place 3 of NEWS_ANSWERED; a logout token for that client,
 // with the claims `jti` `j` and `sub` `alice`; and a request object of the client of `mail`. All are computed with Python's
 // hmac, base64 and json.
-const ID_TOKEN_OF_NEWS: &str =
-    "eyJhbGciOiJIUzI1NiIsInR5cCI6IkpXVCJ9\
+const ID_TOKEN_OF_NEWS: &str = "eyJhbGciOiJIUzI1NiIsInR5cCI6IkpXVCJ9\
      .eyJhdF9oYXNoIjoiaWFYUWVxOHpHV09Wem1YWjhDU09OUSIsImF1ZCI6Im5ld3MtY2xpZW50IiwiYXV0aF90aW1lIjoxMDAwLCJleHAiOjEzMDAsImlhdCI6MTAwMCwia\
      XNzIjoiaHR0cDovLzEyNy4wLjAuMTo4MDgwIiwibm9uY2UiOiJBQUFBQUFBQUFBQUFBQUFBQUFBQUFBQUFBQUFBQUFBQUFBQUFBQUFBQUFNIiwic2lkIjoiQUFBQUFBQUF\
      BQUFBQUFBQUFBQUFBQUFBQUFBQUFBQUFBQUFBQUFBQUFBbyIsInN1YiI6ImFsaWNlIn0\
      .V200h3Ef1es_oFcrilkHRRIGpX5tInXFhg7ZxuqdPnU";
 
-const LOGOUT_TOKEN_OF_NEWS: &str =
-    "eyJhbGciOiJIUzI1NiIsInR5cCI6ImxvZ291dCtqd3QifQ\
+const LOGOUT_TOKEN_OF_NEWS: &str = "eyJhbGciOiJIUzI1NiIsInR5cCI6ImxvZ291dCtqd3QifQ\
      .eyJhdWQiOiJuZXdzLWNsaWVudCIsImV2ZW50cyI6eyJodHRwOi8vc2NoZW1hcy5vcGVuaWQubmV0L2V2ZW50L2JhY2tjaGFubmVsLWxvZ291dCI6e319LCJleHAiOjExM\
      jAsImlhdCI6MTAwMCwiaXNzIjoiaHR0cDovLzEyNy4wLjAuMTo4MDgwIiwianRpIjoiaiIsInN1YiI6ImFsaWNlIn0\
      .DKk9cXWLpNIw24Y2egHJyUGih09LBC4R7ODHf-MHRew";
 
-const REQUEST_OF_MAIL: &str =
-    "eyJhbGciOiJIUzI1NiIsInR5cCI6IkpXVCJ9\
+const REQUEST_OF_MAIL: &str = "eyJhbGciOiJIUzI1NiIsInR5cCI6IkpXVCJ9\
      .eyJub25jZSI6Im4iLCJyZWRpcmVjdF91cmkiOiJodHRwOi8vMTI3LjAuMC4xOjgwODMvY2IiLCJzY29wZSI6Im9wZW5pZCBlbWFpbCJ9\
      .tzvTj3Oykr3dHaIekYWFRg5dxxAhUov_LPxv64DKhvY";
 
 // The same three, sealed under the old secrets of these clients.
-const OLD_ID_TOKEN_OF_NEWS: &str =
-    "eyJhbGciOiJIUzI1NiIsInR5cCI6IkpXVCJ9\
+const OLD_ID_TOKEN_OF_NEWS: &str = "eyJhbGciOiJIUzI1NiIsInR5cCI6IkpXVCJ9\
      .eyJhdF9oYXNoIjoiaWFYUWVxOHpHV09Wem1YWjhDU09OUSIsImF1ZCI6Im5ld3MtY2xpZW50IiwiYXV0aF90aW1lIjoxMDAwLCJleHAiOjEzMDAsImlhdCI6MTAwMCwiaX\
      NzIjoiaHR0cDovLzEyNy4wLjAuMTo4MDgwIiwibm9uY2UiOiJBQUFBQUFBQUFBQUFBQUFBQUFBQUFBQUFBQUFBQUFBQUFBQUFBQUFBQUFNIiwic2lkIjoiQUFBQUFBQUFBQ\
      UFBQUFBQUFBQUFBQUFBQUFBQUFBQUFBQUFBQUFBQUFBbyIsInN1YiI6ImFsaWNlIn0\
      .sKXzJfD33aJjDyySRG5k7m7fWISHrUy_Mys8Uz5q4fU";
 
-const OLD_LOGOUT_TOKEN_OF_NEWS: &str =
-    "eyJhbGciOiJIUzI1NiIsInR5cCI6ImxvZ291dCtqd3QifQ\
+const OLD_LOGOUT_TOKEN_OF_NEWS: &str = "eyJhbGciOiJIUzI1NiIsInR5cCI6ImxvZ291dCtqd3QifQ\
      .eyJhdWQiOiJuZXdzLWNsaWVudCIsImV2ZW50cyI6eyJodHRwOi8vc2NoZW1hcy5vcGVuaWQubmV0L2V2ZW50L2JhY2tjaGFubmVsLWxvZ291dCI6e319LCJleHAiOjExMj\
      AsImlhdCI6MTAwMCwiaXNzIjoiaHR0cDovLzEyNy4wLjAuMTo4MDgwIiwianRpIjoiaiIsInN1YiI6ImFsaWNlIn0\
      .j4iU4Uzjr2ecv1_0SbeoV4wAL3JF7TPKfMJCSoTE74U";
 
-const OLD_REQUEST_OF_MAIL: &str =
-    "eyJhbGciOiJIUzI1NiIsInR5cCI6IkpXVCJ9\
+const OLD_REQUEST_OF_MAIL: &str = "eyJhbGciOiJIUzI1NiIsInR5cCI6IkpXVCJ9\
      .eyJub25jZSI6Im4iLCJyZWRpcmVjdF91cmkiOiJodHRwOi8vMTI3LjAuMC4xOjgwODMvY2IiLCJzY29wZSI6Im9wZW5pZCBlbWFpbCJ9\
      .Io7Lo1BuZkuKONZRRMEH7zTyIX6OhTbwd51xJX8nRa0";
 

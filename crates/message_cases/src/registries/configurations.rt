@@ -62,7 +62,10 @@ pub fn registry(alloc: Global, old: &str, new: &str) -> Result<String, NoMemory>
 fn sample_of(alloc: Global, version: &str, old: &str, new: &str) -> Result<String, NoMemory> {
     let file = sample_with(alloc, old, new)?;
     let line = ["version = ", version].concat(alloc)?;
-    Ok(file.as_str().replacen(alloc, "version = 1", line.as_str(), 1)?)
+    Ok(
+        file.as_str()
+            .replacen(alloc, "version = 1", line.as_str(), 1)?,
+    )
 }
 
 /// `version|VERSION|OLD|NEW`: the same with this version.
