@@ -1,5 +1,5 @@
 -- The two roles and their servers, computed over the definitions on small cases.
-use Rattle.std.proofs.Common.{◌≡◌, ℕ, ◌+◌, ◌<◌, Bool, true, false, List, [], ◌∷◌, Option, Some, None, refl, sym, ◌∙◌, arith}
+use Rattle.std.proofs.Common.{◌≡◌, ℕ, ◌<◌, Bool, true, false, [], ◌∷◌, Some, None, refl, arith}
 use Rattle.sso_base.specs.Words.{Word}
 use Rattle.sso_base.specs.declared.message.Message.{Message}
 use Rattle.sso_base.specs.declared.message.Answered.{Answered}
@@ -14,10 +14,9 @@ use Rattle.rp_exchange.specs.declared.reply.RpReply.{RpReply}
 use Rattle.rp_exchange.specs.declared.reply.RpReply.TheVariants as rp
 use Rattle.rp_answer.specs.Setup.{PartySetup}
 use Rattle.rp_core.specs.Relying.{Relying}
-use Rattle.server_desk.specs.declared.desk.Desk.{Desk}
 use Rattle.serving.specs.declared.summary.Summary.{Summary}
 use Rattle.serving.specs.Summaries.{Telling}
-use Rattle.sso_serve.specs.Roles.{op_notices, op_manner, rp_question, rp_answered, rp_rounds, rp_manner}
+use Rattle.sso_serve.specs.Roles.{op_notices, op_manner, rp_question, rp_answered, rp_rounds}
 use Rattle.sso_serve.specs.Servers.{ServesOp, ServesRp}
 
 -- ---- what is told to others, and what is asked of them
