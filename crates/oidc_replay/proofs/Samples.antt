@@ -5,6 +5,9 @@ use Rattle.sso_base.specs.Words.{Text, word_text}
 use Rattle.sso_base.specs.declared.http.Ask.{Ask}
 use Rattle.sso_base.specs.declared.http.Method.TheVariants.{Get}
 use Rattle.sso_base.specs.declared.message.Message.{Message}
+use Rattle.sso_model.specs.Founded.{HoldsOnlyFounded, OnceEach}
+use Rattle.sso_model.specs.Machine.{start, began_row, entered_row}
+use Rattle.sso_model.specs.Rows.{Live, Answered}
 use Rattle.token_endpoint.specs.declared.reading.Tokens.{Tokens}
 use Rattle.client_registry.specs.ClientSets.{no_clients}
 use Rattle.userinfo.specs.declared.header.Bearer.TheVariants.{Given}
@@ -224,6 +227,23 @@ shows_somebody = Party 0 1 (Http got) (answered (rp.User (codes "alice"))) ∷ [
 signs_nobody_on : SignsOnWell (own_site sample) shows_somebody → ⊥
 unfolding SignsOn
 signs_nobody_on well = well.signs.1.0
+
+-- no browser began the login of a session
+unbegun_is_unfounded : (row : Live) → HoldsOnlyFounded (record start { live = row ∷ [] }) → ⊥
+unbegun_is_unfounded row founded = founded.0.began
+
+-- a browser began it, but the provider never answered
+unanswered_is_unfounded : (row : Live) → HoldsOnlyFounded (record start { began = began_row row ∷ []; live = row ∷ [] }) → ⊥
+unanswered_is_unfounded row founded = founded.0.answered.has
+
+-- the provider answered, but nobody had signed in
+unsigned_is_unfounded : (row : Live) (a : Answered)
+    → HoldsOnlyFounded (record start { began = began_row row ∷ []; answered = a ∷ []; live = row ∷ [] }) → ⊥
+unsigned_is_unfounded row a founded = founded.0.signed
+
+-- a login that was entered twice
+entered_twice_is_not_once : (row : Live) → OnceEach (record start { entered = entered_row row ∷ entered_row row ∷ [] }) → ⊥
+entered_twice_is_not_once row once = once.entered.0 (inl refl)
 
 -- nothing is said of what has the place at which a token is forged, and all of what ends before it
 forged_there : HoldsUntil (own_site sample) (Forged 1) shows_somebody
