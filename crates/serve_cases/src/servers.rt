@@ -15,7 +15,7 @@ use std::sync::Wait;
 use std::thread::Threads;
 
 // The numbers of connections and entries, and whether a door failed, or there was no store.
-fn told_summary<O: Core>(alloc: Global, summary: &Summary<O>) -> Result<String, NoMemory> {
+fn told_summary<O: Core + Send>(alloc: Global, summary: &Summary<O>) -> Result<String, NoMemory> {
     let mut out = format!(in alloc; "served {} entries {}", summary.served, summary.entries)?;
     if summary.fault {
         out.push_str(", a door failed")?;

@@ -8,7 +8,7 @@ pub trait Role: Sync {
     ghost use Rattle.serving.specs.Manner.{Manner, HasFewerRounds};
 
     /// The core.
-    type Core: Core;
+    type Core: Core + Send;
 
     /// Whether it may serve.
     ghost ready: { Self → Type 0 };

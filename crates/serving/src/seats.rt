@@ -18,7 +18,7 @@ use turn_store::Pass;
 
 /// A desk with its pass.
 #[derive(Drop)]
-pub struct Seat<O: Core, D: Drop, L: Drop, C: Drop, W: Drop> {
+pub struct Seat<O: Core + Send, D: Drop, L: Drop, C: Drop, W: Drop> {
     pub desk: Desk<D, L, C, W>,
     pub pass: Pass<O>,
     /// Whether its door listens.
@@ -28,7 +28,7 @@ pub struct Seat<O: Core, D: Drop, L: Drop, C: Drop, W: Drop> {
 }
 
 /// Moves these desks and passes to seats, at which nobody has served yet.
-pub fn sit<O: Core, D: Door, L: Link, C: Clock, W: Draw>(
+pub fn sit<O: Core + Send, D: Door, L: Link, C: Clock, W: Draw>(
     desks: &mut Vec<Desk<D, L, C, W>>,
     passes: &mut Vec<Pass<O>>,
     seats: &mut Vec<Seat<O, D, L, C, W>>,
@@ -56,7 +56,7 @@ pub fn sit<O: Core, D: Door, L: Link, C: Clock, W: Draw>(
 }
 
 // Makes the seat's door listen at the place, and notes whether it does.
-fn open_seat<O: Core, D: Door, L: Link, C: Clock, W: Draw>(
+fn open_seat<O: Core + Send, D: Door, L: Link, C: Clock, W: Draw>(
     seat: &mut Seat<O, D, L, C, W>,
     place: &Text,
 )
@@ -66,7 +66,7 @@ fn open_seat<O: Core, D: Door, L: Link, C: Clock, W: Draw>(
 }
 
 // Makes the seat's door listen at the first door's address, and notes whether it does.
-fn share_seat<O: Core, D: Door, L: Link, C: Clock, W: Draw>(
+fn share_seat<O: Core + Send, D: Door, L: Link, C: Clock, W: Draw>(
     seat: &mut Seat<O, D, L, C, W>,
     first: &D,
 )
@@ -76,7 +76,7 @@ fn share_seat<O: Core, D: Door, L: Link, C: Clock, W: Draw>(
 }
 
 // Makes the doors of these seats listen at the first door's address.
-fn share_seats<O: Core, D: Door, L: Link, C: Clock, W: Draw>(
+fn share_seats<O: Core + Send, D: Door, L: Link, C: Clock, W: Draw>(
     seats: &mut [Seat<O, D, L, C, W>],
     first: &D,
 )
@@ -88,7 +88,7 @@ fn share_seats<O: Core, D: Door, L: Link, C: Clock, W: Draw>(
 }
 
 /// Makes the first door listen at the place, and the others at its address. A seat is open if its door listens.
-pub fn open_doors<O: Core, D: Door, L: Link, C: Clock, W: Draw>(
+pub fn open_doors<O: Core + Send, D: Door, L: Link, C: Clock, W: Draw>(
     seats: &mut [Seat<O, D, L, C, W>],
     place: &Text,
 )
@@ -189,7 +189,7 @@ pub struct Count {
 }
 
 /// Returns desks and passes from the seats, in their order, and the count.
-pub fn rise<O: Core, D: Door, L: Link, C: Clock, W: Draw>(
+pub fn rise<O: Core + Send, D: Door, L: Link, C: Clock, W: Draw>(
     seats: &mut Vec<Seat<O, D, L, C, W>>,
     desks: &mut Vec<Desk<D, L, C, W>>,
     passes: &mut Vec<Pass<O>>,

@@ -30,7 +30,7 @@ impl From<NoMemory> for CoreNo {
 
 /// A state machine that answers requests one after another, and stores them with its replies. Which histories are legal defines
 /// its replies.
-pub trait Core: Send + Drop {
+pub trait Core: Drop {
     type Ask: Drop;
 
     type Reply: Drop;

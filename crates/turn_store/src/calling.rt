@@ -12,7 +12,7 @@ use sso_base::{Core, CoreNo, Moment, Word};
 use std::alloc::Global;
 use std::sync::Wait;
 
-impl<C: Core> Turn<C> {
+impl<C: Core + Send> Turn<C> {
     /// Steps the core once it is this pass's turn, and returns the core's reply. The pass must be one of this store. The call
     /// may wait for another pass. The entry has the four random words, and the later of this moment and the last entry's.
     ///

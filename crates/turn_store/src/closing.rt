@@ -13,7 +13,7 @@ use crate::taking::join_passes;
 use sso_base::Core;
 
 // Joins the passes to a seat, in their order, and keeps their lists.
-fn gather<C: Core>(
+fn gather<C: Core + Send>(
     shared: &SharedTurn<C>,
     seat: &mut TurnSeat<C>,
     lists: &mut Vec<Places>,
@@ -39,7 +39,7 @@ fn gather<C: Core>(
     }
 }
 
-impl<C: Core> Turn<C> {
+impl<C: Core + Send> Turn<C> {
     /// Closes the store: its passes end, and the core is returned with the places of each pass's calls. It takes no memory. The
     /// passes must be those that `new` returned, in their order.
     pub fn close(self, mut passes: Vec<Pass<C>>) -> Closed<C>

@@ -17,7 +17,7 @@ use std::snapshot::Snapshot;
 use std::sync::atomic::AtomicU64;
 
 // Deals the passes of a seat, each to a seat of its own, in their order.
-fn deal<C: Core>(
+fn deal<C: Core + Send>(
     shared: &SharedTurn<C>,
     alloc: Global,
     mut seat: TurnSeat<C>,
@@ -44,7 +44,7 @@ fn deal<C: Core>(
     dealt
 }
 
-impl<C: Core> Turn<C> {
+impl<C: Core + Send> Turn<C> {
     /// A store of this core, which must have an empty history, and its passes: 1 to 64, numbered from 0 in their order.
     ///
     /// # Errors
