@@ -32,10 +32,10 @@ fn gather<C: Core + Send>(
     for pass in passes {
         let Pass {
             seat: other,
-            calls: list,
+            calls: places,
         } = pass;
         join_passes(shared, seat, other);
-        lists.push_reserved(Places { list });
+        lists.push_reserved(places);
     }
 }
 
@@ -59,7 +59,7 @@ impl<C: Core + Send> Turn<C> {
         } = self;
         drop(waiting);
         let Pass { mut seat, calls } = passes.remove(0);
-        lists.push_reserved(Places { list: calls });
+        lists.push_reserved(calls);
         gather(&table.shared, &mut seat, &mut lists, passes);
         let mut closed = table.close_with(seat);
         let slot = closed.take(0);

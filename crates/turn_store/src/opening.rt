@@ -7,6 +7,7 @@ ghost use Rattle.turn_store.specs.Views.{idle, new_passes};
 ghost use Rattle.turn_store.specs.Passes.{number_of, passes_of, setup_of, IsPassOf, HasDoneNothing};
 ghost use Rattle.turn_store.specs.Seats.{IsDealt};
 
+use crate::calls::Places;
 use crate::rule::{SharedTurn, Start, TurnSeat};
 use crate::store::{Pass, Turn};
 use crate::taking::split_pass;
@@ -37,7 +38,7 @@ fn deal<C: Core + Send>(
         let one = split_pass(shared, &mut seat);
         dealt.push_reserved(Pass {
             seat: one,
-            calls: Vec::new(alloc),
+            calls: Places::new(alloc),
         });
         left -= 1;
     }

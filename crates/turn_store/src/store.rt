@@ -12,7 +12,7 @@ use std::sync::atomic::AtomicU64;
 pub struct Pass<C: Core + Send> {
     pub(crate) seat: TurnSeat<C>,
     // The places of its calls, in their order.
-    pub(crate) calls: Vec<u64>,
+    pub(crate) calls: Places,
 }
 
 /// One core, which passes step in turn. Threads share it by reference.
