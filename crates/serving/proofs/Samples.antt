@@ -1,6 +1,6 @@
 -- The definitions computed on small cases: what each accepts, and what it refuses. Requests and replies are numbers. A request
 -- is parsed as the length of its path, and the answer to a question as its status.
-use Rattle.std.proofs.Common.{◌≡◌, ◌≢◌, inl, inr, ℕ, zero, suc, ◌+◌, ◌*◌, ◌<◌, ◌≤◌, List, [], ◌∷◌, length, codes, Option, Some, None, Result, Ok, Err, refl, ap, arith}
+use Rattle.std.proofs.Common.{◌≡◌, ◌≢◌, inl, inr, ℕ, zero, suc, ◌+◌, ◌*◌, ◌<◌, ◌≤◌, nat_le, List, [], ◌∷◌, length, codes, Option, Some, None, Result, Ok, Err, refl, ap, arith}
 use Rattle.std.specs.Fmt.{digits}
 use Rattle.http_reply.specs.Replies.{plain}
 use Rattle.sso_base.specs.Outside.{SinkMemory}
@@ -26,10 +26,10 @@ use Rattle.turn_store.specs.declared.store.Pass.{Pass}
 use Rattle.turn_store.specs.declared.view.Called.{Called}
 use Rattle.serving.specs.declared.ends.ServedEnd.TheVariants as end
 use Rattle.serving.specs.declared.no_reply.NoReply.{NoReply}
-use Rattle.serving.specs.declared.no_reply.NoReply.TheVariants.{NoMemory, Http, Link, Peer, Full}
+use Rattle.serving.specs.declared.no_reply.NoReply.TheVariants.{NoMemory, Http, Link, Peer, TooLarge, Full}
 use Rattle.serving.specs.LinkCalls.{LinkCall, sending_of, after_calls, grown_by, failures as failed_calls, TookCalls}
 use Rattle.serving.specs.Manner.{Manner, bytes_by}
-use Rattle.serving.specs.Serving.{IsPeerAnswer, IsAsked, IsUnasked, Asks, IsAskedBack, IsRun, IsLastReply, LeadsTo, IsStopped, Cause, Serves}
+use Rattle.serving.specs.Serving.{IsPeerAnswer, IsAsked, IsUnasked, Asks, IsAskedBack, IsRun, IsLastReply, LeadsTo, LeadsToTooLarge, IsStopped, Cause, Serves}
 use Rattle.serving.specs.Steps.{Stepped, history_after, called_of, IsDrawn, IsFull, IsNoStep, Made}
 use Rattle.serving.specs.Told.{memory_bytes, bytes_without, end_of}
 use Rattle.serving.specs.Work.{Work, LieBehind, DrawnFrom, MadeAll, Did}
@@ -75,7 +75,9 @@ manner = record {
   answered = λ (reply : ℕ) (answer : Answered). answer.status;
   notices = notices_after;
   http = λ (reply : ℕ). plain 200 (reply ∷ []);
+  takes = λ (ask : ℕ). nat_le ask 200;
   weighs = λ (ask : ℕ). ask;
+  most = 268435456;
 }
 
 -- ---- what is sent
@@ -193,13 +195,13 @@ its_words reading before asked reply (suc (suc (suc (suc k)))) low = absurd (ome
 pub drawn-at_its_reading : (reading : ℕ) (before : History) (asked reply : ℕ) → IsDrawn moments words reading (step_at reading before asked reply)
 drawn-at_its_reading reading before asked reply = record { moment = refl; fresh = its_words reading before asked reply }
 
-too_heavy : IsFull manner.weighs (history_after step1) 268435456
+too_heavy : IsFull manner.weighs manner.most (history_after step1) 268435456
 too_heavy = omega arith
 
-not_too_heavy : IsFull manner.weighs (history_after step1) 268435455 → ⊥
+not_too_heavy : IsFull manner.weighs manner.most (history_after step1) 268435455 → ⊥
 not_too_heavy full = let heavy : 268435456 < 1 + 268435455 = full in absurd (omega (arith, heavy))
 
-not_no_step-for_the_link : IsNoStep {R = ℕ} manner.weighs [] 268435457 Link → ⊥
+not_no_step-for_the_link : IsNoStep {R = ℕ} manner.weighs manner.most [] 268435457 Link → ⊥
 not_no_step-for_the_link is = is
 
 -- ---- what was done for a connection
@@ -246,7 +248,7 @@ module _ (any : Pass History ℕ ℕ) where
 -- ---- one connection
 
 asked-the_length_of_its_path : IsAsked manner (Some get_text) (Some []) 1
-asked-the_length_of_its_path = (_, record { head = get_text; body = []; given = refl; request = a_request }, refl)
+asked-the_length_of_its_path = ((_, record { head = get_text; body = []; given = refl; request = a_request }, refl), refl)
 
 unasked-three_bytes : IsUnasked manner (Some (codes "GET")) (Some []) 0 0 http_no.EndedEarly
 unasked-three_bytes = record {
@@ -278,7 +280,26 @@ not_asks-without_a_question : Asks manner 1 asked_and_answered → ⊥
 not_asks-without_a_question asks = let e : None ≡ Some asks.0 = asks.1 in absurd cc
 
 asked_back-the_status : IsAskedBack manner 0 asked_and_answered 200
-asked_back-the_status = (ok_bytes, record { status = 200; body = 10 ∷ [] }, refl, answered-with_200, refl)
+asked_back-the_status = ((ok_bytes, record { status = 200; body = 10 ∷ [] }, refl, answered-with_200, refl), refl)
+
+abbrev answered_404 : LinkCall
+answered_404 = record { sent = sending_of (message 1); answer = Ok (reply_bytes (plain 404 [])) }
+
+too_large-the_status_404 : LeadsToTooLarge manner 0 [] (answered_404 ∷ [])
+too_large-the_status_404 = (
+  404,
+  (
+    reply_bytes (plain 404 []),
+    record { status = 404; body = 10 ∷ [] },
+    refl,
+    sent (plain 404 []) (record { low = omega arith; high = omega arith; location = refl; cookies = refl; few = omega arith; challenge = refl; short = omega arith }),
+    refl,
+  ),
+  refl,
+)
+
+not_too_large-without_a_call : LeadsToTooLarge manner 0 [] [] → ⊥
+not_too_large-without_a_call is = is
 
 run-of_two_steps : IsRun manner (Some get_text) (Some []) (step1 ∷ step2 ∷ []) (asked_and_answered ∷ [])
 run-of_two_steps = (asked-the_length_of_its_path, (asks-its_question, asked_back-the_status, tt))
@@ -342,4 +363,5 @@ no_refusal_after_a_step (Err NoMemory) cause e = absurd cc
 no_refusal_after_a_step (Err (Http why)) cause e = let none : lone ∷ [] ≡ [] = cause.0 in absurd cc
 no_refusal_after_a_step (Err Link) cause e = absurd cc
 no_refusal_after_a_step (Err Peer) cause e = absurd cc
+no_refusal_after_a_step (Err TooLarge) cause e = absurd cc
 no_refusal_after_a_step (Err Full) cause e = absurd cc

@@ -43,6 +43,10 @@ pub trait Role: Sync {
         requires { ready self.now }
         ensures { IfOk result (λ asked. asked ≡ (manner self.now).answered reply.now answer.now) };
 
+    /// Whether a parsed request is small enough for the server.
+    fn takes(&self, ask: &<Self::Core as Core>::Ask) -> bool
+        ensures { result ≡ (manner self.now).takes ask.now };
+
     /// The notices that are sent with a reply, if there are any.
     fn notices<'r>(&self, reply: &'r <Self::Core as Core>::Reply) -> Option<&'r Messages>
         ensures { unwrap_or (option_map (λ m. m.now) result) [] ≡ (manner self.now).notices reply.now };

@@ -4,7 +4,7 @@ ghost use Rattle.std.specs.Prelude.{◌≡◌, ◌+◌, ◌^◌, ◌≤◌, ◌<
 ghost use Rattle.std.specs.List.{All, sum_by, list_any};
 ghost use Rattle.server_desk.specs.Doors.{started, shared};
 ghost use Rattle.serving.specs.Seating.{seated, is_left, OpenedSo, AllOpened, Opened, SeatServed, SeatsServed, OpenedAndServed, MayServe};
-ghost use Rattle.turn_store.specs.Passes.{IsPassOf};
+ghost use Rattle.turn_store.specs.Passes.{IsPassOf, setup_of};
 
 use crate::backend::Backend;
 use crate::role::Role;
@@ -111,6 +111,7 @@ fn serve_seat<R: Wait, X: Role, D: Door, L: Link, C: Clock, W: Draw>(
 )
     requires ready { X.ready backend.now.role.now }
     requires pass { IsPassOf X.Core.setup X.Core.is_legal backend.now.store.now seat.old.pass }
+    requires limit { (X.manner backend.now.role.now).most ≡ X.Core.most (setup_of X.Core.setup backend.now.store.now) }
     requires given { (D.state seat.old.desk.door).given < 2 ^ 63 }
     requires turns { seat.old.desk.turns ≤ 2 ^ 56 }
     requires idle { seat.old.worked.served ≡ 0 }
@@ -131,6 +132,7 @@ where
     <X::Core as Core>::Ask: Send,
     <X::Core as Core>::Reply: Send,
     requires ready { X.ready backend.now.role.now }
+    requires limit { (X.manner backend.now.role.now).most ≡ X.Core.most (setup_of X.Core.setup backend.now.store.now) }
     requires some { 0 < length seats.old }
     requires seats { All (λ seat. MayServe X.Core.setup X.Core.is_legal D.state backend.now.store.now seat) seats.old }
     ensures passes { All (λ seat. IsPassOf X.Core.setup X.Core.is_legal backend.now.store.now seat.pass) seats.new }
@@ -143,6 +145,7 @@ where
         count,
         &|_, seat: &mut Seat<X::Core, D, L, C, W>|
             requires { X.ready backend.now.role.now
+                × ((X.manner backend.now.role.now).most ≡ X.Core.most (setup_of X.Core.setup backend.now.store.now))
                 × IsPassOf X.Core.setup X.Core.is_legal backend.now.store.now seat.now.pass × ((D.state seat.now.desk.door).given < 2 ^ 63)
                 × (seat.now.desk.turns ≤ 2 ^ 56) × (seat.now.worked.served ≡ 0) }
             ensures { IsPassOf X.Core.setup X.Core.is_legal backend.entry.now.store.now seat.exit.now.pass
@@ -172,6 +175,7 @@ where
     <X::Core as Core>::Ask: Send,
     <X::Core as Core>::Reply: Send,
     requires ready { X.ready backend.now.role.now }
+    requires limit { (X.manner backend.now.role.now).most ≡ X.Core.most (setup_of X.Core.setup backend.now.store.now) }
     requires some { 0 < length seats.old }
     requires seats { All (λ seat. MayServe X.Core.setup X.Core.is_legal D.state backend.now.store.now seat) seats.old }
     ensures passes { All (λ seat. IsPassOf X.Core.setup X.Core.is_legal backend.now.store.now seat.pass) seats.new }

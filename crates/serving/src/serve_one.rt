@@ -2,7 +2,7 @@
 
 ghost use Rattle.std.specs.Prelude.{◌≡◌, ◌≢◌, ◌⊎◌, ◌+◌, ◌≤◌, ◌<◌, ◌++◌, ◌∷◌, ℕ, List, [], map, length, Ok, Err, Some, None, IfOk, IfErr, IfSome, OnErr};
 ghost use Rattle.sso_base.specs.Faults.{Rose};
-ghost use Rattle.turn_store.specs.Passes.{IsPassOf, number_of, front_of};
+ghost use Rattle.turn_store.specs.Passes.{IsPassOf, number_of, front_of, setup_of};
 ghost use Rattle.serving.specs.LinkCalls.{LinkCall, sending_of, TookCalls};
 ghost use Rattle.serving.specs.Manner.{Manner, bytes_by};
 ghost use Rattle.serving.specs.Serving as spec;
@@ -25,6 +25,24 @@ use std::sync::Wait;
 use turn_store::Pass;
 
 // The parsed request of a connection.
+fn prepared<X: Role, S: Source>(
+    alloc: Global,
+    role: &X,
+    source: &mut S,
+) -> Result<<X::Core as Core>::Ask, NoReply>
+    requires { X.ready role.now }
+    ensures ok { IfOk result (spec.IsPrepared (X.manner role.now) (S.left source.old) (S.left source.new)) }
+    ensures err { IfErr result (spec.IsUnread (X.manner role.now) (S.left source.old) (S.left source.new) (S.faults source.old) (S.faults source.new)) }
+{
+    let (first, second) = role.cookies(alloc)?;
+    match read_ask(alloc, source, &first, &second) {
+        Ok(request) => Ok(role.prepare(alloc, &request)?),
+        Err(HttpNo::NoMemory) => Err(NoReply::NoMemory),
+        Err(why) => Err(NoReply::Http(why)),
+    }
+}
+
+// The parsed request of a connection, if it is small enough.
 fn asked<X: Role, S: Source>(
     alloc: Global,
     role: &X,
@@ -34,12 +52,12 @@ fn asked<X: Role, S: Source>(
     ensures ok { IfOk result (spec.IsAsked (X.manner role.now) (S.left source.old) (S.left source.new)) }
     ensures err { IfErr result (spec.IsUnread (X.manner role.now) (S.left source.old) (S.left source.new) (S.faults source.old) (S.faults source.new)) }
 {
-    let (first, second) = role.cookies(alloc)?;
-    match read_ask(alloc, source, &first, &second) {
-        Ok(request) => Ok(role.prepare(alloc, &request)?),
-        Err(HttpNo::NoMemory) => Err(NoReply::NoMemory),
-        Err(why) => Err(NoReply::Http(why)),
+    let ask = prepared(alloc, role, source)?;
+    if !role.takes(&ask) {
+        drop(ask);
+        return Err(NoReply::TooLarge);
     }
+    Ok(ask)
 }
 
 // The answer of another server, by what came back over the link.
@@ -65,7 +83,7 @@ fn answer_to<L: Link>(alloc: Global, link: &mut L, question: &Message) -> Result
     peer_answer(alloc, back)
 }
 
-// The parsed answer to the question of a reply.
+// The parsed answer to the question of a reply, if it is small enough.
 fn asked_back<X: Role, L: Link>(
     alloc: Global,
     role: &X,
@@ -78,7 +96,12 @@ fn asked_back<X: Role, L: Link>(
     ensures { (calls : List LinkCall) × TookCalls (L.state link.old) (L.state link.new) calls × spec.IsAnswered (X.manner role.now) reply.now calls result }
 {
     let answer = answer_to(alloc, link, question)?;
-    Ok(role.prepare_answer(alloc, reply, &answer)?)
+    let ask = role.prepare_answer(alloc, reply, &answer)?;
+    if !role.takes(&ask) {
+        drop(ask);
+        return Err(NoReply::TooLarge);
+    }
+    Ok(ask)
 }
 
 // The reply after the question of a reply was answered, or that reply where it puts none.
@@ -91,6 +114,7 @@ fn follow<R: Wait, X: Role, L: Link, C: Clock, W: Draw>(
 ) -> Result<<X::Core as Core>::Reply, NoReply>
     requires ready { X.ready backend.now.role.now }
     requires pass { IsPassOf X.Core.setup X.Core.is_legal backend.now.store.now pass.old }
+    requires limit { (X.manner backend.now.role.now).most ≡ X.Core.most (setup_of X.Core.setup backend.now.store.now) }
     requires places { places.old ≤ 2 }
     ensures pass { IsPassOf X.Core.setup X.Core.is_legal backend.now.store.now pass.new }
     ensures number { number_of pass.new ≡ number_of pass.old }
@@ -126,6 +150,7 @@ fn last_reply<R: Wait, X: Role, L: Link, C: Clock, W: Draw>(
 ) -> Result<<X::Core as Core>::Reply, NoReply>
     requires ready { X.ready backend.now.role.now }
     requires pass { IsPassOf X.Core.setup X.Core.is_legal backend.now.store.now pass.old }
+    requires limit { (X.manner backend.now.role.now).most ≡ X.Core.most (setup_of X.Core.setup backend.now.store.now) }
     requires places { places.old ≡ 1 }
     ensures pass { IsPassOf X.Core.setup X.Core.is_legal backend.now.store.now pass.new }
     ensures number { number_of pass.new ≡ number_of pass.old }
@@ -150,6 +175,7 @@ fn reply_to<R: Wait, X: Role, S: Source, L: Link, C: Clock, W: Draw>(
 ) -> Result<<X::Core as Core>::Reply, NoReply>
     requires ready { X.ready backend.now.role.now }
     requires pass { IsPassOf X.Core.setup X.Core.is_legal backend.now.store.now pass.old }
+    requires limit { (X.manner backend.now.role.now).most ≡ X.Core.most (setup_of X.Core.setup backend.now.store.now) }
     requires places { places.old ≡ 0 }
     ensures pass { IsPassOf X.Core.setup X.Core.is_legal backend.now.store.now pass.new }
     ensures number { number_of pass.new ≡ number_of pass.old }
@@ -225,6 +251,7 @@ pub fn serve_connection<
 ) -> Served
     requires ready { X.ready backend.now.role.now }
     requires pass { IsPassOf X.Core.setup X.Core.is_legal backend.now.store.now pass.old }
+    requires limit { (X.manner backend.now.role.now).most ≡ X.Core.most (setup_of X.Core.setup backend.now.store.now) }
     ensures pass { IsPassOf X.Core.setup X.Core.is_legal backend.now.store.now pass.new }
     ensures number { number_of pass.new ≡ number_of pass.old }
     ensures served { (w : Work X.Core.Ask X.Core.Reply)

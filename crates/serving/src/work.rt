@@ -3,7 +3,7 @@
 ghost use Rattle.std.specs.Prelude.{◌≡◌, ◌≢◌, ◌⊎◌, ◌+◌, ◌^◌, ◌≤◌, ◌<◌, ℕ, List, [], ◌∷◌, length, Ok, Err, IfOk, OnErr};
 ghost use Rattle.sso_base.specs.Faults.{Rose};
 ghost use Rattle.server_desk.specs.Doors.{with_served};
-ghost use Rattle.turn_store.specs.Passes.{IsPassOf, number_of, front_of};
+ghost use Rattle.turn_store.specs.Passes.{IsPassOf, number_of, front_of, setup_of};
 ghost use Rattle.serving.specs.Work.{MadeAll};
 ghost use Rattle.serving.specs.Working as spec;
 
@@ -60,6 +60,7 @@ fn serve_next<R: Wait, X: Role, D: Door, L: Link, C: Clock, W: Draw>(
 ) -> Next
     requires ready { X.ready backend.now.role.now }
     requires pass { IsPassOf X.Core.setup X.Core.is_legal backend.now.store.now pass.old }
+    requires limit { (X.manner backend.now.role.now).most ≡ X.Core.most (setup_of X.Core.setup backend.now.store.now) }
     requires given { (D.state desk.old.door).given + 1 < 2 ^ 64 }
     ensures pass { IsPassOf X.Core.setup X.Core.is_legal backend.now.store.now pass.new }
     ensures number { number_of pass.new ≡ number_of pass.old }
@@ -96,6 +97,7 @@ pub fn serve_desk<R: Wait, X: Role, D: Door, L: Link, C: Clock, W: Draw>(
 ) -> Worked
     requires ready { X.ready backend.now.role.now }
     requires pass { IsPassOf X.Core.setup X.Core.is_legal backend.now.store.now pass.old }
+    requires limit { (X.manner backend.now.role.now).most ≡ X.Core.most (setup_of X.Core.setup backend.now.store.now) }
     requires given { (D.state desk.old.door).given < 2 ^ 63 }
     requires turns { desk.old.turns ≤ 2 ^ 56 }
     ensures pass { IsPassOf X.Core.setup X.Core.is_legal backend.now.store.now pass.new }

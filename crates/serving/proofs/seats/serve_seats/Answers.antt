@@ -7,7 +7,7 @@ use Rattle.serving.proofs.seats.serve_seats.Goals as goal
 pub for_each_mut-requires-clause-accepts : goal.for_each_mut-requires-clause-accepts
 for_each_mut-requires-clause-accepts g c κs within = λ i p lt e.
     let at = c.requires.seats i p.now lt in (
-      (rw e (c.requires.ready, at.0, at.1, at.2, at.3)),
+      (rw e (c.requires.ready, c.requires.limit, at.0, at.1, at.2, at.3)),
       (search sendable depth 40),
     )
 
