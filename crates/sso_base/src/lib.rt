@@ -68,5 +68,5 @@ pub use values::{
     know_entry, know_number, know_number_if, know_text_if, know_texts, know_texts_if, know_word,
     know_word_if,
 };
-pub use weights::{EMPTY_WEIGHT, text_bytes, texts_bytes, texts_bytes_if};
+pub use weights::{EMPTY_WEIGHT, MOST_HELD, text_bytes, texts_bytes, texts_bytes_if};
 pub use word::Word;
