@@ -1,4 +1,4 @@
-// The role over the counting core.
+// The role over the counting core, whose history is stored.
 
 use crate::tally::Tally;
 use crate::tick::Tick;
@@ -46,6 +46,10 @@ impl Role for TallyRole {
         _answer: &Answered,
     ) -> Result<Tick, NoMemory> {
         Ok(Tick { more: HEAVY })
+    }
+
+    fn takes(&self, _ask: &Tick) -> bool {
+        true
     }
 
     fn notices<'r>(&self, _reply: &'r u64) -> Option<&'r Messages> {

@@ -1,7 +1,7 @@
 // One worker at one desk, over its own store.
 
 ghost use Rattle.std.specs.Prelude.{◌≡◌, ◌^◌, ◌≤◌, ◌<◌, []};
-ghost use Rattle.turn_store.specs.Passes.{IsPassOf};
+ghost use Rattle.turn_store.specs.Passes.{IsPassOf, setup_of};
 
 use crate::desks::{CaseDesk, CaseDoor, desk_in, push_bytes, push_sent};
 use crate::passes::take_pass;
@@ -28,6 +28,7 @@ fn push_end<R: Wait, X: Role>(
 ) -> Result<bool, NoMemory>
     requires ready { X.ready role.now }
     requires pass { IsPassOf X.Core.setup X.Core.is_legal store.now pass.old }
+    requires limit { (X.manner role.now).most ≡ X.Core.most (setup_of X.Core.setup store.now) }
     ensures { IsPassOf X.Core.setup X.Core.is_legal store.now pass.new }
 {
     let Ok(Some(mut connection)) = desk.door.next() else {
@@ -60,6 +61,7 @@ fn ends<R: Wait, X: Role>(
 ) -> Result<String, NoMemory>
     requires ready { X.ready role.now }
     requires pass { IsPassOf X.Core.setup X.Core.is_legal store.now pass.old }
+    requires limit { (X.manner role.now).most ≡ X.Core.most (setup_of X.Core.setup store.now) }
 {
     let mut out = String::new(alloc);
     for _ in 0..desk.turns {
@@ -82,6 +84,7 @@ fn work<R: Wait, X: Role>(
 ) -> Result<String, NoMemory>
     requires ready { X.ready role.now }
     requires pass { IsPassOf X.Core.setup X.Core.is_legal store.now pass.old }
+    requires limit { (X.manner role.now).most ≡ X.Core.most (setup_of X.Core.setup store.now) }
     requires given { (⟦<CaseDoor as Door>⟧.state desk.old.door).given < 2 ^ 63 }
     requires turns { desk.old.turns ≤ 2 ^ 56 }
 {
@@ -106,6 +109,7 @@ fn at_desk<R: Wait, X: Role>(
 ) -> Result<String, NoMemory>
     requires ready { X.ready role.now }
     requires empty { X.Core.history core ≡ [] }
+    requires limit { (X.manner role.now).most ≡ X.Core.most (X.Core.setup core) }
     requires given { (⟦<CaseDoor as Door>⟧.state desk.old.door).given < 2 ^ 63 }
     requires turns { desk.old.turns ≤ 2 ^ 56 }
 {
@@ -121,7 +125,8 @@ fn at_desk<R: Wait, X: Role>(
 /// `ends|DESK` or `work|DESK`.
 pub fn answer<R: Wait>(rt: &R, alloc: Global, call: &str, text: &str) -> Result<String, NoMemory> {
     let mut desk = desk_in(alloc, text, 0)?;
-    at_desk(rt, alloc, call, &TallyRole, Tally::new(alloc), &mut desk)
+    let core = Tally::new(alloc, false);
+    at_desk(rt, alloc, call, &TallyRole, core, &mut desk)
 }
 
 /// More reads than one request has.
