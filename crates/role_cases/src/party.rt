@@ -3,6 +3,7 @@
 ghost use Rattle.std.specs.Prelude.{◌≡◌, ◌<◌, length, IfOk};
 
 use crate::filling::bring;
+use crate::in_turn::party_replies;
 use crate::telling::{Telling, fill, step_told};
 use case_lines::{
     Run, answered, field, moment, number, or_else, push_part, request, told, word_of,
@@ -174,6 +175,7 @@ impl RelyingParty {
     /// | `bring|MOMENT|COUNT|ID Tokens` | the same at `blog`, each with an ID Token for alice |
     /// | `bring|MOMENT|COUNT|logout tokens` | the answers to COUNT logout tokens for alice at `shop`, each with its own `jti` |
     /// | `bring|MOMENT|COUNT|logout tokens of sessions` | the same, each for its own `sid`, from `s0` |
+    /// | `in turn|MOMENT` | the lines of the replies of a new party to requests to begin, for who is logged in, and for nothing |
     /// | `held` | the entries of the tables for the words 1 to 63 |
     /// | `count` | how many requests were answered |
     pub fn answer(
@@ -201,6 +203,7 @@ impl RelyingParty {
             ["fill", _, count] => fill(alloc, self, at, number(count)),
             ["bring", _, count, what] => bring(alloc, self, run, at, number(count), what),
             ["remembered", _, sid] => remembered(alloc, self.core.tables(), at, sid),
+            ["in turn", _] => self.in_turn(alloc, at),
             [call @ ("ask" | "send" | "why"), _, asked @ ..] => {
                 self.ask(alloc, run, at, call, asked)
             }
@@ -236,6 +239,16 @@ impl RelyingParty {
             ["info", exchange, answer @ ..] => info(alloc, exchange, answer),
             _ => self.requested(alloc, fields),
         }
+    }
+
+    // The lines of the replies of a new party of the registry's provider.
+    fn in_turn(&self, alloc: Global, at: Moment) -> Result<String, NoMemory> {
+        if self.party >= self.registry.parties() {
+            return told(alloc, "no party");
+        }
+        let provider = provider_of(alloc, &self.registry, None)?;
+        let registry = self.registry.copy(alloc)?;
+        party_replies(alloc, registry, self.party, provider, at)
     }
 
     /// The answer to the call `ask`, `send` or `why`: about a request, or about an answer of the provider.
