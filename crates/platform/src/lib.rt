@@ -11,7 +11,7 @@
 //! | `door` | [`TcpDoor`], a TCP listener as a door |
 //! | `connection` | a TCP connection as a source and a sink |
 //! | `link` | [`TcpLink`], TCP as a link, to loopback addresses only |
-//! | `clock` | [`SystemClock`], the machine's clock as a clock |
+//! | `clock` | [`SystemClock`], the machine's steady clock and its wall clock as a clock |
 //! | `draw` | [`RandomDraw`], a random generator as a draw |
 //! | `wire` | a TCP stream that a source and a sink share, within limits in time |
 //! | `limit` | limits in time |
