@@ -1,4 +1,4 @@
-use Rattle.std.proofs.Common.{ℕ, ◌∙◌, ◌++◌, ◌∷◌, [], List, refl, ap, subst}
+use Rattle.std.proofs.Common.{◌∙◌, List, refl, subst}
 use Rattle.sso_base.specs.declared.history.Pair.{Pair}
 use Rattle.sso_base.proofs.Histories.{few_pairs}
 use Rattle.turn_store.specs.Views.{with_entry, with_front}
