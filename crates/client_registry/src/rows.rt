@@ -179,8 +179,8 @@ fn types_of(texts: &[Text]) -> [bool; 6]
     ]
 }
 
-/// Whether the histories last, in the second version.
-pub fn lasting_of(version: Version, provider: &Value) -> bool
+// Whether the histories last, in the second version.
+pub(crate) fn lasting_of(version: Version, provider: &Value) -> bool
     ensures { result ≡ spec.lasting_of version (view provider.now) }
 {
     match version {

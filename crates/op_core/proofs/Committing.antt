@@ -95,3 +95,11 @@ module _ (c : Configuration) (history items : List OpPair) (t u : Tables) (p : O
   committed_as s view most now same keeps entry weight_is items_are follows shown =
       let S : Providing → Type 0 = λ x. Shown x in
       committed most now same keeps entry weight_is items_are follows (subst S (sym view) shown)
+
+-- there is room in the journal, whose limit is that of the configuration
+pub room_inside : (s : Providing) (c : Configuration) (history : List OpPair) (t : Tables) (weight most : ℕ) → ◌≡◌ {A = Providing} (record { registry = c; history = history; tables = t }) s
+    → most ≡ most_of c.lasting → history_weight ask_weight s.history + weight ≤ most_of s.registry.lasting → history_weight ask_weight history + weight ≤ most
+room_inside s c history t weight most view limit room =
+    let S : Providing → Type 0 = λ x. history_weight ask_weight x.history + weight ≤ most_of x.registry.lasting in
+    let N : ℕ → Type 0 = λ n. history_weight ask_weight history + weight ≤ n in
+    subst N (sym limit) (subst S (sym view) room)

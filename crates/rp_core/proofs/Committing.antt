@@ -38,18 +38,18 @@ module _ (s : PartySetup) (history : List RpPair) (t : Tables) (p : RpPair) (log
       × (p.reply ≡ rp_answer r.setup (past_of r) p.entry)
       × MakesRows (party_of r.setup).types (past_of r) p login pending visit seen dead
 
-  may_update : Keeps s history t → IsEntry IsRpAsk p.entry → MayFollow (record { setup = s; history = history; tables = t })
+  may_update : (most : ℕ) → Keeps s history t most → IsEntry IsRpAsk p.entry → MayFollow (record { setup = s; history = history; tables = t })
       → MayUpdate s (reverse history) (last_moment (reverse history)) (with_room t) p login pending visit seen dead
-  may_update keeps entry shown =
+  may_update most keeps entry shown =
       let past : RpPast = reverse history in
       let kept : KeepsPast (party_of s).types past (with_room t) = with_room_keeps (party_of s).types past t keeps.tables in
       record { order = shown.0; agrees = kept.agrees; begun = kept.begun; reply_is = shown.1; rows = shown.2; few = few_deads s past p (keeps.legal.past, entry, shown.0, shown.1) }
 
-  pub may_update_as : (r : Relying) → ◌≡◌ {A = Relying} (record { setup = s; history = history; tables = t }) r → Keeps s history t → IsEntry IsRpAsk p.entry → MayFollow r
+  pub may_update_as : (r : Relying) → ◌≡◌ {A = Relying} (record { setup = s; history = history; tables = t }) r → (most : ℕ) → Keeps s history t most → IsEntry IsRpAsk p.entry → MayFollow r
       → (d : PartySetup) × (past : RpPast) × (before : ℕ) × MayUpdate d past before (with_room t) p login pending visit seen dead
-  may_update_as r view keeps entry shown =
+  may_update_as r view most keeps entry shown =
       let S : Relying → Type 0 = λ x. MayFollow x in
-      (s, reverse history, last_moment (reverse history), may_update keeps entry (subst S (sym view) shown))
+      (s, reverse history, last_moment (reverse history), may_update most keeps entry (subst S (sym view) shown))
 
 module _ (s : PartySetup) (history items : List RpPair) (more : ℕ) (t u : Tables) (p : RpPair) (login : Option LoginRow) (pending : Option PendingRow) (visit : Option SessionRow) (seen : Option SeenRow) (dead : Option DeadRow) where
   -- what the step has shown when it takes the pair up, of the party as a value
@@ -69,7 +69,7 @@ module _ (s : PartySetup) (history items : List RpPair) (more : ℕ) (t u : Tabl
       let past : RpPast = reverse history in
       let kept : KeepsPast (party_of s).types past (with_room t) = with_room_keeps (party_of s).types past t keeps.tables in
       let up : MayUpdate s past (last_moment past) (with_room t) p login pending visit seen dead =
-          may_update s history t p login pending visit seen dead keeps entry (shown.0, shown.1, shown.2) in
+          may_update s history t p login pending visit seen dead most keeps entry (shown.0, shown.1, shown.2) in
       let one : IsUpdate (party_of s).types (with_room t) u past p = follows s past (last_moment past) up in
       let K : RpPast → Type 0 = λ q. KeepsPast (party_of s).types q u in
       let I : List RpPair → Type 0 = λ x. Keeps s x u now in
@@ -89,3 +89,11 @@ module _ (s : PartySetup) (history items : List RpPair) (more : ℕ) (t u : Tabl
   committed_as r view most now same keeps entry more_is items_are follows shown =
       let S : Relying → Type 0 = λ x. Shown x in
       committed most now same keeps entry more_is items_are follows (subst S (sym view) shown)
+
+-- there is room in the journal, whose limit is that of the configuration
+pub room_inside : (r : Relying) (s : PartySetup) (history : List RpPair) (t : Tables) (weight most : ℕ) → ◌≡◌ {A = Relying} (record { setup = s; history = history; tables = t }) r
+    → most ≡ most_of s.configuration.lasting → history_weight ask_weight r.history + weight ≤ most_of r.setup.configuration.lasting → history_weight ask_weight history + weight ≤ most
+room_inside r s history t weight most view limit room =
+    let S : Relying → Type 0 = λ x. history_weight ask_weight x.history + weight ≤ most_of x.setup.configuration.lasting in
+    let N : ℕ → Type 0 = λ n. history_weight ask_weight history + weight ≤ n in
+    subst N (sym limit) (subst S (sym view) room)

@@ -23,7 +23,9 @@ fn id_held(id: &Option<Result<IdClaims, IdNo>>) -> u64
     ensures { result ≡ told_weight (spec.id_held id.now) }
 {
     match id {
-        Some(Ok(claims)) => (claims.sub.as_str().len() as u64).saturating_add(text_bytes(&claims.sid)),
+        Some(Ok(claims)) => {
+            (claims.sub.as_str().len() as u64).saturating_add(text_bytes(&claims.sid))
+        }
         Some(Err(_)) => 0,
         None => 0,
     }

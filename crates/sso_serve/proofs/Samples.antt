@@ -18,7 +18,7 @@ use Rattle.rp_answer.specs.Setup.{PartySetup}
 use Rattle.rp_core.specs.Relying.{Relying}
 use Rattle.serving.specs.declared.summary.Summary.{Summary}
 use Rattle.serving.specs.Summaries.{Telling}
-use Rattle.sso_serve.specs.Roles.{op_notices, op_manner, rp_question, rp_answered, rp_rounds}
+use Rattle.sso_serve.specs.Roles.{op_notices, op_manner, rp_manner, rp_question, rp_answered, rp_rounds}
 use Rattle.sso_serve.specs.Servers.{ServesOp, ServesRp}
 
 -- ---- what is told to others, and what is asked of them

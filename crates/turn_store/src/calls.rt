@@ -38,10 +38,13 @@ impl Model for Places {
     ghost invariant = { λ p. AreStored p.whole p.stored.items p.told };
 }
 
-// Stores a place, and returns whether it did.
-fn store(stored: &mut Vec<u64>, place: u64) -> bool
-    ensures { result ≡ true → stored.new.items ≡ stored.old.items ++ place ∷ [] }
+// Stores a place, if all earlier ones are stored, and returns whether it did.
+fn store(whole: bool, stored: &mut Vec<u64>, place: u64) -> bool
+    ensures { result ≡ true → (whole ≡ true) × (stored.new.items ≡ stored.old.items ++ place ∷ []) }
 {
+    if !whole {
+        return false;
+    }
     if place > MOST_STORED {
         return false;
     }
@@ -67,9 +70,7 @@ impl Places {
         ensures { self.new ≡ self.old ++ place ∷ [] }
     {
         self.told.push(&place);
-        if self.whole {
-            self.whole = store(&mut self.stored, place);
-        }
+        self.whole = store(self.whole, &mut self.stored, place);
     }
 
     // The places, if all of them are stored.
@@ -118,7 +119,8 @@ impl Calls {
         requires { pass < length self.now }
         ensures { IfSome result (λ places. slice_get self.now pass ≡ Some places.now) }
     {
-        self.lists[pass].stored()
+        let places = self.lists[pass].stored()?;
+        Some(places)
     }
 }
 

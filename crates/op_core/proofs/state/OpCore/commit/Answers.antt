@@ -1,5 +1,9 @@
-use Rattle.op_core.proofs.Committing.{committed_as}
+use Rattle.op_core.proofs.Committing.{committed_as, room_inside}
 use Rattle.op_core.proofs.state.OpCore.commit.Goals as goal
+
+pub take_in-requires-clause-room : goal.take_in-requires-clause-room
+take_in-requires-clause-room c =
+    room_inside c.args.self.now c.self.inside.registry c.self.inside.journal.pairs c.self.inside.grants c.args.weight c.self.inside.journal.most c.self.view_is c.self.invariant.most_is c.requires.room
 
 pub invariant_of-self-2 : goal.invariant_of-self-2
 invariant_of-self-2 c =
