@@ -138,7 +138,8 @@ pub fn codes_and_access_tokens_have_their_hash()
 /// A legal history that is stored has at most 262,144 pairs: it weighs at most 268,435,456, and no pair less than 1,024. One that
 /// lasts has at most 2^53.
 pub fn legal_histories_are_short()
-    ensures stored { (s : PartySetup) (history : List RpPair) → s.configuration.lasting ≡ false → IsLegalHistory s history → length history ≤ most_stored_pairs }
+    ensures stored { (s : PartySetup) (history : List RpPair) → s.configuration.lasting ≡ false
+        → IsLegalHistory s history → length history ≤ most_stored_pairs }
     ensures all { (s : PartySetup) (history : List RpPair) → IsLegalHistory s history → length history ≤ most_pairs }
 {}
 

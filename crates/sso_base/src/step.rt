@@ -68,7 +68,8 @@ pub trait Core: Drop {
         ensures setup { setup self.new ≡ setup self.old }
         ensures legal { is_legal (setup self.new) (history self.new) }
         ensures room { IfOk result (λ reply. history_weight weighs (history self.old) + weighs ask ≤ most (setup self.old)) }
-        ensures full { (w : ℕ) → (result ≡ Err (CoreNo.JournalFull w)) → (w ≡ history_weight weighs (history self.old)) × (most (setup self.old) < w + weighs ask) };
+        ensures full { (w : ℕ) → (result ≡ Err (CoreNo.JournalFull w))
+            → (w ≡ history_weight weighs (history self.old)) × (most (setup self.old) < w + weighs ask) };
 
     /// The weight of a request, or the greatest number of 64 bits if the weight is greater.
     fn weight(ask: &Self::Ask) -> Result<u64, NoMemory>
