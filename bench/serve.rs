@@ -1,11 +1,11 @@
-// The load and the least server of bench/serve: `rustc -O serve.rs`, without crates.
+// The client and the minimal servers of bench/serve: `rustc -O serve.rs`, without crates.
 //
-//     serve least PORT THREADS BYTES         a blocking server: each thread accepts, reads one request, writes so many bytes, closes
-//     serve limited PORT THREADS BYTES       the same with limits in time, no delay and an end in order, as the program's connections
-//     serve get PORT PATH CLIENTS COUNT      prints the microseconds a request, over COUNT requests of so many clients at once
-//     serve login PORT CLIENTS COUNT         prints the microseconds a login, of three requests each
+//     serve least PORT THREADS BYTES         a blocking server: each thread accepts, reads one request, writes BYTES bytes, closes
+//     serve limited PORT THREADS BYTES       the same, with limits in time and an end in order by a system call for each
+//     serve get PORT PATH CLIENTS COUNT      prints the microseconds of a request, over COUNT requests by CLIENTS clients at once
+//     serve login PORT CLIENTS COUNT         prints the microseconds of a login of three requests
 //
-// All connections are for one request each.
+// Each connection is for one request.
 use std::env;
 use std::io::{Read, Write};
 use std::net::{Shutdown, TcpListener, TcpStream};
@@ -27,14 +27,14 @@ fn read_request(stream: &mut TcpStream, room: &mut [u8]) {
     }
 }
 
-// What a connection with limits in time takes, before its request is read.
+// Sets the limits of a connection, before its request is read.
 fn begin_limited(stream: &TcpStream) -> std::io::Result<()> {
     stream.set_nodelay(true)?;
     stream.set_read_timeout(Some(Duration::from_secs(10)))?;
     stream.set_write_timeout(Some(Duration::from_secs(10)))
 }
 
-// And after its reply: the sending side is ended, and it is looked whether bytes came that were not read.
+// After the reply: ends the sending side, and looks for bytes that were not read.
 fn end_limited(stream: &TcpStream) -> std::io::Result<usize> {
     stream.shutdown(Shutdown::Write)?;
     stream.set_nonblocking(true)?;
@@ -84,7 +84,7 @@ fn post(port: u16, path: &str, field: &str, body: &str) -> String {
     ask(port, &format!("POST {path} HTTP/1.1\r\nHost: 127.0.0.1\r\n{field}\r\n{form}\r\nContent-Length: {length}\r\n\r\n{body}"))
 }
 
-// What stands between these in a reply.
+// The text between these in a reply.
 fn between<'a>(reply: &'a str, before: &str, after: &str) -> &'a str {
     let found = reply.split_once(before).and_then(|(_, rest)| rest.split_once(after));
     found.unwrap_or_else(|| panic!("no {before:?} in {reply}")).0
