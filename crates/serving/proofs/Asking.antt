@@ -92,29 +92,28 @@ module _ {A R : Type 0} (m : Manner A R) where
   unanswered before after reply question Full puts (inr none) = absurd (cc none.1)
 
   -- a round whose question was not answered
-  pub round_unanswered : (history : List (Pair A R)) (reply : R) (calls : List LinkCall) (why : NoReply) → IsAnswered m reply calls (Err why) → RoundFailed m history reply calls why
-  round_unanswered history reply calls NoMemory is = is
-  round_unanswered history reply calls (Http why) is = is
-  round_unanswered history reply calls Link is = is
-  round_unanswered history reply calls Peer is = is
-  round_unanswered history reply calls TooLarge is = is
-  round_unanswered history reply calls Full is = absurd is
+  pub round_unanswered : (most : ℕ) (history : List (Pair A R)) (reply : R) (calls : List LinkCall) (why : NoReply)
+      → IsAnswered m reply calls (Err why) → RoundFailed m most history reply calls why
+  round_unanswered most history reply calls NoMemory is = is
+  round_unanswered most history reply calls (Http why) is = is
+  round_unanswered most history reply calls Link is = is
+  round_unanswered most history reply calls Peer is = is
+  round_unanswered most history reply calls TooLarge is = is
+  round_unanswered most history reply calls Full is = absurd is
 
-  -- the limit and the weights are the core's
-  full_by : (weighs : A → ℕ) (most : ℕ) (history : List (Pair A R)) (asked : A) → m.weighs ≡ weighs → m.most ≡ most → IsFull weighs most history asked → IsFull m.weighs m.most history asked
-  full_by weighs most history asked same limit full =
-      subst (λ (f : A → ℕ). IsFull f m.most history asked) (sym same) (subst (λ (n : ℕ). IsFull weighs n history asked) (sym limit) full)
+  -- the weights are the core's
+  full_by : (weighs : A → ℕ) (most : ℕ) (history : List (Pair A R)) (asked : A) → m.weighs ≡ weighs → IsFull weighs most history asked → IsFull m.weighs most history asked
+  full_by weighs most history asked same full = subst (λ (f : A → ℕ). IsFull f most history asked) (sym same) full
 
   -- a round whose step was refused
   pub round_refused : (weighs : A → ℕ) (most : ℕ) (history : List (Pair A R)) (reply : R) (calls : List LinkCall) (asked : A) (why : NoReply)
-      → m.weighs ≡ weighs → m.most ≡ most → IsAnswered m reply calls (Ok asked) → IsNoStep weighs most history asked why
-      → RoundFailed m history reply calls why
-  round_refused weighs most history reply calls asked NoMemory same limit is full = inr (is.0, is.1, is.2)
-  round_refused weighs most history reply calls asked (Http why) same limit is full = absurd full
-  round_refused weighs most history reply calls asked Link same limit is full = absurd full
-  round_refused weighs most history reply calls asked Peer same limit is full = absurd full
-  round_refused weighs most history reply calls asked TooLarge same limit is full = absurd full
-  round_refused weighs most history reply calls asked Full same limit is full = (is.0, asked, is.1, is.2, is.3, full_by weighs most history asked same limit full)
+      → m.weighs ≡ weighs → IsAnswered m reply calls (Ok asked) → IsNoStep weighs most history asked why → RoundFailed m most history reply calls why
+  round_refused weighs most history reply calls asked NoMemory same is full = inr (is.0, is.1, is.2)
+  round_refused weighs most history reply calls asked (Http why) same is full = absurd full
+  round_refused weighs most history reply calls asked Link same is full = absurd full
+  round_refused weighs most history reply calls asked Peer same is full = absurd full
+  round_refused weighs most history reply calls asked TooLarge same is full = absurd full
+  round_refused weighs most history reply calls asked Full same is full = (is.0, asked, is.1, is.2, is.3, full_by weighs most history asked same full)
 
   some_not_none : (o : Option Message) (x : Message) → o ≡ Some x → o ≢ None
   some_not_none o x a b = cc (a, b)
@@ -135,31 +134,31 @@ module _ {A R : Type 0} (m : Manner A R) where
         sym gives,
         asks,
         subst (λ (a : A). IsAskedBack m reply call a) (sym by) back,
-        fewer s.before (pair_from s) reply back.1 (subst IsLegal longer legal) (by ∙ back.4) (some_not_none (m.question reply) asks.0 asks.1),
+        fewer s.before (pair_from s) reply back.0.1 (subst IsLegal longer legal) (by ∙ back.0.4) (some_not_none (m.question reply) asks.0 asks.1),
       )
 
   -- no request was read
-  pub cause_unread : (left left' : Option (List ℕ)) (before now : ℕ) (history : List (Pair A R)) (why : NoReply) → IsUnread m left left' before now why → Cause m left left' before now history [] [] (Err why)
-  cause_unread left left' before now history NoMemory is = tt
-  cause_unread left left' before now history (Http why) is = (refl, is)
-  cause_unread left left' before now history Link is = absurd is
-  cause_unread left left' before now history Peer is = absurd is
-  cause_unread left left' before now history TooLarge is = (refl, is)
-  cause_unread left left' before now history Full is = absurd is
+  pub cause_unread : (most : ℕ) (left left' : Option (List ℕ)) (before now : ℕ) (history : List (Pair A R)) (why : NoReply)
+      → IsUnread m left left' before now why → Cause m most left left' before now history [] [] (Err why)
+  cause_unread most left left' before now history NoMemory is = tt
+  cause_unread most left left' before now history (Http why) is = (refl, is)
+  cause_unread most left left' before now history Link is = absurd is
+  cause_unread most left left' before now history Peer is = absurd is
+  cause_unread most left left' before now history TooLarge is = (refl, is)
+  cause_unread most left left' before now history Full is = absurd is
 
   -- the first step was refused
   pub cause_refused : (weighs : A → ℕ) (most : ℕ) (left left' : Option (List ℕ)) (before now : ℕ) (history : List (Pair A R)) (asked : A) (why : NoReply)
-      → m.weighs ≡ weighs → m.most ≡ most → IsAsked m left left' asked → IsNoStep weighs most history asked why
-      → Cause m left left' before now history [] [] (Err why)
-  cause_refused weighs most left left' before now history asked NoMemory same limit is full = tt
-  cause_refused weighs most left left' before now history asked (Http why) same limit is full = absurd full
-  cause_refused weighs most left left' before now history asked Link same limit is full = absurd full
-  cause_refused weighs most left left' before now history asked Peer same limit is full = absurd full
-  cause_refused weighs most left left' before now history asked TooLarge same limit is full = absurd full
-  cause_refused weighs most left left' before now history asked Full same limit is full = record {
+      → m.weighs ≡ weighs → IsAsked m left left' asked → IsNoStep weighs most history asked why → Cause m most left left' before now history [] [] (Err why)
+  cause_refused weighs most left left' before now history asked NoMemory same is full = tt
+  cause_refused weighs most left left' before now history asked (Http why) same is full = absurd full
+  cause_refused weighs most left left' before now history asked Link same is full = absurd full
+  cause_refused weighs most left left' before now history asked Peer same is full = absurd full
+  cause_refused weighs most left left' before now history asked TooLarge same is full = absurd full
+  cause_refused weighs most left left' before now history asked Full same is full = record {
     before = history;
     asked = asked;
     next = (refl, is);
     seen = ([], sym (append-nil history));
-    full = full_by weighs most history asked same limit full;
+    full = full_by weighs most history asked same full;
   }

@@ -10,8 +10,7 @@ use Rattle.sso_http.specs.Replies.{reply_bytes}
 
 -- The names of its two cookies, and how a request is parsed. A reply may make a request to another server; then the core steps
 -- again with that server's answer. Otherwise the reply is sent by HTTP, after its notices. Notices are messages whose answers
--- are ignored. A parsed request that the server does not take is too large; the core does not get it. The history of the core may
--- weigh `most`.
+-- are ignored. A parsed request that the server does not take is too large; the core does not get it.
 pub record Manner (A R : Type 0) : Type 0 where
   pub first : Text
   pub second : Text
@@ -22,7 +21,6 @@ pub record Manner (A R : Type 0) : Type 0 where
   pub http : R → HttpReply
   pub takes : A → Bool
   pub weighs : A → ℕ
-  pub most : ℕ
 
 -- the bytes of a reply
 abbrev pub bytes_by : {A R : Type 0} → Manner A R → R → List ℕ

@@ -139,63 +139,12 @@ module _ {A R : Type 0} (m : Manner A R) where
   IsNextAsk left left' [] calls asked = (calls ≡ []) × IsAsked left left' asked
   IsNextAsk left left' (s ∷ steps) calls asked = IsAsked left left' s.asked × LeadsTo s.reply steps calls asked
 
-  -- a further step was refused for the weight of the history at that time; it would have been the next of these
-  pub record IsStopped (left left' : Option (List ℕ)) (history : List (Pair A R)) (steps : List (Stepped A R)) (calls : List LinkCall) : Type 0 where
-    pub before : List (Pair A R)
-    pub asked : A
-    pub next : IsNextAsk left left' steps calls asked
-    pub seen : Begins before history
-    pub full : IsFull m.weighs m.most before asked
-
-  -- why this is the result: the last reply, or why there is none
-  abbrev pub Cause : Option (List ℕ) → Option (List ℕ) → ℕ → ℕ → List (Pair A R) → List (Stepped A R) → List LinkCall → Result R NoReply → Type 0
-  Cause left left' before now history steps calls (Ok reply) = IsLastReply steps reply
-  Cause left left' before now history steps calls (Err NoMemory) = Unit {0}
-  Cause left left' before now history steps calls (Err (Http why)) = (steps ≡ []) × IsUnasked left left' before now why
-  Cause left left' before now history steps calls (Err Link) = (call : LinkCall) × IsLastCall steps calls call × (call.answer ≡ Err Failed)
-  Cause left left' before now history steps calls (Err Peer) =
-      (call : LinkCall) × (bytes : List ℕ) × IsLastCall steps calls call × (call.answer ≡ Ok bytes) × IsNoAnswer bytes
-  Cause left left' before now history steps calls (Err TooLarge) = EndsTooLarge left left' steps calls
-  Cause left left' before now history steps calls (Err Full) = IsStopped left left' history steps calls
-
   -- one round after a reply: nothing if the reply has no question, otherwise a step, after which fewer rounds are left
   abbrev pub RoundMade : (R → ℕ) → R → List (Stepped A R) → List LinkCall → R → Type 0
   RoundMade rounds reply steps calls next =
       ((steps ≡ []) × (calls ≡ []) × (next ≡ reply) × (m.question reply ≡ None))
       ⊎ ((s : Stepped A R) × (call : LinkCall) × (steps ≡ s ∷ []) × (calls ≡ call ∷ []) × (next ≡ s.reply) × Asks reply call
       × IsAskedBack reply call s.asked × (rounds s.reply < rounds reply))
-
-  -- why such a round made no step
-  abbrev pub RoundFailed : List (Pair A R) → R → List LinkCall → NoReply → Type 0
-  RoundFailed history reply calls NoMemory = (calls ≡ []) ⊎ ((call : LinkCall) × (calls ≡ call ∷ []) × Asks reply call)
-  RoundFailed history reply calls Link = (call : LinkCall) × (calls ≡ call ∷ []) × Asks reply call × (call.answer ≡ Err Failed)
-  RoundFailed history reply calls Peer =
-      (call : LinkCall) × (bytes : List ℕ) × (calls ≡ call ∷ []) × Asks reply call × (call.answer ≡ Ok bytes) × IsNoAnswer bytes
-  RoundFailed history reply calls TooLarge = (call : LinkCall) × (calls ≡ call ∷ []) × Asks reply call × IsTooLargeBack reply call
-  RoundFailed history reply calls Full =
-      (call : LinkCall) × (asked : A) × (calls ≡ call ∷ []) × Asks reply call × IsAskedBack reply call asked
-      × IsFull m.weighs m.most history asked
-  RoundFailed history reply calls why = ⊥
-
-  -- one round after a reply; if it did not fail, the clock was read once for each step
-  abbrev pub Round : (R → ℕ) → List (Pair A R) → R → Work A R → Result R NoReply → Type 0
-  Round rounds history reply w (Ok next) = RoundMade rounds reply w.steps w.calls next × (w.readings ≡ length w.steps)
-  Round rounds history reply w (Err why) = (w.steps ≡ []) × RoundFailed history reply w.calls why
-
-  -- all rounds after a reply: how they end
-  abbrev pub RestCause : List (Pair A R) → R → List (Stepped A R) → List LinkCall → Result R NoReply → Type 0
-  RestCause history reply steps calls (Ok last) = ((steps ≡ []) × (last ≡ reply) × (m.question last ≡ None)) ⊎ IsLastReply steps last
-  RestCause history reply steps calls (Err NoMemory) = Unit {0}
-  RestCause history reply steps calls (Err Link) = (call : LinkCall) × IsLastUnanswered steps calls call × (call.answer ≡ Err Failed)
-  RestCause history reply steps calls (Err Peer) =
-      (call : LinkCall) × (bytes : List ℕ) × IsLastUnanswered steps calls call × (call.answer ≡ Ok bytes) × IsNoAnswer bytes
-  RestCause history reply steps calls (Err TooLarge) = LeadsToTooLarge reply steps calls
-  RestCause history reply steps calls (Err Full) =
-      (asked : A) × LeadsTo reply steps calls asked × IsFull m.weighs m.most history asked
-  RestCause history reply steps calls (Err why) = ⊥
-
-  abbrev pub Rest : List (Pair A R) → R → List (Stepped A R) → List LinkCall → Result R NoReply → Type 0
-  Rest history reply steps calls result = GoesOn reply steps calls × RestCause history reply steps calls result
 
   -- the messages that were sent for the notices of a reply; none if there is no reply to write
   abbrev pub notices_of : Result R NoReply → List Message
@@ -210,17 +159,68 @@ module _ {A R : Type 0} (m : Manner A R) where
       × ((outcome ≡ Ok reply) ⊎ (outcome ≡ Err NoMemory))
       × Wrote taken faults sink sink' (bytes_of (bytes_by m) outcome) (end_of outcome) end
 
-  module _ {S K : Type 0} (left : S → Option (List ℕ)) (read_faults : S → ℕ) (taken : K → Option (List ℕ)) (write_faults : K → ℕ) where
-    -- The serving changed the connection from the first to the second, and its steps are in this history, in their order.
-    pub record Serves (history : List (Pair A R)) (came went : Connection S K) (w : Work A R) (served : Served) : Type 0 where
-      pub outcome : Result R NoReply
-      pub questions : List LinkCall
-      pub notices : List LinkCall
-      pub calls : w.calls ≡ questions ++ notices
-      pub sent : sent_by notices ≡ map sending_of (notices_of outcome)
-      pub run : IsRun (left came.source) (left went.source) w.steps questions
-      pub cause : Cause (left came.source) (left went.source) (read_faults came.source) (read_faults went.source) history w.steps questions outcome
-      pub wrote : Wrote taken write_faults came.sink went.sink (bytes_of (bytes_by m) outcome) (end_of outcome) served.end
-      pub lie : LieBehind [] history w.steps
-      pub places : served.places ≡ length w.steps
-      pub few : served.places ≤ 3
+  -- the history of the core may weigh `most`
+  module _ (most : ℕ) where
+    -- a further step was refused for the weight of the history at that time; it would have been the next of these
+    pub record IsStopped (left left' : Option (List ℕ)) (history : List (Pair A R)) (steps : List (Stepped A R)) (calls : List LinkCall) : Type 0 where
+      pub before : List (Pair A R)
+      pub asked : A
+      pub next : IsNextAsk left left' steps calls asked
+      pub seen : Begins before history
+      pub full : IsFull m.weighs most before asked
+
+    -- why this is the result: the last reply, or why there is none
+    abbrev pub Cause : Option (List ℕ) → Option (List ℕ) → ℕ → ℕ → List (Pair A R) → List (Stepped A R) → List LinkCall → Result R NoReply → Type 0
+    Cause left left' before now history steps calls (Ok reply) = IsLastReply steps reply
+    Cause left left' before now history steps calls (Err NoMemory) = Unit {0}
+    Cause left left' before now history steps calls (Err (Http why)) = (steps ≡ []) × IsUnasked left left' before now why
+    Cause left left' before now history steps calls (Err Link) = (call : LinkCall) × IsLastCall steps calls call × (call.answer ≡ Err Failed)
+    Cause left left' before now history steps calls (Err Peer) =
+        (call : LinkCall) × (bytes : List ℕ) × IsLastCall steps calls call × (call.answer ≡ Ok bytes) × IsNoAnswer bytes
+    Cause left left' before now history steps calls (Err TooLarge) = EndsTooLarge left left' steps calls
+    Cause left left' before now history steps calls (Err Full) = IsStopped left left' history steps calls
+
+    -- why a round made no step
+    abbrev pub RoundFailed : List (Pair A R) → R → List LinkCall → NoReply → Type 0
+    RoundFailed history reply calls NoMemory = (calls ≡ []) ⊎ ((call : LinkCall) × (calls ≡ call ∷ []) × Asks reply call)
+    RoundFailed history reply calls Link = (call : LinkCall) × (calls ≡ call ∷ []) × Asks reply call × (call.answer ≡ Err Failed)
+    RoundFailed history reply calls Peer =
+        (call : LinkCall) × (bytes : List ℕ) × (calls ≡ call ∷ []) × Asks reply call × (call.answer ≡ Ok bytes) × IsNoAnswer bytes
+    RoundFailed history reply calls TooLarge = (call : LinkCall) × (calls ≡ call ∷ []) × Asks reply call × IsTooLargeBack reply call
+    RoundFailed history reply calls Full =
+        (call : LinkCall) × (asked : A) × (calls ≡ call ∷ []) × Asks reply call × IsAskedBack reply call asked × IsFull m.weighs most history asked
+    RoundFailed history reply calls why = ⊥
+
+    -- one round after a reply; if it did not fail, the clock was read once for each step
+    abbrev pub Round : (R → ℕ) → List (Pair A R) → R → Work A R → Result R NoReply → Type 0
+    Round rounds history reply w (Ok next) = RoundMade rounds reply w.steps w.calls next × (w.readings ≡ length w.steps)
+    Round rounds history reply w (Err why) = (w.steps ≡ []) × RoundFailed history reply w.calls why
+
+    -- all rounds after a reply: how they end
+    abbrev pub RestCause : List (Pair A R) → R → List (Stepped A R) → List LinkCall → Result R NoReply → Type 0
+    RestCause history reply steps calls (Ok last) = ((steps ≡ []) × (last ≡ reply) × (m.question last ≡ None)) ⊎ IsLastReply steps last
+    RestCause history reply steps calls (Err NoMemory) = Unit {0}
+    RestCause history reply steps calls (Err Link) = (call : LinkCall) × IsLastUnanswered steps calls call × (call.answer ≡ Err Failed)
+    RestCause history reply steps calls (Err Peer) =
+        (call : LinkCall) × (bytes : List ℕ) × IsLastUnanswered steps calls call × (call.answer ≡ Ok bytes) × IsNoAnswer bytes
+    RestCause history reply steps calls (Err TooLarge) = LeadsToTooLarge reply steps calls
+    RestCause history reply steps calls (Err Full) = (asked : A) × LeadsTo reply steps calls asked × IsFull m.weighs most history asked
+    RestCause history reply steps calls (Err why) = ⊥
+
+    abbrev pub Rest : List (Pair A R) → R → List (Stepped A R) → List LinkCall → Result R NoReply → Type 0
+    Rest history reply steps calls result = GoesOn reply steps calls × RestCause history reply steps calls result
+
+    module _ {S K : Type 0} (left : S → Option (List ℕ)) (read_faults : S → ℕ) (taken : K → Option (List ℕ)) (write_faults : K → ℕ) where
+      -- The serving changed the connection from the first to the second, and its steps are in this history, in their order.
+      pub record Serves (history : List (Pair A R)) (came went : Connection S K) (w : Work A R) (served : Served) : Type 0 where
+        pub outcome : Result R NoReply
+        pub questions : List LinkCall
+        pub notices : List LinkCall
+        pub calls : w.calls ≡ questions ++ notices
+        pub sent : sent_by notices ≡ map sending_of (notices_of outcome)
+        pub run : IsRun (left came.source) (left went.source) w.steps questions
+        pub cause : Cause (left came.source) (left went.source) (read_faults came.source) (read_faults went.source) history w.steps questions outcome
+        pub wrote : Wrote taken write_faults came.sink went.sink (bytes_of (bytes_by m) outcome) (end_of outcome) served.end
+        pub lie : LieBehind [] history w.steps
+        pub places : served.places ≡ length w.steps
+        pub few : served.places ≤ 3

@@ -111,12 +111,12 @@ fn serve_seat<R: Wait, X: Role, D: Door, L: Link, C: Clock, W: Draw>(
 )
     requires ready { X.ready backend.now.role.now }
     requires pass { IsPassOf X.Core.setup X.Core.is_legal backend.now.store.now seat.old.pass }
-    requires limit { (X.manner backend.now.role.now).most ≡ X.Core.most (setup_of X.Core.setup backend.now.store.now) }
     requires given { (D.state seat.old.desk.door).given < 2 ^ 63 }
     requires turns { seat.old.desk.turns ≤ 2 ^ 56 }
     requires idle { seat.old.worked.served ≡ 0 }
     ensures pass { IsPassOf X.Core.setup X.Core.is_legal backend.now.store.now seat.new.pass }
-    ensures served { SeatServed ⟦<Desk<D, L, C, W> as Tells>⟧.telling (X.manner backend.now.role.now) seat.old seat.new }
+    ensures served { SeatServed ⟦<Desk<D, L, C, W> as Tells>⟧.telling (X.manner backend.now.role.now)
+        (X.Core.most (setup_of X.Core.setup backend.now.store.now)) seat.old seat.new }
 {
     if seat.listens {
         seat.worked = serve_desk(backend, &mut seat.pass, &mut seat.desk);
@@ -132,11 +132,11 @@ where
     <X::Core as Core>::Ask: Send,
     <X::Core as Core>::Reply: Send,
     requires ready { X.ready backend.now.role.now }
-    requires limit { (X.manner backend.now.role.now).most ≡ X.Core.most (setup_of X.Core.setup backend.now.store.now) }
     requires some { 0 < length seats.old }
     requires seats { All (λ seat. MayServe X.Core.setup X.Core.is_legal D.state backend.now.store.now seat) seats.old }
     ensures passes { All (λ seat. IsPassOf X.Core.setup X.Core.is_legal backend.now.store.now seat.pass) seats.new }
-    ensures served { SeatsServed ⟦<Desk<D, L, C, W> as Tells>⟧.telling (X.manner backend.now.role.now) seats.old seats.new }
+    ensures served { SeatsServed ⟦<Desk<D, L, C, W> as Tells>⟧.telling (X.manner backend.now.role.now)
+        (X.Core.most (setup_of X.Core.setup backend.now.store.now)) seats.old seats.new }
 {
     let count = seats.len();
     for_each_mut(
@@ -145,7 +145,6 @@ where
         count,
         &|_, seat: &mut Seat<X::Core, D, L, C, W>|
             requires { X.ready backend.now.role.now
-                × ((X.manner backend.now.role.now).most ≡ X.Core.most (setup_of X.Core.setup backend.now.store.now))
                 × IsPassOf X.Core.setup X.Core.is_legal backend.now.store.now seat.now.pass × ((D.state seat.now.desk.door).given < 2 ^ 63)
                 × (seat.now.desk.turns ≤ 2 ^ 56) × (seat.now.worked.served ≡ 0) }
             ensures { IsPassOf X.Core.setup X.Core.is_legal backend.entry.now.store.now seat.exit.now.pass
@@ -160,7 +159,8 @@ where
                   read_faults = D.Source.faults;
                   taken = D.Sink.taken;
                   write_faults = D.Sink.faults;
-                }) (X.manner backend.entry.now.role.now) seat.entry.now seat.exit.now }
+                }) (X.manner backend.entry.now.role.now) (X.Core.most (setup_of X.Core.setup backend.entry.now.store.now))
+                seat.entry.now seat.exit.now }
         { serve_seat(backend, seat) },
     );
 }
@@ -175,11 +175,11 @@ where
     <X::Core as Core>::Ask: Send,
     <X::Core as Core>::Reply: Send,
     requires ready { X.ready backend.now.role.now }
-    requires limit { (X.manner backend.now.role.now).most ≡ X.Core.most (setup_of X.Core.setup backend.now.store.now) }
     requires some { 0 < length seats.old }
     requires seats { All (λ seat. MayServe X.Core.setup X.Core.is_legal D.state backend.now.store.now seat) seats.old }
     ensures passes { All (λ seat. IsPassOf X.Core.setup X.Core.is_legal backend.now.store.now seat.pass) seats.new }
-    ensures served { OpenedAndServed ⟦<Desk<D, L, C, W> as Tells>⟧.telling (X.manner backend.now.role.now) place.now seats.old seats.new }
+    ensures served { OpenedAndServed ⟦<Desk<D, L, C, W> as Tells>⟧.telling (X.manner backend.now.role.now)
+        (X.Core.most (setup_of X.Core.setup backend.now.store.now)) place.now seats.old seats.new }
 {
     open_doors(seats, place);
     serve_seats(backend, seats);

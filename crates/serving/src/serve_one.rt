@@ -114,14 +114,14 @@ fn follow<R: Wait, X: Role, L: Link, C: Clock, W: Draw>(
 ) -> Result<<X::Core as Core>::Reply, NoReply>
     requires ready { X.ready backend.now.role.now }
     requires pass { IsPassOf X.Core.setup X.Core.is_legal backend.now.store.now pass.old }
-    requires limit { (X.manner backend.now.role.now).most ≡ X.Core.most (setup_of X.Core.setup backend.now.store.now) }
     requires places { places.old ≤ 2 }
     ensures pass { IsPassOf X.Core.setup X.Core.is_legal backend.now.store.now pass.new }
     ensures number { number_of pass.new ≡ number_of pass.old }
     ensures followed { (w : Work X.Core.Ask X.Core.Reply)
         × Did pass.old pass.new (L.state tools.old.link) (L.state tools.new.link)
         (C.ahead tools.old.clock) (C.ahead tools.new.clock) (W.ahead tools.old.draw) (W.ahead tools.new.draw) w
-        × spec.Round (X.manner backend.now.role.now) X.rounds (front_of pass.new) reply w result
+        × spec.Round (X.manner backend.now.role.now) (X.Core.most (setup_of X.Core.setup backend.now.store.now))
+        X.rounds (front_of pass.new) reply w result
         × (places.new ≡ places.old + length w.steps) }
 {
     let ask = match backend.role.question(&reply) {
@@ -150,7 +150,6 @@ fn last_reply<R: Wait, X: Role, L: Link, C: Clock, W: Draw>(
 ) -> Result<<X::Core as Core>::Reply, NoReply>
     requires ready { X.ready backend.now.role.now }
     requires pass { IsPassOf X.Core.setup X.Core.is_legal backend.now.store.now pass.old }
-    requires limit { (X.manner backend.now.role.now).most ≡ X.Core.most (setup_of X.Core.setup backend.now.store.now) }
     requires places { places.old ≡ 1 }
     ensures pass { IsPassOf X.Core.setup X.Core.is_legal backend.now.store.now pass.new }
     ensures number { number_of pass.new ≡ number_of pass.old }
@@ -158,7 +157,8 @@ fn last_reply<R: Wait, X: Role, L: Link, C: Clock, W: Draw>(
     ensures followed { (w : Work X.Core.Ask X.Core.Reply)
         × Did pass.old pass.new (L.state tools.old.link) (L.state tools.new.link)
         (C.ahead tools.old.clock) (C.ahead tools.new.clock) (W.ahead tools.old.draw) (W.ahead tools.new.draw) w
-        × spec.Rest (X.manner backend.now.role.now) (front_of pass.new) reply w.steps w.calls result
+        × spec.Rest (X.manner backend.now.role.now) (X.Core.most (setup_of X.Core.setup backend.now.store.now))
+        (front_of pass.new) reply w.steps w.calls result
         × (places.new ≡ places.old + length w.steps) }
 {
     let second = follow(backend, pass, tools, places, reply)?;
@@ -175,7 +175,6 @@ fn reply_to<R: Wait, X: Role, S: Source, L: Link, C: Clock, W: Draw>(
 ) -> Result<<X::Core as Core>::Reply, NoReply>
     requires ready { X.ready backend.now.role.now }
     requires pass { IsPassOf X.Core.setup X.Core.is_legal backend.now.store.now pass.old }
-    requires limit { (X.manner backend.now.role.now).most ≡ X.Core.most (setup_of X.Core.setup backend.now.store.now) }
     requires places { places.old ≡ 0 }
     ensures pass { IsPassOf X.Core.setup X.Core.is_legal backend.now.store.now pass.new }
     ensures number { number_of pass.new ≡ number_of pass.old }
@@ -185,8 +184,8 @@ fn reply_to<R: Wait, X: Role, S: Source, L: Link, C: Clock, W: Draw>(
         × Did pass.old pass.new (L.state tools.old.link) (L.state tools.new.link)
         (C.ahead tools.old.clock) (C.ahead tools.new.clock) (W.ahead tools.old.draw) (W.ahead tools.new.draw) w
         × spec.IsRun (X.manner backend.now.role.now) (S.left source.old) (S.left source.new) w.steps w.calls
-        × spec.Cause (X.manner backend.now.role.now) (S.left source.old) (S.left source.new) (S.faults source.old) (S.faults source.new)
-        (front_of pass.new) w.steps w.calls result
+        × spec.Cause (X.manner backend.now.role.now) (X.Core.most (setup_of X.Core.setup backend.now.store.now))
+        (S.left source.old) (S.left source.new) (S.faults source.old) (S.faults source.new) (front_of pass.new) w.steps w.calls result
         × (places.new ≡ length w.steps) }
 {
     let ask = asked(backend.alloc, backend.role, source)?;
@@ -251,14 +250,13 @@ pub fn serve_connection<
 ) -> Served
     requires ready { X.ready backend.now.role.now }
     requires pass { IsPassOf X.Core.setup X.Core.is_legal backend.now.store.now pass.old }
-    requires limit { (X.manner backend.now.role.now).most ≡ X.Core.most (setup_of X.Core.setup backend.now.store.now) }
     ensures pass { IsPassOf X.Core.setup X.Core.is_legal backend.now.store.now pass.new }
     ensures number { number_of pass.new ≡ number_of pass.old }
     ensures served { (w : Work X.Core.Ask X.Core.Reply)
         × Did pass.old pass.new (L.state tools.old.link) (L.state tools.new.link)
         (C.ahead tools.old.clock) (C.ahead tools.new.clock) (W.ahead tools.old.draw) (W.ahead tools.new.draw) w
-        × spec.Serves (X.manner backend.now.role.now) S.left S.faults K.taken K.faults
-        (front_of pass.new) connection.old connection.new w result }
+        × spec.Serves (X.manner backend.now.role.now) (X.Core.most (setup_of X.Core.setup backend.now.store.now))
+        S.left S.faults K.taken K.faults (front_of pass.new) connection.old connection.new w result }
     ensures link { result.end ≡ ServedEnd.Link → Rose (L.state tools.old.link).faults (L.state tools.new.link).faults }
 {
     let mut places = 0;

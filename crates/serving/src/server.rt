@@ -33,7 +33,6 @@ where
     <X::Core as Core>::Ask: Send,
     <X::Core as Core>::Reply: Send,
     requires ready { X.ready role.now }
-    requires limit { (X.manner role.now).most ≡ X.Core.most (setup_of X.Core.setup store) }
     requires passes { All (IsPassOf X.Core.setup X.Core.is_legal store) passes.items }
     requires fresh { All HasDoneNothing passes.items }
     requires order { map number_of passes.items ≡ numbers_from 0 (passes_of store) }
@@ -43,7 +42,7 @@ where
     requires seats { (seats.items ≡ []) × (length desks.old.items ≤ vec_capacity seats) }
     requires desks { All (λ desk. (desk.turns ≤ 2 ^ 56) × ((D.state desk.door).given < 2 ^ 63)) desks.old.items }
     ensures { Summarises ⟦<Desk<D, L, C, W> as Tells>⟧.telling (X.manner role.now)
-        X.Core.setup X.Core.history X.Core.is_legal (setup_of X.Core.setup store) place.now desks.old.items desks.new.items result }
+        X.Core.most X.Core.setup X.Core.history X.Core.is_legal (setup_of X.Core.setup store) place.now desks.old.items desks.new.items result }
 {
     sit(desks, &mut passes, &mut seats);
     open_and_serve(
@@ -69,8 +68,7 @@ where
 /// Serves at these desks concurrently, one worker each, with this core, which must have an empty history. The first door
 /// listens at the place, and the others share its address. Without a desk nothing is done.
 ///
-/// Needs the limit of the role to be that of the core, and at most 64 desks, each of at most 2^56 turns, whose doors have given
-/// fewer than 2^63 connections.
+/// Needs at most 64 desks, each of at most 2^56 turns, whose doors have given fewer than 2^63 connections.
 ///
 /// # Errors
 ///
@@ -87,12 +85,12 @@ where
     <X::Core as Core>::Ask: Send,
     <X::Core as Core>::Reply: Send,
     requires ready { X.ready role.now }
-    requires limit { (X.manner role.now).most ≡ X.Core.most (X.Core.setup core) }
     requires empty { X.Core.history core ≡ [] }
     requires few { length desks.old.items ≤ 64 }
     requires desks { All (λ desk. (desk.turns ≤ 2 ^ 56) × ((D.state desk.door).given < 2 ^ 63)) desks.old.items }
     ensures summary { IfOk result (Summarises ⟦<Desk<D, L, C, W> as Tells>⟧.telling
-        (X.manner role.now) X.Core.setup X.Core.history X.Core.is_legal (X.Core.setup core) place.now desks.old.items desks.new.items) }
+        (X.manner role.now) X.Core.most X.Core.setup X.Core.history X.Core.is_legal (X.Core.setup core) place.now
+        desks.old.items desks.new.items) }
     ensures memory { OnErr result (desks.new.items ≡ desks.old.items) }
 {
     let count = desks.len();

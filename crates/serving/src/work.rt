@@ -60,7 +60,6 @@ fn serve_next<R: Wait, X: Role, D: Door, L: Link, C: Clock, W: Draw>(
 ) -> Next
     requires ready { X.ready backend.now.role.now }
     requires pass { IsPassOf X.Core.setup X.Core.is_legal backend.now.store.now pass.old }
-    requires limit { (X.manner backend.now.role.now).most ≡ X.Core.most (setup_of X.Core.setup backend.now.store.now) }
     requires given { (D.state desk.old.door).given + 1 < 2 ^ 64 }
     ensures pass { IsPassOf X.Core.setup X.Core.is_legal backend.now.store.now pass.new }
     ensures number { number_of pass.new ≡ number_of pass.old }
@@ -72,7 +71,8 @@ fn serve_next<R: Wait, X: Role, D: Door, L: Link, C: Clock, W: Draw>(
     ensures fault { result ≡ Next.Fault → Rose (D.faults desk.old.door) (D.faults desk.new.door) }
     ensures worked { (services : List (spec.Service D.Source D.Sink X.Core.Ask X.Core.Reply))
         × MadeAll pass.old pass.new (spec.steps_in services)
-        × spec.AtDesk (X.manner backend.now.role.now) D.Source.left D.Source.faults D.Sink.taken D.Sink.faults (front_of pass.new)
+        × spec.AtDesk (X.manner backend.now.role.now) (X.Core.most (setup_of X.Core.setup backend.now.store.now))
+        D.Source.left D.Source.faults D.Sink.taken D.Sink.faults (front_of pass.new)
         (D.state desk.old.door) (D.state desk.new.door) (L.state desk.old.tools.link) (L.state desk.new.tools.link)
         (C.ahead desk.old.tools.clock) (C.ahead desk.new.tools.clock) (W.ahead desk.old.tools.draw) (W.ahead desk.new.tools.draw) services
         × spec.IsNumber result (length services) }
@@ -97,7 +97,6 @@ pub fn serve_desk<R: Wait, X: Role, D: Door, L: Link, C: Clock, W: Draw>(
 ) -> Worked
     requires ready { X.ready backend.now.role.now }
     requires pass { IsPassOf X.Core.setup X.Core.is_legal backend.now.store.now pass.old }
-    requires limit { (X.manner backend.now.role.now).most ≡ X.Core.most (setup_of X.Core.setup backend.now.store.now) }
     requires given { (D.state desk.old.door).given < 2 ^ 63 }
     requires turns { desk.old.turns ≤ 2 ^ 56 }
     ensures pass { IsPassOf X.Core.setup X.Core.is_legal backend.now.store.now pass.new }
@@ -112,7 +111,8 @@ pub fn serve_desk<R: Wait, X: Role, D: Door, L: Link, C: Clock, W: Draw>(
     ensures fault { result.end ≡ WorkEnd.DoorFault → Rose (D.faults desk.old.door) (D.faults desk.new.door) }
     ensures worked { (services : List (spec.Service D.Source D.Sink X.Core.Ask X.Core.Reply))
         × MadeAll pass.old pass.new (spec.steps_in services)
-        × spec.AtDesk (X.manner backend.now.role.now) D.Source.left D.Source.faults D.Sink.taken D.Sink.faults (front_of pass.new)
+        × spec.AtDesk (X.manner backend.now.role.now) (X.Core.most (setup_of X.Core.setup backend.now.store.now))
+        D.Source.left D.Source.faults D.Sink.taken D.Sink.faults (front_of pass.new)
         (D.state desk.old.door) (D.state desk.new.door) (L.state desk.old.tools.link) (L.state desk.new.tools.link)
         (C.ahead desk.old.tools.clock) (C.ahead desk.new.tools.clock) (W.ahead desk.old.tools.draw) (W.ahead desk.new.tools.draw) services
         × (result.served ≡ length services) }
