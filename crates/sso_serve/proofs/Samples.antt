@@ -18,7 +18,7 @@ use Rattle.rp_answer.specs.Setup.{PartySetup}
 use Rattle.rp_core.specs.Relying.{Relying}
 use Rattle.serving.specs.declared.summary.Summary.{Summary}
 use Rattle.serving.specs.Summaries.{Telling}
-use Rattle.sso_serve.specs.Roles.{op_notices, op_manner, rp_manner, rp_question, rp_answered, rp_rounds}
+use Rattle.sso_serve.specs.Roles.{op_notices, op_manner, op_most, rp_question, rp_answered, rp_rounds}
 use Rattle.sso_serve.specs.Servers.{ServesOp, ServesRp}
 
 -- ---- what is told to others, and what is asked of them
@@ -52,11 +52,11 @@ taken-in_a_stored_history c asked = refl
 taken-in_a_lasting_history : (c : Configuration) (asked : OpAsk) → (op_manner (record c { lasting = true })).takes asked ≡ is_small asked
 taken-in_a_lasting_history c asked = refl
 
-limit-of_a_stored_history : (c : Configuration) (n : ℕ) → (rp_manner (record c { lasting = false }) n).most ≡ 268435456
-limit-of_a_stored_history c n = refl
+limit-of_a_stored_history : (c : Configuration) → op_most (record c { lasting = false }) ≡ 268435456
+limit-of_a_stored_history c = refl
 
-limit-of_a_lasting_history : (c : Configuration) (n : ℕ) → (rp_manner (record c { lasting = true }) n).most ≡ lasting_weight
-limit-of_a_lasting_history c n = refl
+limit-of_a_lasting_history : (c : Configuration) → op_most (record c { lasting = true }) ≡ lasting_weight
+limit-of_a_lasting_history c = refl
 
 -- ---- servers without desks
 

@@ -49,10 +49,12 @@ op_manner c = record {
   http = op_telling.http_of c;
   takes = λ asked. not c.lasting || op_held.is_small asked;
   weighs = op_weight.ask_weight;
-  most = most_of c.lasting;
 }
 
--- the setup of the provider, and its history
+-- the greatest weight of the provider's history, its setup, and its history
+abbrev pub op_most : Configuration → ℕ
+op_most c = most_of c.lasting
+
 abbrev pub op_registry : Providing → Configuration
 op_registry p = p.registry
 
@@ -91,10 +93,12 @@ rp_manner c n = record {
   http = rp_telling.http_of c n;
   takes = λ asked. not c.lasting || rp_held.is_small asked;
   weighs = rp_weight.ask_weight;
-  most = most_of c.lasting;
 }
 
--- the setup of a relying party, and its history
+-- the greatest weight of a relying party's history, its setup, and its history
+abbrev pub rp_most : PartySetup → ℕ
+rp_most p = most_of p.configuration.lasting
+
 abbrev pub rp_setup : Relying → PartySetup
 rp_setup r = r.setup
 

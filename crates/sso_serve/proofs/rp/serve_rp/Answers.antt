@@ -1,5 +1,4 @@
-use Rattle.std.proofs.Common.{sym, ap, ◌∙◌}
-use Rattle.sso_base.specs.Journal.{most_of}
+use Rattle.std.proofs.Common.{ap, ◌∙◌}
 use denote.Exit as Exit
 use denote.Param.Send.{param_send, arg_send}
 use Rattle.client_registry.specs.Configuration.{Configuration}
@@ -14,10 +13,6 @@ serve-requires-send-X-Core g c κs within = param_send _ _ (arg_send _ Exit.no _
 
 pub serve-requires-send-X-Core-Ask : goal.serve-requires-send-X-Core-Ask
 serve-requires-send-X-Core-Ask g c κs within = param_send _ _ (arg_send _ Exit.no _ asks_are_sent)
-
-pub serve-requires-clause-limit : goal.serve-requires-clause-limit
-serve-requires-clause-limit g c κs within =
-    sym (ap (λ (r : Relying). most_of r.setup.configuration.lasting) c.in_ok-core.ensures ∙ ap (λ (v : Configuration). most_of v.lasting) c.in_ok-copy.ensures)
 
 pub returns-clause-summary : goal.returns-clause-summary
 returns-clause-summary g c =
