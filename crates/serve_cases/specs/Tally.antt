@@ -1,5 +1,5 @@
 -- A core that counts: the weight of its requests, and its legal histories.
-use Rattle.std.specs.Prelude.{◌≡◌, ℕ, ◌+◌, ◌≤◌, Bool, true, false, List, [], None, codes}
+use Rattle.std.specs.Prelude.{◌≡◌, ℕ, ◌+◌, ◌≤◌, Bool, true, List, [], None, codes}
 use Rattle.http_reply.specs.Replies.{plain}
 use Rattle.serving.specs.Manner.{Manner}
 use Rattle.sso_base.specs.declared.history.Pair.{Pair}
@@ -27,8 +27,8 @@ pub record KeepsTally (lasts : Bool) (history : List (Pair Tick ℕ)) (most : �
   pub most_is : most ≡ most_of lasts
   pub light : IsLight lasts history
 
--- The role over it, whose history is stored: whatever the HTTP request is, the core's request weighs more than half of the limit,
--- and the reply is one line.
+-- The role over it: whatever the HTTP request is, the core's request weighs more than half of the limit of a stored history, and
+-- the reply is one line.
 abbrev pub heavy_tick : Tick
 heavy_tick = record { more = 200000000 }
 
@@ -43,5 +43,4 @@ tally_manner = record {
   http = λ reply. plain 200 (codes "counted");
   takes = λ tick. true;
   weighs = tick_weight;
-  most = most_of false;
 }

@@ -1,4 +1,4 @@
-// The role over the counting core, whose history is stored.
+// The role over the counting core.
 
 use crate::tally::Tally;
 use crate::tick::Tick;

@@ -1,7 +1,7 @@
 // One worker at one desk, over its own store.
 
 ghost use Rattle.std.specs.Prelude.{◌≡◌, ◌^◌, ◌≤◌, ◌<◌, []};
-ghost use Rattle.turn_store.specs.Passes.{IsPassOf, setup_of};
+ghost use Rattle.turn_store.specs.Passes.{IsPassOf};
 
 use crate::desks::{CaseDesk, CaseDoor, desk_in, push_bytes, push_sent};
 use crate::passes::take_pass;
@@ -28,7 +28,6 @@ fn push_end<R: Wait, X: Role>(
 ) -> Result<bool, NoMemory>
     requires ready { X.ready role.now }
     requires pass { IsPassOf X.Core.setup X.Core.is_legal store.now pass.old }
-    requires limit { (X.manner role.now).most ≡ X.Core.most (setup_of X.Core.setup store.now) }
     ensures { IsPassOf X.Core.setup X.Core.is_legal store.now pass.new }
 {
     let Ok(Some(mut connection)) = desk.door.next() else {
@@ -61,7 +60,6 @@ fn ends<R: Wait, X: Role>(
 ) -> Result<String, NoMemory>
     requires ready { X.ready role.now }
     requires pass { IsPassOf X.Core.setup X.Core.is_legal store.now pass.old }
-    requires limit { (X.manner role.now).most ≡ X.Core.most (setup_of X.Core.setup store.now) }
 {
     let mut out = String::new(alloc);
     for _ in 0..desk.turns {
@@ -84,7 +82,6 @@ fn work<R: Wait, X: Role>(
 ) -> Result<String, NoMemory>
     requires ready { X.ready role.now }
     requires pass { IsPassOf X.Core.setup X.Core.is_legal store.now pass.old }
-    requires limit { (X.manner role.now).most ≡ X.Core.most (setup_of X.Core.setup store.now) }
     requires given { (⟦<CaseDoor as Door>⟧.state desk.old.door).given < 2 ^ 63 }
     requires turns { desk.old.turns ≤ 2 ^ 56 }
 {
@@ -109,7 +106,6 @@ fn at_desk<R: Wait, X: Role>(
 ) -> Result<String, NoMemory>
     requires ready { X.ready role.now }
     requires empty { X.Core.history core ≡ [] }
-    requires limit { (X.manner role.now).most ≡ X.Core.most (X.Core.setup core) }
     requires given { (⟦<CaseDoor as Door>⟧.state desk.old.door).given < 2 ^ 63 }
     requires turns { desk.old.turns ≤ 2 ^ 56 }
 {
