@@ -1,8 +1,9 @@
 -- What is kept when a pair is taken up for which room was reserved.
-use Rattle.std.proofs.Common.{◌≡◌, ◌≤◌, ℕ, ◌+◌, List, [], ◌∷◌, ◌++◌, reverse, Option, Some, IfSome, true, sym, ◌∙◌, subst}
+use Rattle.std.proofs.Common.{◌≡◌, ◌≤◌, ℕ, ◌+◌, List, [], ◌∷◌, ◌++◌, reverse, Option, Some, IfSome, Result, OnOk, true, sym, ◌∙◌, subst}
 use Rattle.sso_base.specs.Words.{Word}
 use Rattle.sso_base.specs.Legal.{last_moment, IsEntry}
-use Rattle.sso_base.specs.Journal.{most_of, history_weight}
+use Rattle.sso_base.specs.Journal.{most_of, history_weight, ReportsFull}
+use Rattle.sso_base.specs.declared.step.CoreNo.{CoreNo}
 use Rattle.client_registry.specs.Configuration.{Configuration}
 use Rattle.code_grant.specs.declared.rows.TurnRow.{TurnRow}
 use Rattle.code_grant.specs.declared.rows.SessionRow.{SessionRow}
@@ -103,3 +104,20 @@ room_inside s c history t weight most view limit room =
     let S : Providing → Type 0 = λ x. history_weight ask_weight x.history + weight ≤ most_of x.registry.lasting in
     let N : ℕ → Type 0 = λ n. history_weight ask_weight history + weight ≤ n in
     subst N (sym limit) (subst S (sym view) room)
+
+-- and what the journal says of the room for a request is so of the provider
+pub room_outside : (s : Providing) (c : Configuration) (history : List OpPair) (t : Tables) (more most : ℕ) (result : Result ℕ CoreNo)
+    → ◌≡◌ {A = Providing} (record { registry = c; history = history; tables = t }) s → most ≡ most_of c.lasting
+    → OnOk result (history_weight ask_weight history + more ≤ most) → OnOk result (history_weight ask_weight s.history + more ≤ most_of s.registry.lasting)
+room_outside s c history t more most result view limit room =
+    let N : ℕ → Type 0 = λ n. OnOk result (history_weight ask_weight history + more ≤ n) in
+    let S : Providing → Type 0 = λ x. OnOk result (history_weight ask_weight x.history + more ≤ most_of x.registry.lasting) in
+    subst S view (subst N limit room)
+
+pub full_outside : (s : Providing) (c : Configuration) (history : List OpPair) (t : Tables) (more most : ℕ) (result : Result ℕ CoreNo)
+    → ◌≡◌ {A = Providing} (record { registry = c; history = history; tables = t }) s → most ≡ most_of c.lasting
+    → ReportsFull most result (history_weight ask_weight history) more → ReportsFull (most_of s.registry.lasting) result (history_weight ask_weight s.history) more
+full_outside s c history t more most result view limit full =
+    let N : ℕ → Type 0 = λ n. ReportsFull n result (history_weight ask_weight history) more in
+    let S : Providing → Type 0 = λ x. ReportsFull (most_of x.registry.lasting) result (history_weight ask_weight x.history) more in
+    subst S view (subst N limit full)

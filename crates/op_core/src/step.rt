@@ -2,7 +2,7 @@
 
 ghost use Rattle.std.specs.Prelude.{◌≡◌, ◌<◌, ◌≤◌, ◌+◌, ◌++◌, [], ◌∷◌, length, true, IfSome, IfOk, OnOk, OnErr};
 ghost use Rattle.sso_base.specs.Legal.{last_moment, IsEntry};
-ghost use Rattle.sso_base.specs.Journal.{history_weight, most_of};
+ghost use Rattle.sso_base.specs.Journal.{history_weight, most_of, ReportsFull};
 ghost use Rattle.client_registry.specs.Configuration.{Configuration};
 ghost use Rattle.code_grant.specs.Tables.{with_room};
 ghost use Rattle.op_exchange.specs.Values.{IsOpAsk};
@@ -100,6 +100,16 @@ fn take_in(
 }
 
 impl OpCore {
+    // The weight of a request, which fits into the history; otherwise the error holds the history's weight.
+    fn admit(&self, ask: &OpAsk) -> Result<u64, CoreNo>
+        ensures weight { IfOk result (λ weight. weight ≡ weights.ask_weight ask.now) }
+        ensures room { OnOk result (history_weight weights.ask_weight self.now.history + weights.ask_weight ask.now ≤ most_of self.now.registry.lasting) }
+        ensures full { ReportsFull (most_of self.now.registry.lasting) result
+            (history_weight weights.ask_weight self.now.history) (weights.ask_weight ask.now) }
+    {
+        self.journal.admit(ask)
+    }
+
     // Adds an entry with its reply and its effects.
     pub(crate) fn commit(
         &mut self,
@@ -217,7 +227,7 @@ impl Core for OpCore {
         fresh: [Word; 4],
         ask: OpAsk,
     ) -> Result<OpReply, CoreNo> {
-        let weight = self.journal.admit(&ask)?;
+        let weight = self.admit(&ask)?;
         let entry = self.journal.entry(at, fresh, ask);
         know_op_entry(&entry);
         let decision = self.decision(alloc, &entry)?;

@@ -1,7 +1,8 @@
 -- What is kept when a pair is taken up for which room was reserved.
-use Rattle.std.proofs.Common.{◌≡◌, ◌≤◌, ℕ, ◌+◌, List, [], ◌∷◌, ◌++◌, reverse, Option, sym, ◌∙◌, subst}
+use Rattle.std.proofs.Common.{◌≡◌, ◌≤◌, ℕ, ◌+◌, List, [], ◌∷◌, ◌++◌, reverse, Option, Result, OnOk, sym, ◌∙◌, subst}
 use Rattle.sso_base.specs.Legal.{last_moment, IsEntry}
-use Rattle.sso_base.specs.Journal.{most_of, history_weight}
+use Rattle.sso_base.specs.Journal.{most_of, history_weight, ReportsFull}
+use Rattle.sso_base.specs.declared.step.CoreNo.{CoreNo}
 use Rattle.oidc_words.specs.declared.response_types.Types.{Types}
 use Rattle.rp_login.specs.declared.rows.LoginRow.{LoginRow}
 use Rattle.rp_login.specs.declared.rows.PendingRow.{PendingRow}
@@ -97,3 +98,20 @@ room_inside r s history t weight most view limit room =
     let S : Relying → Type 0 = λ x. history_weight ask_weight x.history + weight ≤ most_of x.setup.configuration.lasting in
     let N : ℕ → Type 0 = λ n. history_weight ask_weight history + weight ≤ n in
     subst N (sym limit) (subst S (sym view) room)
+
+-- and what the journal says of the room for a request is so of the party
+pub room_outside : (r : Relying) (s : PartySetup) (history : List RpPair) (t : Tables) (more most : ℕ) (result : Result ℕ CoreNo)
+    → ◌≡◌ {A = Relying} (record { setup = s; history = history; tables = t }) r → most ≡ most_of s.configuration.lasting
+    → OnOk result (history_weight ask_weight history + more ≤ most) → OnOk result (history_weight ask_weight r.history + more ≤ most_of r.setup.configuration.lasting)
+room_outside r s history t more most result view limit room =
+    let N : ℕ → Type 0 = λ n. OnOk result (history_weight ask_weight history + more ≤ n) in
+    let S : Relying → Type 0 = λ x. OnOk result (history_weight ask_weight x.history + more ≤ most_of x.setup.configuration.lasting) in
+    subst S view (subst N limit room)
+
+pub full_outside : (r : Relying) (s : PartySetup) (history : List RpPair) (t : Tables) (more most : ℕ) (result : Result ℕ CoreNo)
+    → ◌≡◌ {A = Relying} (record { setup = s; history = history; tables = t }) r → most ≡ most_of s.configuration.lasting
+    → ReportsFull most result (history_weight ask_weight history) more → ReportsFull (most_of r.setup.configuration.lasting) result (history_weight ask_weight r.history) more
+full_outside r s history t more most result view limit full =
+    let N : ℕ → Type 0 = λ n. ReportsFull n result (history_weight ask_weight history) more in
+    let S : Relying → Type 0 = λ x. ReportsFull (most_of x.setup.configuration.lasting) result (history_weight ask_weight x.history) more in
+    subst S view (subst N limit full)

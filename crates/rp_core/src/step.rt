@@ -1,9 +1,9 @@
 // One step of a relying party: it decides the reply, makes the rows, reserves all memory, and only then changes anything.
 
-ghost use Rattle.std.specs.Prelude.{◌≡◌, ◌<◌, ◌≤◌, ◌+◌, ◌++◌, true, [], ◌∷◌, length, OnOk, OnErr};
+ghost use Rattle.std.specs.Prelude.{◌≡◌, ◌<◌, ◌≤◌, ◌+◌, ◌++◌, true, [], ◌∷◌, length, IfOk, OnOk, OnErr};
 ghost use Rattle.rp_login.specs.Tables.{with_room};
 ghost use Rattle.sso_base.specs.Legal.{last_moment, IsEntry};
-ghost use Rattle.sso_base.specs.Journal.{history_weight, most_of};
+ghost use Rattle.sso_base.specs.Journal.{history_weight, most_of, ReportsFull};
 ghost use Rattle.rp_exchange.specs.Values.{IsRpAsk};
 ghost use Rattle.rp_exchange.specs.Weight as weights;
 ghost use Rattle.rp_answer.specs.Answering.{rp_answer};
@@ -89,6 +89,17 @@ fn take_in(
 }
 
 impl RpCore {
+    // The weight of a request, which fits into the history; otherwise the error holds the history's weight.
+    fn admit(&self, ask: &RpAsk) -> Result<u64, CoreNo>
+        ensures weight { IfOk result (λ weight. weight ≡ weights.ask_weight ask.now) }
+        ensures room { OnOk result (history_weight weights.ask_weight self.now.history + weights.ask_weight ask.now
+            ≤ most_of self.now.setup.configuration.lasting) }
+        ensures full { ReportsFull (most_of self.now.setup.configuration.lasting) result
+            (history_weight weights.ask_weight self.now.history) (weights.ask_weight ask.now) }
+    {
+        self.journal.admit(ask)
+    }
+
     // Adds an entry with its reply and its rows.
     fn commit(
         &mut self,
@@ -151,7 +162,7 @@ impl Core for RpCore {
         fresh: [Word; 4],
         ask: RpAsk,
     ) -> Result<RpReply, CoreNo> {
-        let weight = self.journal.admit(&ask)?;
+        let weight = self.admit(&ask)?;
         let entry = self.journal.entry(at, fresh, ask);
         know_rp_entry(&entry);
         let reply = self.answer(alloc, &entry)?;
