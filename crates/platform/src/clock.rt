@@ -27,13 +27,23 @@ pub struct SystemClock<'a, R: time::Clock> {
     shown: Option<Shown>,
 }
 
+// A time that comes closer to the wall clock by at most so much.
+fn closer(time: Duration, wall: Duration, most: Duration) -> Duration {
+    if time < wall {
+        let left = wall.saturating_sub(time);
+        time.saturating_add(left.min(most))
+    } else {
+        let left = time.saturating_sub(wall);
+        time.saturating_sub(left.min(most))
+    }
+}
+
 // What a clock shows after so much time, if the wall clock reads this.
 fn followed(time: Duration, gone: Duration, wall: Option<Duration>) -> Duration {
     let next = time.saturating_add(gone);
     let most = gone / FOLLOWS;
     match wall {
-        Some(wall) if next < wall => next.saturating_add(most.min(wall.saturating_sub(next))),
-        Some(wall) => next.saturating_sub(most.min(next.saturating_sub(wall))),
+        Some(wall) => closer(next, wall, most),
         None => next,
     }
 }
@@ -41,26 +51,31 @@ fn followed(time: Duration, gone: Duration, wall: Option<Duration>) -> Duration 
 // What a clock shows at these readings, by what it showed last.
 fn shown_next(last: Option<Shown>, steady: Duration, wall: Option<Duration>) -> Option<Shown> {
     let time = match last {
-        Some(last) => followed(last.time, steady.saturating_sub(last.steady), wall),
+        Some(last) => {
+            let gone = steady.saturating_sub(last.steady);
+            followed(last.time, gone, wall)
+        }
         None => wall?,
     };
     Some(Shown { time, steady })
 }
 
+// What a clock shows now, by what it showed last.
+fn read<R: time::Clock>(clock: &R, last: Option<Shown>) -> Option<Shown> {
+    match clock.monotonic() {
+        Ok(steady) => {
+            let wall = clock.since_1970().ok();
+            shown_next(last, steady, wall)
+        }
+        Err(_) => last,
+    }
+}
+
 impl<'a, R: time::Clock> SystemClock<'a, R> {
     /// A clock that begins at what the wall clock shows.
     pub fn new(clock: &'a R) -> SystemClock<'a, R> {
-        let mut begun = SystemClock { clock, shown: None };
-        begun.read();
-        begun
-    }
-
-    // Reads both clocks.
-    fn read(&mut self) {
-        if let Ok(steady) = self.clock.monotonic() {
-            let wall = self.clock.since_1970().ok();
-            self.shown = shown_next(self.shown, steady, wall);
-        }
+        let shown = read(clock, None);
+        SystemClock { clock, shown }
     }
 }
 
@@ -77,7 +92,8 @@ impl<'a, R: time::Clock + Sync> Clock for SystemClock<'a, R> {
     ghost ahead = { λ _ _. None };
 
     fn now(&mut self) -> Moment {
-        self.read();
+        let last = self.shown;
+        self.shown = read(self.clock, last);
         moment_of(&self.shown)
     }
 }

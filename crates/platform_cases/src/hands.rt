@@ -54,6 +54,20 @@ impl Hands {
     }
 }
 
+// What the clock shows at each of these readings.
+fn shown_at(alloc: Global, hands: &Hands, readings: &[&str]) -> Result<String, NoMemory> {
+    hands.set(field(readings, 0));
+    let mut clock = SystemClock::new(hands);
+    let mut out = String::new(alloc);
+    for reading in readings {
+        hands.set(reading);
+        let seconds = clock.now().seconds();
+        let shown = seconds.to_string(alloc)?;
+        push_part(&mut out, " ", shown.as_str())?;
+    }
+    Ok(out)
+}
+
 /// `clock|STEADY WALL|..`: what the clock shows when the steady clock and the wall clock read so many seconds, from its beginning with the
 /// first of them on; `-` is a clock that can't be read.
 pub fn shows(alloc: Global, readings: &[&str]) -> Result<String, NoMemory> {
@@ -61,13 +75,5 @@ pub fn shows(alloc: Global, readings: &[&str]) -> Result<String, NoMemory> {
         steady: AtomicU64::new(BROKEN),
         wall: AtomicU64::new(BROKEN),
     };
-    hands.set(field(readings, 0));
-    let mut clock = SystemClock::new(&hands);
-    let mut out = String::new(alloc);
-    for reading in readings {
-        hands.set(reading);
-        let shown = clock.now().seconds().to_string(alloc)?;
-        push_part(&mut out, " ", shown.as_str())?;
-    }
-    Ok(out)
+    shown_at(alloc, &hands, readings)
 }
