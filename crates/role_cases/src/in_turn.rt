@@ -13,26 +13,20 @@ use rp_response::rp_line;
 use sso_base::{Asked, CoreNo, Moment, NoMemory};
 use std::alloc::Global;
 
+// A request at this moment, with the random words of this place.
+fn asked<A: Drop>(at: Moment, place: u32, ask: A) -> Asked<A> {
+    let fresh = words_of_place(place);
+    Asked { at, fresh, ask }
+}
+
 // ---- the provider
 
 // Requests for the keys, for the metadata and for something that does not exist.
 fn provider_asks(alloc: Global, at: Moment) -> Result<Vec<Asked<OpAsk>>, NoMemory> {
-    let mut asks = Vec::with_capacity(alloc, 3)?;
-    asks.push_reserved(Asked {
-        at,
-        fresh: words_of_place(1),
-        ask: OpAsk::Keys,
-    });
-    asks.push_reserved(Asked {
-        at,
-        fresh: words_of_place(2),
-        ask: OpAsk::Metadata,
-    });
-    asks.push_reserved(Asked {
-        at,
-        fresh: words_of_place(3),
-        ask: OpAsk::NotHere,
-    });
+    let mut asks = Vec::new(alloc);
+    asks.push(asked(at, 1, OpAsk::Keys))?;
+    asks.push(asked(at, 2, OpAsk::Metadata))?;
+    asks.push(asked(at, 3, OpAsk::NotHere))?;
     Ok(asks)
 }
 
@@ -75,22 +69,10 @@ pub fn provider_replies(
 
 // Requests to begin a login, for the page that shows who is logged in, and for something that does not exist.
 fn party_asks(alloc: Global, at: Moment) -> Result<Vec<Asked<RpAsk>>, NoMemory> {
-    let mut asks = Vec::with_capacity(alloc, 3)?;
-    asks.push_reserved(Asked {
-        at,
-        fresh: words_of_place(1),
-        ask: RpAsk::Begin { browser: None },
-    });
-    asks.push_reserved(Asked {
-        at,
-        fresh: words_of_place(2),
-        ask: RpAsk::Visit { session: None },
-    });
-    asks.push_reserved(Asked {
-        at,
-        fresh: words_of_place(3),
-        ask: RpAsk::NotHere,
-    });
+    let mut asks = Vec::new(alloc);
+    asks.push(asked(at, 1, RpAsk::Begin { browser: None }))?;
+    asks.push(asked(at, 2, RpAsk::Visit { session: None }))?;
+    asks.push(asked(at, 3, RpAsk::NotHere))?;
     Ok(asks)
 }
 
