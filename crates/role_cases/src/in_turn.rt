@@ -14,7 +14,7 @@ use sso_base::{Asked, CoreNo, Moment, NoMemory};
 use std::alloc::Global;
 
 // A request at this moment, with the random words of this place.
-fn asked<A: Drop>(at: Moment, place: u32, ask: A) -> Asked<A> {
+fn with_words<A: Drop>(at: Moment, place: u32, ask: A) -> Asked<A> {
     let fresh = words_of_place(place);
     Asked { at, fresh, ask }
 }
@@ -24,9 +24,9 @@ fn asked<A: Drop>(at: Moment, place: u32, ask: A) -> Asked<A> {
 // Requests for the keys, for the metadata and for something that does not exist.
 fn provider_asks(alloc: Global, at: Moment) -> Result<Vec<Asked<OpAsk>>, NoMemory> {
     let mut asks = Vec::new(alloc);
-    asks.push(asked(at, 1, OpAsk::Keys))?;
-    asks.push(asked(at, 2, OpAsk::Metadata))?;
-    asks.push(asked(at, 3, OpAsk::NotHere))?;
+    asks.push(with_words(at, 1, OpAsk::Keys))?;
+    asks.push(with_words(at, 2, OpAsk::Metadata))?;
+    asks.push(with_words(at, 3, OpAsk::NotHere))?;
     Ok(asks)
 }
 
@@ -70,9 +70,9 @@ pub fn provider_replies(
 // Requests to begin a login, for the page that shows who is logged in, and for something that does not exist.
 fn party_asks(alloc: Global, at: Moment) -> Result<Vec<Asked<RpAsk>>, NoMemory> {
     let mut asks = Vec::new(alloc);
-    asks.push(asked(at, 1, RpAsk::Begin { browser: None }))?;
-    asks.push(asked(at, 2, RpAsk::Visit { session: None }))?;
-    asks.push(asked(at, 3, RpAsk::NotHere))?;
+    asks.push(with_words(at, 1, RpAsk::Begin { browser: None }))?;
+    asks.push(with_words(at, 2, RpAsk::Visit { session: None }))?;
+    asks.push(with_words(at, 3, RpAsk::NotHere))?;
     Ok(asks)
 }
 
