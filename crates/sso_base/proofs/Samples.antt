@@ -17,7 +17,7 @@ use Rattle.sso_base.specs.TextBuffer.{buffer_of, texts_in, IsBuffer}
 use Rattle.sso_base.proofs.Utf8Bytes.{IsUtf8-are_ascii}
 use Rattle.sso_base.specs.Values.{AreWords}
 use Rattle.sso_base.specs.Weights.{told_weight, texts_bytes}
-use Rattle.sso_base.specs.Journal.{IsLegalHistoryBy, most_of, capacity_of, stored_pairs, entry_moment, extended, history_weight}
+use Rattle.sso_base.specs.Journal.{IsLegalHistoryBy, most_of, capacity_of, entry_moment, extended, history_weight}
 use Rattle.sso_base.specs.Asked.{history_by}
 use Rattle.sso_base.specs.Refusals.{first_refusal, and_then, and_then_as, demand, forbid}
 use Rattle.sso_base.specs.Rows.{without, put, row_of, rows_by, lives, if_lives, live_rows}
@@ -432,12 +432,6 @@ capacity-of_what_is_stored = refl
 
 capacity-of_what_is_not : capacity_of false 7 0 ≡ 8
 capacity-of_what_is_not = refl
-
-stored-all_pairs : stored_pairs {A = ℕ} {R = ℕ} (record { pairs = pair 7 0 ∷ []; stores = true; capacity = 1; most = 0 }) ≡ Some (pair 7 0 ∷ [])
-stored-all_pairs = refl
-
-stored-none_of_them : stored_pairs {A = ℕ} {R = ℕ} (record { pairs = pair 7 0 ∷ []; stores = false; capacity = 2; most = 0 }) ≡ None
-stored-none_of_them = refl
 
 -- ---- the history of requests in turn
 

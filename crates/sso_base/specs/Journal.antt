@@ -1,7 +1,6 @@
 -- The weight of a core's history, the history after one more pair, and which histories are legal. A history is a list of pairs,
 -- oldest first.
 use Rattle.std.specs.Prelude.{◌≡◌, ◌≤◌, ℕ, suc, nat_lt, List, [], ◌∷◌, ◌++◌, length, reverse, Bool, true, false, if◌then◌else◌, ◌+◌, ◌*◌, ◌^◌, ◌<◌, Err, Result}
-use Rattle.std.specs.Prelude.{Option, Some, None}
 use Rattle.std.specs.List.{sum_by}
 use Rattle.sso_base.specs.declared.history.Entry.{Entry}
 use Rattle.sso_base.specs.declared.history.Pair.{Pair}
@@ -63,10 +62,6 @@ pub record Journaled (A R : Type 0) : Type 0 where
 abbrev pub capacity_of : Bool → ℕ → ℕ → ℕ
 capacity_of true count room = room
 capacity_of false count room = suc count
-
--- the pairs of a journal, if it stores them
-abbrev pub stored_pairs : {A R : Type 0} → Journaled A R → Option (List (Pair A R))
-stored_pairs j = if j.stores then Some j.pairs else None
 
 -- The stored pairs are all pairs, or none. The count, the weight and the last moment are those of the pairs, and the weight is
 -- at most the limit.

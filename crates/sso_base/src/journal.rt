@@ -1,6 +1,6 @@
 //! The history of a core, and its limit.
 
-ghost use Rattle.std.specs.Prelude.{◌≡◌, ℕ, ◌+◌, ◌<◌, ◌≤◌, ◌^◌, [], ◌∷◌, ◌++◌, length, reverse, option_map, Err, IfOk, OnOk, vec_len, vec_capacity};
+ghost use Rattle.std.specs.Prelude.{◌≡◌, ℕ, ◌+◌, ◌<◌, ◌≤◌, ◌^◌, [], ◌∷◌, ◌++◌, not, length, reverse, is_some, Err, IfSome, IfOk, OnOk, vec_len, vec_capacity};
 ghost use Rattle.sso_base.specs.Legal.{last_moment};
 ghost use Rattle.sso_base.specs.Journal as spec;
 ghost use Rattle.sso_base.specs.Weights.{empty_weight, told_weight};
@@ -86,6 +86,7 @@ impl<A: Weighed + Drop, R: Drop> Journal<A, R> {
     /// A journal with no pairs. It stores its pairs unless its history lasts.
     pub fn new(alloc: Global, lasts: bool) -> Journal<A, R>
         ensures pairs { result.pairs ≡ [] }
+        ensures stores { result.stores ≡ not lasts }
         ensures most { result.most ≡ spec.most_of lasts }
     {
         Journal {
@@ -108,7 +109,8 @@ impl<A: Weighed + Drop, R: Drop> Journal<A, R> {
 
     /// The pairs, if they are stored.
     pub fn stored(&self) -> Option<&[Pair<A, R>]>
-        ensures { option_map (λ pairs. pairs.now) result ≡ spec.stored_pairs self.now }
+        ensures pairs { IfSome result (λ pairs. pairs.now ≡ self.now.pairs) }
+        ensures stores { is_some result ≡ self.now.stores }
     {
         if self.stores {
             Some(self.pairs.as_slice())
@@ -176,6 +178,7 @@ impl<A: Weighed + Drop, R: Drop> Journal<A, R> {
     /// Makes room for one more pair. On `NoMemory` the pairs are unchanged.
     pub fn reserve(&mut self) -> Result<(), NoMemory>
         ensures pairs { self.new.pairs ≡ self.old.pairs }
+        ensures stores { self.new.stores ≡ self.old.stores }
         ensures most { self.new.most ≡ self.old.most }
         ensures room { OnOk result (length self.new.pairs < self.new.capacity) }
     {
@@ -191,6 +194,7 @@ impl<A: Weighed + Drop, R: Drop> Journal<A, R> {
         requires weight { weight ≡ A.weighs pair.entry.ask }
         requires room { spec.history_weight A.weighs self.old.pairs + weight ≤ self.old.most }
         ensures pairs { self.new.pairs ≡ self.old.pairs ++ pair ∷ [] }
+        ensures stores { self.new.stores ≡ self.old.stores }
         ensures most { self.new.most ≡ self.old.most }
     {
         self.told.push(&pair);
