@@ -24,14 +24,12 @@ const EVENTS: &str = r#"{"http://schemas.openid.net/event/backchannel-logout":{}
 
 // A logout token whose header has another `typ`, and one whose header has `JWT`, with the claims of `logout
 // shop,1000,jti=a,sub=alice` and `logout shop,1000,jti=d,sub=alice`. They are sealed with Python's `hmac` and `base64`.
-const OTHER_TYP: &str =
-    "eyJhbGciOiJIUzI1NiIsInR5cCI6ImF0K2p3dCJ9\
+const OTHER_TYP: &str = "eyJhbGciOiJIUzI1NiIsInR5cCI6ImF0K2p3dCJ9\
      .eyJhdWQiOiJzaG9wLWNsaWVudCIsImV2ZW50cyI6eyJodHRwOi8vc2NoZW1hcy5vcGVuaWQubmV0L2V2ZW50L2JhY2tjaGFubmVsLWxvZ291dCI6e319LCJleHAiOjExM\
      jAsImlhdCI6MTAwMCwiaXNzIjoiaHR0cDovLzEyNy4wLjAuMTo4MDgwIiwianRpIjoiYSIsInN1YiI6ImFsaWNlIn0\
      .yMpx1jR6fAjru856A-5Avg8Lk_6pb1nGoalKHUtCfXI";
 
-const PLAIN_TYP: &str =
-    "eyJhbGciOiJIUzI1NiIsInR5cCI6IkpXVCJ9\
+const PLAIN_TYP: &str = "eyJhbGciOiJIUzI1NiIsInR5cCI6IkpXVCJ9\
      .eyJhdWQiOiJzaG9wLWNsaWVudCIsImV2ZW50cyI6eyJodHRwOi8vc2NoZW1hcy5vcGVuaWQubmV0L2V2ZW50L2JhY2tjaGFubmVsLWxvZ291dCI6e319LCJleHAiOjExM\
      jAsImlhdCI6MTAwMCwiaXNzIjoiaHR0cDovLzEyNy4wLjAuMTo4MDgwIiwianRpIjoiZCIsInN1YiI6ImFsaWNlIn0\
      .mFo6W7KgjV8nTtm2n0ENDcpzOOTov0bYVWZJYXLkCB8";

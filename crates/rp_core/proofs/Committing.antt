@@ -70,7 +70,7 @@ module _ (s : PartySetup) (history items : List RpPair) (more : ℕ) (t u : Tabl
       let past : RpPast = reverse history in
       let kept : KeepsPast (party_of s).types past (with_room t) = with_room_keeps (party_of s).types past t keeps.tables in
       let up : MayUpdate s past (last_moment past) (with_room t) p login pending visit seen dead =
-          may_update s history t p login pending visit seen dead most keeps entry (shown.0, shown.1, shown.2) in
+      may_update s history t p login pending visit seen dead most keeps entry (shown.0, shown.1, shown.2) in
       let one : IsUpdate (party_of s).types (with_room t) u past p = follows s past (last_moment past) up in
       let K : RpPast → Type 0 = λ q. KeepsPast (party_of s).types q u in
       let I : List RpPair → Type 0 = λ x. Keeps s x u now in
