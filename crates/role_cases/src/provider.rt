@@ -267,7 +267,7 @@ impl Provider {
         if let Some(name) = self.code_held(word) {
             return name;
         }
-        if self.core.tables().token(word).is_some() {
+        if self.core.tables().live(word).is_some() {
             return "an access token";
         }
         if self.core.tables().session(word).is_some() {
