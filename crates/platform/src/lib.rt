@@ -1,6 +1,6 @@
-//! This machine: the words that the program was started with, files as a shelf, writers as sinks, and desks over its network, its clock
-//! and its random bytes. They tell nothing of what they hold, and their few lines are the edge of what is proved: that the machine does
-//! as its calls say is trusted, and tried by cases (`platform_cases`).
+//! This machine: the words that the program was started with, files as a shelf, writers as sinks, and desks over its network, its
+//! clock and its random bytes. They report nothing of what they hold, and their few lines are the edge of what is proved: that the
+//! machine does as its calls say is trusted, and tried by cases (`platform_cases`).
 //!
 //! | Module | What it has |
 //! |---|---|
@@ -31,7 +31,7 @@
 //! | `recv`, `MSG_PEEK` | looks for bytes that were not read: closing would reset the connection, and the reply might be lost |
 //! | `close` | ends the reply and the connection |
 //!
-//! Others come only where they are needed:
+//! Others come only if they are needed:
 //!
 //! | Call | When |
 //! |---|---|

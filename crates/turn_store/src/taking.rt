@@ -22,7 +22,7 @@ fn sleep_on<C: Core + Send, R: Wait>(rt: &R, shared: &SharedTurn<C>, waiting: &A
     waiting.fetch_sub(1, Ordering::SeqCst);
 }
 
-// Wakes one of the threads that wait, after the turn was given back. Where none waits, the system is not called. A thread that is
+// Wakes one of the threads that wait, after the turn was given back. If none waits, the system is not called. A thread that is
 // counted only after this look sleeps only if the turn was taken again, and that turn ends with a look too.
 fn wake_next<C: Core + Send>(shared: &SharedTurn<C>, waiting: &AtomicU64)
     requires { shared.now.table_id.words ≡ 1 }
