@@ -19,12 +19,11 @@ ghost use Rattle.code_grant.specs.declared.rows.SessionRow.{SessionRow as Sessio
 use crate::foreknown::{Foreknown, client_of};
 use client_registry::Registry;
 use code_grant::SessionRow;
-use oidc_words::SESSION_LIFE;
 use op_core::OpCore;
 use op_exchange::{OpAsk, OpReply};
 use rp_core::RpCore;
 use rp_exchange::{RpAsk, RpReply};
-use sso_base::{Core, CoreNo, Moment, NoMemory, Word, is_live};
+use sso_base::{Core, CoreNo, Moment, NoMemory, Word};
 use std::alloc::Global;
 use std::marker::Model;
 
@@ -150,14 +149,7 @@ impl TimedProvider {
         let Some(word) = word else {
             return None;
         };
-        let Some(row) = self.core.tables().session(*word) else {
-            return None;
-        };
-        if is_live(SESSION_LIFE, row.auth_time, self.moment(at)) {
-            Some(*row)
-        } else {
-            None
-        }
+        self.core.tables().live_session(*word, self.moment(at)).copied()
     }
 
     /// Sends a request to the provider.
