@@ -170,6 +170,7 @@ impl RelyingParty {
     /// | `send|..`, with the same fields | the line, the reply in HTTP, and the message in it |
     /// | `why|..`, with the same fields | the line, and the place of the earlier request that a refusal names |
     /// | `remembered|MOMENT|SID` | the place of the last logout token that named this session, and when it was accepted |
+    /// | `stored|NAME` | the last logout token with this `jti`, and the last that named this session, also one that is forgotten |
     /// | `fill|MOMENT|COUNT` | how often nothing is found by requests for something that does not exist |
     /// | `bring|MOMENT|COUNT|codes` | the answers to the responses of COUNT logins, each with a code |
     /// | `bring|MOMENT|COUNT|ID Tokens` | the same at `blog`, each with an ID Token for alice |
@@ -186,6 +187,7 @@ impl RelyingParty {
     ) -> Result<String, NoMemory> {
         match (fields, moment(field(fields, 1))) {
             (["held"], _) => held(alloc, self.core.tables()),
+            (["stored", name], _) => stored(alloc, self.core.tables(), name),
             (["count"], _) => Ok(self.core.count().to_string(alloc)?),
             (_, Some(at)) => self.answer_at(alloc, run, at, fields),
             _ => told(alloc, "no such call"),
@@ -376,4 +378,29 @@ fn remembered(alloc: Global, tables: &Logins, at: Moment, sid: &str) -> Result<S
         }
         None => told(alloc, "nothing"),
     }
+}
+
+fn push_stored(
+    alloc: Global,
+    out: &mut String,
+    kind: &str,
+    place: u64,
+    at: Moment,
+) -> Result<(), NoMemory> {
+    push_part(out, ", ", kind)?;
+    let accepted = at.seconds();
+    out.push_str(format!(in alloc; " of place {place} at {accepted}")?.as_str())?;
+    Ok(())
+}
+
+// The rows of this name: of a logout token, and of a session that one named.
+fn stored(alloc: Global, tables: &Logins, name: &str) -> Result<String, NoMemory> {
+    let mut out = String::new(alloc);
+    if let Some(row) = tables.seen(name.as_bytes()) {
+        push_stored(alloc, &mut out, "token", row.place, row.accepted)?;
+    }
+    if let Some(row) = tables.dead(name.as_bytes()) {
+        push_stored(alloc, &mut out, "sid", row.place, row.accepted)?;
+    }
+    or_else(out, "nothing")
 }
