@@ -163,9 +163,7 @@ fn records(
     judge_rules(alloc, text_or(provider, "issuer", ""), &rows)?;
     let salt = hex_at(alloc, provider, "salt")?;
     let subjects = judged_subjects(alloc, &salt, &rows)?;
-    Ok(registry_of(
-        alloc, version, root, provider, rows, subjects,
-    )?)
+    Ok(registry_of(alloc, version, root, provider, rows, subjects)?)
 }
 
 // The registry of a configuration of this version.

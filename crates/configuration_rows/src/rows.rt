@@ -40,11 +40,7 @@ fn hex_of(least: usize, most: usize) -> Kind
 }
 
 // Checks the provider's key of the second version.
-fn history_key(
-    refusals: &mut Refusals,
-    version: Version,
-    values: &Value,
-) -> Result<(), NoMemory>
+fn history_key(refusals: &mut Refusals, version: Version, values: &Value) -> Result<(), NoMemory>
     ensures { OnOk result (refusals.new ≡ refusals.old ++ spec.history_key version (view values.now)) }
 {
     match version {
@@ -59,11 +55,7 @@ fn history_key(
     }
 }
 
-fn provider_row(
-    refusals: &mut Refusals,
-    version: Version,
-    values: &Value,
-) -> Result<(), NoMemory>
+fn provider_row(refusals: &mut Refusals, version: Version, values: &Value) -> Result<(), NoMemory>
     ensures { OnOk result (refusals.new ≡ refusals.old ++ spec.provider_row version (view values.now)) }
 {
     let row = Row::Provider;

@@ -7,5 +7,5 @@ stored_on whole stored new told after place all is both = both.1 ∙ ap (λ (l :
 
 pub invariant_of-self : goal.invariant_of-self
 invariant_of-self c = record {
-  all = λ h. stored_on c.self.inside.whole c.self.inside.stored.items c.store.new.stored.items c.self.inside.told c.push.new.self c.args.place c.self.invariant.all c.push.ensures (c.store.ensures h);
+  all = λ h. stored_on c.self.inside.whole c.self.inside.stored.items c.store-self-inside.new.stored.items c.self.inside.told c.push.new.self c.args.place c.self.invariant.all c.push.ensures (c.store-self-inside.ensures h);
 }
