@@ -157,7 +157,7 @@ abbrev shop : Client
 shop = client (codes "shop") (true ∷ false ∷ false ∷ true ∷ false ∷ false ∷ [])
 
 abbrev shops : Configuration
-shops = record { provider = provider_of []; prefix = []; listen = []; secure = true; users = []; clients = shop ∷ []; parties = []; subjects = [] ∷ [] }
+shops = record { provider = provider_of []; prefix = []; listen = []; secure = true; users = []; clients = shop ∷ []; parties = []; subjects = [] ∷ []; lasting = false }
 
 -- a request of the shop client
 abbrev good : Params

@@ -1,4 +1,4 @@
--- A text is opened for a client exactly where it is sealed under one of its secrets.
+-- A text is opened for a client if and only if it is sealed under one of its secrets.
 use Rattle.std.proofs.Common.{◌≡◌, ◌||◌, Bool, true, false, cond, Option, Some, None, Result, Ok, Err, ◌⊎◌, inl, inr, refl, sym, ap, ◌∙◌, subst, true≢false}
 use Rattle.std.specs.Str.{bytes_eq}
 use Rattle.std.proofs.lemmas.Slice.Eq.{bytes_eq-Decides}

@@ -337,7 +337,7 @@ pub registered : (root : Data) → AllHoldClaims (users_of root) → rows_refusa
 unfolding configuration_of subjects_refusals
 registered root f r h s =
     let w : RowsKeep root = rows_keep_rules root r in
-    let i : ProviderKept (provider_table root) = provider_kept (provider_table root) w.provider in
+    let i : ProviderKept (provider_table root) = provider_kept (version_in root) (provider_table root) w.provider in
     let g : Guiltless (issuer_of root) (users_of root) (clients_of root) (parties_of root) = guiltless (issuer_of root) (users_of root) (clients_of root) (parties_of root) h in
     let us : AllByRecursion IsUser (users_of root) = users_keep (rows_at (codes "user") root) w.users g.user_sizes in
     let cs : AllFrom (ClientOnce (issuer_of root) (clients_of root)) 0 (clients_of root) = clients_once (issuer_of root) (clients_of root) g.client_twice in

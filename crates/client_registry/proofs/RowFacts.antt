@@ -14,6 +14,7 @@ use Rattle.configuration_rows.specs.declared.kind.TextRule.TheVariants as text
 use Rattle.configuration_rows.specs.declared.kind.Alphabet.TheVariants.{Visible}
 use Rattle.configuration_rows.specs.declared.kind.Breach.{Breach}
 use Rattle.configuration_rows.specs.declared.kind.Breach.TheVariants.{WrongKind, BadUrl}
+use Rattle.configuration_rows.specs.declared.version.Version.{Version}
 use Rattle.configuration_rows.specs.Paths.{path_text}
 use Rattle.configuration_rows.specs.Values.{as_natural, as_texts, hex_bytes, text_at, text_or, natural_at, hex_at, texts_at, url_at}
 use Rattle.configuration_rows.specs.Kinds.{passes, unless, is_within, is_name, text_keeps, breach, are_urls, urls_breach, url_breach, issuer_breach, issuer_text_breach}
@@ -202,11 +203,12 @@ pub record ProviderKept (d : Data) : Type 0 where
   pub listen : is_name Visible 1 64 (text_or (codes "listen") [] d) ≡ true
   pub salt : is_within 16 64 (length (hex_at (codes "salt") d)) ≡ true
 
-pub provider_kept : (d : Data) → keys.provider_row d ≡ [] → ProviderKept d
-provider_kept d h =
+pub provider_kept : (v : Version) (d : Data) → keys.provider_row v d ≡ [] → ProviderKept d
+provider_kept v d w =
     let a : List RegNo = keys.required row.Provider d (codes "issuer") kind.Issuer in
     let b : List RegNo = keys.required row.Provider d (codes "listen") (kind.Text (text.Name Visible 1 64)) in
     let c : List RegNo = keys.required row.Provider d (codes "salt") (kind.Text (text.Hex 16 64)) in
+    let h : (a ++ b) ++ c ≡ [] = front_nil ((a ++ b) ++ c) (keys.history_key v d) w in
     let ab : a ++ b ≡ [] = front_nil (a ++ b) c h in
     let k : Kept kind.Issuer (get (codes "issuer") d) = kept_at (path_text row.Provider (codes "issuer")) kind.Issuer (get (codes "issuer") d) (front_nil a b ab) in
     let u = issuer_there (as_str k.value) k.kept in

@@ -348,7 +348,7 @@ parties_keep known clients rows h = rows_keep (keys.party_row clients) (party_of
 
 -- what the rows say, where nothing is noted of them
 pub record RowsKeep (root : Data) : Type 0 where
-  pub provider : keys.provider_row (table_at (codes "provider") root) ≡ []
+  pub provider : keys.provider_row (version_in root) (table_at (codes "provider") root) ≡ []
   pub users : each keys.user_row (rows_at (codes "user") root) ≡ []
   pub clients : each (keys.client_row (version_in root) (rows_at (codes "party") root)) (rows_at (codes "client") root) ≡ []
   pub parties : each (keys.party_row (rows_at (codes "client") root)) (rows_at (codes "party") root) ≡ []
@@ -356,7 +356,7 @@ pub record RowsKeep (root : Data) : Type 0 where
 pub rows_keep_rules : (root : Data) → rows_refusals root ≡ [] → RowsKeep root
 unfolding rows_refusals
 rows_keep_rules root h =
-    let p : List RegNo = keys.provider_row (table_at (codes "provider") root) in
+    let p : List RegNo = keys.provider_row (version_in root) (table_at (codes "provider") root) in
     let u : List RegNo = keys.users_rows root in
     let k : List RegNo = keys.clients_rows root in
     let q : List RegNo = keys.parties_rows root in

@@ -36,7 +36,7 @@ use Rattle.client_registry.specs.declared.records.Provider.{Provider}
 use Rattle.client_registry.specs.declared.records.User.{User}
 use Rattle.client_registry.specs.declared.records.Client.{Client}
 use Rattle.client_registry.specs.declared.records.Party.{Party}
-use Rattle.client_registry.specs.Records.{without_slash, endpoint, provider_of, rounds_of, proof_of, user_of, types_of, client_of_row, client_place, client_number, party_of, users_of, clients_of, parties_of}
+use Rattle.client_registry.specs.Records.{without_slash, endpoint, provider_of, lasting_of, rounds_of, proof_of, user_of, types_of, client_of_row, client_place, client_number, party_of, users_of, clients_of, parties_of}
 use Rattle.client_registry.specs.Secrets.{secrets, sealing, has_secret, all_secrets}
 use Rattle.client_registry.specs.Rules.{is_again, user_twice, client_twice, party_twice, short_secret, user_size, mixed_hosts, unknown_client, has_two_hosts, sector_of, text_place, records_refusals, pairwise_subject, subject_of, clashes, subjects_refusals}
 use Rattle.client_registry.specs.Registered.{AreApart, NumbersAreApart, HasNoneOf, AreDisjoint, IsUser, HoldsClaims, AllHoldClaims, IsSecret, IsClient, IsParty, IsLogoutOf, FitsClient, IsSubject, IsIssuerUrl, AreSubjectsBy, IsRegistry}
@@ -501,6 +501,23 @@ secrets-of_version_2 = refl
 secrets-of_version_1 : secrets (client_of_row First changing_row) ≡ long ∷ []
 secrets-of_version_1 = refl
 
+-- ---- whether the histories last
+
+abbrev with_history : List ℕ → Data
+with_history t = table (member (codes "history") (string t) no_members)
+
+lasting-said_in_version_2 : lasting_of Second (with_history (codes "lasting")) ≡ true
+lasting-said_in_version_2 = refl
+
+lasting-not_if_stored : lasting_of Second (with_history (codes "stored")) ≡ false
+lasting-not_if_stored = refl
+
+lasting-not_by_default : lasting_of Second (table no_members) ≡ false
+lasting-not_by_default = refl
+
+lasting-ignored_in_version_1 : lasting_of First (with_history (codes "lasting")) ≡ false
+lasting-ignored_in_version_1 = refl
+
 is_party-shop : IsParty (party_of (clients_of good) (party_row (codes "shop")))
 unfolding configuration_of
 is_party-shop = good_registry.party_rules.0
@@ -562,7 +579,7 @@ not_a_registry-whose_flag_is_a_word h =
     (user_holds (codes "{\"email_verified\":\"x\"}") h)
 
 abbrev twins : Configuration
-twins = record { provider = provider_of []; prefix = []; listen = []; secure = true; users = alice ∷ alice ∷ []; clients = shop ∷ []; parties = []; subjects = (codes "s" ∷ codes "t" ∷ []) ∷ [] }
+twins = record { provider = provider_of []; prefix = []; listen = []; secure = true; users = alice ∷ alice ∷ []; clients = shop ∷ []; parties = []; subjects = (codes "s" ∷ codes "t" ∷ []) ∷ []; lasting = false }
 
 not_a_registry-of_one_id_twice : IsRegistry twins → ⊥
 not_a_registry-of_one_id_twice h = true≢false h.user_ids.0
@@ -713,7 +730,7 @@ abbrev short_text : List ℕ
 short_text = codes "version = 1\n[provider]\nissuer = \"https://a.b\"\nlisten = \"a.b:443\"\nsalt = \"00112233445566778899aabbccddeeff\"\n"
 
 abbrev nobody : Configuration
-nobody = record { provider = provider_of (codes "https://a.b"); prefix = []; listen = codes "a.b:443"; secure = true; users = []; clients = []; parties = []; subjects = [] }
+nobody = record { provider = provider_of (codes "https://a.b"); prefix = []; listen = codes "a.b:443"; secure = true; users = []; clients = []; parties = []; subjects = []; lasting = false }
 
 document-of_one_key : document_in (codes "a = 1") ≡ Some (table (member (codes "a") (integer (pos 1)) no_members))
 unfolding document_in toml_on_literals is_utf8 chars
@@ -724,7 +741,7 @@ unfolding document_in toml_on_literals is_utf8 chars
 document-not_of_a_key_alone = refl
 
 read-a_short_text : registry_read short_text ≡ Ok nobody
-unfolding document_in toml_on_literals rows_read records_read subjects_read rows_refusals records_refusals subjects_refusals configuration_of url_on_literals parts_of hex_on_literals is_utf8 chars
+unfolding document_in toml_on_literals version_in rows_read records_read subjects_read rows_refusals records_refusals subjects_refusals configuration_of url_on_literals parts_of hex_on_literals is_utf8 chars
 read-a_short_text = refl
 
 accepted-a_short_text : IsAccepted short_text nobody
@@ -750,11 +767,11 @@ unfolding document_in toml_on_literals is_utf8 chars
 refused-an_empty_text = refl
 
 refused-where_the_issuer_is_missing : registry_read (codes "version = 1") ≡ refused (no.Missing (codes "provider.issuer"))
-unfolding document_in toml_on_literals rows_read rows_refusals is_utf8 chars
+unfolding document_in toml_on_literals version_in rows_read rows_refusals is_utf8 chars
 refused-where_the_issuer_is_missing = refl
 
 refused-in_version_2_where_the_issuer_is_missing : registry_read (codes "version = 2") ≡ refused (no.Missing (codes "provider.issuer"))
-unfolding document_in toml_on_literals rows_read rows_refusals is_utf8 chars
+unfolding document_in toml_on_literals version_in rows_read rows_refusals is_utf8 chars
 refused-in_version_2_where_the_issuer_is_missing = refl
 
 refused-a_long_text : (n : ℕ) → 1048576 < n → registry_read (replicate n 32) ≡ refused no.TooLong

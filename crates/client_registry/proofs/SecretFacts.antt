@@ -1,5 +1,5 @@
 -- The secrets of clients: those of rows without errors are distinct, and what seals is one of them.
-use Rattle.std.proofs.Common.{◌≡◌, ◌||◌, Bool, true, false, cond, List, [], ◌∷◌, ◌++◌, Option, Some, None, unwrap_or, refl, sym, true≢false}
+use Rattle.std.proofs.Common.{◌≡◌, ◌||◌, ℕ, Bool, true, false, cond, List, [], ◌∷◌, ◌++◌, Option, Some, None, unwrap_or, refl, sym, ap, ◌∙◌, true≢false}
 use Rattle.std.specs.Prelude.{IfSome}
 use Rattle.std.specs.List.{AllByRecursion}
 use Rattle.std.specs.Str.{bytes_eq}
@@ -10,6 +10,8 @@ use Rattle.configuration_rows.specs.Kinds.{is_name}
 use Rattle.configuration_rows.specs.declared.kind.Alphabet.TheVariants.{Visible}
 use Rattle.client_registry.specs.declared.records.Client.{Client}
 use Rattle.client_registry.specs.Secrets.{old_in, secrets, sealing, is_old, has_secret, all_secrets}
+use Rattle.client_registry.specs.Configuration.{Configuration}
+use Rattle.client_registry.specs.Numbers.{client_at, sealing_in, client_sealing}
 use Rattle.client_registry.specs.Registered.{AreApart, IsSecret, IsClient}
 use Rattle.client_registry.proofs.Guiltless.{either_false, rows_weaker, Apart}
 
@@ -81,3 +83,9 @@ old_is_own secret (Some old) = or_second (bytes_eq secret old) (bytes_eq old old
 
 pub seals_with_its_own : (k : Client) → has_secret (sealing k) k ≡ true
 seals_with_its_own k = of_sealing (λ t. has_secret t k ≡ true) k (or_first (bytes_eq k.secret k.secret) (is_old k.secret k.old_secret) (same k.secret)) (old_is_own k.secret k.old_secret)
+
+-- so what seals for the client with a number is a secret of that client
+pub sealing_own : (c : Configuration) (n : ℕ) (k : Client) → client_at c n ≡ Some k → has_secret (client_sealing c n) k ≡ true
+sealing_own c n k is =
+    let key : client_sealing c n ≡ sealing k = ap sealing_in is in
+    ap (λ t. has_secret t k) key ∙ seals_with_its_own k

@@ -44,6 +44,11 @@ provider_of issuer = record {
   userinfo = Some (endpoint issuer userinfo_path);
 }
 
+-- the histories last, in the second version
+abbrev pub lasting_of : Version → Data → Bool
+lasting_of First d = false
+lasting_of Second d = bytes_eq (text_or (codes "history") [] d) (codes "lasting")
+
 abbrev pub no_url : WebUrl
 no_url = record { secure = false; host = []; port = 0; path = []; query = None }
 

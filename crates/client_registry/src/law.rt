@@ -1,4 +1,5 @@
-// Laws: which configurations are rejected, and why; what is true of those that are accepted; and sets of clients.
+// Laws: which configurations are rejected, and why; what is true of those that are accepted; the secrets that seal; and sets of
+// clients.
 
 ghost use Rattle.std.specs.Prelude.{◌≡◌, ◌≢◌, ◌<◌, ◌≤◌, ℕ, Bool, true, false, List, [], ◌++◌, length, Some, None, is_some, IfSome, Ok, Err};
 ghost use Rattle.toml.specs.Data.{Data};
@@ -7,10 +8,12 @@ ghost use Rattle.configuration_rows.specs.declared.no.RegNo.TheVariants as no;
 ghost use Rattle.configuration_rows.specs.Refusals.{IsLeast};
 ghost use Rattle.registered_url.specs.Rule.{url_of};
 ghost use Rattle.oidc_words.specs.Paths.{authorize_path, token_path, userinfo_path, keys_path};
+ghost use Rattle.client_registry.specs.declared.records.Client.{Client};
 ghost use Rattle.client_registry.specs.Records.{endpoint};
+ghost use Rattle.client_registry.specs.Secrets.{sealing, has_secret};
 ghost use Rattle.client_registry.specs.ClientSets.{no_clients, has_client, with_client};
 ghost use Rattle.client_registry.specs.Configuration.{Configuration};
-ghost use Rattle.client_registry.specs.Registered.{IsRegistry};
+ghost use Rattle.client_registry.specs.Registered.{IsSecret, IsClient, IsRegistry};
 ghost use Rattle.client_registry.specs.Reading.{document_in, registry_read, refusals_of, IsDocument, HasVersion, IsAccepted, IsOtherVersion};
 
 /// A configuration that is not too long, is TOML and has version 1 or 2 is rejected if it has any error. The reported error has
@@ -47,6 +50,12 @@ pub fn advertised_paths_are_served()
     ensures token { (c : Configuration) → IsRegistry c → IfSome (url_of c.provider.token) (λ u. u.path ≡ c.prefix ++ token_path) }
     ensures userinfo { (c : Configuration) → IsRegistry c → IfSome c.provider.userinfo (λ t. IfSome (url_of t) (λ u. u.path ≡ c.prefix ++ userinfo_path)) }
     ensures keys { (c : Configuration) → IsRegistry c → IfSome (url_of (endpoint c.provider.issuer keys_path)) (λ u. u.path ≡ c.prefix ++ keys_path) }
+{}
+
+/// The secret that seals for a client is one of its secrets. In a registry it has from 32 to 128 characters of visible ASCII.
+pub fn clients_seal_with_their_secrets()
+    ensures own { (client : Client) → has_secret (sealing client) client ≡ true }
+    ensures long { (client : Client) → IsClient client → IsSecret (sealing client) }
 {}
 
 /// A set of clients contains exactly those that were added.

@@ -29,8 +29,8 @@ mod subjects;
 pub use client_set::ClientSet;
 pub use configuration_rows::RegNo;
 pub use law::{
-    advertised_paths_are_served, endpoints_keep_the_rule_for_urls, refusals_have_their_causes,
-    refused_configurations_have_the_least, sets_have_what_was_added,
+    advertised_paths_are_served, clients_seal_with_their_secrets, endpoints_keep_the_rule_for_urls,
+    refusals_have_their_causes, refused_configurations_have_the_least, sets_have_what_was_added,
 };
 pub use reading::read_registry;
 pub use records::{Client, Party, Provider, User};

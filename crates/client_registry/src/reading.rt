@@ -13,7 +13,9 @@ ghost use Rattle.client_registry.specs.Registered.{IsRegistry, AllHoldClaims};
 
 use crate::records::{Client, Party, User};
 use crate::registry::Registry;
-use crate::rows::{clients_of, parties_of, provider_of, url_in, users_of, without_slash};
+use crate::rows::{
+    clients_of, lasting_of, parties_of, provider_of, url_in, users_of, without_slash,
+};
 use crate::rules::judge_records;
 use crate::subjects::{Subjects, subjects_of};
 use configuration_rows::RegNo;
@@ -114,11 +116,13 @@ fn judged_subjects(alloc: Global, salt: &[u8], rows: &Rows) -> Result<Vec<Subjec
 #[tactic(auto, unfolding(crate::specs::Configuration::configuration_of))]
 fn registry_of(
     alloc: Global,
+    version: Version,
     root: &Value,
     provider: &Value,
     rows: Rows,
     subjects: Vec<Subjects>,
 ) -> Result<Registry, NoMemory>
+    requires version { version ≡ version_in (view root.now) }
     requires provider { view provider.now ≡ provider_table (view root.now) }
     requires users { rows.users.items ≡ spec.users_of (view root.now) }
     requires clients { rows.clients.items ≡ spec.clients_of (view root.now) }
@@ -137,6 +141,7 @@ fn registry_of(
         clients: rows.clients,
         parties: rows.parties,
         subjects,
+        lasting: lasting_of(version, provider),
     })
 }
 
@@ -158,7 +163,7 @@ fn records(
     judge_rules(alloc, text_or(provider, "issuer", ""), &rows)?;
     let salt = hex_at(alloc, provider, "salt")?;
     let subjects = judged_subjects(alloc, &salt, &rows)?;
-    Ok(registry_of(alloc, root, provider, rows, subjects)?)
+    Ok(registry_of(alloc, version, root, provider, rows, subjects)?)
 }
 
 // The registry of a configuration of this version.

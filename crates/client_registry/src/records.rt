@@ -45,7 +45,8 @@ pub struct Client {
     pub secret: Text,
     /// Another secret, while the secret is changed: also from 32 to 128 characters of visible ASCII. Both are accepted.
     pub old_secret: Option<Text>,
-    /// Whether tokens are sealed under the old secret. It is true only if there is one.
+    /// Whether the old secret is the one that seals tokens and requests, and with which the client logs in. It is true only if
+    /// there is one.
     pub seals_old: bool,
     /// From 1 to 16 redirect URIs.
     pub redirects: Texts,

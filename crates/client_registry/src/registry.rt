@@ -27,6 +27,7 @@ pub struct Registry {
     pub(crate) clients: Vec<Client>,
     pub(crate) parties: Vec<Party>,
     pub(crate) subjects: Vec<Subjects>,
+    pub(crate) lasting: bool,
 }
 
 impl Model for Registry {
@@ -44,6 +45,7 @@ impl Model for Registry {
       clients = r.clients.items;
       parties = r.parties.items;
       subjects = r.subjects.items;
+      lasting = r.lasting;
     } };
 
     ghost invariant = { λ r. IsRegistry (record {
@@ -55,6 +57,7 @@ impl Model for Registry {
       clients = r.clients.items;
       parties = r.parties.items;
       subjects = r.subjects.items;
+      lasting = r.lasting;
     }) };
 }
 
@@ -86,6 +89,13 @@ impl Registry {
         ensures { result ≡ self.now.secure }
     {
         self.secure
+    }
+
+    /// Whether the histories of the provider and its parties last. If so, they are not stored, and their limit is out of reach.
+    pub fn lasting(&self) -> bool
+        ensures { result ≡ self.now.lasting }
+    {
+        self.lasting
     }
 
     /// How many users there are, at most 512.
@@ -191,6 +201,7 @@ impl Registry {
             clients: copied_clients(alloc, &self.clients)?,
             parties: copied_parties(alloc, &self.parties)?,
             subjects: copied_subjects(alloc, &self.subjects)?,
+            lasting: self.lasting,
         })
     }
 }

@@ -179,6 +179,16 @@ fn types_of(texts: &[Text]) -> [bool; 6]
     ]
 }
 
+// Whether the histories last, in the second version.
+pub(crate) fn lasting_of(version: Version, provider: &Value) -> bool
+    ensures { result ≡ spec.lasting_of version (view provider.now) }
+{
+    match version {
+        Version::First => false,
+        Version::Second => text_or(provider, "history", "") == "lasting",
+    }
+}
+
 // The old secret of a client, in the second version.
 fn old_secret_of(alloc: Global, version: Version, row: &Value) -> Result<Option<Text>, NoMemory>
     ensures { IfOk result (λ o. o ≡ spec.old_secret_of version (view row.now)) }

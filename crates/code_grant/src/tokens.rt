@@ -37,12 +37,12 @@ impl Grants {
     }
 
     /// The access token with this word; `None` if and only if no token in the table has it. Its life may have ended.
-    pub fn token(&self, word: Word) -> Option<&TokenRow>
-        ensures row { option_copied result ≡ row_of access_name word self.now.tokens }
+    pub fn live(&self, token: Word) -> Option<&TokenRow>
+        ensures row { option_copied result ≡ row_of access_name token self.now.tokens }
         ensures in_range { IfSome (option_copied result) (λ row. (row.user < 512) × (row.client < 128)) }
         ensures held { spec.AreTokens self.now.tokens }
     {
-        self.tokens.find(&word.bytes())
+        self.tokens.find(&token.bytes())
     }
 
     /// The access token with this word, if it lives at the moment; `None` if and only if no such token does.

@@ -91,13 +91,19 @@ of_array_value key (Some d) = note (not (is_some (as_array d))) (no.WrongKind ke
 
 -- ---- rows
 
-of_provider : (d : Data) → OfRow (keys.provider_row d)
-of_provider d =
+of_history_key : (v : Version) (d : Data) → OfRow (keys.history_key v d)
+of_history_key version.First d = tt
+of_history_key version.Second d = of_optional Provider d (codes "history") (kind.Text text.History)
+
+of_provider : (v : Version) (d : Data) → OfRow (keys.provider_row v d)
+of_provider v d =
     both _ _
+    (both _ _
     (both _ _
     (of_required Provider d (codes "issuer") kind.Issuer)
     (of_required Provider d (codes "listen") (kind.Text (text.Name Visible 1 64))))
-    (of_required Provider d (codes "salt") (kind.Text (text.Hex 16 64)))
+    (of_required Provider d (codes "salt") (kind.Text (text.Hex 16 64))))
+    (of_history_key v d)
 
 of_user : (i : ℕ) (d : Data) → OfRow (keys.user_row i d)
 of_user i d =
@@ -197,4 +203,4 @@ of_parties root = both _ _ (of_array_value (codes "party") (get (codes "party") 
 
 pub of_rows : (root : Data) → HaveNumbers 4 6 (rows_refusals root)
 unfolding rows_refusals
-of_rows root = both _ _ (both _ _ (both _ _ (of_provider (table_at (codes "provider") root)) (of_users root)) (of_clients root)) (of_parties root)
+of_rows root = both _ _ (both _ _ (both _ _ (of_provider (version_in root) (table_at (codes "provider") root)) (of_users root)) (of_clients root)) (of_parties root)

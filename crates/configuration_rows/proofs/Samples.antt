@@ -27,7 +27,7 @@ use Rattle.oidc_words.specs.Claims.{flag_claims, seconds_claims, is_claim_of, pr
 use Rattle.configuration_rows.specs.Kinds.{allows, is_within, is_name, breach}
 use Rattle.configuration_rows.specs.Versions.{version_of, version_in}
 use Rattle.oidc_words.specs.Types.{spellings}
-use Rattle.configuration_rows.specs.Rows.{required, optional, array_rule, uses, logout_rule, client_of, redirect_rule, response_texts, has_type, lacks_type, type_rule, seals_old, old_secret_keys, user_row, client_row, party_row, rows_refusals}
+use Rattle.configuration_rows.specs.Rows.{required, optional, array_rule, uses, logout_rule, client_of, redirect_rule, response_texts, has_type, lacks_type, type_rule, seals_old, old_secret_keys, history_key, user_row, client_row, party_row, rows_refusals}
 use Rattle.configuration_rows.proofs.Phases.{is_least}
 
 abbrev none : Option Breach
@@ -409,6 +409,26 @@ old_secret-of_another_kind = refl
 old_secret-is_ignored_in_version_1 : old_secret_keys First (Client 0) (one (codes "seals") (string (codes "old"))) ≡ []
 old_secret-is_ignored_in_version_1 = refl
 
+-- ---- whether the histories last
+
+history-that_is_stored : history_key Second (one (codes "history") (string (codes "stored"))) ≡ []
+history-that_is_stored = refl
+
+history-that_lasts : history_key Second (one (codes "history") (string (codes "lasting"))) ≡ []
+history-that_lasts = refl
+
+history-may_be_absent : history_key Second (table no_members) ≡ []
+history-may_be_absent = refl
+
+history-of_another_text : history_key Second (one (codes "history") (string (codes "short"))) ≡ no.WrongKind (codes "provider.history") ∷ []
+history-of_another_text = refl
+
+history-of_another_kind : history_key Second (one (codes "history") (boolean true)) ≡ no.WrongKind (codes "provider.history") ∷ []
+history-of_another_kind = refl
+
+history-is_ignored_in_version_1 : history_key First (one (codes "history") (boolean true)) ≡ []
+history-is_ignored_in_version_1 = refl
+
 -- ---- rules over several rows
 
 abbrev shop_types : Data
@@ -501,11 +521,11 @@ abbrev provider : Data
 provider = table (member (codes "issuer") (string (codes "https://a.b")) (member (codes "listen") (string (codes "a.b:443")) (member (codes "salt") (string (codes "00112233445566778899aabbccddeeff")) no_members)))
 
 rows-of_a_provider_alone : rows_refusals (one (codes "provider") provider) ≡ []
-unfolding rows_refusals url_on_literals parts_of hex_on_literals
+unfolding version_in rows_refusals url_on_literals parts_of hex_on_literals
 rows-of_a_provider_alone = refl
 
 rows-of_nothing : rows_refusals (table no_members) ≡ no.Missing (codes "provider.issuer") ∷ no.Missing (codes "provider.listen") ∷ no.Missing (codes "provider.salt") ∷ []
-unfolding rows_refusals
+unfolding version_in rows_refusals
 rows-of_nothing = refl
 
 user-of_nothing : user_row 0 (table no_members) ≡ no.Missing (codes "user[0].id") ∷ no.Missing (codes "user[0].salt") ∷ no.Missing (codes "user[0].rounds") ∷ no.Missing (codes "user[0].proof") ∷ []

@@ -13,7 +13,7 @@ use Rattle.configuration_rows.specs.declared.kind.Alphabet.TheVariants.{UserId, 
 use Rattle.configuration_rows.specs.declared.kind.Kind.{Kind}
 use Rattle.configuration_rows.specs.declared.kind.Kind.TheVariants.{Text, Number, Flag, Issuer, Url, Urls, ResponseTypes, Claims}
 use Rattle.configuration_rows.specs.declared.kind.TextRule.{TextRule}
-use Rattle.configuration_rows.specs.declared.kind.TextRule.TheVariants.{Any, Name, Hex, ResponseType, Subject, Consent, Seals, Scope, Prompt}
+use Rattle.configuration_rows.specs.declared.kind.TextRule.TheVariants.{Any, Name, Hex, ResponseType, Subject, Consent, Seals, History, Scope, Prompt}
 use Rattle.configuration_rows.specs.declared.kind.Breach.{Breach}
 use Rattle.configuration_rows.specs.declared.kind.Breach.TheVariants.{WrongKind, BadUrl}
 use Rattle.configuration_rows.specs.Values.{as_natural, hex_bytes, as_texts}
@@ -86,6 +86,7 @@ text_keeps ResponseType t = is_response_type t
 text_keeps Subject t = has_text t (codes "public" ∷ codes "pairwise" ∷ [])
 text_keeps Consent t = has_text t (codes "ask" ∷ codes "given" ∷ [])
 text_keeps Seals t = has_text t (codes "new" ∷ codes "old" ∷ [])
+text_keeps History t = has_text t (codes "stored" ∷ codes "lasting" ∷ [])
 text_keeps Scope t = is_scope t
 text_keeps Prompt t = is_prompt t
 

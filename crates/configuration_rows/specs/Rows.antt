@@ -1,5 +1,5 @@
--- The configuration: its keys, each with its rule, row by row, in the order of its table. The second version has two more keys
--- for a client.
+-- The configuration: its keys, each with its rule, row by row, in the order of its table. The second version has three more keys:
+-- two for a client and one for the provider.
 use Rattle.std.specs.Prelude.{ℕ, ◌==◌, Bool, true, false, not, ◌&&◌, ◌||◌, List, [], ◌∷◌, ◌++◌, codes, Option, Some, None, is_some, if◌then◌else◌}
 use Rattle.std.specs.List.{list_any}
 use Rattle.std.specs.Str.{bytes_eq}
@@ -12,7 +12,7 @@ use Rattle.configuration_rows.specs.declared.no.RegNo.TheVariants as no
 use Rattle.configuration_rows.specs.declared.row.Row.{Row}
 use Rattle.configuration_rows.specs.declared.row.Row.TheVariants.{Provider, User, Client, Party}
 use Rattle.configuration_rows.specs.declared.kind.Alphabet.TheVariants.{UserId, ClientId, PartyName, Visible}
-use Rattle.configuration_rows.specs.declared.kind.TextRule.TheVariants.{Any, Name, Hex, ResponseType, Subject, Consent, Seals, Scope, Prompt}
+use Rattle.configuration_rows.specs.declared.kind.TextRule.TheVariants.{Any, Name, Hex, ResponseType, Subject, Consent, Seals, History, Scope, Prompt}
 use Rattle.configuration_rows.specs.declared.kind.Kind.{Kind}
 use Rattle.configuration_rows.specs.declared.kind.Kind.TheVariants.{Text, Number, Flag, Issuer, Url, Urls, ResponseTypes, Claims}
 use Rattle.configuration_rows.specs.declared.kind.Breach.{Breach}
@@ -147,11 +147,17 @@ type_rule clients row party = note_if (party_lacks_type clients party) (no.Wrong
 
 -- ---- the rows of the table
 
-abbrev pub provider_row : Data → List RegNo
-provider_row d =
+-- whether the histories are stored, or last: a key of the second version
+abbrev pub history_key : Version → Data → List RegNo
+history_key version.First d = []
+history_key version.Second d = optional Provider d (codes "history") (Text History)
+
+abbrev pub provider_row : Version → Data → List RegNo
+provider_row v d =
     required Provider d (codes "issuer") Issuer
     ++ required Provider d (codes "listen") (Text (Name Visible 1 64))
     ++ required Provider d (codes "salt") (Text (Hex 16 64))
+    ++ history_key v d
 
 abbrev pub user_row : ℕ → Data → List RegNo
 user_row i d =
@@ -170,7 +176,7 @@ abbrev pub old_secret_rule : Bool → Row → Data → List RegNo
 old_secret_rule true row d = required row d (codes "old_secret") (Text (Name Visible 0 128))
 old_secret_rule false row d = optional row d (codes "old_secret") (Text (Name Visible 0 128))
 
--- the keys that only the second version has
+-- the keys of a client that only the second version has
 abbrev pub old_secret_keys : Version → Row → Data → List RegNo
 old_secret_keys version.First row d = []
 old_secret_keys version.Second row d = old_secret_rule (seals_old d) row d ++ optional row d (codes "seals") (Text Seals)
@@ -239,7 +245,7 @@ parties_rows root = array_rule (codes "party") root ++ each (party_row (rows_at 
 -- URLs that violate theirs
 unfoldable pub rows_refusals : Data → List RegNo
 rows_refusals root =
-    provider_row (table_at (codes "provider") root)
+    provider_row (version_in root) (table_at (codes "provider") root)
     ++ users_rows root
     ++ clients_rows root
     ++ parties_rows root

@@ -58,6 +58,8 @@ pub enum TextRule {
     Consent,
     /// `new` or `old`.
     Seals,
+    /// `stored` or `lasting`.
+    History,
     /// Words of `scope`, with `openid` among them.
     Scope,
     /// Words of `prompt` (OpenID Connect Core 1.0, 3.1.2.1).
@@ -163,6 +165,7 @@ fn keeps(alloc: Global, rule: TextRule, text: &str) -> Result<bool, NoMemory>
         TextRule::Subject => Ok(is_one_of(text, &["public", "pairwise"])),
         TextRule::Consent => Ok(is_one_of(text, &["ask", "given"])),
         TextRule::Seals => Ok(is_one_of(text, &["new", "old"])),
+        TextRule::History => Ok(is_one_of(text, &["stored", "lasting"])),
         TextRule::Scope => is_scope(alloc, text),
         TextRule::Prompt => is_prompt(alloc, text),
     }

@@ -1,5 +1,5 @@
-// The keys of the configuration, each with its rule, row by row, in the order of its table. The second version has two more
-// keys for a client.
+// The keys of the configuration, each with its rule, row by row, in the order of its table. The second version has three more
+// keys: two for a client and one for the provider.
 
 ghost use Rattle.std.specs.Prelude.{◌≡◌, ◌++◌, map, OnOk};
 ghost use Rattle.toml.specs.Data.{table, no_members};
@@ -39,8 +39,24 @@ fn hex_of(least: usize, most: usize) -> Kind
     Kind::Text(TextRule::Hex { least, most })
 }
 
-fn provider_row(refusals: &mut Refusals, values: &Value) -> Result<(), NoMemory>
-    ensures { OnOk result (refusals.new ≡ refusals.old ++ spec.provider_row (view values.now)) }
+// Checks the provider's key of the second version.
+fn history_key(refusals: &mut Refusals, version: Version, values: &Value) -> Result<(), NoMemory>
+    ensures { OnOk result (refusals.new ≡ refusals.old ++ spec.history_key version (view values.now)) }
+{
+    match version {
+        Version::First => Ok(()),
+        Version::Second => optional(
+            refusals,
+            Row::Provider,
+            values,
+            "history",
+            Kind::Text(TextRule::History),
+        ),
+    }
+}
+
+fn provider_row(refusals: &mut Refusals, version: Version, values: &Value) -> Result<(), NoMemory>
+    ensures { OnOk result (refusals.new ≡ refusals.old ++ spec.provider_row version (view values.now)) }
 {
     let row = Row::Provider;
     required(refusals, row, values, "issuer", Kind::Issuer)?;
@@ -51,7 +67,8 @@ fn provider_row(refusals: &mut Refusals, values: &Value) -> Result<(), NoMemory>
         "listen",
         name_of(Alphabet::Visible, 1, 64),
     )?;
-    required(refusals, row, values, "salt", hex_of(16, 64))
+    required(refusals, row, values, "salt", hex_of(16, 64))?;
+    history_key(refusals, version, values)
 }
 
 fn user_row(refusals: &mut Refusals, place: usize, values: &Value) -> Result<(), NoMemory>
@@ -92,7 +109,7 @@ fn old_secret_rule(
     }
 }
 
-// Checks the keys that only the second version has.
+// Checks the keys of a client that only the second version has.
 fn old_secret_keys(
     refusals: &mut Refusals,
     version: Version,
@@ -302,7 +319,7 @@ pub fn judge_rows(
 {
     let clients = rows_at(root, "client");
     let parties = rows_at(root, "party");
-    provider_row(refusals, table_at(root, "provider", empty))?;
+    provider_row(refusals, version, table_at(root, "provider", empty))?;
     array(refusals, root, "user")?;
     user_rows(refusals, rows_at(root, "user"))?;
     array(refusals, root, "client")?;

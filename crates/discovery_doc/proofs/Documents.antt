@@ -1,4 +1,4 @@
--- The bytes are read exactly where they are a document, and others are refused for the first reason.
+-- The bytes are read if and only if they are a document, and others are refused for the first reason.
 use Rattle.std.proofs.Common.{◌≡◌, ℕ, List, [], ◌∷◌, ◌++◌, Bool, true, false, not, Result, Ok, Err, codes, refl, ap, ◌∙◌, subst}
 use Rattle.std.specs.Str.{bytes_eq}
 use Rattle.std.proofs.lemmas.Slice.Eq.{bytes_eq-Decides}

@@ -28,7 +28,7 @@ module _ {R : Type 0} (name : R → Word) (life : ℕ) (begun : R → ℕ) where
       let F : List R → Option R = λ rows. row_of name w rows in
       sym (row_of-live_rows name life begun at w xs one) ∙ ap F (same_later before at order xs ys same) ∙ row_of-live_rows name life begun at w ys other
 
-  -- a row is live after the past exactly where it is found among the live ones
+  -- a row is live after the past if and only if it is found among the live ones
   pub found_live : (at : ℕ) (w : Word) (rows : List R) → IsDistinct name rows → option_and_then (if_lives life begun at) (row_of name w rows) ≡ row_of name w (live_rows life begun at rows)
   found_live at w rows distinct = sym (row_of-live_rows name life begun at w rows distinct)
 

@@ -1,4 +1,4 @@
--- A table is full for a name exactly where no row of the name has a place in it.
+-- A table is full for a name if and only if no row of the name has a place in it.
 use Rattle.std.proofs.Common.{◌≡◌, ◌≤◌, ◌<◌, ℕ, Bool, true, false, not, ◌||◌, nat_lt, is_some, List, [], length, Option, Some, None, refl, ap, inl, inr, arith}
 use Rattle.std.proofs.lemmas.Bool.{ltb-true, ltb-false, or_left, or_right}
 use Rattle.sso_base.specs.Words.{Word}

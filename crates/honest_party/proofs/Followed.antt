@@ -16,9 +16,9 @@ use Rattle.oidc_words.specs.Types.{types_of_number}
 use Rattle.client_registry.specs.declared.records.Client.{Client}
 use Rattle.client_registry.specs.declared.records.Party.{Party}
 use Rattle.client_registry.specs.Configuration.{Configuration}
-use Rattle.client_registry.specs.Numbers.{client_at, party_row, party_client, client_sealing, sealing_in, no_client}
-use Rattle.client_registry.specs.Secrets.{sealing, has_secret}
-use Rattle.client_registry.proofs.SecretFacts.{seals_with_its_own}
+use Rattle.client_registry.specs.Numbers.{client_at, party_row, party_client, client_sealing, no_client}
+use Rattle.client_registry.specs.Secrets.{has_secret}
+use Rattle.client_registry.proofs.SecretFacts.{sealing_own}
 use Rattle.client_registry.specs.Registered.{IsRegistry}
 use Rattle.auth_request.specs.declared.wish.Wish.{Wish}
 use Rattle.auth_request.specs.Values.{IsWishValue}
@@ -78,9 +78,7 @@ module _ (c : Configuration) (n : ℕ) (r : IsRegistry c) (low : n < length c.pa
 
   -- what is sealed for the party's client is sealed under a secret of it
   sealed_own : (client : ℕ) → client ≡ party.client → has_secret (client_sealing c client) (party_client c n) ≡ true
-  sealed_own client is =
-      let key : client_sealing c client ≡ sealing (party_client c n) = ap (client_sealing c) is ∙ ap sealing_in client_there in
-      ap (λ t. has_secret t (party_client c n)) key ∙ seals_with_its_own (party_client c n)
+  sealed_own client is = sealing_own c client (party_client c n) (ap (client_at c) is ∙ client_there)
 
   pub issued_is_read : (wish : Wish) (who : Authentication) (at : ℕ) (access code : Option Word) → wish.client ≡ party.client → MayIssue c wish who at → IsWishValue wish
       → id_read_for (party_client c n) (issued_id c wish who at access code) ≡ Ok (id_claims c wish who at access code)

@@ -1,4 +1,4 @@
--- A text is refused as unsealed exactly where it is not sealed under the key; so one that is read is sealed.
+-- A text is refused as unsealed if and only if it is not sealed under the key; so one that is read is sealed.
 use Rattle.std.proofs.Common.{◌≡◌, ◌↔◌, ℕ, List, Bool, true, false, Result, Ok, Err, refl, sym, ap, ◌∙◌}
 use Rattle.serde_json.specs.Data.{Members}
 use Rattle.sso_base.specs.Refusals.{and_then_as}

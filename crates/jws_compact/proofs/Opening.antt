@@ -1,4 +1,4 @@
--- A text is opened exactly where it is sealed.
+-- A text is opened if and only if it is sealed.
 use Rattle.std.proofs.Common.{◌≡◌, ℕ, ◌≤◌, List, [], ◌∷◌, ◌++◌, length, Option, Some, None, option_map, is_some, Result, Ok, Bool, true, false, not, nat_eq, nat_lt, cond, codes, refl, sym, ap, ◌∙◌, arith, true≢false, subst, append_assoc}
 use Rattle.std.specs.Prelude.{unwrap_or}
 use Rattle.std.specs.List.{list_all}

@@ -1,4 +1,4 @@
--- A reader of sealed texts that goes on with what a text has inside: it refuses a text as unsealed exactly where the text is not
+-- A reader of sealed texts that goes on with what a text has inside: it refuses a text as unsealed if and only if the text is not
 -- sealed under the key, and for the same reason.
 use Rattle.std.proofs.Common.{◌≡◌, ◌↔◌, ℕ, List, Result, Ok, Err, refl, ap}
 use Rattle.sso_base.specs.Refusals.{and_then_as}

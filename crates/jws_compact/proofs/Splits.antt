@@ -115,7 +115,7 @@ first_dots : (t : List ℕ) (o : Option Pair) → is_some (option_and_then (λ p
 first_dots t None = refl
 first_dots t (Some p) = rw (dots_split p.1) (second_dots p.0 p.1 (at_first_dot p.1) refl)
 
--- a text has three parts exactly where it has two dots
+-- a text has three parts if and only if it has two dots
 pub is_some-three_parts : (t : List ℕ) → is_some (three_parts t) ≡ nat_eq (dots t) 2
 unfolding three_parts
 is_some-three_parts t = rw (dots_split t) (first_dots t (at_first_dot t))

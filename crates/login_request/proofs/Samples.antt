@@ -115,6 +115,7 @@ small =
       clients = shop ∷ mail ∷ [];
       parties = shop_party ∷ mail_party ∷ [];
       subjects = [] ∷ [] ∷ [];
+      lasting = false;
     }
 
 shop_is_client : IsClient shop

@@ -1,7 +1,7 @@
 -- The play of a trace: the world that its lines make, with the browsers' cookies. The provider is the registry's, and each
 -- relying party of the registry trusts it.
 use Rattle.std.specs.Prelude.{◌≡◌, ℕ, suc, ◌+◌, Bool, nat_le, List, [], ◌∷◌, length, Option, Some, None, is_some, if◌then◌else◌}
-use Rattle.sso_base.specs.Journal.{most_weight}
+use Rattle.sso_base.specs.Journal.{most_of}
 use Rattle.client_registry.specs.Configuration.{Configuration}
 use Rattle.sso_places.specs.Site.{own_site}
 use Rattle.sso_places.specs.World.{Place, Nothing, World}
@@ -33,7 +33,7 @@ with_place play x = record play { world = x ∷ play.world; jars = jars_after x 
 
 -- the history of the recipient has room for the request
 abbrev pub has_room : Configuration → World → Sent → Bool
-has_room c world sent = nat_le (role_weight sent.to world + asked_weight c sent.to sent.ask) most_weight
+has_room c world sent = nat_le (role_weight sent.to world + asked_weight c sent.to sent.ask) (most_of c.lasting)
 
 -- a role receives a request; if its history has no room for it, the play ends before the place
 abbrev pub asked : Configuration → List ℕ → Played → Sent → Played

@@ -38,7 +38,8 @@ fn push_told(out: &mut String, name: &str, told: &Text) -> Result<(), NoMemory>
     Ok(())
 }
 
-fn push_phrase(
+// Adds the name of the role and the summary of its reply, or `- none` if no request was made.
+fn push_words(
     alloc: Global,
     out: &mut String,
     registry: &Registry,
@@ -71,7 +72,7 @@ fn push_newest(alloc: Global, out: &mut String, play: &Play) -> Result<(), NoMem
     };
     push_number(alloc, out, number)?;
     out.push_str(" ")?;
-    push_phrase(alloc, out, play.registry(), &play.role(number), reply)?;
+    push_words(alloc, out, play.registry(), &play.role(number), reply)?;
     out.push_str("\n")?;
     Ok(())
 }

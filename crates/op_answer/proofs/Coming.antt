@@ -1,4 +1,4 @@
--- A reply comes exactly where a request gives the ask, each row that the reply makes has a place, and it has its cause.
+-- A reply comes if and only if a request gives the ask, each row that the reply makes has a place, and it has its cause.
 use Rattle.std.proofs.Common.{◌≡◌, Bool, true, false, refl, sym, ◌∙◌}
 use Rattle.sso_base.specs.declared.history.Entry.{Entry}
 use Rattle.client_registry.specs.Configuration.{Configuration}

@@ -1,4 +1,4 @@
--- `Full` comes exactly where a row that the reply would make has no place in its table.
+-- `Full` comes if and only if a row that the reply would make has no place in its table.
 use Rattle.std.proofs.Common.{◌≡◌, ℕ, Bool, true, false, ◌||◌, cond, List, Option, Some, None, Ok, refl, sym, ◌∙◌, ap, subst, ◌⊎◌, inl, inr}
 use Rattle.sso_base.specs.Words.{Word, fresh_word}
 use Rattle.sso_base.specs.declared.history.Entry.{Entry}

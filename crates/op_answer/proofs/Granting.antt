@@ -1,4 +1,4 @@
--- A scope value is granted exactly where a consent form said yes to it.
+-- A scope value is granted if and only if a consent form said yes to it.
 use Rattle.std.proofs.Common.{◌≡◌, ◌↔◌, ℕ, ◌==◌, Bool, true, false, ◌&&◌, ◌||◌, cond, [], ◌∷◌, ◌++◌, Option, Some, None, refl, sym, ◌∙◌, ap, ◌⊎◌, inl, inr}
 use Rattle.std.proofs.lemmas.Bool.{and_parts, and_from, or_left, or_right, eqb-true, eq-eqb}
 use Rattle.sso_base.specs.Words.{Word}

@@ -6,7 +6,8 @@ use Rattle.sso_base.specs.Base64Url.{all_bytes}
 use Rattle.sso_base.specs.Drawn.{IsDrawn}
 use Rattle.sso_base.specs.declared.history.Entry.{Entry}
 use Rattle.sso_base.proofs.DrawnWords.{texts_tell_words}
-use Rattle.sso_base.proofs.Histories.{few_pairs}
+use Rattle.sso_base.specs.Journal.{history_weight}
+use Rattle.sso_base.proofs.Histories.{few_stored_pairs}
 use Rattle.op_exchange.specs.Weight.{ask_weight}
 use Rattle.op_exchange.proofs.LeastWeight.{least_weight}
 use Rattle.sso_base.proofs.WordTexts.{word_of_text_some, word_of_text-word_text}
@@ -210,7 +211,7 @@ not_the_text_of_another same =
 -- ---- a legal history
 
 login_is_a_history : IsLegalHistory sample (login_pair ∷ [])
-login_is_a_history = record { past = login_is_legal; light = omega arith }
+login_is_a_history = record { past = login_is_legal; light = (let light : history_weight ask_weight (login_pair ∷ []) ≤ 268435456 = omega arith in light) }
 
 no_history_with_another_reply : IsLegalHistory sample (pair_of authorize_entry NotHere ∷ []) → ⊥
 no_history_with_another_reply h = other_reply_is_not_legal h.past
@@ -218,5 +219,5 @@ no_history_with_another_reply h = other_reply_is_not_legal h.past
 -- no history has a pair more than the limit of its weight leaves room for
 no_history_of_262145_pairs : (history : List OpPair) → length history ≡ 262145 → IsLegalHistory sample history → ⊥
 no_history_of_262145_pairs history long legal =
-    let short : length history ≤ 262144 = few_pairs ask_weight least_weight history legal.light in
+    let short : length history ≤ 262144 = few_stored_pairs ask_weight least_weight history legal.light in
     absurd (omega (arith, long, short))

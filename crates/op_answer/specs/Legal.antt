@@ -3,7 +3,7 @@
 use Rattle.std.specs.Prelude.{◌≡◌, ℕ, List, Option, Some, None}
 use Rattle.sso_base.specs.Words.{Word}
 use Rattle.sso_base.specs.Legal.{IsLegalBy}
-use Rattle.sso_base.specs.Journal.{IsLegalHistoryBy}
+use Rattle.sso_base.specs.Journal.{most_of, IsLegalHistoryBy}
 use Rattle.sso_base.specs.declared.history.Entry.{Entry}
 use Rattle.client_registry.specs.Configuration.{Configuration}
 use Rattle.code_grant.specs.declared.rows.TurnRow.{TurnRow}
@@ -24,9 +24,9 @@ use Rattle.op_answer.specs.Causes.{OwnTurn}
 abbrev pub IsLegalOp : Configuration → OpPast → Type 0
 IsLegalOp c past = IsLegalBy IsOpAsk (op_answer c) past
 
--- a history, oldest first, whose past is legal, and that weighs no more than the limit
+-- a history, oldest first, whose past is legal, and that weighs no more than the limit of the configuration
 abbrev pub IsLegalHistory : Configuration → List OpPair → Type 0
-IsLegalHistory c history = IsLegalHistoryBy IsOpAsk (op_answer c) ask_weight history
+IsLegalHistory c history = IsLegalHistoryBy IsOpAsk (op_answer c) ask_weight (most_of c.lasting) history
 
 -- ---- codes
 

@@ -1,9 +1,9 @@
 // What is true for the provider's replies.
 
-ghost use Rattle.std.specs.Prelude.{◌≡◌, ◌≤◌, ◌↔◌, ℕ, true, List, length};
+ghost use Rattle.std.specs.Prelude.{◌≡◌, ◌≤◌, ◌↔◌, ℕ, true, false, List, length};
 ghost use Rattle.sso_base.specs.Values.{latest_moment};
 ghost use Rattle.sso_base.specs.Legal.{last_moment};
-ghost use Rattle.sso_base.specs.Journal.{most_pairs};
+ghost use Rattle.sso_base.specs.Journal.{most_stored_pairs, most_pairs};
 ghost use Rattle.sso_base.specs.declared.history.Entry.{Entry};
 ghost use Rattle.client_registry.specs.Configuration.{Configuration};
 ghost use Rattle.op_exchange.specs.declared.ask.OpAsk.{OpAsk};
@@ -106,9 +106,11 @@ pub fn rows_are_own()
     ensures last { (c : Configuration) (past : OpPast) → IsLegalOp c past → last_moment past ≤ latest_moment }
 {}
 
-/// A legal history has at most 262,144 pairs: it weighs at most 268,435,456, and no pair less than 1,024.
+/// A legal history that is stored has at most 262,144 pairs: it weighs at most 268,435,456, and no pair less than 1,024. One that
+/// lasts has at most 2^53.
 pub fn legal_histories_are_short()
-    ensures { (c : Configuration) (history : List OpPair) → IsLegalHistory c history → length history ≤ most_pairs }
+    ensures stored { (c : Configuration) (history : List OpPair) → c.lasting ≡ false → IsLegalHistory c history → length history ≤ most_stored_pairs }
+    ensures all { (c : Configuration) (history : List OpPair) → IsLegalHistory c history → length history ≤ most_pairs }
 {}
 
 /// In a legal past the text of a word that was drawn determines the word.

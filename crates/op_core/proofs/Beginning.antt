@@ -1,8 +1,10 @@
 -- Before any ask nothing is held, and so it agrees with the past.
-use Rattle.std.proofs.Common.{◌≡◌, List, [], refl, sym, subst, arith}
+use Rattle.std.proofs.Common.{◌≡◌, ◌≤◌, ℕ, List, [], refl, sym, subst, arith}
+use Rattle.sso_base.specs.Journal.{most_of, history_weight}
 use Rattle.client_registry.specs.Configuration.{Configuration}
 use Rattle.code_grant.specs.Tables.{Tables, no_tables}
 use Rattle.code_grant.proofs.Granting.{granted_to-none}
+use Rattle.op_exchange.specs.Weight.{ask_weight}
 use Rattle.op_answer.specs.Past.{OpPair}
 use Rattle.op_core.specs.Keeps.{KeepsTables, Keeps}
 
@@ -14,8 +16,14 @@ none_kept c =
       own = record { turns = refl; sessions = refl; codes = refl; tokens = refl };
     }
 
-pub begins : (c : Configuration) (history : List OpPair) (t : Tables) → history ≡ [] → t ≡ no_tables → Keeps c history t
-begins c history t none empty =
-    let H : List OpPair → Type 0 = λ h. Keeps c h t in
-    let T : Tables → Type 0 = λ u. Keeps c [] u in
-    subst H (sym none) (subst T (sym empty) (record { tables = none_kept c; legal = record { past = tt; light = omega arith } }))
+below : (n w : ℕ) → w ≡ 0 → w ≤ n
+below n w none = omega (arith, none)
+
+abbrev no_pairs : List OpPair
+no_pairs = []
+
+pub begins : (c : Configuration) (history : List OpPair) (t : Tables) (most : ℕ) → history ≡ [] → t ≡ no_tables → most ≡ most_of c.lasting → Keeps c history t most
+begins c history t most none empty limit =
+    let H : List OpPair → Type 0 = λ h. Keeps c h t most in
+    let T : Tables → Type 0 = λ u. Keeps c [] u most in
+    subst H (sym none) (subst T (sym empty) (record { tables = none_kept c; legal = record { past = tt; light = below (most_of c.lasting) (history_weight ask_weight no_pairs) refl }; most_is = limit }))

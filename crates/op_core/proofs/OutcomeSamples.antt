@@ -1,5 +1,5 @@
 -- The rows that the consent of a first login makes, and what a provider keeps, by computation.
-use Rattle.std.proofs.Common.{◌≡◌, [], ◌∷◌, Some, None, refl}
+use Rattle.std.proofs.Common.{◌≡◌, [], ◌∷◌, Some, None, refl, arith}
 use Rattle.code_grant.specs.Tables.{no_tables}
 use Rattle.op_tables.proofs.Samples.{taken, alice_code, before_consent, they_agree, they_are_begun, they_are_own}
 use Rattle.op_core.specs.Keeps.{KeepsPast, Keeps}
@@ -40,8 +40,11 @@ the_tables_are_kept = record { agrees = they_agree; begun = they_are_begun; own 
 not_without_the_turn : KeepsPast sample past_consent no_tables → ⊥
 not_without_the_turn keeps = (let k : [] ≡ taken ∷ [] = keeps.agrees.turns in cc)
 
-it_begins_without_rows : Keeps sample [] no_tables
-it_begins_without_rows = begins sample [] no_tables refl refl
+it_begins_without_rows : Keeps sample [] no_tables 268435456
+it_begins_without_rows = begins sample [] no_tables 268435456 refl refl refl
 
-not_with_a_turn : Keeps sample [] before_consent → ⊥
+not_with_a_turn : Keeps sample [] before_consent 268435456 → ⊥
 not_with_a_turn keeps = (let k : taken ∷ [] ≡ [] = keeps.tables.agrees.turns in cc)
+
+not_with_another_limit : Keeps sample [] no_tables 268435457 → ⊥
+not_with_another_limit keeps = (let limit : 268435457 ≡ 268435456 = keeps.most_is in absurd (omega (arith, limit)))

@@ -2,7 +2,7 @@
 use Rattle.std.proofs.Common.{◌≡◌, ◌≤◌, ℕ, ◌+◌, Bool, true, List, [], ◌∷◌, ◌++◌, reverse, Some, refl, sym, ◌∙◌, ap, subst}
 use Rattle.std.specs.List.{list_all}
 use Rattle.sso_base.specs.Legal.{last_moment, IsEntry}
-use Rattle.sso_base.specs.Journal.{most_weight, history_weight}
+use Rattle.sso_base.specs.Journal.{most_of, history_weight}
 use Rattle.sso_base.proofs.Histories.{past_more, longer_is_legal}
 use Rattle.client_registry.specs.Configuration.{Configuration}
 use Rattle.client_registry.specs.Numbers.{is_user}
@@ -78,9 +78,9 @@ own_carried c t u past p own follows turn session code token =
 
 -- ---- all of it
 
-pub keeps_more : (c : Configuration) (history : List OpPair) (t u : Tables) (p : OpPair) → Keeps c history t → last_moment (reverse history) ≤ p.entry.at → IsUpdate t u (reverse history) p → AreOwn c u
-    → IsEntry IsOpAsk p.entry → p.reply ≡ op_answer c (reverse history) p.entry → history_weight ask_weight history + ask_weight p.entry.ask ≤ most_weight → Keeps c (history ++ p ∷ []) u
-keeps_more c history t u p keeps order follows own entry answer room =
+pub keeps_more : (c : Configuration) (history : List OpPair) (t u : Tables) (most : ℕ) (p : OpPair) → Keeps c history t most → last_moment (reverse history) ≤ p.entry.at → IsUpdate t u (reverse history) p → AreOwn c u
+    → IsEntry IsOpAsk p.entry → p.reply ≡ op_answer c (reverse history) p.entry → history_weight ask_weight history + ask_weight p.entry.ask ≤ most_of c.lasting → Keeps c (history ++ p ∷ []) u most
+keeps_more c history t u most p keeps order follows own entry answer room =
     let past : OpPast = reverse history in
     let K : OpPast → Type 0 = λ q. KeepsPast c q u in
     record {
@@ -89,5 +89,6 @@ keeps_more c history t u p keeps order follows own entry answer room =
         begun = is_begun_carried t u past p (last_moment past) order keeps.tables.begun follows;
         own = own;
       }));
-      legal = longer_is_legal IsOpAsk (op_answer c) ask_weight history p keeps.legal entry order answer room;
+      legal = longer_is_legal IsOpAsk (op_answer c) ask_weight (most_of c.lasting) history p keeps.legal entry order answer room;
+      most_is = keeps.most_is;
     }

@@ -1,6 +1,7 @@
--- The provider's invariant: its tables agree with its history, and the history is legal.
-use Rattle.std.specs.Prelude.{List, reverse}
+-- The provider's invariant: its tables agree with its history, the history is legal, and its limit is that of the configuration.
+use Rattle.std.specs.Prelude.{◌≡◌, ℕ, List, reverse}
 use Rattle.sso_base.specs.Legal.{last_moment}
+use Rattle.sso_base.specs.Journal.{most_of}
 use Rattle.client_registry.specs.Configuration.{Configuration}
 use Rattle.code_grant.specs.Tables.{Tables}
 use Rattle.op_answer.specs.Past.{OpPair, OpPast}
@@ -16,6 +17,7 @@ pub record KeepsPast (c : Configuration) (past : OpPast) (t : Tables) : Type 0 w
 abbrev pub KeepsTables : Configuration → List OpPair → Tables → Type 0
 KeepsTables c history t = KeepsPast c (reverse history) t
 
-pub record Keeps (c : Configuration) (history : List OpPair) (t : Tables) : Type 0 where
+pub record Keeps (c : Configuration) (history : List OpPair) (t : Tables) (most : ℕ) : Type 0 where
   pub tables : KeepsTables c history t
   pub legal : IsLegalHistory c history
+  pub most_is : most ≡ most_of c.lasting

@@ -30,18 +30,20 @@ impl Model for OpCore {
 
     ghost use Rattle.op_core.specs.Keeps.{Keeps};
 
-    ghost invariant = { λ c. Keeps c.registry c.journal.pairs c.grants };
+    ghost invariant = { λ c. Keeps c.registry c.journal.pairs c.grants c.journal.most };
 }
 
 impl OpCore {
-    /// A provider with an empty history.
+    /// A provider with an empty history. It stores its history, unless the registry's histories last.
     pub fn new(alloc: Global, registry: Registry) -> Result<OpCore, NoMemory>
         ensures { IfOk result (λ c. c ≡ record { registry = registry; history = []; tables = no_tables }) }
     {
+        let lasts = registry.lasting();
+        let grants = Grants::new(alloc)?;
         Ok(OpCore {
             registry,
-            journal: Journal::new(alloc),
-            grants: Grants::new(alloc)?,
+            journal: Journal::new(alloc, lasts),
+            grants,
         })
     }
 

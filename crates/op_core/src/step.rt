@@ -2,7 +2,7 @@
 
 ghost use Rattle.std.specs.Prelude.{◌≡◌, ◌<◌, ◌≤◌, ◌+◌, ◌++◌, [], ◌∷◌, length, true, IfSome, IfOk, OnOk, OnErr};
 ghost use Rattle.sso_base.specs.Legal.{last_moment, IsEntry};
-ghost use Rattle.sso_base.specs.Journal.{history_weight, most_weight};
+ghost use Rattle.sso_base.specs.Journal.{history_weight, most_of, ReportsFull};
 ghost use Rattle.client_registry.specs.Configuration.{Configuration};
 ghost use Rattle.code_grant.specs.Tables.{with_room};
 ghost use Rattle.op_exchange.specs.Values.{IsOpAsk};
@@ -23,6 +23,7 @@ use std::alloc::Global;
 // Makes room in the history for one more pair, and in each table for one more row.
 fn reserve(journal: &mut Journal<OpAsk, OpReply>, grants: &mut Grants) -> Result<(), NoMemory>
     ensures pairs { journal.new.pairs ≡ journal.old.pairs }
+    ensures most { journal.new.most ≡ journal.old.most }
     ensures room { OnOk result (length journal.new.pairs < journal.new.capacity) }
     ensures tables { OnOk result (grants.new ≡ with_room grants.old) }
     ensures same { OnErr result (grants.new ≡ grants.old) }
@@ -49,8 +50,9 @@ fn put(
     requires code { IfSome outcome.made.code (λ row. (row.user < 512) × (row.wish.client < 128)) }
     requires token { IfSome outcome.made.token (λ row. (row.user < 512) × (row.client < 128)) }
     requires weight { weight ≡ weights.ask_weight entry.ask }
-    requires room { history_weight weights.ask_weight journal.old.pairs + weight ≤ most_weight }
+    requires room { history_weight weights.ask_weight journal.old.pairs + weight ≤ journal.old.most }
     ensures pairs { journal.new.pairs ≡ journal.old.pairs ++ (record { entry = entry; reply = reply }) ∷ [] }
+    ensures most { journal.new.most ≡ journal.old.most }
     ensures tables { LeavesPut grants.old grants.new (record { entry = entry; reply = reply }) outcome }
 {
     let pair = Pair { entry, reply };
@@ -75,8 +77,9 @@ fn take_in(
     requires code { IfSome outcome.made.code (λ row. (row.user < 512) × (row.wish.client < 128)) }
     requires token { IfSome outcome.made.token (λ row. (row.user < 512) × (row.client < 128)) }
     requires weight { weight ≡ weights.ask_weight entry.ask }
-    requires room { history_weight weights.ask_weight journal.old.pairs + weight ≤ most_weight }
+    requires room { history_weight weights.ask_weight journal.old.pairs + weight ≤ journal.old.most }
     ensures pairs { OnOk result (journal.new.pairs ≡ journal.old.pairs ++ (record { entry = entry; reply = reply }) ∷ []) }
+    ensures most { journal.new.most ≡ journal.old.most }
     ensures tables { OnOk result (LeavesPut (with_room grants.old) grants.new (record { entry = entry; reply = reply }) outcome) }
     ensures same_pairs { OnErr result (journal.new.pairs ≡ journal.old.pairs) }
     ensures same_tables { OnErr result (grants.new ≡ grants.old) }
@@ -97,6 +100,16 @@ fn take_in(
 }
 
 impl OpCore {
+    // The weight of a request, which fits into the history; otherwise the error holds the history's weight.
+    fn admit(&self, ask: &OpAsk) -> Result<u64, CoreNo>
+        ensures weight { IfOk result (λ weight. weight ≡ weights.ask_weight ask.now) }
+        ensures room { OnOk result (history_weight weights.ask_weight self.now.history + weights.ask_weight ask.now ≤ most_of self.now.registry.lasting) }
+        ensures full { ReportsFull (most_of self.now.registry.lasting) result
+            (history_weight weights.ask_weight self.now.history) (weights.ask_weight ask.now) }
+    {
+        self.journal.admit(ask)
+    }
+
     // Adds an entry with its reply and its effects.
     pub(crate) fn commit(
         &mut self,
@@ -119,7 +132,7 @@ impl OpCore {
         requires code { IfSome outcome.made.code (λ row. (row.user < 512) × (row.wish.client < 128)) }
         requires token { IfSome outcome.made.token (λ row. (row.user < 512) × (row.client < 128)) }
         requires weight { weight ≡ weights.ask_weight entry.ask }
-        requires room { history_weight weights.ask_weight self.old.history + weight ≤ most_weight }
+        requires room { history_weight weights.ask_weight self.old.history + weight ≤ most_of self.old.registry.lasting }
         ensures history { OnOk result (self.new.history ≡ self.old.history ++ (record { entry = entry; reply = reply }) ∷ []) }
         ensures registry { OnOk result (self.new.registry ≡ self.old.registry) }
         ensures err { OnErr result (self.new ≡ self.old) }
@@ -157,7 +170,7 @@ impl OpCore {
         requires code { IfSome decision.outcome.made.code (λ row. (row.user < 512) × (row.wish.client < 128)) }
         requires token { IfSome decision.outcome.made.token (λ row. (row.user < 512) × (row.client < 128)) }
         requires weight { weight ≡ weights.ask_weight entry.ask }
-        requires room { history_weight weights.ask_weight self.old.history + weight ≤ most_weight }
+        requires room { history_weight weights.ask_weight self.old.history + weight ≤ most_of self.old.registry.lasting }
         ensures told { IfOk result (λ told. told ≡ decision.reply) }
         ensures history { OnOk result (self.new.history ≡ self.old.history ++ (record { entry = entry; reply = decision.reply }) ∷ []) }
         ensures registry { OnOk result (self.new.registry ≡ self.old.registry) }
@@ -188,6 +201,7 @@ impl Core for OpCore {
     ghost use Rattle.op_answer.specs.Answering.{op_answer};
     ghost use Rattle.op_answer.specs.Legal.{IsLegalHistory};
     ghost use Rattle.sso_base.proofs.Histories.{beginning_is_legal};
+    ghost use Rattle.sso_base.proofs.Limits.{most_is_short as short_limit};
     ghost use Rattle.op_exchange.proofs.LeastWeight.{least_weight};
 
     type Ask = OpAsk;
@@ -202,6 +216,8 @@ impl Core for OpCore {
 
     ghost weighs = { weights.ask_weight };
 
+    ghost most = { λ c. most_of c.lasting };
+
     ghost is_legal = { IsLegalHistory };
 
     fn step(
@@ -211,7 +227,7 @@ impl Core for OpCore {
         fresh: [Word; 4],
         ask: OpAsk,
     ) -> Result<OpReply, CoreNo> {
-        let weight = self.journal.admit(&ask)?;
+        let weight = self.admit(&ask)?;
         let entry = self.journal.entry(at, fresh, ask);
         know_op_entry(&entry);
         let decision = self.decision(alloc, &entry)?;
@@ -228,7 +244,9 @@ impl Core for OpCore {
 
     ghost legal_is_light = { λ c h legal. legal.light };
 
-    ghost beginnings_are_legal = { λ c. beginning_is_legal IsOpAsk (op_answer c) weights.ask_weight };
+    ghost most_is_short = { λ c. short_limit c.lasting };
+
+    ghost beginnings_are_legal = { λ c. beginning_is_legal IsOpAsk (op_answer c) weights.ask_weight (most_of c.lasting) };
 
     ghost least_weight = { least_weight };
 }

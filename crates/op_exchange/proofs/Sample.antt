@@ -46,6 +46,7 @@ sample =
       clients = shop_client ∷ [];
       parties = [];
       subjects = (codes "alice" ∷ codes "bob" ∷ []) ∷ [];
+      lasting = false;
     }
 
 abbrev pub profile_scopes : Scopes

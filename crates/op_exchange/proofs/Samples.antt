@@ -17,6 +17,7 @@ use Rattle.userinfo.specs.declared.header.Bearer.TheVariants as bearer
 use Rattle.op_exchange.specs.declared.ask.OpAsk.TheVariants as ask
 use Rattle.op_exchange.specs.declared.reply.OpReply.TheVariants as reply
 use Rattle.op_exchange.specs.Asks.{is_prepared}
+use Rattle.op_exchange.specs.Held.{held_bytes, is_small}
 use Rattle.op_exchange.specs.Values.{IsOpAsk}
 use Rattle.op_exchange.specs.Weight.{ask_weight}
 use Rattle.op_exchange.specs.Replied.{ends_turn, session_given, code_in, access_in}
@@ -46,6 +47,21 @@ weight-of_another_refusal = refl
 -- 24 bytes of the redirection URI, 5 of the state, 5 of the nonce, 3 and 5 of the names of claims, 5 of the subject
 weight-of_a_wish : ask_weight (ask.Authorize (verdict.Grant (record wish { subs = Some (codes "alice" ∷ []); id_asked = codes "sub" ∷ []; info_asked = codes "email" ∷ [] })) None None) ≡ 1071
 weight-of_a_wish = refl
+
+-- ---- what rows hold
+
+-- 24 bytes of the redirection URI, 5 of the state, 5 of the nonce, 6 of the subject, 4 and 6 of the names of claims
+held-of_a_wish : held_bytes (ask.Authorize (verdict.Grant (record wish { subs = Some (codes "alice" ∷ []); id_asked = codes "sub" ∷ []; info_asked = codes "email" ∷ [] })) None None) ≡ 50
+held-of_a_wish = refl
+
+held-of_a_grant : held_bytes (ask.Token (Ok grant)) ≡ 0
+held-of_a_grant = refl
+
+small-with_1536_bytes : is_small (ask.Authorize (verdict.Grant (record wish { state = Some (replicate 1507 110) })) None None) ≡ true
+small-with_1536_bytes = refl
+
+not_small-with_1537_bytes : is_small (ask.Authorize (verdict.Grant (record wish { state = Some (replicate 1508 110) })) None None) ≡ false
+not_small-with_1537_bytes = refl
 
 -- ---- asks that a request can give
 

@@ -1,5 +1,6 @@
 pub mod Asks
 pub mod Values
 pub mod Weight
+pub mod Held
 pub mod Replied
 pub mod Fields

@@ -54,6 +54,9 @@ fn grant_bytes(grant: &Result<Grant, GrantNo>) -> u64
 }
 
 impl Weighed for OpAsk {
+    ghost use Rattle.std.proofs.Math.Nat.{le-add_right};
+    ghost use Rattle.sso_base.specs.Weights.{empty_weight};
+
     ghost weighs = { spec.ask_weight };
 
     fn weight(&self) -> Result<u64, NoMemory> {
@@ -64,4 +67,6 @@ impl Weighed for OpAsk {
         };
         Ok(bytes.saturating_add(EMPTY_WEIGHT))
     }
+
+    ghost least = { λ asked. le-add_right empty_weight (spec.ask_bytes asked) };
 }

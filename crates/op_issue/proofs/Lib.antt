@@ -9,4 +9,5 @@ pub mod LogoutSealable
 pub mod GoodLogouts
 pub mod MessagesTold
 pub mod LogoutForms
+pub mod OpenedTexts
 mod LogoutSamples

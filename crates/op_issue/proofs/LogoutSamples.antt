@@ -4,9 +4,13 @@ use Rattle.sso_base.specs.Lists.{Has}
 use Rattle.sso_base.specs.Words.{Text, IsWord, word_text}
 use Rattle.sso_base.specs.declared.message.Message.{Message}
 use Rattle.sso_base.proofs.Spelling.{IsBytes-from_all_bytes}
+use Rattle.claim_set.specs.Reading.{claims_text}
+use Rattle.jws_compact.specs.declared.sealing.Typ.TheVariants.{LogoutJwt}
+use Rattle.jws_compact.specs.Jws.{written}
+use Rattle.client_keys.specs.Opening.{verdict_for}
 use Rattle.request_params.specs.Form.{form_text}
 use Rattle.logout_token.specs.declared.claims.LogoutClaims.{LogoutClaims}
-use Rattle.logout_token.specs.LogoutToken.{logout_read}
+use Rattle.logout_token.specs.LogoutToken.{logout_members, logout_read}
 use Rattle.logout_token.specs.Judging.{IsGoodLogoutToken}
 use Rattle.client_registry.specs.Configuration.{Configuration}
 use Rattle.client_registry.specs.ClientSets.{no_clients, with_client}
@@ -17,6 +21,7 @@ use Rattle.op_issue.specs.LogoutMessages.{logout_message, message_if, messages_f
 use Rattle.op_issue.specs.Ending.{MayEnd}
 use Rattle.op_issue.specs.Told.{TellsAt, Tells}
 use Rattle.op_issue.proofs.LogoutSealable.{is_read_back}
+use Rattle.op_issue.proofs.OpenedTexts.{logout_opens}
 use Rattle.op_issue.proofs.GoodLogouts.{is_good, ends}
 use Rattle.op_issue.proofs.Identifiers.{ids_tell}
 use Rattle.op_issue.proofs.MessagesTold.{tells_among, told_in_order}
@@ -43,6 +48,9 @@ not_after_the_last_moment h = let moment : 1099511000001 ≤ 1099511000000 = h.m
 
 is_read : logout_read secret (issued_logout small 0 out) ≡ Ok (logout_claims small 0 out)
 is_read = is_read_back small 0 out may_end
+
+is_opened : verdict_for shop (issued_logout small 0 out) ≡ Ok (written LogoutJwt (claims_text (logout_members (logout_claims small 0 out))))
+is_opened = logout_opens small 0 out shop refl may_end
 
 -- ---- the claims
 

@@ -28,7 +28,7 @@ module _ (c : Configuration) (out : SignOut) (answered : List Bool) where
       let B : Bool → List Message = λ b. before ++ message_if c out n b client.logout in
       ap A (pushed ∙ ap B same) ∙ append_assoc before (one n client) (from (n + 1) (drop (n + 1) c.clients)) ∙ sym (ap F (drop_at c.clients n client there)) ∙ told
 
-  -- ---- a message is among them exactly where it tells the sign-out to a client
+  -- ---- a message is among them if and only if it tells the sign-out to a client
 
   -- it tells the client of this place among these, which are those from a number on
   record TellsFrom (n : ℕ) (clients : List Client) (place : ℕ) (message : Message) : Type 0 where

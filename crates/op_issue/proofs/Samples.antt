@@ -3,6 +3,10 @@ use Rattle.std.proofs.Common.{◌≡◌, ◌≤◌, true, false, List, [], ◌�
 use Rattle.json.proofs.Printed.Utf8.{IsUtf8-are_ascii}
 use Rattle.serde_json.specs.Data.{no_members}
 use Rattle.sso_base.specs.Words.{Text, word_text}
+use Rattle.claim_set.specs.Reading.{claims_text}
+use Rattle.jws_compact.specs.declared.sealing.Typ.TheVariants.{Jwt}
+use Rattle.jws_compact.specs.Jws.{written}
+use Rattle.client_keys.specs.Opening.{verdict_for}
 use Rattle.oidc_words.specs.declared.response_types.Types.{Types}
 use Rattle.oidc_words.specs.Scopes.{no_scopes}
 use Rattle.oidc_words.specs.Claims.{is_claim_of, profile_claims, email_claims, address_claims, phone_claims}
@@ -12,6 +16,7 @@ use Rattle.userinfo.proofs.Told.{claims_are_of}
 use Rattle.auth_request.specs.declared.wish.Wish.{Wish}
 use Rattle.auth_answer.specs.declared.answer.Answer.{Answer}
 use Rattle.id_token.specs.declared.claims.IdClaims.{IdClaims}
+use Rattle.id_token.specs.Claims.{id_members}
 use Rattle.id_token.specs.HalfHash.{half_hash_of}
 use Rattle.id_token.specs.Reading.{id_read}
 use Rattle.id_token.specs.declared.rules.IdRules.{IdRules}
@@ -25,8 +30,9 @@ use Rattle.op_issue.specs.Issued.{if_wished, issued_code, issued_access, issued}
 use Rattle.op_issue.specs.ClientRules.{bound_to, client_rules}
 use Rattle.auth_request.specs.Values.{IsWishValue}
 use Rattle.op_issue.proofs.Sealable.{is_read_back}
+use Rattle.op_issue.proofs.OpenedTexts.{issued_opens}
 use Rattle.op_issue.proofs.GoodTokens.{is_good, ends}
-use Rattle.op_issue.proofs.SmallRegistry.{word, words, profile_scopes, named, alice, secret, alice_text, small, small_registry, signed, word_10}
+use Rattle.op_issue.proofs.SmallRegistry.{word, words, profile_scopes, named, alice, secret, shop, alice_text, small, small_registry, signed, word_10}
 
 -- ---- wishes, and a user who logged in
 
@@ -116,6 +122,10 @@ nonce_of_256_bytes = refl
 
 is_read : id_read secret (issued_id small (wishing id_alone []) signed 1000 None None) ≡ Ok (id_claims small (wishing id_alone []) signed 1000 None None)
 is_read = is_read_back small (wishing id_alone []) signed 1000 None None (may_issue id_alone) (wish_is_value id_alone)
+
+is_opened : verdict_for shop (issued_id small (wishing id_alone []) signed 1000 None None)
+    ≡ Ok (written Jwt (claims_text (id_members (id_claims small (wishing id_alone []) signed 1000 None None))))
+is_opened = issued_opens small (wishing id_alone []) signed 1000 None None shop refl (may_issue id_alone) (wish_is_value id_alone)
 
 -- ---- the claims
 

@@ -65,6 +65,7 @@ small =
       clients = shop ∷ [];
       parties = [];
       subjects = (codes "alice" ∷ []) ∷ [];
+      lasting = false;
     }
 
 pub named_fit : ClaimsFit named

@@ -1,10 +1,16 @@
 -- Laws about the ID Tokens that the provider issues. Each is a clause of a function of `law.rt`, which says it in words.
 use Rattle.std.specs.Prelude.{◌≡◌, ◌≤◌, ◌<◌, ◌+◌, ℕ, Option, Some, Ok}
 use Rattle.sso_base.specs.Words.{Word, Text}
+use Rattle.claim_set.specs.Reading.{claims_text}
+use Rattle.jws_compact.specs.declared.sealing.Typ.TheVariants.{Jwt}
+use Rattle.jws_compact.specs.Jws.{written}
+use Rattle.client_registry.specs.declared.records.Client.{Client}
 use Rattle.client_registry.specs.Configuration.{Configuration}
-use Rattle.client_registry.specs.Numbers.{client_id, client_sealing}
+use Rattle.client_registry.specs.Numbers.{client_at, client_id, client_sealing}
+use Rattle.client_keys.specs.Opening.{verdict_for}
 use Rattle.auth_request.specs.declared.wish.Wish.{Wish}
 use Rattle.id_token.specs.declared.rules.IdRules.{IdRules}
+use Rattle.id_token.specs.Claims.{id_members}
 use Rattle.id_token.specs.Judging.{IsInAge, IsGoodIdToken}
 use Rattle.id_token.specs.Reading.{id_read}
 use Rattle.id_token.specs.Sealing.{HasTexts, IsSealable}
@@ -31,6 +37,13 @@ IssuedTokensAreReadBack =
     (c : Configuration) (wish : Wish) (who : Authentication) (at : ℕ) (access code : Option Word) → MayIssue c wish who at
     → IsWishValue wish
     → id_read (client_sealing c wish.client) (issued_id c wish who at access code) ≡ Ok (id_claims c wish who at access code)
+
+abbrev pub IssuedTokensAreOpened : Type 0
+IssuedTokensAreOpened =
+    (c : Configuration) (wish : Wish) (who : Authentication) (at : ℕ) (access code : Option Word) (client : Client)
+    → client_at c wish.client ≡ Some client → MayIssue c wish who at → IsWishValue wish
+    → verdict_for client (issued_id c wish who at access code)
+    ≡ Ok (written Jwt (claims_text (id_members (id_claims c wish who at access code))))
 
 -- ---- verification
 

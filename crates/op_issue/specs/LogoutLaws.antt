@@ -1,12 +1,17 @@
 -- Laws about the logout tokens that the provider issues. Each is a clause of a function of `logout_law.rt`, which says it in words.
-use Rattle.std.specs.Prelude.{◌≡◌, ◌≤◌, ◌<◌, ◌+◌, ◌↔◌, ℕ, Bool, List, ◌∷◌, ◌++◌, Ok}
+use Rattle.std.specs.Prelude.{◌≡◌, ◌≤◌, ◌<◌, ◌+◌, ◌↔◌, ℕ, Bool, List, ◌∷◌, ◌++◌, Some, Ok}
 use Rattle.sso_base.specs.Lists.{Has}
 use Rattle.sso_base.specs.Words.{Text}
 use Rattle.sso_base.specs.declared.message.Message.{Message}
+use Rattle.claim_set.specs.Reading.{claims_text}
+use Rattle.jws_compact.specs.declared.sealing.Typ.TheVariants.{LogoutJwt}
+use Rattle.jws_compact.specs.Jws.{written}
+use Rattle.client_registry.specs.declared.records.Client.{Client}
 use Rattle.client_registry.specs.Configuration.{Configuration}
-use Rattle.client_registry.specs.Numbers.{client_id, client_sealing}
+use Rattle.client_registry.specs.Numbers.{client_at, client_id, client_sealing}
+use Rattle.client_keys.specs.Opening.{verdict_for}
 use Rattle.request_params.specs.Form.{form_pairs, form_text}
-use Rattle.logout_token.specs.LogoutToken.{logout_read}
+use Rattle.logout_token.specs.LogoutToken.{logout_members, logout_read}
 use Rattle.logout_token.specs.Judging.{IsGoodLogoutToken}
 use Rattle.op_issue.specs.declared.sign_out.SignOut.{SignOut}
 use Rattle.op_issue.specs.LogoutTokens.{logout_claims, issued_logout}
@@ -20,6 +25,11 @@ abbrev pub LogoutTokensAreReadBack : Type 0
 LogoutTokensAreReadBack =
     (c : Configuration) (client : ℕ) (out : SignOut) → MayEnd c client out
     → logout_read (client_sealing c client) (issued_logout c client out) ≡ Ok (logout_claims c client out)
+
+abbrev pub LogoutTokensAreOpened : Type 0
+LogoutTokensAreOpened =
+    (c : Configuration) (n : ℕ) (out : SignOut) (client : Client) → client_at c n ≡ Some client → MayEnd c n out
+    → verdict_for client (issued_logout c n out) ≡ Ok (written LogoutJwt (claims_text (logout_members (logout_claims c n out))))
 
 abbrev pub LogoutFormsAreReadBack : Type 0
 LogoutFormsAreReadBack =

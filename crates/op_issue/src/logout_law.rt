@@ -7,15 +7,18 @@ ghost use Rattle.logout_token.specs.Fitting.{HasTexts, IsSealable};
 ghost use Rattle.op_issue.specs.declared.sign_out.SignOut.{SignOut};
 ghost use Rattle.op_issue.specs.LogoutTokens.{logout_id, logout_claims};
 ghost use Rattle.op_issue.specs.Ending.{MayEnd};
-ghost use Rattle.op_issue.specs.LogoutLaws.{LogoutTokensAreReadBack, LogoutFormsAreReadBack, IssuedLogoutTokensAreGood, GoodLogoutTokensHaveTheirIssuer};
-ghost use Rattle.op_issue.specs.LogoutLaws.{GoodLogoutTokensHaveTheirClient, GoodLogoutTokensAreAlive, AnsweredClientsAreNotified, MessagesAreInOrder};
+ghost use Rattle.op_issue.specs.LogoutLaws.{LogoutTokensAreReadBack, LogoutTokensAreOpened, LogoutFormsAreReadBack, IssuedLogoutTokensAreGood};
+ghost use Rattle.op_issue.specs.LogoutLaws.{GoodLogoutTokensHaveTheirIssuer, GoodLogoutTokensHaveTheirClient, GoodLogoutTokensAreAlive};
+ghost use Rattle.op_issue.specs.LogoutLaws.{AnsweredClientsAreNotified, MessagesAreInOrder};
 
 /// Reading an issued logout token under the client's sealing secret returns the sealed claims. The claims are always short
-/// enough, and values of their types. Reading the form of a logout request returns its token.
+/// enough, and values of their types. The token is opened for its client, as a `logout+jwt` with the text of these claims.
+/// Reading the form of a logout request returns its token.
 pub fn logout_tokens_are_read()
     ensures texts { (c : Configuration) (client : ℕ) (out : SignOut) → MayEnd c client out → HasTexts (logout_claims c client out) }
     ensures sealable { (c : Configuration) (client : ℕ) (out : SignOut) → MayEnd c client out → IsSealable (logout_claims c client out) }
     ensures read_back { LogoutTokensAreReadBack }
+    ensures opened { LogoutTokensAreOpened }
     ensures form { LogoutFormsAreReadBack }
 {}
 

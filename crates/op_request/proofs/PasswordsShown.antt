@@ -1,4 +1,4 @@
--- A login is signed as a user exactly where its form shows that user's password, and a consent is agreed to exactly by `yes`.
+-- A login is signed as a user if and only if its form shows that user's password, and a consent is agreed to exactly by `yes`.
 use Rattle.std.proofs.Common.{◌≡◌, inl, inr, ◌↔◌, ℕ, List, [], ◌∷◌, map, Bool, true, false, cond, codes, Option, Some, None, option_and_then, slice_get, refl, sym, ◌∙◌, ap, subst, arith}
 use Rattle.std.specs.Str.{bytes_eq}
 use Rattle.sso_base.specs.Lists.{Has}

@@ -1,5 +1,4 @@
--- A request asks for nothing but a page exactly where a name stands twice in it, and exactly a request that is to no endpoint finds
--- nothing here.
+-- A request is read as `Twice` if and only if it repeats a name, and as `NotHere` if and only if it is to no endpoint.
 use Rattle.std.proofs.Common.{◌≡◌, ◌⊎◌, inl, inr, List, cond, Some, ◌∙◌, ap}
 use Rattle.std.specs.Str.{bytes_eq}
 use Rattle.sso_base.specs.Words.{Text, word_of_text}

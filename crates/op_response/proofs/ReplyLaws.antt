@@ -43,7 +43,7 @@ location_of_responses c other = refl
 found : (n k : ℕ) → (n == k) ≡ true → n ≡ k
 found n k h = grind (arith, nat_tests)
 
--- a number is k exactly where it is tested to be
+-- a number is k if and only if the test says so
 same_number : (k : ℕ) → (k == k) ≡ true → (n : ℕ) (b : Bool) → (n == k) ≡ b → (n ≡ k) ↔ (b ≡ true)
 same_number k itself n b tested = (λ e. sym tested ∙ ap (λ m. m == k) e ∙ itself, λ t. found n k (tested ∙ t))
 

@@ -1,4 +1,4 @@
--- The row of a word lives exactly where it is found among the live rows; and these are distinct.
+-- The row of a word lives if and only if it is found among the live rows; and these are distinct.
 use Rattle.std.proofs.Common.{◌≡◌, ℕ, Some}
 use Rattle.sso_base.specs.Words.{Word}
 use Rattle.sso_base.specs.Rows.{row_of, lives}

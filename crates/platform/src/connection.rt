@@ -21,22 +21,22 @@ const DRAINING: u64 = 1;
 /// How many of these bytes at most.
 const DRAINED: usize = 1 << 20;
 
-/// What a TCP stream gives. It does not tell what comes. It reads ahead, so that single bytes cost no call of the system each.
+/// What a TCP stream gives. It does not report what comes. It reads ahead, so that single bytes cost no call of the system each.
 #[derive(Drop)]
 pub struct TcpSource<'a, R: Clock> {
     clock: &'a R,
     wire: Arc<Wire, Global>,
     ahead: ReadAhead,
-    /// In how much time all has to come; none where the clock failed.
+    /// In how much time all has to come; `None` if the clock failed.
     limit: Option<Limit>,
     /// How many seconds no byte may come.
     silence: u64,
-    /// How long a read waits, as it was set last; none where it was not set.
+    /// How long a read waits, as it was set last; `None` if it was not set.
     last: Option<Duration>,
     faults: u64,
 }
 
-/// What a TCP stream takes. It does not tell what it took.
+/// What a TCP stream takes. It does not report what it took.
 #[derive(Drop)]
 pub struct TcpSink<'a, R: Clock> {
     clock: &'a R,
@@ -48,7 +48,7 @@ pub struct TcpSink<'a, R: Clock> {
 
 /// A new stream as a connection: all of it is read within the first limit, no byte in so many seconds is a fault, and all is
 /// written within the second limit, or in 10 seconds from the first byte on. It reads ahead into this room, or into new
-/// room where there is none. None where memory runs out.
+/// room if there is none. `None` if memory runs out.
 pub fn connection_over<'a, R: Clock + AllocGlobal>(
     rt: &'a R,
     stream: TcpStream,

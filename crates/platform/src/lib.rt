@@ -1,6 +1,6 @@
-//! This machine: the words that the program was started with, files as a shelf, writers as sinks, and desks over its network, its clock
-//! and its random bytes. They tell nothing of what they hold, and their few lines are the edge of what is proved: that the machine does
-//! as its calls say is trusted, and tried by cases (`platform_cases`).
+//! This machine: the words that the program was started with, files as a shelf, writers as sinks, and desks over its network, its
+//! clock and its random bytes. They report nothing of what they hold, and their few lines are the edge of what is proved: that the
+//! machine does as its calls say is trusted, and tried by cases (`platform_cases`).
 //!
 //! | Module | What it has |
 //! |---|---|
@@ -11,7 +11,7 @@
 //! | `door` | [`TcpDoor`], a TCP listener as a door |
 //! | `connection` | a TCP connection as a source and a sink |
 //! | `link` | [`TcpLink`], TCP as a link, to loopback addresses only |
-//! | `clock` | [`SystemClock`], the machine's clock as a clock |
+//! | `clock` | [`SystemClock`], the machine's steady clock and its wall clock as a clock |
 //! | `draw` | [`RandomDraw`], a random generator as a draw |
 //! | `wire` | a TCP stream that a source and a sink share, within limits in time |
 //! | `limit` | limits in time |
@@ -31,7 +31,7 @@
 //! | `recv`, `MSG_PEEK` | looks for bytes that were not read: closing would reset the connection, and the reply might be lost |
 //! | `close` | ends the reply and the connection |
 //!
-//! Others come only where they are needed:
+//! Others come only if they are needed:
 //!
 //! | Call | When |
 //! |---|---|

@@ -51,7 +51,7 @@ impl ReadAhead {
     }
 
     /// Reads once, in place of what was left, and answers how many bytes came. It waits within the limit, and no longer
-    /// than so many seconds. `last` is how long a read waits, as it was set last, and as it is set now. None where the stream fails
+    /// than so many seconds. `last` is how long a read waits, as it was set last, and as it is set now. `None` if the stream fails
     /// or time is up.
     pub fn fill<C: Clock>(
         &mut self,

@@ -40,7 +40,7 @@ impl Wire {
         }
     }
 
-    /// From now on, a read or a write that can't be done at once waits, or it fails. Where that is so already, the system is not
+    /// From now on, a read or a write that can't be done at once waits, or it fails. If that is set already, the system is not
     /// called.
     pub fn set_waits(&self, waits: bool) -> io::Result<()> {
         if self.waits.load(Ordering::SeqCst) != waits {
@@ -50,7 +50,7 @@ impl Wire {
         Ok(())
     }
 
-    // From now on, a read waits for this long at most. Where that is so already, the system is not called. `None` if the stream
+    // From now on, a read waits for this long at most. If that is set already, the system is not called. `None` if the stream
     // fails.
     fn set_reading(&self, left: Duration, last: &mut Option<Duration>) -> Option<()>
         ensures { OnSome result (last.new ≡ Some left) }
@@ -110,7 +110,7 @@ impl Wire {
         }
     }
 
-    /// Writes once, and again after each interrupted write, and where it has to wait after all. It waits within the limit. `None` if
+    /// Writes once, and again after each interrupted write, and if it has to wait after all. It waits within the limit. `None` if
     /// the stream fails or time is up.
     pub fn send<C: Clock>(&self, clock: &C, piece: &[u8], limit: &Limit) -> Option<usize>
         ensures { IfSome result (λ count. count ≤ length piece.now) }

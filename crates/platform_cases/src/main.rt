@@ -8,17 +8,20 @@
 //! |---|---|
 //! | `writer|CALL` | the bytes that a writer takes as a sink, if its call CALL fails |
 //! | `words|NAME|WORD|..` | the words of a process |
+//! | `clock|STEADY WALL|..` | what the clock shows at these readings of the steady clock and the wall clock |
 //! | `tries|ADDRESS|..` | to which of these addresses a link tries to connect, over a network in memory |
 //! | `machine|CALL` | the answers of the clock, the random words, a door, a link or the desk of this machine |
 //!
 //! | Module | What it has |
 //! |---|---|
 //! | `process` | the calls `writer` and `words` |
+//! | `hands` | the call `clock`: a clock over two clocks that are set by hand |
 //! | `network` | the call `tries`: a link over a network in memory |
 //! | `this_machine`, `loopback` | the call `machine` |
 //! | `running` | the top call over one file in memory |
 #![tactic(auto)]
 
+mod hands;
 mod loopback;
 mod network;
 mod process;
@@ -43,6 +46,7 @@ impl Cases for PlatformCases {
         match fields {
             ["writer", call] => process::writer(alloc, call),
             ["words", words @ ..] => process::words(alloc, words),
+            ["clock", readings @ ..] => hands::shows(alloc, readings),
             ["tries", addresses @ ..] => network::tries(alloc, addresses),
             _ => told(alloc, "no such call"),
         }

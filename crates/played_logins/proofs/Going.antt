@@ -1,7 +1,7 @@
 -- How a play at the moment 1000 goes on by one place: a line sends a request for which there is room, and the role's reply is known from a
 -- legal world.
 use Rattle.std.proofs.Common.{◌≡◌, ℕ, suc, ◌+◌, Bool, true, cond, List, [], ◌∷◌, length, replicate, Some, None, nat_le, refl, sym, ap, ◌∙◌}
-use Rattle.sso_base.specs.Journal.{most_weight}
+use Rattle.sso_base.specs.Journal.{most_of}
 use Rattle.sso_base.specs.Legal.{last_moment}
 use Rattle.sso_base.specs.Words.{Word}
 use Rattle.sso_base.specs.declared.history.Entry.{Entry}
@@ -85,13 +85,13 @@ module _ (c : Configuration) (lines : List Line) (world : World) (so_far : Makes
     op_pair r = record { entry = op_entry 1000 drawn asked; reply = r }
 
     pub asks_provider : IsLegalWorld (own_site c) (Provider from request (op_pair reply) ∷ world) → later (last_moment (op_past world)) 1000 ≡ 1000 → fresh ≡ drawn
-        → line_sent c world (jars_in world) line ≡ Some (sent from to.Provider request) → nat_le (role_weight to.Provider world + op_weight asked) most_weight ≡ true
+        → line_sent c world (jars_in world) line ≡ Some (sent from to.Provider request) → nat_le (role_weight to.Provider world + op_weight asked) (most_of c.lasting) ≡ true
         → Makes c (line ∷ lines) (Provider from request (op_pair reply) ∷ world)
     asks_provider legal in_time draws sends room =
         let past : OpPast = op_past world in
         let G : ℕ → List Word → OpAsk → Place = λ at words a. Provider from request (record { entry = op_entry at words a; reply = op_answer c past (op_entry at words a) }) in
         let P : OpReply → Place = λ r. Provider from request (op_pair r) in
-        let W : OpAsk → Bool = λ a. nat_le (role_weight to.Provider world + op_weight a) most_weight in
+        let W : OpAsk → Bool = λ a. nat_le (role_weight to.Provider world + op_weight a) (most_of c.lasting) in
         let read : op_prepared c request ≡ asked = sym legal.asked.0 in
         let there : reply_to (sent from to.Provider request) ≡ P reply =
         ap (λ (at : ℕ). G at fresh (op_prepared c request)) in_time ∙ ap (λ (words : List Word). G 1000 words (op_prepared c request)) draws ∙ ap (G 1000 drawn) read ∙ ap P (sym legal.provider.3) in
@@ -110,13 +110,13 @@ module _ (c : Configuration) (lines : List Line) (world : World) (so_far : Makes
     party_sent = record { from = from; to = to.Party n; ask = request }
 
     pub asks_party : IsLegalWorld (own_site c) (Party n from request (rp_pair reply) ∷ world) → later (last_moment (rp_past n world)) 1000 ≡ 1000 → fresh ≡ drawn
-        → line_sent c world (jars_in world) line ≡ Some party_sent → nat_le (role_weight (to.Party n) world + rp_weight asked) most_weight ≡ true
+        → line_sent c world (jars_in world) line ≡ Some party_sent → nat_le (role_weight (to.Party n) world + rp_weight asked) (most_of c.lasting) ≡ true
         → Makes c (line ∷ lines) (Party n from request (rp_pair reply) ∷ world)
     asks_party legal in_time draws sends room =
         let past : RpPast = rp_past n world in
         let G : ℕ → List Word → RpAsk → Place = λ at words a. Party n from request (record { entry = rp_entry at words a; reply = rp_answer (setup_at (own_site c) n) past (rp_entry at words a) }) in
         let P : RpReply → Place = λ r. Party n from request (rp_pair r) in
-        let W : RpAsk → Bool = λ a. nat_le (role_weight (to.Party n) world + rp_weight a) most_weight in
+        let W : RpAsk → Bool = λ a. nat_le (role_weight (to.Party n) world + rp_weight a) (most_of c.lasting) in
         let read : party_prepared c n request ≡ asked = sym legal.asked.0.1 in
         let own = party_legal (own_site c) n from request (rp_pair reply) world legal in
         let there : reply_to party_sent ≡ P reply =

@@ -1,4 +1,4 @@
--- A text is read as a URL exactly where it keeps the rule.
+-- A text is read as a URL if and only if it keeps the rule.
 use Rattle.std.proofs.Common.{◌≡◌, List, ℕ, Bool, true, false, ◌&&◌, cond, nat_le, length, Option, Some, None, option_map, Result, Ok, Err, refl, sym, ap, ◌∙◌, true≢false}
 use Rattle.std.specs.List.{list_all}
 use Rattle.std.proofs.lemmas.Bool.{leb-true, le-leb}

@@ -1,4 +1,4 @@
--- A text is read exactly where it is a request object, and one that is none is refused for the first reason.
+-- A text is read if and only if it is a request object, and one that is none is refused for the first reason.
 use Rattle.std.proofs.Common.{◌≡◌, ℕ, List, Result, Ok, Err, IsOk, IfOk, IfErr, ◌⊎◌, ◌∙◌}
 use Rattle.serde_json.specs.Data.{Members}
 use Rattle.sso_base.specs.Refusals.{first_refusal, and_then_as}

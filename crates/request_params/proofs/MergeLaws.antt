@@ -1,4 +1,4 @@
--- Parameters are merged exactly where the request beside the object agrees with it and is an OpenID Connect request.
+-- Parameters are merged if and only if the request beside the object agrees with it and is an OpenID Connect request.
 use Rattle.std.proofs.Common.{◌≡◌, ◌⊎◌, inl, inr, List, [], ◌∷◌, Bool, true, false, not, codes, Option, Some, None, Result, Ok, Err, refl, sym, ◌∙◌, ap, subst}
 use Rattle.std.specs.Option.{option_or}
 use Rattle.sso_base.specs.Words.{Text}

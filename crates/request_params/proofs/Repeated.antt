@@ -1,4 +1,4 @@
--- The first name that stands again is found exactly where there is one.
+-- The first repeated name is found if and only if there is one.
 use Rattle.std.proofs.Common.{◌≡◌, ◌⊎◌, inl, inr, ⊎_elim, List, [], ◌∷◌, ◌++◌, Bool, true, false, cond, Option, Some, None, Ok, Err, refl, sym, ◌∙◌, ap, subst, append_assoc, append-nil}
 use Rattle.sso_base.specs.Words.{Text}
 use Rattle.request_params.specs.Form.{Pair}

@@ -24,7 +24,7 @@ there_at : (b c : Bool) (v : Text) (o : Option Text) → is_some o ≡ c → is_
 there_at true c v o h = refl
 there_at false c v o h = h
 
--- a value is there exactly where its name is
+-- a value is there if and only if its name is
 pub value_there : (t : Text) (xs : List Pair) → is_some (value_of t xs) ≡ has_name t xs
 value_there t [] = refl
 value_there t (x ∷ xs) = there_at (bytes_eq x.0 t) (has_name t xs) x.1 (value_of t xs) (value_there t xs)

@@ -36,12 +36,14 @@
 //! | `provider` | `Provider`: the provider of a run |
 //! | `party` | `RelyingParty`: the relying party of a run |
 //! | `filling` | fills its tables |
+//! | `in_turn` | the replies of a new provider and a new party to requests, one after another |
 //!
 //! A call here has a contract only if the calls below it need one.
 #![tactic(auto)]
 
 mod configurations;
 mod filling;
+mod in_turn;
 mod party;
 mod party_table;
 mod provider;

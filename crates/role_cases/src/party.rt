@@ -3,6 +3,7 @@
 ghost use Rattle.std.specs.Prelude.{◌≡◌, ◌<◌, length, IfOk};
 
 use crate::filling::bring;
+use crate::in_turn::party_replies;
 use crate::telling::{Telling, fill, step_told};
 use case_lines::{
     Run, answered, field, moment, number, or_else, push_part, request, told, word_of,
@@ -169,11 +170,13 @@ impl RelyingParty {
     /// | `send|..`, with the same fields | the line, the reply in HTTP, and the message in it |
     /// | `why|..`, with the same fields | the line, and the place of the earlier request that a refusal names |
     /// | `remembered|MOMENT|SID` | the place of the last logout token that named this session, and when it was accepted |
+    /// | `stored|NAME` | the last logout token with this `jti`, and the last that named this session, also one that is forgotten |
     /// | `fill|MOMENT|COUNT` | how often nothing is found by requests for something that does not exist |
     /// | `bring|MOMENT|COUNT|codes` | the answers to the responses of COUNT logins, each with a code |
     /// | `bring|MOMENT|COUNT|ID Tokens` | the same at `blog`, each with an ID Token for alice |
     /// | `bring|MOMENT|COUNT|logout tokens` | the answers to COUNT logout tokens for alice at `shop`, each with its own `jti` |
     /// | `bring|MOMENT|COUNT|logout tokens of sessions` | the same, each for its own `sid`, from `s0` |
+    /// | `in turn|MOMENT` | the lines of the replies of a new party to requests to begin, for who is logged in, and for nothing |
     /// | `held` | the entries of the tables for the words 1 to 63 |
     /// | `count` | how many requests were answered |
     pub fn answer(
@@ -184,6 +187,7 @@ impl RelyingParty {
     ) -> Result<String, NoMemory> {
         match (fields, moment(field(fields, 1))) {
             (["held"], _) => held(alloc, self.core.tables()),
+            (["stored", name], _) => stored(alloc, self.core.tables(), name),
             (["count"], _) => Ok(self.core.count().to_string(alloc)?),
             (_, Some(at)) => self.answer_at(alloc, run, at, fields),
             _ => told(alloc, "no such call"),
@@ -201,6 +205,7 @@ impl RelyingParty {
             ["fill", _, count] => fill(alloc, self, at, number(count)),
             ["bring", _, count, what] => bring(alloc, self, run, at, number(count), what),
             ["remembered", _, sid] => remembered(alloc, self.core.tables(), at, sid),
+            ["in turn", _] => self.in_turn(alloc, at),
             [call @ ("ask" | "send" | "why"), _, asked @ ..] => {
                 self.ask(alloc, run, at, call, asked)
             }
@@ -236,6 +241,16 @@ impl RelyingParty {
             ["info", exchange, answer @ ..] => info(alloc, exchange, answer),
             _ => self.requested(alloc, fields),
         }
+    }
+
+    // The lines of the replies of a new party of the registry's provider.
+    fn in_turn(&self, alloc: Global, at: Moment) -> Result<String, NoMemory> {
+        if self.party >= self.registry.parties() {
+            return told(alloc, "no party");
+        }
+        let provider = provider_of(alloc, &self.registry, None)?;
+        let registry = self.registry.copy(alloc)?;
+        party_replies(alloc, registry, self.party, provider, at)
     }
 
     /// The answer to the call `ask`, `send` or `why`: about a request, or about an answer of the provider.
@@ -363,4 +378,29 @@ fn remembered(alloc: Global, tables: &Logins, at: Moment, sid: &str) -> Result<S
         }
         None => told(alloc, "nothing"),
     }
+}
+
+fn push_stored(
+    alloc: Global,
+    out: &mut String,
+    kind: &str,
+    place: u64,
+    at: Moment,
+) -> Result<(), NoMemory> {
+    push_part(out, ", ", kind)?;
+    let accepted = at.seconds();
+    out.push_str(format!(in alloc; " of place {place} at {accepted}")?.as_str())?;
+    Ok(())
+}
+
+// The rows of this name: of a logout token, and of a session that one named.
+fn stored(alloc: Global, tables: &Logins, name: &str) -> Result<String, NoMemory> {
+    let mut out = String::new(alloc);
+    if let Some(row) = tables.seen(name.as_bytes()) {
+        push_stored(alloc, &mut out, "token", row.place, row.accepted)?;
+    }
+    if let Some(row) = tables.dead(name.as_bytes()) {
+        push_stored(alloc, &mut out, "sid", row.place, row.accepted)?;
+    }
+    or_else(out, "nothing")
 }

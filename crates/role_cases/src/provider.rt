@@ -1,5 +1,6 @@
 // The provider of a run.
 
+use crate::in_turn::provider_replies;
 use crate::telling::{Telling, fill, step_told};
 use case_lines::{Run, field, moment, number, request, told, told_bytes, word_of, words_of_place};
 use client_registry::{Client, RegNo, Registry, read_registry};
@@ -92,6 +93,7 @@ impl Provider {
     /// | `login of user|MOMENT|NUMBER` | the line of the reply to a login that no HTTP request needs to produce |
     /// | `fill|MOMENT|COUNT` | how often nothing is found by requests for something that does not exist |
     /// | `logins|MOMENT|COUNT` | how many of COUNT logins of `alice` at `mail-client` by code end with tokens |
+    /// | `in turn|MOMENT` | the lines of the replies of a new provider to requests for its keys, its metadata and nothing |
     /// | `holds|WORD` | the entries of the tables for the word |
     /// | `count` | the number of answered requests |
     /// | `payload|CLIENT|TOKEN` | the payload of a token that is sealed under the secret of the client with this id |
@@ -126,6 +128,7 @@ impl Provider {
             ["login of user", _, user] => self.login(alloc, run, at, number(user)),
             ["fill", _, count] => fill(alloc, self, at, number(count)),
             ["logins", _, count] => self.logins(alloc, run, at, number(count)),
+            ["in turn", _] => provider_replies(alloc, &self.registry, at),
             _ => told(alloc, "no such call"),
         }
     }
@@ -264,7 +267,7 @@ impl Provider {
         if let Some(name) = self.code_held(word) {
             return name;
         }
-        if self.core.tables().token(word).is_some() {
+        if self.core.tables().live(word).is_some() {
             return "an access token";
         }
         if self.core.tables().session(word).is_some() {

@@ -7,7 +7,8 @@ use Rattle.sso_base.specs.Base64Url.{all_bytes}
 use Rattle.sso_base.specs.Values.{AreWords}
 use Rattle.sso_base.specs.Drawn.{IsDrawn}
 use Rattle.sso_base.proofs.DrawnWords.{texts_tell_words}
-use Rattle.sso_base.proofs.Histories.{few_pairs}
+use Rattle.sso_base.specs.Journal.{history_weight}
+use Rattle.sso_base.proofs.Histories.{few_stored_pairs}
 use Rattle.sso_base.proofs.RowLaws.{bytes_same}
 use Rattle.sso_base.proofs.WordUtf8.{IsUtf8-word_text}
 use Rattle.sso_base.specs.declared.history.Entry.{Entry}
@@ -104,7 +105,7 @@ other_reply_is_not_legal h = let told : NotHere ≡ asked = h.3 ∙ begin_asks i
 
 -- the history of one pair is light enough
 pub begin_is_legal_history : IsLegalHistory shop_setup (pair_of begin_entry asked ∷ [])
-begin_is_legal_history = record { past = begin_is_legal; light = omega arith }
+begin_is_legal_history = record { past = begin_is_legal; light = (let light : history_weight ask_weight (pair_of begin_entry asked ∷ []) ≤ 268435456 = omega arith in light) }
 
 no_history_with_another_reply : IsLegalHistory shop_setup (pair_of begin_entry NotHere ∷ []) → ⊥
 no_history_with_another_reply h = other_reply_is_not_legal h.past
@@ -340,5 +341,5 @@ the_second = refl
 -- no history has a pair more than the limit of its weight leaves room for
 no_history_of_262145_pairs : (history : List RpPair) → length history ≡ 262145 → IsLegalHistory shop_setup history → ⊥
 no_history_of_262145_pairs history long legal =
-    let short : length history ≤ 262144 = few_pairs ask_weight least_weight history legal.light in
+    let short : length history ≤ 262144 = few_stored_pairs ask_weight least_weight history legal.light in
     absurd (omega (arith, long, short))

@@ -3,7 +3,7 @@
 use Rattle.std.specs.Prelude.{◌≡◌, ℕ, ◌+◌, List, ◌∷◌, ◌++◌, length, Option, Some, None, option_map, Result, Ok, ◌⊎◌}
 use Rattle.sso_base.specs.Words.{Word, Text, fresh_word, word_text}
 use Rattle.sso_base.specs.Legal.{IsLegalBy}
-use Rattle.sso_base.specs.Journal.{IsLegalHistoryBy}
+use Rattle.sso_base.specs.Journal.{most_of, IsLegalHistoryBy}
 use Rattle.sso_base.specs.declared.history.Entry.{Entry}
 use Rattle.sso_base.specs.declared.message.Message.{Message}
 use Rattle.id_token.specs.declared.claims.IdClaims.{IdClaims}
@@ -40,9 +40,9 @@ use Rattle.rp_answer.specs.Causes.{OwnLogin}
 abbrev pub IsLegalRp : PartySetup → RpPast → Type 0
 IsLegalRp s past = IsLegalBy IsRpAsk (rp_answer s) past
 
--- a history, oldest first, whose past is legal, and that weighs no more than the limit
+-- a history, oldest first, whose past is legal, and that weighs no more than the limit of the configuration
 abbrev pub IsLegalHistory : PartySetup → List RpPair → Type 0
-IsLegalHistory s history = IsLegalHistoryBy IsRpAsk (rp_answer s) ask_weight history
+IsLegalHistory s history = IsLegalHistoryBy IsRpAsk (rp_answer s) ask_weight (most_of s.configuration.lasting) history
 
 -- ---- words that were drawn
 

@@ -1,9 +1,9 @@
 // What is true for a relying party's replies.
 
-ghost use Rattle.std.specs.Prelude.{◌≡◌, ◌≤◌, ◌↔◌, true, List, length, Some};
+ghost use Rattle.std.specs.Prelude.{◌≡◌, ◌≤◌, ◌↔◌, true, false, List, length, Some};
 ghost use Rattle.sso_base.specs.Words.{Word, Text};
 ghost use Rattle.sso_base.specs.Rows.{row_of};
-ghost use Rattle.sso_base.specs.Journal.{most_pairs};
+ghost use Rattle.sso_base.specs.Journal.{most_stored_pairs, most_pairs};
 ghost use Rattle.sso_base.specs.declared.history.Entry.{Entry};
 ghost use Rattle.rp_login.specs.declared.rows.LoginRow.{LoginRow};
 ghost use Rattle.rp_login.specs.declared.rows.SeenRow.{SeenRow};
@@ -135,9 +135,12 @@ pub fn codes_and_access_tokens_have_their_hash()
     ensures access { AccessTokensHaveTheirHash }
 {}
 
-/// A legal history has at most 262,144 pairs: it weighs at most 268,435,456, and no pair less than 1,024.
+/// A legal history that is stored has at most 262,144 pairs: it weighs at most 268,435,456, and no pair less than 1,024. One that
+/// lasts has at most 2^53.
 pub fn legal_histories_are_short()
-    ensures { (s : PartySetup) (history : List RpPair) → IsLegalHistory s history → length history ≤ most_pairs }
+    ensures stored { (s : PartySetup) (history : List RpPair) → s.configuration.lasting ≡ false
+        → IsLegalHistory s history → length history ≤ most_stored_pairs }
+    ensures all { (s : PartySetup) (history : List RpPair) → IsLegalHistory s history → length history ≤ most_pairs }
 {}
 
 /// What a party signs for a login stays apart from tokens: its request object is read neither as an ID Token nor as a logout

@@ -69,7 +69,7 @@ module _ (w : Word) (waits : Stage) where
       sym (ap W other)
   pushed false r rs other = refl
 
-  -- the one row of the word ends exactly where it waits for this answer
+  -- the one row of the word ends if and only if it waits for this answer
   pub ended_by : (rows : List PendingRow) (row : PendingRow) (same : Bool) → IsDistinct pending_name rows → found rows ≡ Some row → is_stage waits row.stage ≡ same
       → without_answered w waits rows ≡ cond same (without pending_name w rows) rows
   ended_by [] row same distinct h is = cc

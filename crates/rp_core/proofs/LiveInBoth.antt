@@ -136,7 +136,7 @@ module _ (s : PartySetup) (history : List RpPair) (t : Tables) (keeps : KeepsPas
       let A : List LoginRow → Bool = λ rows. list_any (λ (login : LoginRow). bytes_eq login.browser browser) rows in
       ap A logins_live
 
--- ---- the row of a word lives exactly where it is found among the live rows
+-- ---- the row of a word lives if and only if it is found among the live rows
 
 module _ (past : RpPast) (at : ℕ) (w : Word) where
   pub login_named : live_login past at (Some w) ≡ row_of login_name w (live_logins past at)

@@ -85,14 +85,14 @@ it_may_be_purged = record { agrees = record { logins = refl; pendings = refl; vi
 a_purge_makes_other_tables : purged 1600 with_login_begun ≡ with_login_begun → ⊥
 a_purge_makes_other_tables same = (let L : Tables → List LoginRow = λ t. t.logins in let k : [] ≡ login ∷ [] = ap L same in cc)
 
-nothing_is_kept_at_first : Keeps shop_setup [] no_tables
-nothing_is_kept_at_first = begins shop_setup [] no_tables refl refl
+nothing_is_kept_at_first : Keeps shop_setup [] no_tables 268435456
+nothing_is_kept_at_first = begins shop_setup [] no_tables 268435456 refl refl refl
 
-a_begun_login_is_kept : Keeps shop_setup (begin_pair ∷ []) with_login_begun
+a_begun_login_is_kept : Keeps shop_setup (begin_pair ∷ []) with_login_begun 268435456
 a_begun_login_is_kept =
-    record { tables = the_tables_are_kept; legal = begin_is_legal_history }
+    record { tables = the_tables_are_kept; legal = begin_is_legal_history; most_is = refl }
 
-not_without_the_rows_of_its_login : Keeps shop_setup (begin_pair ∷ []) no_tables → ⊥
+not_without_the_rows_of_its_login : Keeps shop_setup (begin_pair ∷ []) no_tables 268435456 → ⊥
 not_without_the_rows_of_its_login keeps = not_without_the_login keeps.tables
 
 -- ---- the rows that a pair makes

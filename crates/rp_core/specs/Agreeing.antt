@@ -2,6 +2,7 @@
 use Rattle.std.specs.Prelude.{◌≡◌, ℕ, true, List, reverse}
 use Rattle.sso_base.specs.Rows.{live_rows}
 use Rattle.sso_base.specs.Legal.{last_moment}
+use Rattle.sso_base.specs.Journal.{most_of}
 use Rattle.oidc_words.specs.declared.response_types.Types.{Types}
 use Rattle.oidc_words.specs.Lives.{login_life, pending_life, visit_life, seen_life}
 use Rattle.rp_login.specs.Rows.{login_begun, pending_begun, visit_begun, seen_begun, dead_begun}
@@ -36,7 +37,8 @@ pub record KeepsPast (types : Types) (past : RpPast) (t : Tables) : Type 0 where
   pub agrees : Agrees types t past (last_moment past)
   pub begun : IsBegun t (last_moment past)
 
--- the invariant of a party: the tables are those of its history, which is legal
-pub record Keeps (s : PartySetup) (history : List RpPair) (t : Tables) : Type 0 where
+-- the invariant of a party: the tables are those of its history, which is legal, and its limit is that of the configuration
+pub record Keeps (s : PartySetup) (history : List RpPair) (t : Tables) (most : ℕ) : Type 0 where
   pub tables : KeepsPast (party_of s).types (reverse history) t
   pub legal : IsLegalHistory s history
+  pub most_is : most ≡ most_of s.configuration.lasting

@@ -39,12 +39,12 @@ impl Model for RpCore {
 
     ghost use Rattle.rp_core.specs.Agreeing.{Keeps};
 
-    ghost invariant = { λ c. Keeps c.setup c.journal.pairs c.logins };
+    ghost invariant = { λ c. Keeps c.setup c.journal.pairs c.logins c.journal.most };
 }
 
 impl RpCore {
     /// A relying party with an empty history: the party with this number in the registry, which trusts this provider. The
-    /// provider's issuer is the registry's.
+    /// provider's issuer is the registry's. The party stores its history, unless the registry's histories last.
     pub fn new(
         alloc: Global,
         registry: Registry,
@@ -55,10 +55,12 @@ impl RpCore {
         requires issuer { provider.issuer ≡ registry.provider.issuer }
         ensures { IfOk result (λ c. c ≡ record { setup = setup_of registry number provider; history = []; tables = no_tables }) }
     {
+        let lasts = registry.lasting();
+        let logins = Logins::new(alloc)?;
         Ok(RpCore {
             setup: Setup::new(registry, number, provider),
-            journal: Journal::new(alloc),
-            logins: Logins::new(alloc)?,
+            journal: Journal::new(alloc, lasts),
+            logins,
         })
     }
 

@@ -1,9 +1,9 @@
 // One step of a relying party: it decides the reply, makes the rows, reserves all memory, and only then changes anything.
 
-ghost use Rattle.std.specs.Prelude.{◌≡◌, ◌<◌, ◌≤◌, ◌+◌, ◌++◌, true, [], ◌∷◌, length, OnOk, OnErr};
+ghost use Rattle.std.specs.Prelude.{◌≡◌, ◌<◌, ◌≤◌, ◌+◌, ◌++◌, true, [], ◌∷◌, length, IfOk, OnOk, OnErr};
 ghost use Rattle.rp_login.specs.Tables.{with_room};
 ghost use Rattle.sso_base.specs.Legal.{last_moment, IsEntry};
-ghost use Rattle.sso_base.specs.Journal.{history_weight, most_weight};
+ghost use Rattle.sso_base.specs.Journal.{history_weight, most_of, ReportsFull};
 ghost use Rattle.rp_exchange.specs.Values.{IsRpAsk};
 ghost use Rattle.rp_exchange.specs.Weight as weights;
 ghost use Rattle.rp_answer.specs.Answering.{rp_answer};
@@ -23,6 +23,7 @@ use std::alloc::Global;
 // Makes room in the history for one more pair, and in each table for one more row.
 fn reserve(journal: &mut Journal<RpAsk, RpReply>, logins: &mut Logins) -> Result<(), NoMemory>
     ensures pairs { journal.new.pairs ≡ journal.old.pairs }
+    ensures most { journal.new.most ≡ journal.old.most }
     ensures room { OnOk result (length journal.new.pairs < journal.new.capacity) }
     ensures tables { OnOk result (logins.new ≡ with_room logins.old) }
     ensures same { OnErr result (logins.new ≡ logins.old) }
@@ -44,8 +45,9 @@ fn put(
     requires may { MayUpdateTables logins.old (record { entry = entry; reply = reply }) made }
     requires tables { logins.old.reserved ≡ record { logins = true; pendings = true; visits = true; seens = true; deads = true } }
     requires weight { weight ≡ weights.ask_weight entry.ask }
-    requires room { history_weight weights.ask_weight journal.old.pairs + weight ≤ most_weight }
+    requires room { history_weight weights.ask_weight journal.old.pairs + weight ≤ journal.old.most }
     ensures pairs { journal.new.pairs ≡ journal.old.pairs ++ (record { entry = entry; reply = reply }) ∷ [] }
+    ensures most { journal.new.most ≡ journal.old.most }
     ensures tables { UpdatesTables logins.old logins.new (record { entry = entry; reply = reply }) made }
 {
     let pair = Pair { entry, reply };
@@ -64,8 +66,9 @@ fn take_in(
 ) -> Result<(), NoMemory>
     requires may { MayUpdateTables (with_room logins.old) (record { entry = entry; reply = reply }) made }
     requires weight { weight ≡ weights.ask_weight entry.ask }
-    requires room { history_weight weights.ask_weight journal.old.pairs + weight ≤ most_weight }
+    requires room { history_weight weights.ask_weight journal.old.pairs + weight ≤ journal.old.most }
     ensures pairs { OnOk result (journal.new.pairs ≡ journal.old.pairs ++ (record { entry = entry; reply = reply }) ∷ []) }
+    ensures most { journal.new.most ≡ journal.old.most }
     ensures tables { OnOk result (UpdatesTables (with_room logins.old) logins.new (record { entry = entry; reply = reply }) made) }
     ensures same_pairs { OnErr result (journal.new.pairs ≡ journal.old.pairs) }
     ensures same_tables { OnErr result (logins.new ≡ logins.old) }
@@ -86,6 +89,17 @@ fn take_in(
 }
 
 impl RpCore {
+    // The weight of a request, which fits into the history; otherwise the error holds the history's weight.
+    fn admit(&self, ask: &RpAsk) -> Result<u64, CoreNo>
+        ensures weight { IfOk result (λ weight. weight ≡ weights.ask_weight ask.now) }
+        ensures room { OnOk result (history_weight weights.ask_weight self.now.history + weights.ask_weight ask.now
+            ≤ most_of self.now.setup.configuration.lasting) }
+        ensures full { ReportsFull (most_of self.now.setup.configuration.lasting) result
+            (history_weight weights.ask_weight self.now.history) (weights.ask_weight ask.now) }
+    {
+        self.journal.admit(ask)
+    }
+
     // Adds an entry with its reply and its rows.
     fn commit(
         &mut self,
@@ -99,7 +113,7 @@ impl RpCore {
         requires entry { IsEntry IsRpAsk entry }
         requires rows { AreMade (party_of self.old.setup).types (past_of self.old) (record { entry = entry; reply = reply }) made }
         requires weight { weight ≡ weights.ask_weight entry.ask }
-        requires room { history_weight weights.ask_weight self.old.history + weight ≤ most_weight }
+        requires room { history_weight weights.ask_weight self.old.history + weight ≤ most_of self.old.setup.configuration.lasting }
         ensures setup { OnOk result (self.new.setup ≡ self.old.setup) }
         ensures history { OnOk result (self.new.history ≡ self.old.history ++ (record { entry = entry; reply = reply }) ∷ []) }
         ensures err { OnErr result (self.new ≡ self.old) }
@@ -118,6 +132,7 @@ impl RpCore {
 
 impl Core for RpCore {
     ghost use Rattle.sso_base.proofs.Histories.{beginning_is_legal};
+    ghost use Rattle.sso_base.proofs.Limits.{most_is_short as short_limit};
     ghost use Rattle.rp_exchange.specs.Values.{IsRpAsk};
     ghost use Rattle.rp_exchange.proofs.LeastWeight.{least_weight};
     ghost use Rattle.rp_answer.specs.Setup.{PartySetup};
@@ -136,6 +151,8 @@ impl Core for RpCore {
 
     ghost weighs = { weights.ask_weight };
 
+    ghost most = { λ s. most_of s.configuration.lasting };
+
     ghost is_legal = { IsLegalHistory };
 
     fn step(
@@ -145,7 +162,7 @@ impl Core for RpCore {
         fresh: [Word; 4],
         ask: RpAsk,
     ) -> Result<RpReply, CoreNo> {
-        let weight = self.journal.admit(&ask)?;
+        let weight = self.admit(&ask)?;
         let entry = self.journal.entry(at, fresh, ask);
         know_rp_entry(&entry);
         let reply = self.answer(alloc, &entry)?;
@@ -165,7 +182,9 @@ impl Core for RpCore {
 
     ghost legal_is_light = { λ s h legal. legal.light };
 
-    ghost beginnings_are_legal = { λ s. beginning_is_legal IsRpAsk (rp_answer s) weights.ask_weight };
+    ghost most_is_short = { λ s. short_limit s.configuration.lasting };
+
+    ghost beginnings_are_legal = { λ s. beginning_is_legal IsRpAsk (rp_answer s) weights.ask_weight (most_of s.configuration.lasting) };
 
     ghost least_weight = { least_weight };
 }

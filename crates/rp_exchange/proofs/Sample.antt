@@ -94,6 +94,7 @@ sample =
       clients = shop_client ∷ news_client ∷ [];
       parties = shop ∷ news ∷ [];
       subjects = [] ∷ [] ∷ [];
+      lasting = false;
     }
 
 -- the claims of an ID Token of this provider for the first client

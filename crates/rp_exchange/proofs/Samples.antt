@@ -24,6 +24,7 @@ use Rattle.rp_exchange.specs.Asks.{is_prepared}
 use Rattle.client_registry.specs.Numbers.{party_client, party_name}
 use Rattle.rp_exchange.specs.Values.{IsIdValue, IsLogoutValue, IsTokensValue, IsRpAsk}
 use Rattle.rp_exchange.specs.Weight.{ask_weight}
+use Rattle.rp_exchange.specs.Held.{held_bytes, is_small}
 use Rattle.rp_exchange.proofs.Sample.{word, shop_client, sample, alice}
 
 -- ---- parties
@@ -120,6 +121,24 @@ weight_of_a_refusal = refl
 
 weight_of_a_logout : ask_weight (ask.Logout (Ok logout)) ≡ 1031
 weight_of_a_logout = refl
+
+-- ---- what rows hold
+
+-- 1 byte of the code and 5 of the subject
+held_of_a_code : held_bytes (ask.Callback (Ok heard) (Some (Ok alice)) None) ≡ 6
+held_of_a_code = refl
+
+held_of_tokens : held_bytes (ask.Tokens (word 5) (Ok tokens) (Some (Ok alice))) ≡ 5
+held_of_tokens = refl
+
+held_of_a_logout : held_bytes (ask.Logout (Ok logout)) ≡ 1
+held_of_a_logout = refl
+
+small_with_1536_bytes : is_small (ask.Callback (Ok (record heard { code = Some (replicate 1536 120) })) None None) ≡ true
+small_with_1536_bytes = refl
+
+not_small_with_1537_bytes : is_small (ask.Callback (Ok (record heard { code = Some (replicate 1537 120) })) None None) ≡ false
+not_small_with_1537_bytes = refl
 
 -- ---- values of their types
 

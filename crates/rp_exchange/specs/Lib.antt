@@ -1,3 +1,4 @@
 pub mod Asks
 pub mod Values
 pub mod Weight
+pub mod Held

@@ -8,10 +8,12 @@
 //! | `copies` | copies of errors |
 //! | `values` | requests hold values of their types |
 //! | `weight` | the weight of a request |
+//! | `held` | the bytes of a request that rows hold |
 #![tactic(auto)]
 
 mod ask;
 mod copies;
+mod held;
 mod no;
 mod reply;
 mod values;
@@ -19,6 +21,7 @@ mod weight;
 
 pub use ask::RpAsk;
 pub use copies::{copied_id, copied_info, copied_logout, copied_tokens};
+pub use held::is_small;
 pub use no::{Part, RpNo};
 pub use reply::RpReply;
 pub use values::know_rp_entry;

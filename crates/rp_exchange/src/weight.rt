@@ -146,10 +146,15 @@ fn ask_bytes(ask: &RpAsk) -> Result<u64, NoMemory>
 }
 
 impl Weighed for RpAsk {
+    ghost use Rattle.std.proofs.Math.Nat.{le-add_right};
+    ghost use Rattle.sso_base.specs.Weights.{empty_weight};
+
     ghost weighs = { spec.ask_weight };
 
     // The claims of an ID Token that are not fields weigh as much as their text, which needs memory.
     fn weight(&self) -> Result<u64, NoMemory> {
         Ok(ask_bytes(self)?.saturating_add(EMPTY_WEIGHT))
     }
+
+    ghost least = { λ asked. le-add_right empty_weight (spec.ask_bytes asked) };
 }

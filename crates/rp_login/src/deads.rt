@@ -26,6 +26,15 @@ impl Logins {
         self.deads.add(row);
     }
 
+    /// The row of this `sid`; `None` if and only if no row in the table has it. Its logout token may have been accepted too
+    /// long ago.
+    pub fn dead(&self, sid: &[u8]) -> Option<&DeadRow>
+        ensures row { option_copied result ≡ row_of dead_name sid.now self.now.deads }
+        ensures held { spec.AreDeads self.now.deads }
+    {
+        self.deads.find(sid)
+    }
+
     /// The row of this `sid`, if it is remembered at the moment; `None` if and only if no such row is.
     pub fn live_dead(&self, sid: &[u8], at: Moment) -> Option<&DeadRow>
         ensures row { option_copied result ≡ option_and_then (if_lives seen_life dead_begun at) (row_of dead_name sid.now self.now.deads) }

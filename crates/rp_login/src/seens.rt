@@ -26,6 +26,15 @@ impl Logins {
         self.seens.add(row);
     }
 
+    /// The logout token with this `jti`; `None` if and only if none in the table has it. It may have been accepted too long
+    /// ago.
+    pub fn seen(&self, jti: &[u8]) -> Option<&SeenRow>
+        ensures row { option_copied result ≡ row_of seen_name jti.now self.now.seens }
+        ensures held { spec.AreSeens self.now.seens }
+    {
+        self.seens.find(jti)
+    }
+
     /// The logout token with this `jti`, if it is remembered at the moment; `None` if and only if no such token is.
     pub fn live_seen(&self, jti: &[u8], at: Moment) -> Option<&SeenRow>
         ensures row { option_copied result ≡ option_and_then (if_lives seen_life seen_begun at) (row_of seen_name jti.now self.now.seens) }

@@ -1,4 +1,4 @@
--- A text of a client is read as an ID Token, or as a logout token, exactly where it is one under a secret of the client.
+-- A text of a client is read as an ID Token, or as a logout token, if and only if it is one under a secret of the client.
 use Rattle.std.proofs.Common.{◌≡◌, true, Ok}
 use Rattle.sso_base.specs.Words.{Text}
 use Rattle.client_registry.specs.declared.records.Client.{Client}

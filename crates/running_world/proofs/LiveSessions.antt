@@ -1,5 +1,5 @@
 -- A session that lives in tables that agree with a legal past lives after it, and its user is one of the registry.
-use Rattle.std.proofs.Common.{◌≡◌, ◌≤◌, ◌<◌, ℕ, Bool, nat_lt, cond, length, Option, Some, option_and_then, inl, inr, sym, ap, ◌∙◌, subst, arith}
+use Rattle.std.proofs.Common.{◌≡◌, ◌≤◌, ◌<◌, ℕ, Bool, nat_lt, cond, length, Option, Some, None, option_and_then, IfSome, inl, inr, sym, ap, ◌∙◌, subst, arith}
 use Rattle.std.proofs.lemmas.Bool.{ltb-true, ltb-false}
 use Rattle.sso_base.specs.Words.{Word}
 use Rattle.sso_base.specs.Legal.{last_moment}
@@ -32,7 +32,7 @@ not_before last at =
 abbrev pub lives_at : Providing → ℕ → ℕ
 lives_at p at = later (last_moment (past_of p)) at
 
-pub session_live : (p seen : Providing) → p ≡ seen → (t : Tables) (at : ℕ) → Agrees t (past_of p) (last_moment (past_of p)) → AreSessions t.sessions → (word : Option Word) (w : Word) → word ≡ Some w
+session_live : (p seen : Providing) → p ≡ seen → (t : Tables) (at : ℕ) → Agrees t (past_of p) (last_moment (past_of p)) → AreSessions t.sessions → (word : Option Word) (w : Word) → word ≡ Some w
     → option_and_then (if_lives session_life session_begun (lives_at seen at)) (row_of session_name w t.sessions) ≡ live_session (past_of seen) (lives_at seen at) word
 session_live p seen same t at agrees held word w is =
     let past : OpPast = past_of p in
@@ -43,8 +43,19 @@ session_live p seen same t at agrees held word w is =
     let S : Providing → Type 0 = λ q. option_and_then (if_lives session_life session_begun (lives_at q at)) (row_of session_name w t.sessions) ≡ live_session (past_of q) (lives_at q at) (Some w) in
     subst S same found ∙ ap (λ (v : Option Word). live_session (past_of seen) (lives_at seen at) v) (sym is)
 
-pub session_user : (p : Providing) (last at : ℕ) → IsLegalAt p last → (word : Option Word) (w : Word) → word ≡ Some w → (row : SessionRow) → Some row ≡ live_session (past_of p) at word → row.user < length p.registry.users
-session_user p last at is word w asked row lives =
+-- as it is found, by a moment that is the one of the entry
+pub session_found : (p seen : Providing) → p ≡ seen → (t : Tables) (at moment : ℕ) → moment ≡ lives_at seen at
+    → Agrees t (past_of p) (last_moment (past_of p)) → AreSessions t.sessions → (word : Option Word) (w : Word) → word ≡ Some w
+    → (o : Option SessionRow) → o ≡ option_and_then (if_lives session_life session_begun moment) (row_of session_name w t.sessions)
+    → o ≡ live_session (past_of seen) (lives_at seen at) word
+session_found p seen same t at moment this agrees held word w is o found =
+    let F : ℕ → Option SessionRow = λ n. option_and_then (if_lives session_life session_begun n) (row_of session_name w t.sessions) in
+    found ∙ ap F this ∙ session_live p seen same t at agrees held word w is
+
+pub session_user : (p : Providing) (last at : ℕ) → IsLegalAt p last → (word : Option Word) (w : Word) → word ≡ Some w
+    → (o : Option SessionRow) → o ≡ live_session (past_of p) at word → IfSome o (λ (row : SessionRow). row.user < length p.registry.users)
+session_user p last at is word w asked None lives = tt
+session_user p last at is word w asked (Some row) lives =
     let past : OpPast = past_of p in
     let here : live_session past at (Some w) ≡ Some row = ap (λ (v : Option Word). live_session past at v) (sym asked) ∙ sym lives in
     let found : row_of session_name w (sessions past) ≡ Some row = row_that_lives session_life session_begun at (row_of session_name w (sessions past)) row here in

@@ -1,15 +1,17 @@
 -- A world after one of its roles received a request, by the contracts of its parts.
-use Rattle.std.proofs.Common.{◌≡◌, ℕ, ◌<◌, List, ◌∷◌, length, reverse, None, Some, Result, Ok, Err, OnOk, OnErr, slice_get, refl, sym, ap, ◌∙◌, subst}
+use Rattle.std.proofs.Common.{◌≡◌, ℕ, ◌+◌, ◌<◌, ◌≤◌, List, ◌∷◌, length, reverse, None, Some, Result, Ok, Err, OnOk, OnErr, slice_get, refl, sym, ap, ◌∙◌, subst}
 use Rattle.std.proofs.lemmas.List.{reverse-reverse}
 use Rattle.sso_base.specs.Words.{Word}
-use Rattle.sso_base.specs.Journal.{history_weight}
+use Rattle.sso_base.specs.Journal.{history_weight, most_of}
 use Rattle.sso_base.specs.declared.http.Ask.{Ask}
 use Rattle.client_registry.specs.Configuration.{Configuration}
 use Rattle.op_exchange.specs.Weight.{ask_weight as op_weight}
 use Rattle.op_answer.specs.Past.{OpPair}
 use Rattle.op_core.specs.Providing.{Providing}
+use Rattle.rp_exchange.specs.declared.ask.RpAsk.{RpAsk}
 use Rattle.rp_exchange.specs.Weight.{ask_weight as rp_weight}
 use Rattle.rp_answer.specs.Past.{RpPair}
+use Rattle.rp_answer.specs.Setup.{PartySetup}
 use Rattle.rp_core.specs.Relying.{Relying}
 use Rattle.sso_places.specs.declared.types.To.TheVariants as to
 use Rattle.sso_places.specs.declared.types.WorldAsk.{WorldAsk}
@@ -88,6 +90,21 @@ rp_weighs provider parties r n role is there =
     let party : IsParty r.registry (world_of r) n role = is.each n role there in
     let turned : role.history ≡ reverse (rp_past n (world_of r)) = sym (reverse-reverse role.history) ∙ ap (λ (p : List RpPair). reverse p) party.past in
     ap (λ (h : List RpPair). history_weight rp_weight h) turned
+
+-- the limit of its history is the registry's
+pub rp_limit : (provider : Providing) (parties : List Relying) (r : Running) (n : ℕ) (role : Relying) → Stands provider parties r → slice_get parties n ≡ Some role → most_of role.setup.configuration.lasting ≡ most_of r.registry.lasting
+rp_limit provider parties r n role is there =
+    let party : IsParty r.registry (world_of r) n role = is.each n role there in
+    ap (λ (s : PartySetup). most_of s.configuration.lasting) party.setup
+
+pub rp_room : {E : Type 0} (result : Result (Unit {0}) E) (provider : Providing) (parties : List Relying) (r : Running) (n : ℕ) (role : Relying) (asked : RpAsk) → Stands provider parties r → slice_get parties n ≡ Some role
+    → OnOk result (history_weight rp_weight role.history + rp_weight asked ≤ most_of role.setup.configuration.lasting)
+    → OnOk result (role_weight (to.Party n) (world_of r) + rp_weight asked ≤ most_of r.registry.lasting)
+rp_room (Ok done) provider parties r n role asked is there room =
+    let W : ℕ → Type 0 = λ w. w + rp_weight asked ≤ most_of r.registry.lasting in
+    let M : ℕ → Type 0 = λ m. history_weight rp_weight role.history + rp_weight asked ≤ m in
+    subst W (rp_weighs provider parties r n role is there) (subst M (rp_limit provider parties r n role is there) room)
+rp_room (Err why) provider parties r n role asked is there room = room
 
 -- ---- nothing changed
 

@@ -4,7 +4,9 @@ use Rattle.sso_base.specs.Words.{Word}
 use Rattle.sso_base.specs.Legal.{last_moment}
 use Rattle.sso_base.specs.declared.step.CoreNo.{CoreNo}
 use Rattle.sso_base.specs.declared.step.CoreNo.TheVariants.{JournalFull}
-use Rattle.sso_base.specs.Journal.{history_weight, most_weight}
+use Rattle.sso_base.specs.Journal.{history_weight, most_of, ReportsFull}
+use Rattle.client_registry.specs.Configuration.{Configuration}
+use Rattle.op_exchange.specs.Weight.{ask_weight as op_weight}
 use Rattle.op_exchange.specs.declared.ask.OpAsk.{OpAsk}
 use Rattle.op_exchange.specs.declared.reply.OpReply.{OpReply}
 use Rattle.op_answer.specs.Answering.{op_answer}
@@ -47,14 +49,24 @@ pub record RpStepsAt (before after : List Relying) (n at : ℕ) (fresh : List Wo
   pub set : after ≡ slice_set before n new
   pub steps : RpSteps old new at fresh asked moment answer
 
+-- after a step the history of the provider had room for the request; the configuration has its limit
+abbrev pub ProviderHasRoom : {A : Type 0} → Result A CoreNo → Configuration → Providing → OpAsk → Type 0
+ProviderHasRoom result c provider asked =
+    OnOk result (history_weight op_weight provider.history + op_weight asked ≤ most_of c.lasting)
+
+-- a step that is refused because the history is full reports its weight, and there was no room for the request
+abbrev pub ProviderReportsFull : {A : Type 0} → Result A CoreNo → Configuration → Providing → OpAsk → Type 0
+ProviderReportsFull result c provider asked =
+    ReportsFull (most_of c.lasting) result (history_weight op_weight provider.history) (op_weight asked)
+
 -- after a step the history of the party had room for the request
 abbrev pub PartyHasRoom : {A : Type 0} → Result A CoreNo → List Relying → ℕ → RpAsk → Type 0
 PartyHasRoom result roles n asked =
     (role : Relying) → slice_get roles n ≡ Some role
-    → OnOk result (history_weight rp_weight role.history + rp_weight asked ≤ most_weight)
+    → OnOk result (history_weight rp_weight role.history + rp_weight asked ≤ most_of role.setup.configuration.lasting)
 
--- a step that is refused because the history is full reports its weight, and there was no room for the request
+-- the same for the party with this number
 abbrev pub PartyReportsFull : {A : Type 0} → Result A CoreNo → List Relying → ℕ → RpAsk → Type 0
 PartyReportsFull result roles n asked =
     (role : Relying) (w : ℕ) → slice_get roles n ≡ Some role → result ≡ Err (JournalFull w)
-    → (w ≡ history_weight rp_weight role.history) × (most_weight < w + rp_weight asked)
+    → (w ≡ history_weight rp_weight role.history) × (most_of role.setup.configuration.lasting < w + rp_weight asked)

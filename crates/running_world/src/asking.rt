@@ -1,15 +1,13 @@
 // Sends a request to one role of a world, and keeps its reply.
 
-ghost use Rattle.std.specs.Prelude.{◌≡◌, ◌<◌, ◌≤◌, ◌+◌, length, IfOk, OnOk, OnErr};
-ghost use Rattle.sso_base.specs.Journal.{history_weight, most_weight, ReportsFull};
-ghost use Rattle.op_exchange.specs.Weight.{ask_weight as op_weight};
+ghost use Rattle.std.specs.Prelude.{◌≡◌, ◌<◌, length, IfOk, OnOk, OnErr};
 ghost use Rattle.op_request.specs.Prepared.{prepared as op_prepared};
 ghost use Rattle.op_core.specs.Providing.{past_of as op_past_of};
 ghost use Rattle.sso_places.specs.Legal.{party_prepared};
 ghost use Rattle.sso_places.specs.World.{op_past};
 ghost use Rattle.running_world.specs.Running.{places_of};
 ghost use Rattle.running_world.specs.Worlds.{shown, OpAsked, RpAsked};
-ghost use Rattle.running_world.specs.Roles.{PartyHasRoom, PartyReportsFull};
+ghost use Rattle.running_world.specs.Roles.{ProviderHasRoom, ProviderReportsFull, PartyHasRoom, PartyReportsFull};
 
 use crate::foreknown::nothing_foreknown;
 use crate::kept::Asked;
@@ -38,8 +36,8 @@ pub(crate) fn ask_provider(
     ensures ok { OnOk result (OpAsked provider.old provider.new transcript.old transcript.new from at fresh request) }
     ensures provider { OnErr result (provider.new ≡ provider.old) }
     ensures transcript { OnErr result (shown transcript.new ≡ shown transcript.old) }
-    ensures room { OnOk result (history_weight op_weight provider.old.history + op_weight (op_prepared transcript.old.registry request) ≤ most_weight) }
-    ensures full { ReportsFull result (history_weight op_weight provider.old.history) (op_weight (op_prepared transcript.old.registry request)) }
+    ensures room { ProviderHasRoom result transcript.old.registry provider.old (op_prepared transcript.old.registry request) }
+    ensures full { ProviderReportsFull result transcript.old.registry provider.old (op_prepared transcript.old.registry request) }
 {
     transcript.prepare(alloc, from, To::Provider)?;
     let asked = prepare_op(alloc, transcript.registry(), &request)?;

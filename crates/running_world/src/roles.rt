@@ -1,10 +1,9 @@
 // The roles of a world: cores, each with the moment of its last entry.
 
-ghost use Rattle.std.specs.Prelude.{◌≡◌, ℕ, ◌<◌, ◌≤◌, ◌+◌, [], length, true, Err, Some, IfSome, IfOk, OnOk, OnErr};
+ghost use Rattle.std.specs.Prelude.{◌≡◌, ◌<◌, ◌≤◌, ◌+◌, [], length, true, Some, IfSome, IfOk, OnOk, OnErr};
 ghost use Rattle.sso_base.specs.Legal.{last_moment};
-ghost use Rattle.sso_base.specs.Journal.{history_weight, most_weight};
+ghost use Rattle.sso_base.specs.Journal.{history_weight, most_of, ReportsFull};
 ghost use Rattle.op_core.specs.Providing.{past_of as op_past_of};
-ghost use Rattle.op_exchange.specs.Weight.{ask_weight as op_weight};
 ghost use Rattle.op_exchange.specs.Asks.{is_prepared};
 ghost use Rattle.op_answer.specs.Sessions.{live_session as live_session_of};
 ghost use Rattle.rp_core.specs.Relying.{Relying};
@@ -12,7 +11,7 @@ ghost use Rattle.rp_exchange.specs.Weight.{ask_weight as rp_weight};
 ghost use Rattle.rp_accept.specs.Serving.{setup_of};
 ghost use Rattle.sso_places.specs.Told.{session_ended as ended_of};
 ghost use Rattle.running_world.specs.Stepping.{later};
-ghost use Rattle.running_world.specs.Roles.{OpSteps, RpSteps, RpStepsAt, PartyHasRoom, PartyReportsFull};
+ghost use Rattle.running_world.specs.Roles.{OpSteps, RpSteps, RpStepsAt, ProviderHasRoom, ProviderReportsFull, PartyHasRoom, PartyReportsFull};
 ghost use Rattle.running_world.specs.Parties.{AreNewParties};
 ghost use Rattle.running_world.specs.Foreknowing.{IsForeknown};
 ghost use Rattle.code_grant.specs.declared.rows.SessionRow.{SessionRow as SessionOf};
@@ -20,12 +19,11 @@ ghost use Rattle.code_grant.specs.declared.rows.SessionRow.{SessionRow as Sessio
 use crate::foreknown::{Foreknown, client_of};
 use client_registry::Registry;
 use code_grant::SessionRow;
-use oidc_words::SESSION_LIFE;
 use op_core::OpCore;
 use op_exchange::{OpAsk, OpReply};
 use rp_core::RpCore;
 use rp_exchange::{RpAsk, RpReply};
-use sso_base::{Core, CoreNo, Moment, NoMemory, Word, is_live};
+use sso_base::{Core, CoreNo, Moment, NoMemory, Word};
 use std::alloc::Global;
 use std::marker::Model;
 
@@ -151,14 +149,7 @@ impl TimedProvider {
         let Some(word) = word else {
             return None;
         };
-        let Some(row) = self.core.tables().session(*word) else {
-            return None;
-        };
-        if is_live(SESSION_LIFE, row.auth_time, self.moment(at)) {
-            Some(*row)
-        } else {
-            None
-        }
+        self.core.tables().live_session(*word, self.moment(at)).copied()
     }
 
     /// Sends a request to the provider.
@@ -171,8 +162,8 @@ impl TimedProvider {
     ) -> Result<OpTold, CoreNo>
         ensures ok { IfOk result (λ told. OpSteps self.old self.new at fresh ask told.at told.reply) }
         ensures err { OnErr result (self.new ≡ self.old) }
-        ensures room { OnOk result (history_weight op_weight self.old.history + op_weight ask ≤ most_weight) }
-        ensures full { (w : ℕ) → result ≡ Err (CoreNo.JournalFull w) → (w ≡ history_weight op_weight self.old.history) × (most_weight < w + op_weight ask) }
+        ensures room { ProviderHasRoom result self.old.registry self.old ask }
+        ensures full { ProviderReportsFull result self.old.registry self.old ask }
     {
         let reply = self.core.step(alloc, at, fresh, ask)?;
         let at = later_of(self.last, at);
@@ -209,8 +200,8 @@ impl TimedParty {
     ) -> Result<RpTold, CoreNo>
         ensures ok { IfOk result (λ told. RpSteps self.old self.new at fresh ask told.at told.reply) }
         ensures err { OnErr result (self.new ≡ self.old) }
-        ensures room { OnOk result (history_weight rp_weight self.old.history + rp_weight ask ≤ most_weight) }
-        ensures full { (w : ℕ) → result ≡ Err (CoreNo.JournalFull w) → (w ≡ history_weight rp_weight self.old.history) × (most_weight < w + rp_weight ask) }
+        ensures room { OnOk result (history_weight rp_weight self.old.history + rp_weight ask ≤ most_of self.old.setup.configuration.lasting) }
+        ensures full { ReportsFull (most_of self.old.setup.configuration.lasting) result (history_weight rp_weight self.old.history) (rp_weight ask) }
     {
         let reply = self.core.step(alloc, at, fresh, ask)?;
         let at = later_of(self.last, at);

@@ -2,7 +2,7 @@
 
 ghost use Rattle.std.specs.Prelude.{◌≡◌, ◌<◌, ◌≤◌, ◌+◌, [], ◌∷◌, length, Err, None, Some, option_copied, option_map, option_and_then, IfSome, IfOk, IfErr};
 ghost use Rattle.std.specs.Prelude.{OnOk, OnErr};
-ghost use Rattle.sso_base.specs.Journal.{most_weight, ReportsFull};
+ghost use Rattle.sso_base.specs.Journal.{most_of, ReportsFull};
 ghost use Rattle.sso_places.specs.Legal.{IsRole};
 ghost use Rattle.sso_places.specs.Site.{own_site};
 ghost use Rattle.sso_places.specs.World.{Nothing, place_at, from_of, role_at, reply_at};
@@ -92,8 +92,8 @@ impl World {
         ensures jars { OnOk result (self.new.jars ≡ jars_after (stepped (own_site self.old.registry) from to at fresh ask (world_of self.old)) self.old.jars) }
         ensures theorem { OnOk result (TheoremHolds self.old.registry (world_of self.new)) }
         ensures err { OnErr result (self.new ≡ self.old) }
-        ensures room { OnOk result (role_weight to (world_of self.old) + asked_weight self.old.registry to ask ≤ most_weight) }
-        ensures full { ReportsFull result (role_weight to (world_of self.old)) (asked_weight self.old.registry to ask) }
+        ensures room { OnOk result (role_weight to (world_of self.old) + asked_weight self.old.registry to ask ≤ most_of self.old.registry.lasting) }
+        ensures full { ReportsFull (most_of self.old.registry.lasting) result (role_weight to (world_of self.old)) (asked_weight self.old.registry to ask) }
     {
         match to {
             To::Provider => match ask {

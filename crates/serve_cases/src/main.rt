@@ -14,22 +14,24 @@
 //! | `work|DESK` | how one worker ends at one desk |
 //! | `serve|DESK|..` | the summary of the server, and each desk |
 //! | `calls|MORE|..` | a store's answers to these requests of one pass, each `REPLY at PLACE`, `full at WEIGHT` or `no memory`, and its places at the end |
+//! | `often|stored|COUNT`, `often|lasting|COUNT` | so many calls of a store by one pass: the entries, the stored places, and the next reply |
 //! | `two threads` | the result of 2,000 calls of a store by two threads at the same time |
 //! | `sso|SHELF|SINK|WORDS|DESK|..` | the exit status for the words, the text, and each desk |
 //! | `sso|SHELF|SINK|WORDS|two logins` or `two keys` | the same for two desks that wait for each other |
 //! | `sso|SHELF|SINK|WORDS|late|DESK` | the same for a desk at which connections take nothing before calls of its link |
 //! | `last|SHELF|SINK|WORDS` | the exit status for the words with no desk, how many lines the text has, and the last of them |
 //!
-//! `ends`, `work` and `serve` use their own role, whose core is full after one request. `calls` and `two threads` use only that
-//! core, which replies with the number of the entries before. The top call serves the provider and the parties. SHELF and SINK
-//! are the numbers of the failing calls, and 0 is none. A sink `slow CALL` takes one byte at a call.
+//! `ends`, `work` and `serve` use their own role, whose core is full after one request. `calls`, `often` and `two threads` use only
+//! that core, which replies with the number of the entries before. In `often|lasting` its history lasts. The top call serves the
+//! provider and the parties. SHELF and SINK are the numbers of the failing calls, and 0 is none. A sink `slow CALL` takes one byte
+//! at a call.
 //!
 //! | Module | What it has |
 //! |---|---|
 //! | `sources`, `sinks` | sources that give and sinks that take few bytes at a call |
 //! | `desks` | desks in memory: reads them from a field, and prints them |
 //! | `tick`, `tally`, `tally_role` | the core that counts its requests, and the role over it |
-//! | `passes`, `one_pass`, `two_passes` | the calls `calls` and `two threads`: a store over that core |
+//! | `passes`, `one_pass`, `two_passes`, `often` | the calls `calls`, `two threads` and `often`: a store over that core |
 //! | `workers` | the calls `ends`, `reads` and `work`: one worker over its own store |
 //! | `servers` | the call `serve` |
 //! | `files`, `top` | the calls `file`, `lines`, `sso` and `last` |
@@ -42,6 +44,7 @@ mod files;
 mod late;
 mod login_door;
 mod meeting;
+mod often;
 mod one_pass;
 mod passes;
 mod servers;
@@ -55,7 +58,7 @@ mod two;
 mod two_passes;
 mod workers;
 
-use case_lines::{Cases, print_lines, told, written_out};
+use case_lines::{Cases, number, print_lines, told, written_out};
 use sample_configuration::{ALICE, PROVIDER, sample};
 use sso_base::{File, NoMemory, Text};
 use std::alloc::Global;
@@ -118,6 +121,8 @@ fn answer<R: Threads + Wait + Sync>(
         ["reads", bytes] => workers::reads(rt, alloc, bytes),
         ["serve", desks @ ..] => servers::answer(rt, alloc, desks),
         ["calls", asks @ ..] => one_pass::answer(rt, alloc, asks),
+        ["often", "stored", times] => often::answer(rt, alloc, false, number(times)),
+        ["often", "lasting", times] => often::answer(rt, alloc, true, number(times)),
         ["two threads"] => two_passes::answer(rt, alloc),
         fields => cases.answer(alloc, fields),
     }

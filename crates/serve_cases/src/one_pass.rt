@@ -2,7 +2,7 @@
 
 ghost use Rattle.std.specs.Prelude.{◌≡◌, ◌<◌, length};
 ghost use Rattle.turn_store.specs.Passes.{IsPassOf, number_of};
-ghost use Rattle.serve_cases.specs.Tally.{no_setup, IsLight};
+ghost use Rattle.serve_cases.specs.Tally.{lasts_of, IsLight};
 
 use crate::passes::{put_pass, take_pass};
 use crate::tally::Tally;
@@ -29,8 +29,8 @@ fn call<R: Wait>(
     pass: &mut Pass<Tally>,
     more: u32,
 ) -> Result<String, NoMemory>
-    requires { IsPassOf no_setup IsLight turn.now pass.old }
-    ensures pass { IsPassOf no_setup IsLight turn.now pass.new }
+    requires { IsPassOf lasts_of IsLight turn.now pass.old }
+    ensures pass { IsPassOf lasts_of IsLight turn.now pass.new }
     ensures number { number_of pass.new ≡ number_of pass.old }
 {
     let (at, words) = (Moment::new(1000).unwrap(), words_of_place(1));
@@ -46,8 +46,8 @@ fn call_each<R: Wait>(
     pass: &mut Pass<Tally>,
     asks: &[&str],
 ) -> Result<String, NoMemory>
-    requires { IsPassOf no_setup IsLight turn.now pass.old }
-    ensures pass { IsPassOf no_setup IsLight turn.now pass.new }
+    requires { IsPassOf lasts_of IsLight turn.now pass.old }
+    ensures pass { IsPassOf lasts_of IsLight turn.now pass.new }
     ensures number { number_of pass.new ≡ number_of pass.old }
 {
     let mut out = String::new(alloc);
@@ -64,7 +64,10 @@ fn push_closed(alloc: Global, out: &mut String, closed: &Closed<Tally>) -> Resul
 {
     let count = format!(in alloc; "{} entries, at", closed.core.count())?;
     push_part(out, " / ", count.as_str())?;
-    for place in closed.calls.of(0) {
+    let Some(places) = closed.calls.of(0) else {
+        return Ok(());
+    };
+    for place in places {
         push_part(out, " ", place.to_string(alloc)?.as_str())?;
     }
     Ok(())
@@ -72,7 +75,7 @@ fn push_closed(alloc: Global, out: &mut String, closed: &Closed<Tally>) -> Resul
 
 /// `calls|MORE|..`: the answers of a store with one pass, and its places at the end.
 pub fn answer<R: Wait>(rt: &R, alloc: Global, asks: &[&str]) -> Result<String, NoMemory> {
-    let (turn, mut passes) = Turn::new(alloc, Tally::new(alloc), 1)?;
+    let (turn, mut passes) = Turn::new(alloc, Tally::new(alloc, false), 1)?;
     let mut pass = take_pass(&turn, &mut passes);
     let mut out = call_each(rt, alloc, &turn, &mut pass, asks)?;
     if !put_pass(&turn, &mut passes, pass) {

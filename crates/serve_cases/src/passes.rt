@@ -8,7 +8,7 @@ use sso_base::Core;
 use turn_store::{Pass, Turn};
 
 /// Takes the first pass out.
-pub fn take_pass<C: Core>(turn: &Turn<C>, passes: &mut Vec<Pass<C>>) -> Pass<C>
+pub fn take_pass<C: Core + Send>(turn: &Turn<C>, passes: &mut Vec<Pass<C>>) -> Pass<C>
     requires all { All (IsPassOf C.setup C.is_legal turn.now) passes.old.items }
     requires some { 0 < length passes.old.items }
     ensures pass { IsPassOf C.setup C.is_legal turn.now result }
@@ -19,7 +19,7 @@ pub fn take_pass<C: Core>(turn: &Turn<C>, passes: &mut Vec<Pass<C>>) -> Pass<C>
 }
 
 /// Puts a pass after the others, and returns whether there was memory for it.
-pub fn put_pass<C: Core>(turn: &Turn<C>, passes: &mut Vec<Pass<C>>, pass: Pass<C>) -> bool
+pub fn put_pass<C: Core + Send>(turn: &Turn<C>, passes: &mut Vec<Pass<C>>, pass: Pass<C>) -> bool
     requires all { All (IsPassOf C.setup C.is_legal turn.now) passes.old.items }
     requires pass { IsPassOf C.setup C.is_legal turn.now pass }
     ensures all { All (IsPassOf C.setup C.is_legal turn.now) passes.new.items }

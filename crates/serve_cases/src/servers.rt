@@ -15,7 +15,7 @@ use std::sync::Wait;
 use std::thread::Threads;
 
 // The numbers of connections and entries, and whether a door failed, or there was no store.
-fn told_summary<O: Core>(alloc: Global, summary: &Summary<O>) -> Result<String, NoMemory> {
+fn told_summary<O: Core + Send>(alloc: Global, summary: &Summary<O>) -> Result<String, NoMemory> {
     let mut out = format!(in alloc; "served {} entries {}", summary.served, summary.entries)?;
     if summary.fault {
         out.push_str(", a door failed")?;
@@ -35,7 +35,7 @@ fn tally<R: Threads + Wait + Sync>(
     requires desks { All (λ desk. (desk.turns ≤ 2 ^ 56) × ((⟦<CaseDoor as Door>⟧.state desk.door).given < 2 ^ 63)) desks.old.items }
 {
     let place = Text::new(alloc, "127.0.0.1:8080")?;
-    let summary = serve(rt, alloc, &TallyRole, Tally::new(alloc), &place, desks)?;
+    let summary = serve(rt, alloc, &TallyRole, Tally::new(alloc, false), &place, desks)?;
     told_summary(alloc, &summary)
 }
 

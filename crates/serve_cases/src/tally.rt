@@ -8,6 +8,8 @@ use std::alloc::Global;
 use std::marker::Model;
 
 impl Weighed for Tick {
+    ghost use Rattle.std.proofs.Math.Nat.{le-add_left};
+    ghost use Rattle.sso_base.specs.Weights.{empty_weight};
     ghost use Rattle.serve_cases.specs.Tally.{tick_weight};
 
     ghost weighs = { tick_weight };
@@ -15,52 +17,62 @@ impl Weighed for Tick {
     fn weight(&self) -> Result<u64, NoMemory> {
         Ok(u64::from(self.more).saturating_add(EMPTY_WEIGHT))
     }
+
+    ghost least = { λ tick. le-add_left empty_weight tick.more };
 }
 
-/// A core that counts. Its model is its history. It replies with the number of the entries before this one.
+/// A core that counts. Its model is its history, and whether that lasts. It replies with the number of the entries before this
+/// one.
 #[derive(Drop)]
 pub struct Tally {
     journal: Journal<Tick, u64>,
+    lasts: bool,
 }
 
 impl Model for Tally {
-    ghost use Rattle.std.specs.Prelude.{List, ℕ};
-    ghost use Rattle.sso_base.specs.declared.history.Pair.{Pair};
-    ghost use Rattle.serve_cases.specs.declared.tick.Tick.{Tick};
+    ghost use Rattle.serve_cases.specs.Tally.{Counting, KeepsTally};
 
-    ghost Value = { List (Pair Tick ℕ) };
+    ghost Value = { Counting };
 
-    ghost view = { λ tally. tally.journal.pairs };
+    ghost view = { λ tally. record { lasts = tally.lasts; history = tally.journal.pairs } };
+
+    ghost invariant = { λ tally. KeepsTally tally.lasts tally.journal.pairs tally.journal.most };
 }
 
 impl Tally {
     /// A core with an empty history.
-    pub fn new(alloc: Global) -> Tally
-        ensures { result ≡ [] }
+    pub fn new(alloc: Global, lasts: bool) -> Tally
+        ensures { result ≡ record { lasts = lasts; history = [] } }
     {
         Tally {
-            journal: Journal::new(alloc),
+            journal: Journal::new(alloc, lasts),
+            lasts,
         }
     }
 }
 
 impl Core for Tally {
-    ghost use Rattle.serve_cases.specs.Tally.{tick_weight, no_setup, IsLight};
+    ghost use Rattle.std.specs.Prelude.{Bool};
     ghost use Rattle.std.proofs.Math.Nat.{le-add_left};
+    ghost use Rattle.sso_base.specs.Journal.{most_of};
     ghost use Rattle.sso_base.specs.Weights.{empty_weight};
     ghost use Rattle.sso_base.proofs.Histories.{light_beginning};
+    ghost use Rattle.sso_base.proofs.Limits.{most_is_short as short_limit};
+    ghost use Rattle.serve_cases.specs.Tally.{tick_weight, lasts_of, IsLight};
 
     type Ask = Tick;
 
     type Reply = u64;
 
-    ghost Setup = { Unit {0} };
+    ghost Setup = { Bool };
 
-    ghost setup = { no_setup };
+    ghost setup = { lasts_of };
 
-    ghost history = { λ tally. tally };
+    ghost history = { λ tally. tally.history };
 
     ghost weighs = { tick_weight };
+
+    ghost most = { most_of };
 
     ghost is_legal = { IsLight };
 
@@ -71,7 +83,6 @@ impl Core for Tally {
         fresh: [Word; 4],
         ask: Tick,
     ) -> Result<u64, CoreNo> {
-        let _pairs = self.journal.pairs();
         let weight = self.journal.admit(&ask)?;
         if ask.more == 0 {
             return Err(CoreNo::NoMemory);
@@ -80,7 +91,7 @@ impl Core for Tally {
         let reply = self.journal.count();
         let entry = self.journal.entry(at, fresh, ask);
         self.journal.push(Pair { entry, reply }, weight);
-        let _pairs = self.journal.pairs();
+        self.journal.light();
         Ok(reply)
     }
 
@@ -89,13 +100,14 @@ impl Core for Tally {
     }
 
     fn count(&self) -> u64 {
-        let _pairs = self.journal.pairs();
         self.journal.count()
     }
 
     ghost legal_is_light = { λ s h legal. legal };
 
-    ghost beginnings_are_legal = { λ s. light_beginning tick_weight };
+    ghost most_is_short = { short_limit };
+
+    ghost beginnings_are_legal = { λ s. light_beginning tick_weight (most_of s) };
 
     ghost least_weight = { λ tick. le-add_left empty_weight tick.more };
 }

@@ -48,6 +48,10 @@ impl Role for TallyRole {
         Ok(Tick { more: HEAVY })
     }
 
+    fn takes(&self, _ask: &Tick) -> bool {
+        true
+    }
+
     fn notices<'r>(&self, _reply: &'r u64) -> Option<&'r Messages> {
         None
     }

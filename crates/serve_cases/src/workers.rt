@@ -121,7 +121,8 @@ fn at_desk<R: Wait, X: Role>(
 /// `ends|DESK` or `work|DESK`.
 pub fn answer<R: Wait>(rt: &R, alloc: Global, call: &str, text: &str) -> Result<String, NoMemory> {
     let mut desk = desk_in(alloc, text, 0)?;
-    at_desk(rt, alloc, call, &TallyRole, Tally::new(alloc), &mut desk)
+    let core = Tally::new(alloc, false);
+    at_desk(rt, alloc, call, &TallyRole, core, &mut desk)
 }
 
 /// More reads than one request has.

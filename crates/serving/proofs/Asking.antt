@@ -1,5 +1,5 @@
 -- A question and its answer, and what a round is after them.
-use Rattle.std.proofs.Common.{◌≡◌, ◌≢◌, inl, inr, ℕ, ◌<◌, List, [], ◌∷◌, ◌++◌, Option, Some, None, Result, Ok, Err, refl, sym, ◌∙◌, subst}
+use Rattle.std.proofs.Common.{◌≡◌, ◌≢◌, inl, inr, true, false, ℕ, ◌<◌, List, [], ◌∷◌, ◌++◌, Option, Some, None, Result, Ok, Err, refl, sym, ◌∙◌, subst}
 use Rattle.std.proofs.lemmas.List.{append-nil}
 use Rattle.sso_base.specs.declared.history.Pair.{Pair}
 use Rattle.sso_base.specs.declared.message.Message.{Message}
@@ -10,7 +10,7 @@ use Rattle.server_desk.specs.Links.{LinkState}
 use Rattle.sso_http.specs.declared.no.HttpNo.{HttpNo}
 use Rattle.sso_http.specs.Peers.{IsAnswer, IsNoAnswer}
 use Rattle.serving.specs.declared.no_reply.NoReply.{NoReply}
-use Rattle.serving.specs.declared.no_reply.NoReply.TheVariants.{NoMemory, Http, Link, Peer, Full}
+use Rattle.serving.specs.declared.no_reply.NoReply.TheVariants.{NoMemory, Http, Link, Peer, TooLarge, Full}
 use Rattle.serving.specs.LinkCalls.{LinkCall, TookCalls}
 use Rattle.serving.specs.Manner.{Manner}
 use Rattle.serving.specs.Steps.{Stepped, pair_from, history_after, IsFull, IsNoStep}
@@ -37,6 +37,11 @@ never_http (Ok bytes) why is = is
 never_http (Err link_no.Failed) why is = is
 never_http (Err link_no.NoMemory) why is = is
 
+never_too_large : (given : Result (List ℕ) LinkNo) → IsPeerAnswer given (Err TooLarge) → ⊥
+never_too_large (Ok bytes) is = is
+never_too_large (Err link_no.Failed) is = is
+never_too_large (Err link_no.NoMemory) is = is
+
 never_full : (given : Result (List ℕ) LinkNo) → IsPeerAnswer given (Err Full) → ⊥
 never_full (Ok bytes) is = is
 never_full (Err link_no.Failed) is = is
@@ -48,11 +53,20 @@ module _ {A R : Type 0} (m : Manner A R) where
   AskedSo before after reply result = (calls : List LinkCall) × TookCalls before after calls × IsAnswered m reply calls result
 
   pub answered : (before after : LinkState) (reply : R) (question : Message) (answer : Answered) (asked : A)
-      → m.question reply ≡ Some question → AskedPeer before after question (Ok answer) → asked ≡ m.answered reply answer → AskedSo before after reply (Ok asked)
-  answered before after reply question answer asked puts (inl call) is =
+      → m.question reply ≡ Some question → AskedPeer before after question (Ok answer) → asked ≡ m.answered reply answer → m.takes asked ≡ true
+      → AskedSo before after reply (Ok asked)
+  answered before after reply question answer asked puts (inl call) is takes =
       let said = heard call.0.answer answer call.3 in
-      (call.0 ∷ [], call.2, (call.0, refl, (question, puts, call.1), (said.0, answer, said.1, said.2, is)))
-  answered before after reply question answer asked puts (inr none) is = absurd (cc none.1)
+      (call.0 ∷ [], call.2, (call.0, refl, (question, puts, call.1), ((said.0, answer, said.1, said.2, is), takes)))
+  answered before after reply question answer asked puts (inr none) is takes = absurd (cc none.1)
+
+  pub answered_too_large : (before after : LinkState) (reply : R) (question : Message) (answer : Answered) (asked : A)
+      → m.question reply ≡ Some question → AskedPeer before after question (Ok answer) → asked ≡ m.answered reply answer → m.takes asked ≡ false
+      → AskedSo before after reply (Err TooLarge)
+  answered_too_large before after reply question answer asked puts (inl call) is takes =
+      let said = heard call.0.answer answer call.3 in
+      (call.0 ∷ [], call.2, (call.0, refl, (question, puts, call.1), (asked, (said.0, answer, said.1, said.2, is), takes)))
+  answered_too_large before after reply question answer asked puts (inr none) is takes = absurd (cc none.1)
 
   pub answered_no_memory : (before after : LinkState) (reply : R) (question : Message) (answer : Answered)
       → m.question reply ≡ Some question → AskedPeer before after question (Ok answer) → AskedSo before after reply (Err NoMemory)
@@ -72,25 +86,34 @@ module _ {A R : Type 0} (m : Manner A R) where
       let said = no_http call.0.answer call.3 in
       (call.0 ∷ [], call.2, (call.0, said.0, refl, (question, puts, call.1), said.1, said.2))
   unanswered before after reply question Peer puts (inr none) = absurd (cc none.1)
+  unanswered before after reply question TooLarge puts (inl call) = absurd (never_too_large call.0.answer call.3)
+  unanswered before after reply question TooLarge puts (inr none) = absurd (cc none.1)
   unanswered before after reply question Full puts (inl call) = absurd (never_full call.0.answer call.3)
   unanswered before after reply question Full puts (inr none) = absurd (cc none.1)
 
   -- a round whose question was not answered
-  pub round_unanswered : (history : List (Pair A R)) (reply : R) (calls : List LinkCall) (why : NoReply) → IsAnswered m reply calls (Err why) → RoundFailed m history reply calls why
-  round_unanswered history reply calls NoMemory is = is
-  round_unanswered history reply calls (Http why) is = is
-  round_unanswered history reply calls Link is = is
-  round_unanswered history reply calls Peer is = is
-  round_unanswered history reply calls Full is = absurd is
+  pub round_unanswered : (most : ℕ) (history : List (Pair A R)) (reply : R) (calls : List LinkCall) (why : NoReply)
+      → IsAnswered m reply calls (Err why) → RoundFailed m most history reply calls why
+  round_unanswered most history reply calls NoMemory is = is
+  round_unanswered most history reply calls (Http why) is = is
+  round_unanswered most history reply calls Link is = is
+  round_unanswered most history reply calls Peer is = is
+  round_unanswered most history reply calls TooLarge is = is
+  round_unanswered most history reply calls Full is = absurd is
+
+  -- the weights are the core's
+  full_by : (weighs : A → ℕ) (most : ℕ) (history : List (Pair A R)) (asked : A) → m.weighs ≡ weighs → IsFull weighs most history asked → IsFull m.weighs most history asked
+  full_by weighs most history asked same full = subst (λ (f : A → ℕ). IsFull f most history asked) (sym same) full
 
   -- a round whose step was refused
-  pub round_refused : (weighs : A → ℕ) (history : List (Pair A R)) (reply : R) (calls : List LinkCall) (asked : A) (why : NoReply)
-      → m.weighs ≡ weighs → IsAnswered m reply calls (Ok asked) → IsNoStep weighs history asked why → RoundFailed m history reply calls why
-  round_refused weighs history reply calls asked NoMemory same is full = inr (is.0, is.1, is.2)
-  round_refused weighs history reply calls asked (Http why) same is full = absurd full
-  round_refused weighs history reply calls asked Link same is full = absurd full
-  round_refused weighs history reply calls asked Peer same is full = absurd full
-  round_refused weighs history reply calls asked Full same is full = (is.0, asked, is.1, is.2, is.3, subst (λ (f : A → ℕ). IsFull f history asked) (sym same) full)
+  pub round_refused : (weighs : A → ℕ) (most : ℕ) (history : List (Pair A R)) (reply : R) (calls : List LinkCall) (asked : A) (why : NoReply)
+      → m.weighs ≡ weighs → IsAnswered m reply calls (Ok asked) → IsNoStep weighs most history asked why → RoundFailed m most history reply calls why
+  round_refused weighs most history reply calls asked NoMemory same is full = inr (is.0, is.1, is.2)
+  round_refused weighs most history reply calls asked (Http why) same is full = absurd full
+  round_refused weighs most history reply calls asked Link same is full = absurd full
+  round_refused weighs most history reply calls asked Peer same is full = absurd full
+  round_refused weighs most history reply calls asked TooLarge same is full = absurd full
+  round_refused weighs most history reply calls asked Full same is full = (is.0, asked, is.1, is.2, is.3, full_by weighs most history asked same full)
 
   some_not_none : (o : Option Message) (x : Message) → o ≡ Some x → o ≢ None
   some_not_none o x a b = cc (a, b)
@@ -111,28 +134,31 @@ module _ {A R : Type 0} (m : Manner A R) where
         sym gives,
         asks,
         subst (λ (a : A). IsAskedBack m reply call a) (sym by) back,
-        fewer s.before (pair_from s) reply back.1 (subst IsLegal longer legal) (by ∙ back.4) (some_not_none (m.question reply) asks.0 asks.1),
+        fewer s.before (pair_from s) reply back.0.1 (subst IsLegal longer legal) (by ∙ back.0.4) (some_not_none (m.question reply) asks.0 asks.1),
       )
 
   -- no request was read
-  pub cause_unread : (left left' : Option (List ℕ)) (before now : ℕ) (history : List (Pair A R)) (why : NoReply) → IsUnread m left left' before now why → Cause m left left' before now history [] [] (Err why)
-  cause_unread left left' before now history NoMemory is = tt
-  cause_unread left left' before now history (Http why) is = (refl, is)
-  cause_unread left left' before now history Link is = absurd is
-  cause_unread left left' before now history Peer is = absurd is
-  cause_unread left left' before now history Full is = absurd is
+  pub cause_unread : (most : ℕ) (left left' : Option (List ℕ)) (before now : ℕ) (history : List (Pair A R)) (why : NoReply)
+      → IsUnread m left left' before now why → Cause m most left left' before now history [] [] (Err why)
+  cause_unread most left left' before now history NoMemory is = tt
+  cause_unread most left left' before now history (Http why) is = (refl, is)
+  cause_unread most left left' before now history Link is = absurd is
+  cause_unread most left left' before now history Peer is = absurd is
+  cause_unread most left left' before now history TooLarge is = (refl, is)
+  cause_unread most left left' before now history Full is = absurd is
 
   -- the first step was refused
-  pub cause_refused : (weighs : A → ℕ) (left left' : Option (List ℕ)) (before now : ℕ) (history : List (Pair A R)) (asked : A) (why : NoReply)
-      → m.weighs ≡ weighs → IsAsked m left left' asked → IsNoStep weighs history asked why → Cause m left left' before now history [] [] (Err why)
-  cause_refused weighs left left' before now history asked NoMemory same is full = tt
-  cause_refused weighs left left' before now history asked (Http why) same is full = absurd full
-  cause_refused weighs left left' before now history asked Link same is full = absurd full
-  cause_refused weighs left left' before now history asked Peer same is full = absurd full
-  cause_refused weighs left left' before now history asked Full same is full = record {
+  pub cause_refused : (weighs : A → ℕ) (most : ℕ) (left left' : Option (List ℕ)) (before now : ℕ) (history : List (Pair A R)) (asked : A) (why : NoReply)
+      → m.weighs ≡ weighs → IsAsked m left left' asked → IsNoStep weighs most history asked why → Cause m most left left' before now history [] [] (Err why)
+  cause_refused weighs most left left' before now history asked NoMemory same is full = tt
+  cause_refused weighs most left left' before now history asked (Http why) same is full = absurd full
+  cause_refused weighs most left left' before now history asked Link same is full = absurd full
+  cause_refused weighs most left left' before now history asked Peer same is full = absurd full
+  cause_refused weighs most left left' before now history asked TooLarge same is full = absurd full
+  cause_refused weighs most left left' before now history asked Full same is full = record {
     before = history;
     asked = asked;
     next = (refl, is);
     seen = ([], sym (append-nil history));
-    full = subst (λ (f : A → ℕ). IsFull f history asked) (sym same) full;
+    full = full_by weighs most history asked same full;
   }

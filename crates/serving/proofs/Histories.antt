@@ -9,7 +9,7 @@ use Rattle.turn_store.specs.Passes.{front_of, calls_of}
 use Rattle.turn_store.proofs.Totals.{begins_on}
 use Rattle.serving.specs.declared.ends.Served.{Served}
 use Rattle.serving.specs.declared.no_reply.NoReply.{NoReply}
-use Rattle.serving.specs.declared.no_reply.NoReply.TheVariants.{NoMemory, Http, Link, Peer, Full}
+use Rattle.serving.specs.declared.no_reply.NoReply.TheVariants.{NoMemory, Http, Link, Peer, TooLarge, Full}
 use Rattle.serving.specs.LinkCalls.{LinkCall}
 use Rattle.serving.specs.Manner.{Manner}
 use Rattle.serving.specs.Serving.{Cause, Serves}
@@ -40,19 +40,20 @@ module _ {A R : Type 0} where
     calls = b.calls ∙ ap (λ l. l ++ map called_of ys) a.calls ∙ append_assoc (calls_of p) (map called_of xs) (map called_of ys) ∙ sym (ap (λ l. calls_of p ++ l) (map-append called_of xs ys));
   }
 
-  module _ (m : Manner A R) where
+  module _ (m : Manner A R) (most : ℕ) where
     cause_on : (left left' : Option (List ℕ)) (before now : ℕ) (h k : List (Pair A R)) → Begins h k → (steps : List (Stepped A R)) (calls : List LinkCall) (outcome : Result R NoReply)
-        → Cause m left left' before now h steps calls outcome → Cause m left left' before now k steps calls outcome
+        → Cause m most left left' before now h steps calls outcome → Cause m most left left' before now k steps calls outcome
     cause_on left left' before now h k b steps calls (Ok reply) c = c
     cause_on left left' before now h k b steps calls (Err NoMemory) c = c
     cause_on left left' before now h k b steps calls (Err (Http why)) c = c
     cause_on left left' before now h k b steps calls (Err Link) c = c
     cause_on left left' before now h k b steps calls (Err Peer) c = c
+    cause_on left left' before now h k b steps calls (Err TooLarge) c = c
     cause_on left left' before now h k b steps calls (Err Full) c = record { before = c.before; asked = c.asked; next = c.next; seen = begins_on c.before h k c.seen b; full = c.full }
 
     pub serves_on : {S K : Type 0} (left : S → Option (List ℕ)) (read_faults : S → ℕ) (taken : K → Option (List ℕ)) (write_faults : K → ℕ)
         (h k : List (Pair A R)) (came went : Connection S K) (w : Work A R) (served : Served) → Begins h k
-        → Serves m left read_faults taken write_faults h came went w served → Serves m left read_faults taken write_faults k came went w served
+        → Serves m most left read_faults taken write_faults h came went w served → Serves m most left read_faults taken write_faults k came went w served
     serves_on left read_faults taken write_faults h k came went w served b s = record {
       outcome = s.outcome;
       questions = s.questions;

@@ -1,6 +1,6 @@
 -- The definitions computed on small cases: what each accepts, and what it refuses. Requests and replies are numbers. A request
 -- is parsed as the length of its path, and the answer to a question as its status.
-use Rattle.std.proofs.Common.{◌≡◌, ◌≢◌, inl, inr, ℕ, zero, suc, ◌+◌, ◌*◌, ◌<◌, ◌≤◌, List, [], ◌∷◌, length, codes, Option, Some, None, Result, Ok, Err, refl, ap, arith}
+use Rattle.std.proofs.Common.{◌≡◌, ◌≢◌, inl, inr, ℕ, zero, suc, ◌+◌, ◌*◌, ◌<◌, ◌≤◌, nat_le, List, [], ◌∷◌, length, codes, Option, Some, None, Result, Ok, Err, refl, ap, arith}
 use Rattle.std.specs.Fmt.{digits}
 use Rattle.http_reply.specs.Replies.{plain}
 use Rattle.sso_base.specs.Outside.{SinkMemory}
@@ -26,10 +26,10 @@ use Rattle.turn_store.specs.declared.store.Pass.{Pass}
 use Rattle.turn_store.specs.declared.view.Called.{Called}
 use Rattle.serving.specs.declared.ends.ServedEnd.TheVariants as end
 use Rattle.serving.specs.declared.no_reply.NoReply.{NoReply}
-use Rattle.serving.specs.declared.no_reply.NoReply.TheVariants.{NoMemory, Http, Link, Peer, Full}
+use Rattle.serving.specs.declared.no_reply.NoReply.TheVariants.{NoMemory, Http, Link, Peer, TooLarge, Full}
 use Rattle.serving.specs.LinkCalls.{LinkCall, sending_of, after_calls, grown_by, failures as failed_calls, TookCalls}
 use Rattle.serving.specs.Manner.{Manner, bytes_by}
-use Rattle.serving.specs.Serving.{IsPeerAnswer, IsAsked, IsUnasked, Asks, IsAskedBack, IsRun, IsLastReply, LeadsTo, IsStopped, Cause, Serves}
+use Rattle.serving.specs.Serving.{IsPeerAnswer, IsAsked, IsUnasked, Asks, IsAskedBack, IsRun, IsLastReply, LeadsTo, LeadsToTooLarge, IsStopped, Cause, Serves}
 use Rattle.serving.specs.Steps.{Stepped, history_after, called_of, IsDrawn, IsFull, IsNoStep, Made}
 use Rattle.serving.specs.Told.{memory_bytes, bytes_without, end_of}
 use Rattle.serving.specs.Work.{Work, LieBehind, DrawnFrom, MadeAll, Did}
@@ -75,8 +75,13 @@ manner = record {
   answered = λ (reply : ℕ) (answer : Answered). answer.status;
   notices = notices_after;
   http = λ (reply : ℕ). plain 200 (reply ∷ []);
+  takes = λ (ask : ℕ). nat_le ask 200;
   weighs = λ (ask : ℕ). ask;
 }
+
+-- the greatest weight of a history
+abbrev pub limit : ℕ
+limit = 268435456
 
 -- ---- what is sent
 
@@ -193,13 +198,13 @@ its_words reading before asked reply (suc (suc (suc (suc k)))) low = absurd (ome
 pub drawn-at_its_reading : (reading : ℕ) (before : History) (asked reply : ℕ) → IsDrawn moments words reading (step_at reading before asked reply)
 drawn-at_its_reading reading before asked reply = record { moment = refl; fresh = its_words reading before asked reply }
 
-too_heavy : IsFull manner.weighs (history_after step1) 268435456
+too_heavy : IsFull manner.weighs limit (history_after step1) 268435456
 too_heavy = omega arith
 
-not_too_heavy : IsFull manner.weighs (history_after step1) 268435455 → ⊥
+not_too_heavy : IsFull manner.weighs limit (history_after step1) 268435455 → ⊥
 not_too_heavy full = let heavy : 268435456 < 1 + 268435455 = full in absurd (omega (arith, heavy))
 
-not_no_step-for_the_link : IsNoStep {R = ℕ} manner.weighs [] 268435457 Link → ⊥
+not_no_step-for_the_link : IsNoStep {R = ℕ} manner.weighs limit [] 268435457 Link → ⊥
 not_no_step-for_the_link is = is
 
 -- ---- what was done for a connection
@@ -246,7 +251,7 @@ module _ (any : Pass History ℕ ℕ) where
 -- ---- one connection
 
 asked-the_length_of_its_path : IsAsked manner (Some get_text) (Some []) 1
-asked-the_length_of_its_path = (_, record { head = get_text; body = []; given = refl; request = a_request }, refl)
+asked-the_length_of_its_path = ((_, record { head = get_text; body = []; given = refl; request = a_request }, refl), refl)
 
 unasked-three_bytes : IsUnasked manner (Some (codes "GET")) (Some []) 0 0 http_no.EndedEarly
 unasked-three_bytes = record {
@@ -278,7 +283,26 @@ not_asks-without_a_question : Asks manner 1 asked_and_answered → ⊥
 not_asks-without_a_question asks = let e : None ≡ Some asks.0 = asks.1 in absurd cc
 
 asked_back-the_status : IsAskedBack manner 0 asked_and_answered 200
-asked_back-the_status = (ok_bytes, record { status = 200; body = 10 ∷ [] }, refl, answered-with_200, refl)
+asked_back-the_status = ((ok_bytes, record { status = 200; body = 10 ∷ [] }, refl, answered-with_200, refl), refl)
+
+abbrev answered_404 : LinkCall
+answered_404 = record { sent = sending_of (message 1); answer = Ok (reply_bytes (plain 404 [])) }
+
+too_large-the_status_404 : LeadsToTooLarge manner 0 [] (answered_404 ∷ [])
+too_large-the_status_404 = (
+  404,
+  (
+    reply_bytes (plain 404 []),
+    record { status = 404; body = 10 ∷ [] },
+    refl,
+    sent (plain 404 []) (record { low = omega arith; high = omega arith; location = refl; cookies = refl; few = omega arith; challenge = refl; short = omega arith }),
+    refl,
+  ),
+  refl,
+)
+
+not_too_large-without_a_call : LeadsToTooLarge manner 0 [] [] → ⊥
+not_too_large-without_a_call is = is
 
 run-of_two_steps : IsRun manner (Some get_text) (Some []) (step1 ∷ step2 ∷ []) (asked_and_answered ∷ [])
 run-of_two_steps = (asked-the_length_of_its_path, (asks-its_question, asked_back-the_status, tt))
@@ -298,13 +322,13 @@ not_leads-without_a_call is = is
 abbrev asked_in_vain : LinkCall
 asked_in_vain = record { sent = sending_of (message 1); answer = Err link_no.Failed }
 
-caused-by_the_link : Cause manner (Some get_text) (Some []) 0 0 (history_after step1) (step1 ∷ []) (asked_in_vain ∷ []) (Err Link)
+caused-by_the_link : Cause manner limit (Some get_text) (Some []) 0 0 (history_after step1) (step1 ∷ []) (asked_in_vain ∷ []) (Err Link)
 caused-by_the_link = (asked_in_vain, ([], refl, refl), refl)
 
 abbrev heavy : History
 heavy = history_after (step_at 0 [] 268435456 1)
 
-stopped-by_its_weight : IsStopped manner (Some get_text) (Some []) heavy [] []
+stopped-by_its_weight : IsStopped manner limit (Some get_text) (Some []) heavy [] []
 stopped-by_its_weight = record { before = heavy; asked = 1; next = (refl, asked-the_length_of_its_path); seen = ([], refl); full = omega arith }
 
 abbrev pub came : List ℕ → Connection Stream Stream
@@ -316,30 +340,31 @@ went bytes = record { source = stream []; sink = stream bytes }
 abbrev pub done_in : List Step → List LinkCall → Work ℕ ℕ
 done_in steps calls = record { steps = steps; calls = calls; readings = length steps }
 
-pub served-a_reply : Serves manner held failures held failures (history_after lone) (came get_text) (went (bytes_by manner 1)) (done_in (lone ∷ []) []) (record { places = 1; end = end.Written })
+pub served-a_reply : Serves manner limit held failures held failures (history_after lone) (came get_text) (went (bytes_by manner 1)) (done_in (lone ∷ []) []) (record { places = 1; end = end.Written })
 served-a_reply =
     record { outcome = Ok 1; questions = []; notices = []; calls = refl; sent = refl; run = (asked-the_length_of_its_path, tt); cause = ([], lone, refl, refl, refl); wrote = inl (refl, refl); lie = (([], refl), ([], refl)); places = refl; few = omega arith }
 
 -- a question is put and answered, and the notice of the last reply is sent in vain
-served-a_question : Serves manner held failures held failures (history_after step2) (came get_text) (went (bytes_by manner 2)) (done_in (step1 ∷ step2 ∷ []) (asked_and_answered ∷ sent_in_vain ∷ [])) (record { places = 2; end = end.Written })
+served-a_question : Serves manner limit held failures held failures (history_after step2) (came get_text) (went (bytes_by manner 2)) (done_in (step1 ∷ step2 ∷ []) (asked_and_answered ∷ sent_in_vain ∷ [])) (record { places = 2; end = end.Written })
 served-a_question =
     record { outcome = Ok 2; questions = asked_and_answered ∷ []; notices = sent_in_vain ∷ []; calls = refl; sent = refl; run = run-of_two_steps; cause = (step1 ∷ [], step2, refl, refl, refl); wrote = inl (refl, refl); lie = both_lie; places = refl; few = omega arith }
 
-served-a_refusal : Serves manner held failures held failures [] (came (codes "GET")) (went []) (done_in [] []) (record { places = 0; end = end.Http http_no.EndedEarly })
+served-a_refusal : Serves manner limit held failures held failures [] (came (codes "GET")) (went []) (done_in [] []) (record { places = 0; end = end.Http http_no.EndedEarly })
 unfolding bytes_without refusal_bytes
 served-a_refusal =
     record { outcome = Err (Http http_no.EndedEarly); questions = []; notices = []; calls = refl; sent = refl; run = refl; cause = (refl, unasked-three_bytes); wrote = (refl, refl); lie = ([], refl); places = refl; few = omega arith }
 
-not_served-another_reply_than_the_history_has : Serves manner held failures held failures (history_after (step_at 0 [] 1 2)) (came get_text) (went (bytes_by manner 1)) (done_in (lone ∷ []) []) (record { places = 1; end = end.Written }) → ⊥
+not_served-another_reply_than_the_history_has : Serves manner limit held failures held failures (history_after (step_at 0 [] 1 2)) (came get_text) (went (bytes_by manner 1)) (done_in (lone ∷ []) []) (record { places = 1; end = end.Written }) → ⊥
 not_served-another_reply_than_the_history_has s = not_lies-with_another_reply s.lie
 
-not_served-two_places_for_one_step : Serves manner held failures held failures (history_after lone) (came get_text) (went (bytes_by manner 1)) (done_in (lone ∷ []) []) (record { places = 2; end = end.Written }) → ⊥
+not_served-two_places_for_one_step : Serves manner limit held failures held failures (history_after lone) (came get_text) (went (bytes_by manner 1)) (done_in (lone ∷ []) []) (record { places = 2; end = end.Written }) → ⊥
 not_served-two_places_for_one_step s = let e : 2 ≡ 1 = s.places in absurd (omega (arith, e))
 
-no_refusal_after_a_step : (outcome : Result ℕ NoReply) → Cause manner (Some get_text) (Some []) 0 0 (history_after lone) (lone ∷ []) [] outcome → end_of outcome ≢ end.Http http_no.BadHead
+no_refusal_after_a_step : (outcome : Result ℕ NoReply) → Cause manner limit (Some get_text) (Some []) 0 0 (history_after lone) (lone ∷ []) [] outcome → end_of outcome ≢ end.Http http_no.BadHead
 no_refusal_after_a_step (Ok reply) cause e = absurd cc
 no_refusal_after_a_step (Err NoMemory) cause e = absurd cc
 no_refusal_after_a_step (Err (Http why)) cause e = let none : lone ∷ [] ≡ [] = cause.0 in absurd cc
 no_refusal_after_a_step (Err Link) cause e = absurd cc
 no_refusal_after_a_step (Err Peer) cause e = absurd cc
+no_refusal_after_a_step (Err TooLarge) cause e = absurd cc
 no_refusal_after_a_step (Err Full) cause e = absurd cc

@@ -117,14 +117,14 @@ module _ {O A R D L C W S K : Type 0} (t : Telling D L C W S K) where
       let given_before : (t.state old.desk.door).given < 2 ^ 63 = r.1 in let turns_before : old.desk.turns ≤ 2 ^ 56 = r.2 in
       (subst P (sym o.same.pass) r.0, omega arith, omega arith, ap (λ (w : Worked). w.served) o.same.worked ∙ r.3)
 
-  module _ (m : Manner A R) where
+  module _ (m : Manner A R) (most : ℕ) where
     -- if the door does not listen, nothing is done
-    pub seat_idle : (seat : Seat O D L C W A R) → seat.listens ≡ false → seat.worked.served ≡ 0 → SeatServed t m seat seat
+    pub seat_idle : (seat : Seat O D L C W A R) → seat.listens ≡ false → seat.worked.served ≡ 0 → SeatServed t m most seat seat
     seat_idle seat shut none = record {
       services = [];
       number = refl;
       made = made_none seat.pass;
-      served = at_desk_none m t.left t.read_faults t.taken t.write_faults (front_of seat.pass) (t.link_state seat.desk.tools.link) (t.moments seat.desk.tools.clock) (t.words seat.desk.tools.draw) (t.state seat.desk.door);
+      served = at_desk_none m most t.left t.read_faults t.taken t.write_faults (front_of seat.pass) (t.link_state seat.desk.tools.link) (t.moments seat.desk.tools.clock) (t.words seat.desk.tools.draw) (t.state seat.desk.door);
       count = none;
       bound = omega arith;
       turns = refl;
@@ -137,19 +137,19 @@ module _ {O A R D L C W S K : Type 0} (t : Telling D L C W S K) where
 
     -- each seat was served, one by one
     pub seats_served : (xs ys : List (Seat O D L C W A R)) → length ys ≡ length xs
-        → ((i : ℕ) (d : Seat O D L C W A R) → i < length xs → SeatServed t m (slice_index_or xs i d) (slice_index_or ys i d)) → SeatsServed t m xs ys
+        → ((i : ℕ) (d : Seat O D L C W A R) → i < length xs → SeatServed t m most (slice_index_or xs i d) (slice_index_or ys i d)) → SeatsServed t m most xs ys
     seats_served [] [] e h = tt
     seats_served [] (y ∷ ys) e h = absurd (omega arith)
     seats_served (x ∷ xs) [] e h = absurd (omega arith)
     seats_served (x ∷ xs) (y ∷ ys) e h = (h 0 x (omega arith), seats_served xs ys (omega arith) (λ i d lt. h (suc i) d (omega arith)))
 
     -- what a call left of a seat
-    pub seat_left : (x y argument after_call : Seat O D L C W A R) → argument ≡ x → after_call ≡ y → SeatServed t m argument after_call → SeatServed t m x y
-    seat_left x y argument after_call e f h = subst (λ (s : Seat O D L C W A R). SeatServed t m s y) e (subst (λ (s : Seat O D L C W A R). SeatServed t m argument s) f h)
+    pub seat_left : (x y argument after_call : Seat O D L C W A R) → argument ≡ x → after_call ≡ y → SeatServed t m most argument after_call → SeatServed t m most x y
+    seat_left x y argument after_call e f h = subst (λ (s : Seat O D L C W A R). SeatServed t m most s y) e (subst (λ (s : Seat O D L C W A R). SeatServed t m most argument s) f h)
 
     -- ---- one seat, from its desk before the doors were opened
 
-    module _ (listening : Bool) (at : Option Text → Option Text) (desk : Desk D L C W) (pass : Pass O A R) (mid new : Seat O D L C W A R) (o : OpenedAs listening at desk pass mid) (s : SeatServed t m mid new) where
+    module _ (listening : Bool) (at : Option Text → Option Text) (desk : Desk D L C W) (pass : Pass O A R) (mid new : Seat O D L C W A R) (o : OpenedAs listening at desk pass mid) (s : SeatServed t m most mid new) where
       -- its door failed while it was opened, or while it was served
       failed_early : Rose (t.door_faults desk.door) (t.door_faults mid.desk.door) → Failed t desk new.desk
       failed_early r = rose_after (t.door_faults desk.door) (t.door_faults mid.desk.door) (t.door_faults new.desk.door) r s.later.1
@@ -173,10 +173,10 @@ module _ {O A R D L C W S K : Type 0} (t : Telling D L C W S K) where
       place_as (inl x) = inl (s.place ∙ x.1)
       place_as (inr r) = inr (failed_early r)
 
-      served_as : (history : List (Pair A R)) → Begins (front_of new.pass) history → ServedAt t m history desk new.desk s.services
+      served_as : (history : List (Pair A R)) → Begins (front_of new.pass) history → ServedAt t m most history desk new.desk s.services
       served_as history b =
           let a = s.served in
-          let all = serves_all_on m t.left t.read_faults t.taken t.write_faults (front_of new.pass) history b s.services a.served in
+          let all = serves_all_on m most t.left t.read_faults t.taken t.write_faults (front_of new.pass) history b s.services a.served in
           let sent : TookCalls (t.link_state desk.tools.link) (t.link_state new.desk.tools.link) (calls_in s.services) = subst (λ (l : L). TookCalls (t.link_state l) (t.link_state new.desk.tools.link) (calls_in s.services)) o.link a.sent in
           record {
             passed = record {
@@ -189,10 +189,10 @@ module _ {O A R D L C W S K : Type 0} (t : Telling D L C W S K) where
             clock = subst (λ (x : C). MovedOn (t.moments x) (t.moments new.desk.tools.clock) (readings_in s.services)) o.clock a.clock;
             draw = subst (λ (x : W). MovedOn (t.words x) (t.words new.desk.tools.draw) (4 * readings_in s.services)) o.draw a.draw;
             served = all;
-            failed = rose_by_some m t.left t.read_faults t.taken t.write_faults history s.services (t.link_state desk.tools.link) (t.link_state new.desk.tools.link) sent all;
+            failed = rose_by_some m most t.left t.read_faults t.taken t.write_faults history s.services (t.link_state desk.tools.link) (t.link_state new.desk.tools.link) sent all;
           }
 
-      pub desk_served : (history : List (Pair A R)) → Begins (front_of new.pass) history → DeskServed t m history listening at desk new.desk s.services
+      pub desk_served : (history : List (Pair A R)) → Begins (front_of new.pass) history → DeskServed t m most history listening at desk new.desk s.services
       desk_served history b = record {
         served = served_as history b;
         order = lie_on [] (front_of new.pass) history b (steps_in s.services) (lie_at_all (front_of mid.pass) (front_of new.pass) (steps_in s.services) s.made.lie);

@@ -24,7 +24,7 @@ use Rattle.serving.specs.Steps.{history_after, called_of}
 use Rattle.serving.specs.Summaries.{Telling, Failed, Unopened, EndedWell, SomeFailed, ServedAt, DeskServed, AllServed, ClosedSo, Summarises}
 use Rattle.serving.specs.Working.{Service, steps_in, readings_in, DrawnIn, Passed, SomeEnded, IsNumber}
 use Rattle.sso_http.proofs.Samples.{get_text}
-use Rattle.serving.proofs.Samples.{Stream, held, failures, manner, History, moments, words, lone, step1, link_with, drawn-at_its_reading, came, went, done_in, served-a_reply, knows}
+use Rattle.serving.proofs.Samples.{Stream, held, failures, manner, limit, History, moments, words, lone, step1, link_with, drawn-at_its_reading, came, went, done_in, served-a_reply, knows}
 
 -- ---- a desk with one connection
 
@@ -92,7 +92,7 @@ other_end : SomeEnded end.Link (service ∷ []) → Rose 0 0
 other_end (inl e) = absurd (cc e)
 other_end (inr none) = absurd none
 
-at_desk-one_connection : (place : Text) → ServedAt telling manner (history_after lone) (desk_at (record before.door { place = place })) after (service ∷ [])
+at_desk-one_connection : (place : Text) → ServedAt telling manner limit (history_after lone) (desk_at (record before.door { place = place })) after (service ∷ [])
 at_desk-one_connection place = record {
   passed = passed-one_connection place;
   sent = record { told = refl; counted = refl; later = omega arith; failed = omega arith };
@@ -103,7 +103,7 @@ at_desk-one_connection place = record {
   failed = other_end;
 }
 
-not_at_desk-a_reading_too_few : ServedAt telling manner (history_after lone) before (desk_at served_door) (service ∷ []) → ⊥
+not_at_desk-a_reading_too_few : ServedAt telling manner limit (history_after lone) before (desk_at served_door) (service ∷ []) → ⊥
 not_at_desk-a_reading_too_few at = let e : ◌≡◌ {A = Option ℕ} (Some 0) (Some 1) = at.clock 0 in absurd cc
 
 is_number-one_for_a_served : IsNumber next.Served 1
@@ -136,7 +136,7 @@ some_failed-the_only_one = inl failed-by_its_door
 not_some_failed-of_none : SomeFailed telling [] [] → ⊥
 not_some_failed-of_none is = is
 
-desk_served : DeskServed telling manner (history_after lone) true (λ old. option_map (λ place. codes "h:1") old) before after (service ∷ [])
+desk_served : DeskServed telling manner limit (history_after lone) true (λ old. option_map (λ place. codes "h:1") old) before after (service ∷ [])
 desk_served = record {
   served = at_desk-one_connection [];
   order = (([], refl), ([], refl));
@@ -150,13 +150,13 @@ no_other_place : (Some (codes "h:1") ≡ Some []) ⊎ Failed telling before afte
 no_other_place (inl e) = absurd cc
 no_other_place (inr rose) = absurd (omega (arith, rose))
 
-not_desk_served-at_another_place : DeskServed telling manner (history_after lone) true (λ place. Some []) before after (service ∷ []) → ⊥
+not_desk_served-at_another_place : DeskServed telling manner limit (history_after lone) true (λ place. Some []) before after (service ∷ []) → ⊥
 not_desk_served-at_another_place d = no_other_place (d.place refl)
 
-all_served-one_desk : AllServed telling manner (history_after lone) true (codes "h:1") (before ∷ []) (after ∷ []) ((service ∷ []) ∷ [])
+all_served-one_desk : AllServed telling manner limit (history_after lone) true (codes "h:1") (before ∷ []) (after ∷ []) ((service ∷ []) ∷ [])
 all_served-one_desk = (λ e. absurd (cc e), desk_served, tt)
 
-not_all_served-a_desk_too_few : AllServed telling manner [] true (codes "h:1") (before ∷ []) [] [] → ⊥
+not_all_served-a_desk_too_few : AllServed telling manner limit [] true (codes "h:1") (before ∷ []) [] [] → ⊥
 not_all_served-a_desk_too_few is = is
 
 -- the door failed as it was to listen, and nobody was served
@@ -172,7 +172,7 @@ not_unopened-where_it_listens un = let e : Some (codes "h:1") ≡ Some [] = ap (
 not_unopened-without_a_fault : Unopened telling before before → ⊥
 not_unopened-without_a_fault un = let rose : 1 ≤ 0 = un.failed in absurd (omega (arith, rose))
 
-not_all_served-others_where_the_first_could_not_listen : AllServed telling manner [] false (codes "h:1") (before ∷ before ∷ []) (shut ∷ after ∷ []) ([] ∷ [] ∷ []) → ⊥
+not_all_served-others_where_the_first_could_not_listen : AllServed telling manner limit [] false (codes "h:1") (before ∷ before ∷ []) (shut ∷ after ∷ []) ([] ∷ [] ∷ []) → ⊥
 not_all_served-others_where_the_first_could_not_listen served =
     let e : 1 ≡ 0 = ap (λ (l : List Place). given_at l) (served.0 refl).1 in absurd (omega (arith, e))
 
@@ -190,7 +190,7 @@ each_once (suc (suc n)) pos high = absurd (omega arith)
 
 -- what a server with this store did, whose desk was as the first and is as the second
 abbrev ClosedAs : Place → Place → Closed History → ℕ → Type 0
-ClosedAs old new closed served = ClosedSo telling manner (λ (core : History). tt) (λ (core : History). core) IsEcho tt (codes "h:1") (old ∷ []) (new ∷ []) closed served 1
+ClosedAs old new closed served = ClosedSo telling manner (λ (setup : Unit {0}). limit) (λ (core : History). tt) (λ (core : History). core) IsEcho tt (codes "h:1") (old ∷ []) (new ∷ []) closed served 1
 
 closed-with_one_place : ClosedAs before after (closed_store (history_after lone) ((1 ∷ []) ∷ [])) 1
 closed-with_one_place = record {
@@ -215,7 +215,7 @@ abbrev summary : ℕ → Bool → Option (Closed History) → Summary History �
 summary count fault closed = record { served = count; entries = count; fault = fault; closed = closed }
 
 abbrev SummarisesAs : List Place → List Place → Summary History ℕ ℕ → Type 0
-SummarisesAs olds news s = Summarises telling manner (λ (core : History). tt) (λ (core : History). core) IsEcho tt (codes "h:1") olds news s
+SummarisesAs olds news s = Summarises telling manner (λ (setup : Unit {0}). limit) (λ (core : History). tt) (λ (core : History). core) IsEcho tt (codes "h:1") olds news s
 
 summarises-one_connection : SummarisesAs (before ∷ []) (after ∷ []) (summary 1 false (Some (closed_store (history_after lone) ((1 ∷ []) ∷ []))))
 summarises-one_connection = record {
@@ -285,7 +285,7 @@ module _ (any : Pass History ℕ ℕ) where
   not_opened-and_not_failed : OpenedSo telling.state telling.closings telling.door_faults (λ door. door) (new_seat before any) (new_seat before any) → ⊥
   not_opened-and_not_failed so = neither so.opened
 
-  seat_served-one_connection : SeatServed telling manner (seat listening true (knows any [] []) nothing_yet) (seat after true (knows any (history_after lone) (called_of lone ∷ [])) (record { served = 1; end = work_end.Turns }))
+  seat_served-one_connection : SeatServed telling manner limit (seat listening true (knows any [] []) nothing_yet) (seat after true (knows any (history_after lone) (called_of lone ∷ [])) (record { served = 1; end = work_end.Turns }))
   seat_served-one_connection = record {
     services = service ∷ [];
     number = refl;
@@ -301,8 +301,8 @@ module _ (any : Pass History ℕ ℕ) where
     ended = λ e. inr (refl, inl refl);
   }
 
-  not_seat_served-one_that_does_not_listen : SeatServed telling manner (seat before false (knows any [] []) nothing_yet) (seat before false (knows any [] []) (record { served = 1; end = work_end.Turns })) → ⊥
+  not_seat_served-one_that_does_not_listen : SeatServed telling manner limit (seat before false (knows any [] []) nothing_yet) (seat before false (knows any [] []) (record { served = 1; end = work_end.Turns })) → ⊥
   not_seat_served-one_that_does_not_listen s = let e : 1 ≡ 0 = s.count ∙ ap (λ (l : List (Service Stream Stream ℕ ℕ)). length l) (s.idle refl).1 in absurd (omega (arith, e))
 
-  not_seats_served-one_seat_too_few : SeatsServed telling manner (new_seat before any ∷ []) [] → ⊥
+  not_seats_served-one_seat_too_few : SeatsServed telling manner limit (new_seat before any ∷ []) [] → ⊥
   not_seats_served-one_seat_too_few is = is

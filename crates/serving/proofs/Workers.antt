@@ -91,25 +91,25 @@ module _ {S K A R : Type 0} where
         given = omega arith;
       }
 
-  module _ (m : Manner A R) (left : S → Option (List ℕ)) (read_faults : S → ℕ) (taken : K → Option (List ℕ)) (write_faults : K → ℕ) where
-    pub serves_all_on : (h k : List (Pair A R)) → Begins h k → (xs : List (Service S K A R)) → ServesAll m left read_faults taken write_faults h xs → ServesAll m left read_faults taken write_faults k xs
+  module _ (m : Manner A R) (most : ℕ) (left : S → Option (List ℕ)) (read_faults : S → ℕ) (taken : K → Option (List ℕ)) (write_faults : K → ℕ) where
+    pub serves_all_on : (h k : List (Pair A R)) → Begins h k → (xs : List (Service S K A R)) → ServesAll m most left read_faults taken write_faults h xs → ServesAll m most left read_faults taken write_faults k xs
     serves_all_on h k b [] s = tt
-    serves_all_on h k b (x ∷ xs) s = (serves_on m left read_faults taken write_faults h k x.came x.went x.work x.served b s.0, serves_all_on h k b xs s.1)
+    serves_all_on h k b (x ∷ xs) s = (serves_on m most left read_faults taken write_faults h k x.came x.went x.work x.served b s.0, serves_all_on h k b xs s.1)
 
-    serves_both : (h : List (Pair A R)) (xs ys : List (Service S K A R)) → ServesAll m left read_faults taken write_faults h xs → ServesAll m left read_faults taken write_faults h ys → ServesAll m left read_faults taken write_faults h (xs ++ ys)
+    serves_both : (h : List (Pair A R)) (xs ys : List (Service S K A R)) → ServesAll m most left read_faults taken write_faults h xs → ServesAll m most left read_faults taken write_faults h ys → ServesAll m most left read_faults taken write_faults h (xs ++ ys)
     serves_both h [] ys a b = b
     serves_both h (x ∷ xs) ys a b = (a.0, serves_both h xs ys a.1 b)
 
     module _ (history : List (Pair A R)) (link : LinkState) (moments : ℕ → Option ℕ) (words : ℕ → Option Word) where
       -- nothing was done
-      pub at_desk_none : (door : DoorState S K) → AtDesk m left read_faults taken write_faults history door door link link moments moments words words []
+      pub at_desk_none : (door : DoorState S K) → AtDesk m most left read_faults taken write_faults history door door link link moments moments words words []
       at_desk_none door = record { passed = passed_none door; sent = took_none link; drawn = tt; clock = moved_none moments; draw = moved_none words; served = tt; failed = λ some. absurd some }
 
       -- one connection was served
       pub at_desk_one : {C : Type 0} (p q : Pass C A R) (door mid door' : DoorState S K) (link' : LinkState) (moments' : ℕ → Option ℕ) (words' : ℕ → Option Word) (came went : Connection S K) (served : ends.Served) (w : Work A R)
           → door.given + 1 < 2 ^ 64 → GaveConnection door mid came → door' ≡ with_served mid went
-          → Did p q link link' moments moments' words words' w → Serves m left read_faults taken write_faults history came went w served
-          → AtDesk m left read_faults taken write_faults history door door' link link' moments moments' words words' (record { came = came; went = went; work = w; served = served } ∷ [])
+          → Did p q link link' moments moments' words words' w → Serves m most left read_faults taken write_faults history came went w served
+          → AtDesk m most left read_faults taken write_faults history door door' link link' moments moments' words words' (record { came = came; went = went; work = w; served = served } ∷ [])
       at_desk_one p q door mid door' link' moments' words' came went served w small gave back did serves =
           let s : Service S K A R = record { came = came; went = went; work = w; served = served } in
           let all : w.readings + 0 ≡ w.readings = omega arith in
@@ -121,15 +121,15 @@ module _ {S K A R : Type 0} where
             clock = subst (λ (n : ℕ). MovedOn moments moments' n) (sym all) did.clock;
             draw = subst (λ (n : ℕ). MovedOn words words' (4 * n)) (sym all) did.draw;
             served = (serves, tt);
-            failed = rose_by_some m left read_faults taken write_faults history (s ∷ []) link link' sent (serves, tt);
+            failed = rose_by_some m most left read_faults taken write_faults history (s ∷ []) link link' sent (serves, tt);
           }
 
     module _ (link mid link' : LinkState) (moments moments1 moments' : ℕ → Option ℕ) (words words1 words' : ℕ → Option Word) where
       -- connections were served, and then more
       pub at_desk_both : (h k : List (Pair A R)) (door door1 door' : DoorState S K) (xs ys : List (Service S K A R)) → Begins h k
-          → AtDesk m left read_faults taken write_faults h door door1 link mid moments moments1 words words1 xs
-          → AtDesk m left read_faults taken write_faults k door1 door' mid link' moments1 moments' words1 words' ys
-          → AtDesk m left read_faults taken write_faults k door door' link link' moments moments' words words' (xs ++ ys)
+          → AtDesk m most left read_faults taken write_faults h door door1 link mid moments moments1 words words1 xs
+          → AtDesk m most left read_faults taken write_faults k door1 door' mid link' moments1 moments' words1 words' ys
+          → AtDesk m most left read_faults taken write_faults k door door' link link' moments moments' words words' (xs ++ ys)
       at_desk_both h k door door1 door' xs ys b a c =
           let all = readings_both xs ys in
           let four : 4 * readings_in xs + 4 * readings_in ys ≡ 4 * readings_in (xs ++ ys) = omega arith in
@@ -144,7 +144,7 @@ module _ {S K A R : Type 0} where
             clock = subst (λ (n : ℕ). MovedOn moments moments' n) (sym all) (moved_both moments moments1 moments' (readings_in xs) (readings_in ys) a.clock c.clock);
             draw = subst (λ (n : ℕ). MovedOn words words' n) four (moved_both words words1 words' (4 * readings_in xs) (4 * readings_in ys) a.draw c.draw);
             served = served;
-            failed = rose_by_some m left read_faults taken write_faults k (xs ++ ys) link link' sent served;
+            failed = rose_by_some m most left read_faults taken write_faults k (xs ++ ys) link link' sent served;
           }
 
   -- the steps of connections and then of more

@@ -1,5 +1,5 @@
 -- How a server runs its core: how requests are parsed, and how replies are sent.
-use Rattle.std.specs.Prelude.{◌≡◌, ◌≢◌, ◌<◌, ℕ, List, [], ◌∷◌, ◌++◌, Option, None}
+use Rattle.std.specs.Prelude.{◌≡◌, ◌≢◌, ◌<◌, ℕ, Bool, List, [], ◌∷◌, ◌++◌, Option, None}
 use Rattle.sso_base.specs.Words.{Text}
 use Rattle.sso_base.specs.declared.history.Pair.{Pair}
 use Rattle.sso_base.specs.declared.http.Ask.{Ask}
@@ -10,7 +10,7 @@ use Rattle.sso_http.specs.Replies.{reply_bytes}
 
 -- The names of its two cookies, and how a request is parsed. A reply may make a request to another server; then the core steps
 -- again with that server's answer. Otherwise the reply is sent by HTTP, after its notices. Notices are messages whose answers
--- are ignored.
+-- are ignored. A parsed request that the server does not take is too large; the core does not get it.
 pub record Manner (A R : Type 0) : Type 0 where
   pub first : Text
   pub second : Text
@@ -19,6 +19,7 @@ pub record Manner (A R : Type 0) : Type 0 where
   pub answered : R → Answered → A
   pub notices : R → List Message
   pub http : R → HttpReply
+  pub takes : A → Bool
   pub weighs : A → ℕ
 
 -- the bytes of a reply

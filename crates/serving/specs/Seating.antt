@@ -65,11 +65,11 @@ module _ {O A R D L C W : Type 0} where
     Opened place olds news = ⊥
 
   -- The work at one seat. If its door does not listen, nothing was done.
-  pub record SeatServed {S K : Type 0} (t : Telling D L C W S K) (m : Manner A R) (old new : Seat O D L C W A R) : Type 0 where
+  pub record SeatServed {S K : Type 0} (t : Telling D L C W S K) (m : Manner A R) (most : ℕ) (old new : Seat O D L C W A R) : Type 0 where
     pub services : List (Service S K A R)
     pub number : number_of new.pass ≡ number_of old.pass
     pub made : MadeAll old.pass new.pass (steps_in services)
-    pub served : ServedAt t m (front_of new.pass) old.desk new.desk services
+    pub served : ServedAt t m most (front_of new.pass) old.desk new.desk services
     pub count : new.worked.served ≡ length services
     pub bound : new.worked.served ≤ old.desk.turns
     pub turns : new.desk.turns ≡ old.desk.turns
@@ -81,16 +81,17 @@ module _ {O A R D L C W : Type 0} where
         → ((new.worked.end ≡ DoorFault) × Failed t old.desk new.desk)
         ⊎ ((is_fault new.worked.end ≡ false) × EndedWell t old.desk new.desk)
 
-  abbrev pub SeatsServed : {S K : Type 0} → Telling D L C W S K → Manner A R → List (Seat O D L C W A R) → List (Seat O D L C W A R) → Type 0
-  SeatsServed t m [] [] = Unit {0}
-  SeatsServed t m (old ∷ olds) (new ∷ news) = SeatServed t m old new × SeatsServed t m olds news
-  SeatsServed t m olds news = ⊥
+  abbrev pub SeatsServed : {S K : Type 0} → Telling D L C W S K → Manner A R → ℕ → List (Seat O D L C W A R) → List (Seat O D L C W A R) → Type 0
+  SeatsServed t m most [] [] = Unit {0}
+  SeatsServed t m most (old ∷ olds) (new ∷ news) = SeatServed t m most old new × SeatsServed t m most olds news
+  SeatsServed t m most olds news = ⊥
 
   -- the doors were opened, and then all open seats were served
-  abbrev pub OpenedAndServed : {S K : Type 0} → Telling D L C W S K → Manner A R → Text → List (Seat O D L C W A R) → List (Seat O D L C W A R) → Type 0
-  OpenedAndServed t m place olds news =
+  abbrev pub OpenedAndServed : {S K : Type 0} → Telling D L C W S K → Manner A R → ℕ → Text → List (Seat O D L C W A R) → List (Seat O D L C W A R)
+      → Type 0
+  OpenedAndServed t m most place olds news =
       (opened : List (Seat O D L C W A R)) × Opened t.state t.closings t.door_faults place olds opened
-      × SeatsServed t m opened news
+      × SeatsServed t m most opened news
 
 -- a seat at which nobody has served: its pass is of this store, and its door and its desk have room for all turns
 abbrev pub MayServe : {O Setup A R D L C W S K : Type 0} → (O → Setup) → (Setup → List (Pair A R) → Type 0)

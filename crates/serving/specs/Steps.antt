@@ -1,7 +1,7 @@
 -- Steps of a core: their inputs and their effects.
 use Rattle.std.specs.Prelude.{◌≡◌, ℕ, ◌+◌, ◌*◌, ◌<◌, List, [], ◌∷◌, ◌++◌, length, Option}
 use Rattle.sso_base.specs.Words.{Word, fresh_word}
-use Rattle.sso_base.specs.Journal.{most_weight, history_weight}
+use Rattle.sso_base.specs.Journal.{history_weight}
 use Rattle.sso_base.specs.declared.history.Pair.{Pair}
 use Rattle.server_desk.specs.Ahead.{IsTold}
 use Rattle.turn_store.specs.declared.view.Called.{Called}
@@ -38,14 +38,14 @@ module _ {A R : Type 0} where
     pub fresh : (k : ℕ) → k < 4 → IsTold (words (4 * reading + k)) (fresh_word s.fresh k)
 
   -- the history and the request weigh more than the limit of a history
-  abbrev pub IsFull : (A → ℕ) → List (Pair A R) → A → Type 0
-  IsFull weighs history asked = most_weight < history_weight weighs history + weighs asked
+  abbrev pub IsFull : (A → ℕ) → ℕ → List (Pair A R) → A → Type 0
+  IsFull weighs most history asked = most < history_weight weighs history + weighs asked
 
   -- why a step was not made, given the history that the pass has then seen
-  abbrev pub IsNoStep : (A → ℕ) → List (Pair A R) → A → NoReply → Type 0
-  IsNoStep weighs history asked NoMemory = Unit {0}
-  IsNoStep weighs history asked Full = IsFull weighs history asked
-  IsNoStep weighs history asked why = ⊥
+  abbrev pub IsNoStep : (A → ℕ) → ℕ → List (Pair A R) → A → NoReply → Type 0
+  IsNoStep weighs most history asked NoMemory = Unit {0}
+  IsNoStep weighs most history asked Full = IsFull weighs most history asked
+  IsNoStep weighs most history asked why = ⊥
 
   -- the pass made this step, after all that it had seen
   pub record Made {C : Type 0} (old new : Pass C A R) (s : Stepped A R) : Type 0 where

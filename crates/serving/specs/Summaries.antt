@@ -45,11 +45,11 @@ module _ {D L C W S K : Type 0} (t : Telling D L C W S K) where
       ((t.state new.door).given ≡ (t.state old.door).given + old.turns)
       ⊎ Rose (t.closings old.door) (t.closings new.door)
 
-  module _ {A R : Type 0} (m : Manner A R) where
+  module _ {A R : Type 0} (m : Manner A R) (most : ℕ) where
     -- the connections that it served, and its part of the history
     abbrev pub ServedAt : List (Pair A R) → Desk D L C W → Desk D L C W → List (Service S K A R) → Type 0
     ServedAt history old new services =
-        AtDesk m t.left t.read_faults t.taken t.write_faults history (t.state old.door) (t.state new.door)
+        AtDesk m most t.left t.read_faults t.taken t.write_faults history (t.state old.door) (t.state new.door)
         (t.link_state old.tools.link) (t.link_state new.tools.link) (t.moments old.tools.clock) (t.moments new.tools.clock) (t.words old.tools.draw)
         (t.words new.tools.draw) services
 
@@ -98,16 +98,16 @@ abbrev pub places_in : {S K A R : Type 0} → List (Service S K A R) → List �
 places_in {S} {K} {A} {R} services = places_of (map called_of (steps_in services))
 
 -- The closed store: its history is legal for the setup, and each of its places is exactly one step of one connection of one
--- desk. It also states whether the first door was opened.
+-- desk. It also states whether the first door was opened. A history for a setup may weigh `most` of it.
 pub record ClosedSo
-    {D L C W S K A R Core Setup : Type 0} (t : Telling D L C W S K) (m : Manner A R) (setup : Core → Setup)
+    {D L C W S K A R Core Setup : Type 0} (t : Telling D L C W S K) (m : Manner A R) (most : Setup → ℕ) (setup : Core → Setup)
     (history_of : Core → List (Pair A R)) (is_legal : Setup → List (Pair A R) → Type 0) (configured : Setup) (place : Text)
     (olds news : List (Desk D L C W)) (closed : Closed Core) (served entries : ℕ) : Type 0 where
   pub set_up : setup closed.core ≡ configured
   pub legal : is_legal configured (history_of closed.core)
   pub listening : Bool
   pub works : List (List (Service S K A R))
-  pub desks : AllServed t m (history_of closed.core) listening place olds news works
+  pub desks : AllServed t m (most configured) (history_of closed.core) listening place olds news works
   pub calls : closed.calls ≡ map places_in works
   pub once : IsEachOnce (length (history_of closed.core)) closed.calls
   pub number : served ≡ sum_by length works
@@ -115,12 +115,12 @@ pub record ClosedSo
 
 -- What a server with these desks did. Without a desk it did nothing.
 pub record Summarises
-    {D L C W S K A R Core Setup : Type 0} (t : Telling D L C W S K) (m : Manner A R) (setup : Core → Setup)
+    {D L C W S K A R Core Setup : Type 0} (t : Telling D L C W S K) (m : Manner A R) (most : Setup → ℕ) (setup : Core → Setup)
     (history_of : Core → List (Pair A R)) (is_legal : Setup → List (Pair A R) → Type 0) (configured : Setup) (place : Text)
     (olds news : List (Desk D L C W)) (s : Summary Core A R) : Type 0 where
   pub none : olds ≡ [] → (s.served ≡ 0) × (s.entries ≡ 0) × (s.fault ≡ false) × (s.closed ≡ None) × (news ≡ [])
   pub some : 0 < length olds
       → (closed : Closed Core) × (s.closed ≡ Some closed)
-      × ClosedSo t m setup history_of is_legal configured place olds news closed s.served s.entries
+      × ClosedSo t m most setup history_of is_legal configured place olds news closed s.served s.entries
   pub failed : s.fault ≡ true → SomeFailed t olds news
   pub well : s.fault ≡ false → AllEndedWell t olds news

@@ -6,13 +6,14 @@ use Rattle.sso_http.specs.Refusals.{refusal_bytes}
 use Rattle.serving.specs.declared.ends.ServedEnd.{ServedEnd}
 use Rattle.serving.specs.declared.ends.ServedEnd.TheVariants as end
 use Rattle.serving.specs.declared.no_reply.NoReply.{NoReply}
-use Rattle.serving.specs.declared.no_reply.NoReply.TheVariants.{NoMemory, Http, Link, Peer, Full}
+use Rattle.serving.specs.declared.no_reply.NoReply.TheVariants.{NoMemory, Http, Link, Peer, TooLarge, Full}
 
 abbrev pub end_without : NoReply → ServedEnd
 end_without NoMemory = end.NoMemory
 end_without (Http why) = end.Http why
 end_without Link = end.Link
 end_without Peer = end.Peer
+end_without TooLarge = end.TooLarge
 end_without Full = end.Full
 
 -- the reply if memory ran out
@@ -25,6 +26,7 @@ bytes_without NoMemory = Some memory_bytes
 bytes_without (Http why) = refusal_bytes why
 bytes_without Link = Some (reply_bytes (plain 502 (codes "link")))
 bytes_without Peer = Some (reply_bytes (plain 502 (codes "peer")))
+bytes_without TooLarge = Some (reply_bytes (plain 413 (codes "size")))
 bytes_without Full = Some (reply_bytes (plain 503 (codes "journal")))
 
 -- how the serving ends, with a reply or without one

@@ -58,12 +58,12 @@ module _ {S K A R : Type 0} where
     pub served : door'.served ≡ option_map (λ before. before ++ map (λ (s : Service S K A R). s.went) services) door.served
     pub given : door'.given ≡ door.given + length services
 
-  module _ (m : Manner A R) (left : S → Option (List ℕ)) (read_faults : S → ℕ) (taken : K → Option (List ℕ)) (write_faults : K → ℕ) where
+  module _ (m : Manner A R) (most : ℕ) (left : S → Option (List ℕ)) (read_faults : S → ℕ) (taken : K → Option (List ℕ)) (write_faults : K → ℕ) where
     -- each connection was served, and its steps are in this history, in their order
     abbrev pub ServesAll : List (Pair A R) → List (Service S K A R) → Type 0
     ServesAll history services =
         AllByRecursion
-        (λ (s : Service S K A R). Serves m left read_faults taken write_faults history s.came s.went s.work s.served)
+        (λ (s : Service S K A R). Serves m most left read_faults taken write_faults history s.came s.went s.work s.served)
         services
 
     -- that is all that was done with the door, the link, the clock and the draw of a desk; if a connection ended because of the

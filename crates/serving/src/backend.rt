@@ -6,7 +6,7 @@ use turn_store::Turn;
 
 /// What the workers of a server share: its role, and the store with the role's core.
 #[derive(Drop)]
-pub struct Backend<'a, R, X, O: Core> {
+pub struct Backend<'a, R, X, O: Core + Send> {
     /// The runtime. A worker waits by it for the store.
     pub rt: &'a R,
     /// The allocator.

@@ -14,6 +14,8 @@ pub enum ServedEnd {
     Link,
     /// The answer of another server is not HTTP. A reply with the status 502 was written.
     Peer,
+    /// The request, or the answer of another server, is larger than the server takes. A reply with the status 413 was written.
+    TooLarge,
     /// A write to the connection failed.
     WriteFault,
     /// The core refused a step, since its history would be too heavy. A reply with the status 503 was written.

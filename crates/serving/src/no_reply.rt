@@ -22,6 +22,8 @@ pub enum NoReply {
     Link,
     /// The answer of another server is not HTTP.
     Peer,
+    /// The request, or the answer of another server, is larger than the server takes.
+    TooLarge,
     /// The core refused a step, since its history would be too heavy.
     Full,
 }
@@ -47,6 +49,7 @@ impl NoReply {
             NoReply::Http(why) => ServedEnd::Http(*why),
             NoReply::Link => ServedEnd::Link,
             NoReply::Peer => ServedEnd::Peer,
+            NoReply::TooLarge => ServedEnd::TooLarge,
             NoReply::Full => ServedEnd::Full,
         }
     }
@@ -73,6 +76,7 @@ pub fn told(alloc: Global, no: &NoReply) -> Result<Option<Blob>, NoMemory>
         NoReply::Http(why) => print_http_no(alloc, why),
         NoReply::Link => Ok(Some(line(alloc, 502, "link")?)),
         NoReply::Peer => Ok(Some(line(alloc, 502, "peer")?)),
+        NoReply::TooLarge => Ok(Some(line(alloc, 413, "size")?)),
         NoReply::Full => Ok(Some(line(alloc, 503, "journal")?)),
     }
 }

@@ -8,7 +8,7 @@ pub trait Role: Sync {
     ghost use Rattle.serving.specs.Manner.{Manner, HasFewerRounds};
 
     /// The core.
-    type Core: Core;
+    type Core: Core + Send;
 
     /// Whether it may serve.
     ghost ready: { Self → Type 0 };
@@ -42,6 +42,10 @@ pub trait Role: Sync {
     ) -> Result<<Self::Core as Core>::Ask, NoMemory>
         requires { ready self.now }
         ensures { IfOk result (λ asked. asked ≡ (manner self.now).answered reply.now answer.now) };
+
+    /// Whether a parsed request is small enough for the server.
+    fn takes(&self, ask: &<Self::Core as Core>::Ask) -> bool
+        ensures { result ≡ (manner self.now).takes ask.now };
 
     /// The notices that are sent with a reply, if there are any.
     fn notices<'r>(&self, reply: &'r <Self::Core as Core>::Reply) -> Option<&'r Messages>

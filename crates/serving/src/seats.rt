@@ -4,7 +4,7 @@ ghost use Rattle.std.specs.Prelude.{◌≡◌, ◌+◌, ◌^◌, ◌≤◌, ◌<
 ghost use Rattle.std.specs.List.{All, sum_by, list_any};
 ghost use Rattle.server_desk.specs.Doors.{started, shared};
 ghost use Rattle.serving.specs.Seating.{seated, is_left, OpenedSo, AllOpened, Opened, SeatServed, SeatsServed, OpenedAndServed, MayServe};
-ghost use Rattle.turn_store.specs.Passes.{IsPassOf};
+ghost use Rattle.turn_store.specs.Passes.{IsPassOf, setup_of};
 
 use crate::backend::Backend;
 use crate::role::Role;
@@ -18,7 +18,7 @@ use turn_store::Pass;
 
 /// A desk with its pass.
 #[derive(Drop)]
-pub struct Seat<O: Core, D: Drop, L: Drop, C: Drop, W: Drop> {
+pub struct Seat<O: Core + Send, D: Drop, L: Drop, C: Drop, W: Drop> {
     pub desk: Desk<D, L, C, W>,
     pub pass: Pass<O>,
     /// Whether its door listens.
@@ -28,7 +28,7 @@ pub struct Seat<O: Core, D: Drop, L: Drop, C: Drop, W: Drop> {
 }
 
 /// Moves these desks and passes to seats, at which nobody has served yet.
-pub fn sit<O: Core, D: Door, L: Link, C: Clock, W: Draw>(
+pub fn sit<O: Core + Send, D: Door, L: Link, C: Clock, W: Draw>(
     desks: &mut Vec<Desk<D, L, C, W>>,
     passes: &mut Vec<Pass<O>>,
     seats: &mut Vec<Seat<O, D, L, C, W>>,
@@ -56,7 +56,7 @@ pub fn sit<O: Core, D: Door, L: Link, C: Clock, W: Draw>(
 }
 
 // Makes the seat's door listen at the place, and notes whether it does.
-fn open_seat<O: Core, D: Door, L: Link, C: Clock, W: Draw>(
+fn open_seat<O: Core + Send, D: Door, L: Link, C: Clock, W: Draw>(
     seat: &mut Seat<O, D, L, C, W>,
     place: &Text,
 )
@@ -66,7 +66,7 @@ fn open_seat<O: Core, D: Door, L: Link, C: Clock, W: Draw>(
 }
 
 // Makes the seat's door listen at the first door's address, and notes whether it does.
-fn share_seat<O: Core, D: Door, L: Link, C: Clock, W: Draw>(
+fn share_seat<O: Core + Send, D: Door, L: Link, C: Clock, W: Draw>(
     seat: &mut Seat<O, D, L, C, W>,
     first: &D,
 )
@@ -76,7 +76,7 @@ fn share_seat<O: Core, D: Door, L: Link, C: Clock, W: Draw>(
 }
 
 // Makes the doors of these seats listen at the first door's address.
-fn share_seats<O: Core, D: Door, L: Link, C: Clock, W: Draw>(
+fn share_seats<O: Core + Send, D: Door, L: Link, C: Clock, W: Draw>(
     seats: &mut [Seat<O, D, L, C, W>],
     first: &D,
 )
@@ -88,7 +88,7 @@ fn share_seats<O: Core, D: Door, L: Link, C: Clock, W: Draw>(
 }
 
 /// Makes the first door listen at the place, and the others at its address. A seat is open if its door listens.
-pub fn open_doors<O: Core, D: Door, L: Link, C: Clock, W: Draw>(
+pub fn open_doors<O: Core + Send, D: Door, L: Link, C: Clock, W: Draw>(
     seats: &mut [Seat<O, D, L, C, W>],
     place: &Text,
 )
@@ -115,7 +115,8 @@ fn serve_seat<R: Wait, X: Role, D: Door, L: Link, C: Clock, W: Draw>(
     requires turns { seat.old.desk.turns ≤ 2 ^ 56 }
     requires idle { seat.old.worked.served ≡ 0 }
     ensures pass { IsPassOf X.Core.setup X.Core.is_legal backend.now.store.now seat.new.pass }
-    ensures served { SeatServed ⟦<Desk<D, L, C, W> as Tells>⟧.telling (X.manner backend.now.role.now) seat.old seat.new }
+    ensures served { SeatServed ⟦<Desk<D, L, C, W> as Tells>⟧.telling (X.manner backend.now.role.now)
+        (X.Core.most (setup_of X.Core.setup backend.now.store.now)) seat.old seat.new }
 {
     if seat.listens {
         seat.worked = serve_desk(backend, &mut seat.pass, &mut seat.desk);
@@ -134,7 +135,8 @@ where
     requires some { 0 < length seats.old }
     requires seats { All (λ seat. MayServe X.Core.setup X.Core.is_legal D.state backend.now.store.now seat) seats.old }
     ensures passes { All (λ seat. IsPassOf X.Core.setup X.Core.is_legal backend.now.store.now seat.pass) seats.new }
-    ensures served { SeatsServed ⟦<Desk<D, L, C, W> as Tells>⟧.telling (X.manner backend.now.role.now) seats.old seats.new }
+    ensures served { SeatsServed ⟦<Desk<D, L, C, W> as Tells>⟧.telling (X.manner backend.now.role.now)
+        (X.Core.most (setup_of X.Core.setup backend.now.store.now)) seats.old seats.new }
 {
     let count = seats.len();
     for_each_mut(
@@ -157,7 +159,8 @@ where
                   read_faults = D.Source.faults;
                   taken = D.Sink.taken;
                   write_faults = D.Sink.faults;
-                }) (X.manner backend.entry.now.role.now) seat.entry.now seat.exit.now }
+                }) (X.manner backend.entry.now.role.now) (X.Core.most (setup_of X.Core.setup backend.entry.now.store.now))
+                seat.entry.now seat.exit.now }
         { serve_seat(backend, seat) },
     );
 }
@@ -175,7 +178,8 @@ where
     requires some { 0 < length seats.old }
     requires seats { All (λ seat. MayServe X.Core.setup X.Core.is_legal D.state backend.now.store.now seat) seats.old }
     ensures passes { All (λ seat. IsPassOf X.Core.setup X.Core.is_legal backend.now.store.now seat.pass) seats.new }
-    ensures served { OpenedAndServed ⟦<Desk<D, L, C, W> as Tells>⟧.telling (X.manner backend.now.role.now) place.now seats.old seats.new }
+    ensures served { OpenedAndServed ⟦<Desk<D, L, C, W> as Tells>⟧.telling (X.manner backend.now.role.now)
+        (X.Core.most (setup_of X.Core.setup backend.now.store.now)) place.now seats.old seats.new }
 {
     open_doors(seats, place);
     serve_seats(backend, seats);
@@ -189,7 +193,7 @@ pub struct Count {
 }
 
 /// Returns desks and passes from the seats, in their order, and the count.
-pub fn rise<O: Core, D: Door, L: Link, C: Clock, W: Draw>(
+pub fn rise<O: Core + Send, D: Door, L: Link, C: Clock, W: Draw>(
     seats: &mut Vec<Seat<O, D, L, C, W>>,
     desks: &mut Vec<Desk<D, L, C, W>>,
     passes: &mut Vec<Pass<O>>,

@@ -9,7 +9,7 @@ use sso_base::{Blob, Message, Messages, NoMemory, Text};
 use sso_http::{message_place, print_message};
 use std::alloc::Global;
 
-/// The most bytes that are taken of an answer (own).
+/// The most bytes that are taken of an answer (our choice).
 const MOST_ANSWER: usize = 65_536;
 
 /// A message as it is sent.

@@ -2,7 +2,7 @@
 
 ghost use Rattle.std.specs.Prelude.{◌≡◌, ◌≢◌, ◌⊎◌, ◌+◌, ◌≤◌, ◌<◌, ◌++◌, ◌∷◌, ℕ, List, [], map, length, Ok, Err, Some, None, IfOk, IfErr, IfSome, OnErr};
 ghost use Rattle.sso_base.specs.Faults.{Rose};
-ghost use Rattle.turn_store.specs.Passes.{IsPassOf, number_of, front_of};
+ghost use Rattle.turn_store.specs.Passes.{IsPassOf, number_of, front_of, setup_of};
 ghost use Rattle.serving.specs.LinkCalls.{LinkCall, sending_of, TookCalls};
 ghost use Rattle.serving.specs.Manner.{Manner, bytes_by};
 ghost use Rattle.serving.specs.Serving as spec;
@@ -25,6 +25,24 @@ use std::sync::Wait;
 use turn_store::Pass;
 
 // The parsed request of a connection.
+fn prepared<X: Role, S: Source>(
+    alloc: Global,
+    role: &X,
+    source: &mut S,
+) -> Result<<X::Core as Core>::Ask, NoReply>
+    requires { X.ready role.now }
+    ensures ok { IfOk result (spec.IsPrepared (X.manner role.now) (S.left source.old) (S.left source.new)) }
+    ensures err { IfErr result (spec.IsUnread (X.manner role.now) (S.left source.old) (S.left source.new) (S.faults source.old) (S.faults source.new)) }
+{
+    let (first, second) = role.cookies(alloc)?;
+    match read_ask(alloc, source, &first, &second) {
+        Ok(request) => Ok(role.prepare(alloc, &request)?),
+        Err(HttpNo::NoMemory) => Err(NoReply::NoMemory),
+        Err(why) => Err(NoReply::Http(why)),
+    }
+}
+
+// The parsed request of a connection, if it is small enough.
 fn asked<X: Role, S: Source>(
     alloc: Global,
     role: &X,
@@ -34,12 +52,12 @@ fn asked<X: Role, S: Source>(
     ensures ok { IfOk result (spec.IsAsked (X.manner role.now) (S.left source.old) (S.left source.new)) }
     ensures err { IfErr result (spec.IsUnread (X.manner role.now) (S.left source.old) (S.left source.new) (S.faults source.old) (S.faults source.new)) }
 {
-    let (first, second) = role.cookies(alloc)?;
-    match read_ask(alloc, source, &first, &second) {
-        Ok(request) => Ok(role.prepare(alloc, &request)?),
-        Err(HttpNo::NoMemory) => Err(NoReply::NoMemory),
-        Err(why) => Err(NoReply::Http(why)),
+    let ask = prepared(alloc, role, source)?;
+    if !role.takes(&ask) {
+        drop(ask);
+        return Err(NoReply::TooLarge);
     }
+    Ok(ask)
 }
 
 // The answer of another server, by what came back over the link.
@@ -65,7 +83,7 @@ fn answer_to<L: Link>(alloc: Global, link: &mut L, question: &Message) -> Result
     peer_answer(alloc, back)
 }
 
-// The parsed answer to the question of a reply.
+// The parsed answer to the question of a reply, if it is small enough.
 fn asked_back<X: Role, L: Link>(
     alloc: Global,
     role: &X,
@@ -78,7 +96,12 @@ fn asked_back<X: Role, L: Link>(
     ensures { (calls : List LinkCall) × TookCalls (L.state link.old) (L.state link.new) calls × spec.IsAnswered (X.manner role.now) reply.now calls result }
 {
     let answer = answer_to(alloc, link, question)?;
-    Ok(role.prepare_answer(alloc, reply, &answer)?)
+    let ask = role.prepare_answer(alloc, reply, &answer)?;
+    if !role.takes(&ask) {
+        drop(ask);
+        return Err(NoReply::TooLarge);
+    }
+    Ok(ask)
 }
 
 // The reply after the question of a reply was answered, or that reply where it puts none.
@@ -97,7 +120,8 @@ fn follow<R: Wait, X: Role, L: Link, C: Clock, W: Draw>(
     ensures followed { (w : Work X.Core.Ask X.Core.Reply)
         × Did pass.old pass.new (L.state tools.old.link) (L.state tools.new.link)
         (C.ahead tools.old.clock) (C.ahead tools.new.clock) (W.ahead tools.old.draw) (W.ahead tools.new.draw) w
-        × spec.Round (X.manner backend.now.role.now) X.rounds (front_of pass.new) reply w result
+        × spec.Round (X.manner backend.now.role.now) (X.Core.most (setup_of X.Core.setup backend.now.store.now))
+        X.rounds (front_of pass.new) reply w result
         × (places.new ≡ places.old + length w.steps) }
 {
     let ask = match backend.role.question(&reply) {
@@ -133,7 +157,8 @@ fn last_reply<R: Wait, X: Role, L: Link, C: Clock, W: Draw>(
     ensures followed { (w : Work X.Core.Ask X.Core.Reply)
         × Did pass.old pass.new (L.state tools.old.link) (L.state tools.new.link)
         (C.ahead tools.old.clock) (C.ahead tools.new.clock) (W.ahead tools.old.draw) (W.ahead tools.new.draw) w
-        × spec.Rest (X.manner backend.now.role.now) (front_of pass.new) reply w.steps w.calls result
+        × spec.Rest (X.manner backend.now.role.now) (X.Core.most (setup_of X.Core.setup backend.now.store.now))
+        (front_of pass.new) reply w.steps w.calls result
         × (places.new ≡ places.old + length w.steps) }
 {
     let second = follow(backend, pass, tools, places, reply)?;
@@ -159,8 +184,8 @@ fn reply_to<R: Wait, X: Role, S: Source, L: Link, C: Clock, W: Draw>(
         × Did pass.old pass.new (L.state tools.old.link) (L.state tools.new.link)
         (C.ahead tools.old.clock) (C.ahead tools.new.clock) (W.ahead tools.old.draw) (W.ahead tools.new.draw) w
         × spec.IsRun (X.manner backend.now.role.now) (S.left source.old) (S.left source.new) w.steps w.calls
-        × spec.Cause (X.manner backend.now.role.now) (S.left source.old) (S.left source.new) (S.faults source.old) (S.faults source.new)
-        (front_of pass.new) w.steps w.calls result
+        × spec.Cause (X.manner backend.now.role.now) (X.Core.most (setup_of X.Core.setup backend.now.store.now))
+        (S.left source.old) (S.left source.new) (S.faults source.old) (S.faults source.new) (front_of pass.new) w.steps w.calls result
         × (places.new ≡ length w.steps) }
 {
     let ask = asked(backend.alloc, backend.role, source)?;
@@ -230,8 +255,8 @@ pub fn serve_connection<
     ensures served { (w : Work X.Core.Ask X.Core.Reply)
         × Did pass.old pass.new (L.state tools.old.link) (L.state tools.new.link)
         (C.ahead tools.old.clock) (C.ahead tools.new.clock) (W.ahead tools.old.draw) (W.ahead tools.new.draw) w
-        × spec.Serves (X.manner backend.now.role.now) S.left S.faults K.taken K.faults
-        (front_of pass.new) connection.old connection.new w result }
+        × spec.Serves (X.manner backend.now.role.now) (X.Core.most (setup_of X.Core.setup backend.now.store.now))
+        S.left S.faults K.taken K.faults (front_of pass.new) connection.old connection.new w result }
     ensures link { result.end ≡ ServedEnd.Link → Rose (L.state tools.old.link).faults (L.state tools.new.link).faults }
 {
     let mut places = 0;

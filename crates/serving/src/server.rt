@@ -42,7 +42,7 @@ where
     requires seats { (seats.items ≡ []) × (length desks.old.items ≤ vec_capacity seats) }
     requires desks { All (λ desk. (desk.turns ≤ 2 ^ 56) × ((D.state desk.door).given < 2 ^ 63)) desks.old.items }
     ensures { Summarises ⟦<Desk<D, L, C, W> as Tells>⟧.telling (X.manner role.now)
-        X.Core.setup X.Core.history X.Core.is_legal (setup_of X.Core.setup store) place.now desks.old.items desks.new.items result }
+        X.Core.most X.Core.setup X.Core.history X.Core.is_legal (setup_of X.Core.setup store) place.now desks.old.items desks.new.items result }
 {
     sit(desks, &mut passes, &mut seats);
     open_and_serve(
@@ -89,7 +89,8 @@ where
     requires few { length desks.old.items ≤ 64 }
     requires desks { All (λ desk. (desk.turns ≤ 2 ^ 56) × ((D.state desk.door).given < 2 ^ 63)) desks.old.items }
     ensures summary { IfOk result (Summarises ⟦<Desk<D, L, C, W> as Tells>⟧.telling
-        (X.manner role.now) X.Core.setup X.Core.history X.Core.is_legal (X.Core.setup core) place.now desks.old.items desks.new.items) }
+        (X.manner role.now) X.Core.most X.Core.setup X.Core.history X.Core.is_legal (X.Core.setup core) place.now
+        desks.old.items desks.new.items) }
     ensures memory { OnErr result (desks.new.items ≡ desks.old.items) }
 {
     let count = desks.len();

@@ -4,7 +4,7 @@ ghost use Rattle.std.specs.Prelude.{◌≡◌, ◌<◌, ℕ, IfOk, IfErr, OnErr}
 ghost use Rattle.server_desk.specs.Ahead.{IsTold, MovedOn};
 ghost use Rattle.sso_base.specs.Words.{fresh_word};
 ghost use Rattle.turn_store.specs.Places.{Begins};
-ghost use Rattle.turn_store.specs.Passes.{IsPassOf, number_of, front_of, calls_of};
+ghost use Rattle.turn_store.specs.Passes.{IsPassOf, number_of, front_of, calls_of, setup_of};
 ghost use Rattle.serving.specs.Steps.{IsNoStep, StepsOnce};
 
 use crate::backend::Backend;
@@ -42,7 +42,7 @@ pub fn step<R: Wait, X: Role, K: Clock, W: Draw>(
     ensures made { IfOk result (λ reply. StepsOnce pass.old pass.new ask (K.ahead clock.old) (W.ahead draw.old) reply) }
     ensures refused { OnErr result (calls_of pass.new ≡ calls_of pass.old) }
     ensures later { OnErr result (Begins (front_of pass.old) (front_of pass.new)) }
-    ensures why { IfErr result (IsNoStep X.Core.weighs (front_of pass.new) ask) }
+    ensures why { IfErr result (IsNoStep X.Core.weighs (X.Core.most (setup_of X.Core.setup backend.now.store.now)) (front_of pass.new) ask) }
     ensures clock { MovedOn (K.ahead clock.old) (K.ahead clock.new) 1 }
     ensures draw { MovedOn (W.ahead draw.old) (W.ahead draw.new) 4 }
 {

@@ -5,7 +5,7 @@ use turn_store::Closed;
 
 /// What a server did.
 #[derive(Drop)]
-pub struct Summary<O: Core> {
+pub struct Summary<O: Core + Send> {
     /// The number of connections that its desks served.
     pub served: u64,
     /// The number of entries in the history of its core.

@@ -3,7 +3,7 @@
 ghost use Rattle.std.specs.Prelude.{◌≡◌, ◌≢◌, ◌⊎◌, ◌+◌, ◌^◌, ◌≤◌, ◌<◌, ℕ, List, [], ◌∷◌, length, Ok, Err, IfOk, OnErr};
 ghost use Rattle.sso_base.specs.Faults.{Rose};
 ghost use Rattle.server_desk.specs.Doors.{with_served};
-ghost use Rattle.turn_store.specs.Passes.{IsPassOf, number_of, front_of};
+ghost use Rattle.turn_store.specs.Passes.{IsPassOf, number_of, front_of, setup_of};
 ghost use Rattle.serving.specs.Work.{MadeAll};
 ghost use Rattle.serving.specs.Working as spec;
 
@@ -71,7 +71,8 @@ fn serve_next<R: Wait, X: Role, D: Door, L: Link, C: Clock, W: Draw>(
     ensures fault { result ≡ Next.Fault → Rose (D.faults desk.old.door) (D.faults desk.new.door) }
     ensures worked { (services : List (spec.Service D.Source D.Sink X.Core.Ask X.Core.Reply))
         × MadeAll pass.old pass.new (spec.steps_in services)
-        × spec.AtDesk (X.manner backend.now.role.now) D.Source.left D.Source.faults D.Sink.taken D.Sink.faults (front_of pass.new)
+        × spec.AtDesk (X.manner backend.now.role.now) (X.Core.most (setup_of X.Core.setup backend.now.store.now))
+        D.Source.left D.Source.faults D.Sink.taken D.Sink.faults (front_of pass.new)
         (D.state desk.old.door) (D.state desk.new.door) (L.state desk.old.tools.link) (L.state desk.new.tools.link)
         (C.ahead desk.old.tools.clock) (C.ahead desk.new.tools.clock) (W.ahead desk.old.tools.draw) (W.ahead desk.new.tools.draw) services
         × spec.IsNumber result (length services) }
@@ -110,7 +111,8 @@ pub fn serve_desk<R: Wait, X: Role, D: Door, L: Link, C: Clock, W: Draw>(
     ensures fault { result.end ≡ WorkEnd.DoorFault → Rose (D.faults desk.old.door) (D.faults desk.new.door) }
     ensures worked { (services : List (spec.Service D.Source D.Sink X.Core.Ask X.Core.Reply))
         × MadeAll pass.old pass.new (spec.steps_in services)
-        × spec.AtDesk (X.manner backend.now.role.now) D.Source.left D.Source.faults D.Sink.taken D.Sink.faults (front_of pass.new)
+        × spec.AtDesk (X.manner backend.now.role.now) (X.Core.most (setup_of X.Core.setup backend.now.store.now))
+        D.Source.left D.Source.faults D.Sink.taken D.Sink.faults (front_of pass.new)
         (D.state desk.old.door) (D.state desk.new.door) (L.state desk.old.tools.link) (L.state desk.new.tools.link)
         (C.ahead desk.old.tools.clock) (C.ahead desk.new.tools.clock) (W.ahead desk.old.tools.draw) (W.ahead desk.new.tools.draw) services
         × (result.served ≡ length services) }

@@ -14,6 +14,7 @@ use Rattle.configuration_rows.specs.Rows.{rows_refusals}
 use Rattle.client_registry.specs.Rules.{records_refusals, subjects_refusals}
 use Rattle.client_registry.specs.declared.records.Provider.{Provider}
 use Rattle.client_registry.specs.Configuration.{Configuration, configuration_of}
+use Rattle.configuration_rows.specs.Versions.{version_in}
 use Rattle.client_registry.specs.Reading.{document_in, rows_read, records_read, subjects_read, registry_read}
 use Rattle.sso_base.specs.Words.{Text}
 use Rattle.sso_base.specs.Outside.{Content, content_of}
@@ -68,10 +69,11 @@ configuration = record {
   clients = [];
   parties = [];
   subjects = [];
+  lasting = false;
 }
 
 small_read : registry_read small ≡ Ok configuration
-unfolding document_in toml_on_literals rows_read records_read subjects_read rows_refusals records_refusals subjects_refusals configuration_of url_on_literals parts_of hex_on_literals is_utf8 chars
+unfolding document_in toml_on_literals version_in rows_read records_read subjects_read rows_refusals records_refusals subjects_refusals configuration_of url_on_literals parts_of hex_on_literals is_utf8 chars
 small_read = refl
 
 -- one that is no TOML

@@ -12,6 +12,8 @@ pub mod ListSteps
 pub mod WordTexts
 pub mod WordUtf8
 pub mod Histories
+pub mod Limits
+pub mod Asking
 pub mod DrawnWords
 pub mod Answering
 pub mod Utf8Bytes

@@ -1,4 +1,4 @@
--- A row is found after a past exactly where it literally stands.
+-- A row is found after a past if and only if it literally stands.
 use Rattle.std.proofs.Common.{◌≡◌, Bool, false, cond, List, [], ◌∷◌, ◌++◌, Option, Some, None, option_and_then, inl, inr, refl, sym, ◌∙◌, ap, subst}
 use Rattle.sso_base.specs.Words.{Word}
 use Rattle.sso_base.specs.Rows.{row_of, rows_by}

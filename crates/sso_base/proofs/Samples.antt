@@ -17,7 +17,8 @@ use Rattle.sso_base.specs.TextBuffer.{buffer_of, texts_in, IsBuffer}
 use Rattle.sso_base.proofs.Utf8Bytes.{IsUtf8-are_ascii}
 use Rattle.sso_base.specs.Values.{AreWords}
 use Rattle.sso_base.specs.Weights.{told_weight, texts_bytes}
-use Rattle.sso_base.specs.Journal.{IsLegalHistoryBy, entry_moment, extended, history_weight}
+use Rattle.sso_base.specs.Journal.{IsLegalHistoryBy, most_of, capacity_of, entry_moment, extended, history_weight}
+use Rattle.sso_base.specs.Asked.{history_by}
 use Rattle.sso_base.specs.Refusals.{first_refusal, and_then, and_then_as, demand, forbid}
 use Rattle.sso_base.specs.Rows.{without, put, row_of, rows_by, lives, if_lives, live_rows}
 use Rattle.sso_base.specs.Stands.{is_named, carried, NoneMakes, Stands, KeepsNames, IsDistinct}
@@ -417,11 +418,28 @@ history_weight-of_two_pairs = refl
 abbrev weighs_it : ℕ → ℕ → ℕ
 weighs_it n asked = n
 
-legal_history-of_one_pair : IsLegalHistoryBy Any counted (weighs_it 268435456) (pair 7 0 ∷ [])
+legal_history-of_one_pair : IsLegalHistoryBy Any counted (weighs_it 268435456) (most_of false) (pair 7 0 ∷ [])
 legal_history-of_one_pair = record { past = (tt, record { moment = omega arith; four = refl; words = drawn_words; ask = tt }, omega arith, refl); light = omega arith }
 
-legal_history-not_of_too_much : IsLegalHistoryBy Any counted (weighs_it 268435457) (pair 7 0 ∷ []) → ⊥
+legal_history-not_of_too_much : IsLegalHistoryBy Any counted (weighs_it 268435457) (most_of false) (pair 7 0 ∷ []) → ⊥
 legal_history-not_of_too_much legal = (let heavy : 268435457 ≤ 268435456 = legal.light in omega arith)
+
+legal_history-of_much_that_lasts : IsLegalHistoryBy Any counted (weighs_it 268435457) (most_of true) (pair 7 0 ∷ [])
+legal_history-of_much_that_lasts = record { past = (tt, record { moment = omega arith; four = refl; words = drawn_words; ask = tt }, omega arith, refl); light = omega arith }
+
+capacity-of_what_is_stored : capacity_of true 7 4 ≡ 4
+capacity-of_what_is_stored = refl
+
+capacity-of_what_is_not : capacity_of false 7 0 ≡ 8
+capacity-of_what_is_not = refl
+
+-- ---- the history of requests in turn
+
+history_by-two_requests : history_by {A = ℕ} {R = ℕ} [] (record { at = 7; fresh = drawn; ask = 0 } ∷ record { at = 6; fresh = drawn; ask = 0 } ∷ []) (0 ∷ 1 ∷ []) ≡ pair 7 0 ∷ pair 7 1 ∷ []
+history_by-two_requests = refl
+
+history_by-a_request_without_a_reply : history_by {A = ℕ} {R = ℕ} [] (record { at = 7; fresh = drawn; ask = 0 } ∷ []) [] ≡ []
+history_by-a_request_without_a_reply = refl
 
 -- ---- texts in ASCII, and texts in a list
 

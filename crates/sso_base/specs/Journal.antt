@@ -1,6 +1,6 @@
 -- The weight of a core's history, the history after one more pair, and which histories are legal. A history is a list of pairs,
 -- oldest first.
-use Rattle.std.specs.Prelude.{◌≡◌, ◌≤◌, ℕ, nat_lt, List, [], ◌∷◌, ◌++◌, reverse, if◌then◌else◌, ◌+◌, ◌<◌, Err, Result}
+use Rattle.std.specs.Prelude.{◌≡◌, ◌≤◌, ℕ, suc, nat_lt, List, [], ◌∷◌, ◌++◌, length, reverse, Bool, true, false, if◌then◌else◌, ◌+◌, ◌*◌, ◌^◌, ◌<◌, Err, Result}
 use Rattle.std.specs.List.{sum_by}
 use Rattle.sso_base.specs.declared.history.Entry.{Entry}
 use Rattle.sso_base.specs.declared.history.Pair.{Pair}
@@ -8,13 +8,26 @@ use Rattle.sso_base.specs.Legal.{last_moment, IsLegalBy}
 use Rattle.sso_base.specs.declared.step.CoreNo.{CoreNo}
 use Rattle.sso_base.specs.declared.step.CoreNo.TheVariants.{JournalFull}
 
--- the greatest weight of a history
+-- the greatest weight of a history that is stored
 abbrev pub most_weight : ℕ
 most_weight = 268435456
 
--- the greatest number of pairs of a history: no pair weighs less than 1,024
+-- the greatest weight of a history that lasts, which is not stored
+abbrev pub lasting_weight : ℕ
+lasting_weight = 9223372036854775807
+
+-- the greatest weight of a history, by whether it lasts
+abbrev pub most_of : Bool → ℕ
+most_of true = lasting_weight
+most_of false = most_weight
+
+-- the greatest number of pairs of a history that is stored: no pair weighs less than 1,024
+abbrev pub most_stored_pairs : ℕ
+most_stored_pairs = 262144
+
+-- the greatest number of pairs of any history
 abbrev pub most_pairs : ℕ
-most_pairs = 262144
+most_pairs = 9007199254740992
 
 -- the sum of the weights of its requests
 abbrev pub history_weight : {A R : Type 0} → (A → ℕ) → List (Pair A R) → ℕ
@@ -31,26 +44,42 @@ entry_of history at fresh asked = record { at = entry_moment history at; fresh =
 abbrev pub extended : {A R : Type 0} → List (Pair A R) → ℕ → List (List ℕ) → A → R → List (Pair A R)
 extended history at fresh asked reply = history ++ (record { entry = entry_of history at fresh asked; reply = reply }) ∷ []
 
--- each reply is the answer of the core, and the history weighs no more than the limit
+-- each reply is the answer of the core, and the history weighs no more than this limit
 pub record IsLegalHistoryBy
-    {A R : Type 0} (IsAsk : A → Type 0) (answer : List (Pair A R) → Entry A → R) (weighs : A → ℕ) (history : List (Pair A R)) : Type 0 where
+    {A R : Type 0} (IsAsk : A → Type 0) (answer : List (Pair A R) → Entry A → R) (weighs : A → ℕ) (most : ℕ)
+    (history : List (Pair A R)) : Type 0 where
   pub past : IsLegalBy IsAsk answer (reverse history)
-  pub light : history_weight weighs history ≤ most_weight
+  pub light : history_weight weighs history ≤ most
 
--- the pairs of a journal, and the number of pairs it has memory for
+-- the pairs of a journal, whether it stores them, the number of pairs it has room for, and the greatest weight of its history
 pub record Journaled (A R : Type 0) : Type 0 where
   pub pairs : List (Pair A R)
+  pub stores : Bool
   pub capacity : ℕ
+  pub most : ℕ
 
--- the weight is that of the pairs, and at most the limit
-pub record IsWeighed {A R : Type 0} (weighs : A → ℕ) (history : List (Pair A R)) (weight : ℕ) : Type 0 where
-  pub weight_is : weight ≡ history_weight weighs history
-  pub light : weight ≤ most_weight
+-- a journal that stores nothing always has room for one more pair
+abbrev pub capacity_of : Bool → ℕ → ℕ → ℕ
+capacity_of true count room = room
+capacity_of false count room = suc count
+
+-- The stored pairs are all pairs, or none. The count, the weight and the last moment are those of the pairs, and the weight is
+-- at most the limit.
+pub record IsJournal
+    {A R : Type 0} (weighs : A → ℕ) (stores : Bool) (pairs stored : List (Pair A R)) (count weight last most : ℕ) : Type 0 where
+  pub all : stores ≡ true → stored ≡ pairs
+  pub none : stores ≡ false → stored ≡ []
+  pub count_is : count ≡ length pairs
+  pub weight_is : weight ≡ history_weight weighs pairs
+  pub last_is : last ≡ last_moment (reverse pairs)
+  pub few : 1024 * count ≤ weight
+  pub light : weight ≤ most
+  pub short : most < 2 ^ 63
 
 -- this is the refusal of a history of this weight, whose limit leaves no room for this much more
-abbrev pub IsFullRefusal : ℕ → ℕ → CoreNo → Type 0
-IsFullRefusal weight more refusal = (refusal ≡ JournalFull weight) × (most_weight < weight + more)
+abbrev pub IsFullRefusal : ℕ → ℕ → ℕ → CoreNo → Type 0
+IsFullRefusal most weight more refusal = (refusal ≡ JournalFull weight) × (most < weight + more)
 
--- if a call is refused so, it is for a history of this weight and for this much more
-abbrev pub ReportsFull : {A : Type 0} → Result A CoreNo → ℕ → ℕ → Type 0
-ReportsFull result weight more = (w : ℕ) → result ≡ Err (JournalFull w) → (w ≡ weight) × (most_weight < w + more)
+-- if a call is refused so, it is for a history of this weight, whose limit leaves no room for this much more
+abbrev pub ReportsFull : {A : Type 0} → ℕ → Result A CoreNo → ℕ → ℕ → Type 0
+ReportsFull most result weight more = (w : ℕ) → result ≡ Err (JournalFull w) → (w ≡ weight) × (most < w + more)

@@ -1,6 +1,8 @@
 pub mod Base64Url
 pub mod Faults
+pub mod Told
 pub mod Journal
+pub mod Asked
 pub mod Drawn
 pub mod Legal
 pub mod Texts

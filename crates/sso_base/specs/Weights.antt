@@ -11,6 +11,10 @@ told_weight n = if nat_lt n (2 ^ 64) then n else 2 ^ 64 - 1
 abbrev pub empty_weight : ℕ
 empty_weight = 1024
 
+-- the rows of the tables of a server whose history lasts hold at most so many bytes of one request's texts
+abbrev pub most_held : ℕ
+most_held = 1536
+
 abbrev pub text_bytes : Option Text → ℕ
 text_bytes None = 0
 text_bytes (Some t) = length t

@@ -38,6 +38,13 @@ impl Moment {
         }
     }
 
+    /// The first moment: no seconds.
+    pub fn first() -> Moment
+        ensures { result ≡ 0 }
+    {
+        Moment { seconds: 0 }
+    }
+
     /// The number of seconds.
     pub fn seconds(&self) -> u64
         ensures value { result ≡ self.now }

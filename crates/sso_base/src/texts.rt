@@ -51,7 +51,7 @@ impl<'a> Model for TextsLeft<'a> {
     ghost invariant = { λ t. IsBuffer t.rest.now };
 }
 
-// Where the first text in a buffer ends. None where there is none.
+// Where the first text in a buffer ends. `None` if there is none.
 fn first_end(bytes: &[u8]) -> Option<usize>
     ensures { result ≡ position_from is_end 0 bytes.now }
 {

@@ -9,6 +9,9 @@ use crate::texts::Texts;
 /// The weight of a request without texts. Every request weighs at least as much.
 pub const EMPTY_WEIGHT: u64 = 1024;
 
+/// The most bytes of one request's texts that rows of a server hold whose history lasts.
+pub const MOST_HELD: u64 = 1536;
+
 /// The bytes of a text that may be there.
 pub fn text_bytes(text: &Option<Text>) -> u64
     ensures { result ≡ spec.told_weight (spec.text_bytes text.now) }

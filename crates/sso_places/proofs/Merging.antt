@@ -32,11 +32,11 @@ merged_legal s provider parties world legal merge =
     let P : OpPast → Type 0 = λ past. IsLegalOp s.configuration past in
     let count : ℕ = length s.configuration.parties in
     record {
-      provider = subst P (sym merge.provider_is) legal.provider_is.past;
+      provider = subst P (sym merge.provider_is) legal.provider_is;
       parties = λ n.
           let R : RpPast → Type 0 = λ past. IsLegalRp (setup_at s n) past in
           elim (bool_cases (nat_lt n count)) [
-            | inl low ↦ subst R (sym (merge.parties_are n (ltb-true n count low))) (legal.parties_are n (ltb-true n count low)).past
+            | inl low ↦ subst R (sym (merge.parties_are n (ltb-true n count low))) (legal.parties_are n (ltb-true n count low))
             | inr high ↦ subst R (sym (nobody_asked s.configuration n world (ltb-false n count high) merge.asked)) tt
           ];
       asked = merge.asked;

@@ -3,9 +3,9 @@
 use Rattle.std.specs.Prelude.{◌≡◌, ◌<◌, ℕ, List, length, reverse}
 use Rattle.std.specs.List.{AllByRecursion}
 use Rattle.op_answer.specs.Past.{OpPair}
-use Rattle.op_answer.specs.Legal.{IsLegalHistory as IsOpHistory}
+use Rattle.op_answer.specs.Legal.{IsLegalOp}
 use Rattle.rp_answer.specs.Past.{RpPair}
-use Rattle.rp_answer.specs.Legal.{IsLegalHistory as IsRpHistory}
+use Rattle.rp_answer.specs.Legal.{IsLegalRp}
 use Rattle.sso_places.specs.Site.{Site, setup_at}
 use Rattle.sso_places.specs.World.{World, op_past, rp_past}
 use Rattle.sso_places.specs.Legal.{IsAsked}
@@ -16,7 +16,7 @@ pub record IsMerge (s : Site) (provider : List OpPair) (parties : ℕ → List R
   pub parties_are : (n : ℕ) → n < length s.configuration.parties → rp_past n world ≡ reverse (parties n)
   pub asked : AllByRecursion (IsAsked s.configuration) world
 
--- the histories are those of cores that answered their requests in turn
+-- the histories are those of cores that answered their requests in turn, whatever they weigh
 pub record AreHistories (s : Site) (provider : List OpPair) (parties : ℕ → List RpPair) : Type 0 where
-  pub provider_is : IsOpHistory s.configuration provider
-  pub parties_are : (n : ℕ) → n < length s.configuration.parties → IsRpHistory (setup_at s n) (parties n)
+  pub provider_is : IsLegalOp s.configuration (reverse provider)
+  pub parties_are : (n : ℕ) → n < length s.configuration.parties → IsLegalRp (setup_at s n) (reverse (parties n))

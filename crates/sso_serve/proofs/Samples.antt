@@ -1,12 +1,14 @@
 -- The two roles and their servers, computed over the definitions on small cases.
 use Rattle.std.proofs.Common.{◌≡◌, ℕ, ◌<◌, Bool, true, false, [], ◌∷◌, Some, None, refl, arith}
 use Rattle.sso_base.specs.Words.{Word}
+use Rattle.sso_base.specs.Journal.{lasting_weight}
 use Rattle.sso_base.specs.declared.message.Message.{Message}
 use Rattle.sso_base.specs.declared.message.Answered.{Answered}
 use Rattle.client_registry.specs.Configuration.{Configuration}
 use Rattle.op_exchange.specs.declared.ask.OpAsk.{OpAsk}
 use Rattle.op_exchange.specs.declared.reply.OpReply.{OpReply}
 use Rattle.op_exchange.specs.declared.reply.OpReply.TheVariants as op
+use Rattle.op_exchange.specs.Held.{is_small}
 use Rattle.op_core.specs.Providing.{Providing}
 use Rattle.rp_exchange.specs.declared.ask.RpAsk.{RpAsk}
 use Rattle.rp_exchange.specs.declared.ask.RpAsk.TheVariants as rp_ask
@@ -16,7 +18,7 @@ use Rattle.rp_answer.specs.Setup.{PartySetup}
 use Rattle.rp_core.specs.Relying.{Relying}
 use Rattle.serving.specs.declared.summary.Summary.{Summary}
 use Rattle.serving.specs.Summaries.{Telling}
-use Rattle.sso_serve.specs.Roles.{op_notices, op_manner, rp_question, rp_answered, rp_rounds}
+use Rattle.sso_serve.specs.Roles.{op_notices, op_manner, op_most, rp_question, rp_answered, rp_rounds}
 use Rattle.sso_serve.specs.Servers.{ServesOp, ServesRp}
 
 -- ---- what is told to others, and what is asked of them
@@ -41,6 +43,20 @@ answer-of_no_question c n answer = refl
 
 rounds-fall : (pending : Word) (message : Message) → (rp_rounds (rp.Fetch pending message) < rp_rounds (rp.Exchange pending message)) × (rp_rounds rp.NotHere < rp_rounds (rp.Fetch pending message))
 rounds-fall pending message = (omega arith, omega arith)
+
+-- ---- what is taken, and the limit of the history
+
+taken-in_a_stored_history : (c : Configuration) (asked : OpAsk) → (op_manner (record c { lasting = false })).takes asked ≡ true
+taken-in_a_stored_history c asked = refl
+
+taken-in_a_lasting_history : (c : Configuration) (asked : OpAsk) → (op_manner (record c { lasting = true })).takes asked ≡ is_small asked
+taken-in_a_lasting_history c asked = refl
+
+limit-of_a_stored_history : (c : Configuration) → op_most (record c { lasting = false }) ≡ 268435456
+limit-of_a_stored_history c = refl
+
+limit-of_a_lasting_history : (c : Configuration) → op_most (record c { lasting = true }) ≡ lasting_weight
+limit-of_a_lasting_history c = refl
 
 -- ---- servers without desks
 

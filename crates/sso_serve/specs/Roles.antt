@@ -1,5 +1,6 @@
 -- The roles of the two servers.
-use Rattle.std.specs.Prelude.{ℕ, List, [], Option, Some, None}
+use Rattle.std.specs.Prelude.{ℕ, not, ◌||◌, List, [], Option, Some, None}
+use Rattle.sso_base.specs.Journal.{most_of}
 use Rattle.sso_base.specs.declared.message.Message.{Message}
 use Rattle.sso_base.specs.declared.message.Answered.{Answered}
 use Rattle.client_registry.specs.Configuration.{Configuration}
@@ -8,6 +9,7 @@ use Rattle.op_exchange.specs.declared.ask.OpAsk.{OpAsk}
 use Rattle.op_exchange.specs.declared.ask.OpAsk.TheVariants as op_ask
 use Rattle.op_exchange.specs.declared.reply.OpReply.{OpReply}
 use Rattle.op_exchange.specs.declared.reply.OpReply.TheVariants.{SignedOut}
+use Rattle.op_exchange.specs.Held as op_held
 use Rattle.op_exchange.specs.Weight as op_weight
 use Rattle.op_request.specs.Prepared as op_request
 use Rattle.op_response.specs.Cookies as op_cookies
@@ -21,6 +23,7 @@ use Rattle.rp_exchange.specs.declared.ask.RpAsk.{RpAsk}
 use Rattle.rp_exchange.specs.declared.ask.RpAsk.TheVariants as rp_ask
 use Rattle.rp_exchange.specs.declared.reply.RpReply.{RpReply}
 use Rattle.rp_exchange.specs.declared.reply.RpReply.TheVariants.{Exchange, Fetch}
+use Rattle.rp_exchange.specs.Held as rp_held
 use Rattle.rp_exchange.specs.Weight as rp_weight
 use Rattle.rp_request.specs.Prepared.{prepared, tokens_prepared, info_prepared}
 use Rattle.rp_response.specs.Cookies as rp_cookies
@@ -34,7 +37,7 @@ abbrev pub op_notices : OpReply → List Message
 op_notices (SignedOut messages) = messages
 op_notices reply = []
 
--- it makes no requests to other servers
+-- It makes no requests to other servers. If its history lasts, it takes only small requests.
 abbrev pub op_manner : Configuration → Manner OpAsk OpReply
 op_manner c = record {
   first = op_cookies.browser_cookie;
@@ -44,10 +47,14 @@ op_manner c = record {
   answered = λ reply answer. op_ask.NotHere;
   notices = op_notices;
   http = op_telling.http_of c;
+  takes = λ asked. not c.lasting || op_held.is_small asked;
   weighs = op_weight.ask_weight;
 }
 
--- the setup of the provider, and its history
+-- the greatest weight of the provider's history, its setup, and its history
+abbrev pub op_most : Configuration → ℕ
+op_most c = most_of c.lasting
+
 abbrev pub op_registry : Providing → Configuration
 op_registry p = p.registry
 
@@ -74,6 +81,7 @@ rp_rounds (Exchange pending message) = 2
 rp_rounds (Fetch pending message) = 1
 rp_rounds reply = 0
 
+-- if its history lasts, it takes only small requests and responses
 abbrev pub rp_manner : Configuration → ℕ → Manner RpAsk RpReply
 rp_manner c n = record {
   first = rp_cookies.browser_cookie (party_row c n).name;
@@ -83,10 +91,14 @@ rp_manner c n = record {
   answered = rp_answered c n;
   notices = λ reply. [];
   http = rp_telling.http_of c n;
+  takes = λ asked. not c.lasting || rp_held.is_small asked;
   weighs = rp_weight.ask_weight;
 }
 
--- the setup of a relying party, and its history
+-- the greatest weight of a relying party's history, its setup, and its history
+abbrev pub rp_most : PartySetup → ℕ
+rp_most p = most_of p.configuration.lasting
+
 abbrev pub rp_setup : Relying → PartySetup
 rp_setup r = r.setup
 

@@ -14,7 +14,7 @@ use Rattle.server_desk.specs.declared.desk.Desk.{Desk}
 use Rattle.serving.specs.declared.summary.Summary.{Summary}
 use Rattle.serving.specs.Summaries.{Telling, Summarises}
 use Rattle.sso_serve.specs.declared.ran.Ran.{Ran}
-use Rattle.sso_serve.specs.Roles.{op_manner, op_registry, op_history, rp_manner, rp_setup, rp_history}
+use Rattle.sso_serve.specs.Roles.{op_manner, op_most, op_registry, op_history, rp_manner, rp_most, rp_setup, rp_history}
 
 -- the result of a server that did this
 abbrev pub ran_of : {O A R : Type 0} → Summary O A R → Ran
@@ -23,11 +23,11 @@ ran_of s = record { fault = s.fault; served = s.served; entries = s.entries }
 module _ {D L C W S K : Type 0} (t : Telling D L C W S K) (olds news : List (Desk D L C W)) where
   -- the provider of a configuration was served, at its `listen` address
   abbrev pub ServesOp : Configuration → Summary Providing OpAsk OpReply → Type 0
-  ServesOp c s = Summarises t (op_manner c) op_registry op_history op.IsLegalHistory c c.listen olds news s
+  ServesOp c s = Summarises t (op_manner c) op_most op_registry op_history op.IsLegalHistory c c.listen olds news s
 
   -- the relying party of a setup was served, at its `listen` address
   abbrev pub ServesRp : PartySetup → Summary Relying RpAsk RpReply → Type 0
-  ServesRp p s = Summarises t (rp_manner p.configuration p.number) rp_setup rp_history rp.IsLegalHistory p (party_of p).listen olds news s
+  ServesRp p s = Summarises t (rp_manner p.configuration p.number) rp_most rp_setup rp_history rp.IsLegalHistory p (party_of p).listen olds news s
 
   -- the same, with this result
   abbrev pub RanOp : Configuration → Ran → Type 0

@@ -2,7 +2,7 @@
 
 use client_registry::Registry;
 use op_core::OpCore;
-use op_exchange::{OpAsk, OpReply};
+use op_exchange::{OpAsk, OpReply, is_small};
 use op_request::prepare_op;
 use op_response::op_http;
 use serving::Role;
@@ -53,6 +53,10 @@ impl<'a> Role for OpRole<'a> {
         _answer: &Answered,
     ) -> Result<OpAsk, NoMemory> {
         Ok(OpAsk::NotHere)
+    }
+
+    fn takes(&self, ask: &OpAsk) -> bool {
+        !self.registry.lasting() || is_small(ask)
     }
 
     fn notices<'r>(&self, reply: &'r OpReply) -> Option<&'r Messages> {

@@ -5,7 +5,7 @@ ghost use Rattle.std.specs.Prelude.{◌<◌, length};
 use client_registry::Registry;
 use http_reply::concatenated;
 use rp_core::RpCore;
-use rp_exchange::{RpAsk, RpReply};
+use rp_exchange::{RpAsk, RpReply, is_small};
 use rp_request::{prepare_info, prepare_rp, prepare_tokens};
 use rp_response::rp_http;
 use serving::Role;
@@ -65,6 +65,10 @@ impl<'a> Role for RpRole<'a> {
             RpReply::Fetch { pending, .. } => prepare_info(alloc, *pending, answer),
             _ => Ok(RpAsk::NotHere),
         }
+    }
+
+    fn takes(&self, ask: &RpAsk) -> bool {
+        !self.registry.lasting() || is_small(ask)
     }
 
     fn notices<'r>(&self, _reply: &'r RpReply) -> Option<&'r Messages> {

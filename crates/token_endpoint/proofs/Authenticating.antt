@@ -1,4 +1,4 @@
--- A request authenticates a client exactly where it shows the client's id and a secret of it.
+-- A request authenticates a client if and only if it shows the client's id and a secret of it.
 use Rattle.std.proofs.Common.{◌≡◌, inl, inr, ℕ, List, [], ◌∷◌, Bool, true, false, not, ◌&&◌, cond, map, codes, Option, Some, None, option_map, option_and_then, is_some, is_none, unwrap_or, Result, Ok, slice_get, refl, sym, ap, ◌∙◌, subst, arith}
 use Rattle.sso_base.specs.Words.{Text}
 use Rattle.sso_base.specs.Refusals.{first_refusal, NoneHolds, and_then}

@@ -1,4 +1,4 @@
--- A token request is read exactly where it is one, and as what it asks for.
+-- A form is read as a token request if and only if it is one, and as the request that it is.
 use Rattle.std.proofs.Common.{◌≡◌, ℕ, true, List, [], codes, Option, Some, None, is_none, unwrap_or, Result, Ok, slice_get, refl, sym, ap, ◌∙◌, subst}
 use Rattle.std.specs.Str.{IsUtf8}
 use Rattle.form_urlencoded.specs.Form.{raw_pairs}

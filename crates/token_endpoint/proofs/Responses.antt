@@ -1,4 +1,4 @@
--- A token response is read exactly where it has tokens, and others are refused for the first reason.
+-- A token response is read if and only if it has tokens, and others are refused for the first reason.
 use Rattle.std.proofs.Common.{◌≡◌, ◌≢◌, ℕ, drop, List, [], ◌∷◌, ◌++◌, Bool, true, false, not, codes, Option, Some, None, option_map, option_and_then, is_none, Result, Ok, Err, IsOk, refl, sym, ap, ◌∙◌}
 use Rattle.std.specs.Str.{IsUtf8, str_to_ascii_lowercase}
 use Rattle.std.proofs.lemmas.Slice.Eq.{bytes_eq-Decides}

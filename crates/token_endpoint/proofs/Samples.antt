@@ -59,6 +59,7 @@ here = record {
   clients = client_a ∷ [];
   parties = [];
   subjects = [] ∷ [];
+  lasting = false;
 }
 
 abbrev shown : Text → Text → Credentials

@@ -1,4 +1,4 @@
--- The laws of base64 with padding: a text spells bytes exactly where it is their text.
+-- The laws of base64 with padding: a text spells bytes if and only if it is their text.
 use Rattle.std.proofs.Common.{◌≡◌, ℕ, List, Some, None, Ok, Err, true, refl, sym}
 use Rattle.std.specs.Str.{bytes_eq}
 use Rattle.std.proofs.lemmas.Slice.Eq.{bytes_eq-Decides}

@@ -42,6 +42,7 @@ registry = record {
   clients = [];
   parties = party (codes "shop") ∷ party (codes "news") ∷ [];
   subjects = [];
+  lasting = false;
 }
 
 -- three lines of which two take a place, at the moment 1000

@@ -42,7 +42,7 @@ module _ {C E : Type 0} (start : C) where
 pub dealt_number : {C A R : Type 0} (start : C) (pass : Pass C A R) (number : ℕ) → pass.seat.me ≡ (idle (new_pass start number ∷ []), []) → number_of pass ≡ number
 dealt_number {C} {A} {R} start pass number me = ap (λ (m : Me (Option C) (SeatView C (Pair A R))). first_number m.0.passes) me
 
-pub is_dealt : {C A R : Type 0} (id : TableId) (start : C) (pass : Pass C A R) (number : ℕ) → pass.seat.table_id ≡ id → pass.seat.me ≡ (idle (new_pass start number ∷ []), []) → pass.calls.items ≡ [] → IsDealt id start pass
+pub is_dealt : {C A R : Type 0} (id : TableId) (start : C) (pass : Pass C A R) (number : ℕ) → pass.seat.table_id ≡ id → pass.seat.me ≡ (idle (new_pass start number ∷ []), []) → pass.calls ≡ [] → IsDealt id start pass
 is_dealt id start pass number table me told = record {
   table = table;
   view = me ∙ ap (λ (n : ℕ). (idle (new_pass start n ∷ []), [])) (sym (dealt_number start pass number me));

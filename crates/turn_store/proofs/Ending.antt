@@ -186,8 +186,8 @@ module _ {C S A R : Type 0} (setup : C → S) (is_legal : S → List (Pair A R) 
   times_all place [] h = refl
   times_all place (p ∷ ps) h =
       let q = h.0.view.0 in
-      let told : p.calls.items ≡ places_of q.calls = h.0.told ∙ ap (λ (l : List (PassView C (Pair A R))). places_of (first_calls l)) h.0.view.1 in
-      let first : times place p.calls.items ≡ total (λ (c : Called (Pair A R)). one_of place c.place) q.calls = ap (times place) told ∙ times_calls place q.calls in
+      let told : p.calls ≡ places_of q.calls = h.0.told ∙ ap (λ (l : List (PassView C (Pair A R))). places_of (first_calls l)) h.0.view.1 in
+      let first : times place p.calls ≡ total (λ (c : Called (Pair A R)). one_of place c.place) q.calls = ap (times place) told ∙ times_calls place q.calls in
       let one : calls_weight (one_of place) (p.seat.me.0.passes ++ views_in ps) ≡ calls_weight (one_of place) (q ∷ views_in ps) = ap (λ (l : List (PassView C (Pair A R))). calls_weight (one_of place) (l ++ views_in ps)) h.0.view.1 in
       let rest = times_all place ps h.1 in
       sum_of first rest ∙ sym one

@@ -53,7 +53,7 @@ module _ {C S A R : Type 0} (history : C → List (Pair A R)) (setup : C → S) 
   me_refused core now old mid new p one taken is = is ∙ ap (λ (ps : List (PassView C (Pair A R))). (idle (map (with_front (history now)) ps), [])) (ap (λ (m : Mine). m.0.passes) taken ∙ one)
 
   pub pass_after : (turn : Turn C A R) (pass new : Pass C A R) (q : PassView C (Pair A R)) → IsPassOf setup is_legal turn pass → new.seat.table_id ≡ pass.seat.table_id → new.seat.me ≡ (idle (q ∷ []), [])
-      → setup q.start ≡ setup (start_of turn) → is_legal (setup (start_of turn)) q.front → new.calls.items ≡ places_of q.calls → IsPassOf setup is_legal turn new
+      → setup q.start ≡ setup (start_of turn) → is_legal (setup (start_of turn)) q.front → new.calls ≡ places_of q.calls → IsPassOf setup is_legal turn new
   pass_after turn pass new q is same me start legal told = record {
     table = same ∙ is.table;
     empty = ap (λ (m : Mine). m.1) me;
@@ -64,11 +64,11 @@ module _ {C S A R : Type 0} (history : C → List (Pair A R)) (setup : C → S) 
   }
 
   pub told_more : (pass : Pass C A R) (turn : Turn C A R) (p : PassView C (Pair A R)) (log : List (Pair A R)) (pair : Pair A R) (place : ℕ) (places : List ℕ) → IsPassOf setup is_legal turn pass → pass.seat.me.0.passes ≡ p ∷ []
-      → place ≡ length log → places ≡ pass.calls.items ++ place ∷ [] → places ≡ places_of (with_entry log pair p).calls
+      → place ≡ length log → places ≡ pass.calls ++ place ∷ [] → places ≡ places_of (with_entry log pair p).calls
   told_more pass turn p log pair place places is one at push =
       push ∙ (λ i. (is.told ∙ ap (λ (ps : List (PassView C (Pair A R))). places_of (first_calls ps)) one) i ++ at i ∷ []) ∙ sym (places_snoc p.calls (call_at (length log) pair))
 
-  pub told_same : (pass : Pass C A R) (turn : Turn C A R) (p : PassView C (Pair A R)) (places : List ℕ) → IsPassOf setup is_legal turn pass → pass.seat.me.0.passes ≡ p ∷ [] → places ≡ pass.calls.items → places ≡ places_of p.calls
+  pub told_same : (pass : Pass C A R) (turn : Turn C A R) (p : PassView C (Pair A R)) (places : List ℕ) → IsPassOf setup is_legal turn pass → pass.seat.me.0.passes ≡ p ∷ [] → places ≡ pass.calls → places ≡ places_of p.calls
   told_same pass turn p places is one same = same ∙ is.told ∙ ap (λ (ps : List (PassView C (Pair A R))). places_of (first_calls ps)) one
 
   -- the front and the calls of a seat with this pass

@@ -10,7 +10,7 @@ use Rattle.turn_store.specs.declared.store.Pass.{Pass}
 use Rattle.turn_store.specs.declared.store.Turn.{Turn}
 use Rattle.turn_store.specs.declared.view.PassView.{PassView}
 use Rattle.turn_store.specs.declared.view.SeatView.{SeatView}
-use Rattle.turn_store.specs.Places.{times, IsEachOnce, numbers_from, Begins, before_last, call_at, StandsIn, places_of}
+use Rattle.turn_store.specs.Places.{times, IsEachOnce, numbers_from, AreStored, Begins, before_last, call_at, StandsIn, places_of}
 use Rattle.turn_store.specs.Views.{new_pass, new_passes, IsSoundPass, calls_weight, with_entry, with_front, idle, at_turn, without_first, only_first, joined}
 use Rattle.turn_store.specs.Passes.{first_number, first_front, first_calls, pair_of, IsPassOf}
 use Rattle.turn_store.specs.Rule.{total_upto, KeepsHistory, IsFree, IsTaken}
@@ -44,6 +44,12 @@ one_place_lost each = let none_there : 0 ≡ 1 = each 1 (omega arith) (omega ari
 
 two_numbers : numbers_from 3 2 ≡ 3 ∷ 4 ∷ []
 two_numbers = refl
+
+stored_all : AreStored true (1 ∷ 2 ∷ []) (1 ∷ 2 ∷ [])
+stored_all = record { all = λ is. refl }
+
+stored_all_not : AreStored true (1 ∷ []) (1 ∷ 2 ∷ []) → ⊥
+stored_all_not are = let same : 1 ≡ 2 = ap (λ (l : List ℕ). length l) (are.all refl) in absurd (omega (arith, same))
 
 begins_it : Begins (7 ∷ []) log
 begins_it = (9 ∷ [], refl)

@@ -2,7 +2,7 @@
 use Rattle.std.specs.Prelude.{◌≡◌, ℕ, List, [], ◌∷◌, false, ◌+◌, ◌++◌, ◌<◌, length}
 use Rattle.std.specs.List.{AllByRecursion}
 use Rattle.sso_base.specs.declared.history.Pair.{Pair}
-use Rattle.sso_base.specs.Journal.{entry_of, history_weight, most_weight}
+use Rattle.sso_base.specs.Journal.{entry_of, history_weight}
 use Rattle.turn_store.specs.declared.view.Called.{Called}
 use Rattle.turn_store.specs.declared.view.PassView.{PassView}
 use Rattle.turn_store.specs.declared.store.Pass.{Pass}
@@ -56,7 +56,7 @@ module _ {C A R : Type 0} where
   abbrev pub setup_of : {S : Type 0} → (C → S) → Turn C A R → S
   setup_of setup turn = setup (start_of turn)
 
--- It is a pass of this store: it knows the store's setup, its prefix is a legal history for it, and it holds the places of its
+-- It is a pass of this store: it knows the store's setup, its prefix is a legal history for it, and it was told the places of its
 -- calls.
 pub record IsPassOf {C S A R : Type 0} (setup : C → S) (is_legal : S → List (Pair A R) → Type 0) (turn : Turn C A R) (pass : Pass C A R) : Type 0 where
   pub table : pass.seat.table_id ≡ turn.table.shared.table_id
@@ -64,7 +64,7 @@ pub record IsPassOf {C S A R : Type 0} (setup : C → S) (is_legal : S → List 
   pub waits : pass.seat.me.0.holds ≡ false
   pub view : (p : PassView C (Pair A R)) × (pass.seat.me.0.passes ≡ p ∷ []) × (setup p.start ≡ setup_of setup turn)
   pub legal : is_legal (setup_of setup turn) (front_of pass)
-  pub told : pass.calls.items ≡ places_of (calls_of pass)
+  pub told : pass.calls ≡ places_of (calls_of pass)
 
 -- the place is after all that the pass has seen, and after its calls
 abbrev pub IsAfterSeen : {C A R : Type 0} → Pass C A R → ℕ → Type 0
@@ -75,7 +75,7 @@ IsAfterSeen {C} {A} {R} pass place =
 abbrev pub HasCalled : {C A R : Type 0} → Pass C A R → Pass C A R → ℕ → Pair A R → Type 0
 HasCalled before after place pair = calls_of after ≡ calls_of before ++ call_at place pair ∷ []
 
--- The pass has seen a history of this weight, and its limit leaves no room for the request.
-abbrev pub SeesFull : {C A R : Type 0} → (A → ℕ) → Pass C A R → Pass C A R → A → ℕ → Type 0
-SeesFull weighs before after ask w =
-    Begins (front_of before) (front_of after) × (w ≡ history_weight weighs (front_of after)) × (most_weight < w + weighs ask)
+-- The pass has seen a history of this weight, and the limit leaves no room for the request.
+abbrev pub SeesFull : {C A R : Type 0} → (A → ℕ) → ℕ → Pass C A R → Pass C A R → A → ℕ → Type 0
+SeesFull weighs most before after ask w =
+    Begins (front_of before) (front_of after) × (w ≡ history_weight weighs (front_of after)) × (most < w + weighs ask)

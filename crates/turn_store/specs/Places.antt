@@ -1,5 +1,5 @@
 -- Prefixes of a history, calls that are in it, and how often a place occurs. Places count from 1.
-use Rattle.std.specs.Prelude.{◌≡◌, ℕ, zero, suc, ◌+◌, ◌-◌, ◌<◌, ◌≤◌, ◌==◌, List, [], ◌∷◌, ◌++◌, map, length, take, if◌then◌else◌}
+use Rattle.std.specs.Prelude.{Bool, true, ◌≡◌, ℕ, zero, suc, ◌+◌, ◌-◌, ◌<◌, ◌≤◌, ◌==◌, List, [], ◌∷◌, ◌++◌, map, length, take, if◌then◌else◌}
 use Rattle.turn_store.specs.declared.view.Called.{Called}
 
 -- the sum of the numbers of the elements
@@ -19,6 +19,10 @@ IsEachOnce last lists = (place : ℕ) → 0 < place → place ≤ last → total
 abbrev pub numbers_from : ℕ → ℕ → List ℕ
 numbers_from first zero = []
 numbers_from first (suc count) = first ∷ numbers_from (suc first) count
+
+-- the stored places are all of them, if this is true
+pub record AreStored (whole : Bool) (stored places : List ℕ) : Type 0 where
+  pub all : whole ≡ true → stored ≡ places
 
 module _ {E : Type 0} where
   -- the first list is a prefix of the second

@@ -12,7 +12,7 @@ module _ {C A R : Type 0} where
   pub record IsDealt (id : TableId) (start : C) (pass : Pass C A R) : Type 0 where
     pub table : pass.seat.table_id ≡ id
     pub view : pass.seat.me ≡ (idle (new_pass start (number_of pass) ∷ []), [])
-    pub told : pass.calls.items ≡ []
+    pub told : pass.calls ≡ []
 
   -- a pass at this table without the turn
   abbrev pub IsIdleAt : TableId → Pass C A R → Type 0
@@ -23,7 +23,7 @@ module _ {C A R : Type 0} where
   views_in [] = []
   views_in (p ∷ ps) = p.seat.me.0.passes ++ views_in ps
 
-  -- the places that each pass holds
+  -- the places that each pass was told
   abbrev pub lists_of : List (Pass C A R) → List (List ℕ)
   lists_of [] = []
-  lists_of (p ∷ ps) = p.calls.items ∷ lists_of ps
+  lists_of (p ∷ ps) = p.calls ∷ lists_of ps

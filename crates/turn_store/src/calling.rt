@@ -3,7 +3,7 @@
 ghost use Rattle.std.specs.Prelude.{◌≡◌, ◌<◌, ℕ, length, Err, IfOk, OnErr};
 ghost use Rattle.sso_base.specs.Journal.{extended};
 ghost use Rattle.turn_store.specs.Places.{Begins, before_last};
-ghost use Rattle.turn_store.specs.Passes.{number_of, front_of, calls_of, pair_of, IsPassOf, IsAfterSeen, HasCalled, SeesFull};
+ghost use Rattle.turn_store.specs.Passes.{number_of, front_of, calls_of, pair_of, setup_of, IsPassOf, IsAfterSeen, HasCalled, SeesFull};
 
 use crate::calls::Placed;
 use crate::store::{Pass, Turn};
@@ -12,7 +12,7 @@ use sso_base::{Core, CoreNo, Moment, Word};
 use std::alloc::Global;
 use std::sync::Wait;
 
-impl<C: Core> Turn<C> {
+impl<C: Core + Send> Turn<C> {
     /// Steps the core once it is this pass's turn, and returns the core's reply. The pass must be one of this store. The call
     /// may wait for another pass. The entry has the four random words, and the later of this moment and the last entry's.
     ///
@@ -39,17 +39,14 @@ impl<C: Core> Turn<C> {
         ensures calls { IfOk result (λ placed. HasCalled pass.old pass.new placed.place (pair_of (before_last (front_of pass.new)) at fresh ask placed.reply)) }
         ensures refused { OnErr result (calls_of pass.new ≡ calls_of pass.old) }
         ensures no_memory { (result ≡ Err CoreNo.NoMemory) → front_of pass.new ≡ front_of pass.old }
-        ensures full { (w : ℕ) → (result ≡ Err (CoreNo.JournalFull w)) → SeesFull C.weighs pass.old pass.new ask w }
+        ensures full { (w : ℕ) → (result ≡ Err (CoreNo.JournalFull w)) → SeesFull C.weighs (C.most (setup_of C.setup self.now)) pass.old pass.new ask w }
     {
-        if pass.calls.reserve(1).is_err() {
-            return Err(CoreNo::NoMemory);
-        }
         let mut core = take_turn(rt, &self.table.shared, &self.waiting, &mut pass.seat);
         match core.step(alloc, at, fresh, ask) {
             Ok(reply) => {
                 let place = core.count();
                 count_entry(&self.table.shared, &self.waiting, &mut pass.seat, core);
-                pass.calls.push_reserved(place);
+                pass.calls.push(place);
                 Ok(Placed { reply, place })
             }
             Err(CoreNo::NoMemory) => {

@@ -1,7 +1,9 @@
 // The results of calls, and what remains when a store closes.
 
-ghost use Rattle.std.specs.Prelude.{◌≡◌, ◌<◌, List, ℕ, length, slice_get, Some};
+ghost use Rattle.std.specs.Prelude.{◌≡◌, ◌<◌, [], ◌∷◌, ◌++◌, List, ℕ, true, length, slice_get, Some, IfSome};
 
+use sso_base::Told;
+use std::alloc::Global;
 use std::marker::Model;
 
 /// The result of a call that the core accepted.
@@ -13,18 +15,74 @@ pub struct Placed<R: Drop> {
     pub place: u64,
 }
 
-// The places of one pass's calls, in their order.
+// The greatest place that is stored.
+const MOST_STORED: u64 = 262_144;
+
+// The places of one pass's calls, in their order. Contracts see all of them. They are stored while they are at most 262,144 and
+// memory does not run out.
 #[derive(Drop)]
 pub(crate) struct Places {
-    pub(crate) list: Vec<u64>,
+    told: Told<u64>,
+    stored: Vec<u64>,
+    whole: bool,
 }
 
 impl Model for Places {
     ghost use Rattle.std.specs.Prelude.{List, ℕ};
+    ghost use Rattle.turn_store.specs.Places.{AreStored};
 
     ghost Value = { List ℕ };
 
-    ghost view = { λ p. p.list.items };
+    ghost view = { λ p. p.told };
+
+    ghost invariant = { λ p. AreStored p.whole p.stored.items p.told };
+}
+
+// Stores a place, if all earlier ones are stored, and returns whether it did.
+fn store(whole: bool, stored: &mut Vec<u64>, place: u64) -> bool
+    ensures { result ≡ true → (whole ≡ true) × (stored.new.items ≡ stored.old.items ++ place ∷ []) }
+{
+    if !whole {
+        return false;
+    }
+    if place > MOST_STORED {
+        return false;
+    }
+    match stored.push(place) {
+        Ok(()) => true,
+        Err(_) => false,
+    }
+}
+
+impl Places {
+    pub(crate) fn new(alloc: Global) -> Places
+        ensures { result ≡ [] }
+    {
+        Places {
+            told: Told::new(),
+            stored: Vec::new(alloc),
+            whole: true,
+        }
+    }
+
+    // Adds a place at the end.
+    pub(crate) fn push(&mut self, place: u64)
+        ensures { self.new ≡ self.old ++ place ∷ [] }
+    {
+        self.told.push(&place);
+        self.whole = store(self.whole, &mut self.stored, place);
+    }
+
+    // The places, if all of them are stored.
+    fn stored(&self) -> Option<&[u64]>
+        ensures { IfSome result (λ places. places.now ≡ self.now) }
+    {
+        if self.whole {
+            Some(self.stored.as_slice())
+        } else {
+            None
+        }
+    }
 }
 
 /// The places of the calls of each pass. Its model is one list for each pass.
@@ -55,12 +113,14 @@ impl Calls {
         self.lists.len()
     }
 
-    /// The places of the calls of this pass, in their order. Passes count from 0, places from 1.
-    pub fn of(&self, pass: usize) -> &[u64]
+    /// The places of the calls of this pass, in their order. Passes count from 0, places from 1. `None` if they are not stored: one
+    /// of them is above 262,144, as only a history that lasts has, or memory ran out. Contracts see them in any case.
+    pub fn of(&self, pass: usize) -> Option<&[u64]>
         requires { pass < length self.now }
-        ensures { slice_get self.now pass ≡ Some result.now }
+        ensures { IfSome result (λ places. slice_get self.now pass ≡ Some places.now) }
     {
-        self.lists[pass].list.as_slice()
+        let places = self.lists[pass].stored()?;
+        Some(places)
     }
 }
 

@@ -13,7 +13,7 @@ use crate::taking::join_passes;
 use sso_base::Core;
 
 // Joins the passes to a seat, in their order, and keeps their lists.
-fn gather<C: Core>(
+fn gather<C: Core + Send>(
     shared: &SharedTurn<C>,
     seat: &mut TurnSeat<C>,
     lists: &mut Vec<Places>,
@@ -32,14 +32,14 @@ fn gather<C: Core>(
     for pass in passes {
         let Pass {
             seat: other,
-            calls: list,
+            calls: places,
         } = pass;
         join_passes(shared, seat, other);
-        lists.push_reserved(Places { list });
+        lists.push_reserved(places);
     }
 }
 
-impl<C: Core> Turn<C> {
+impl<C: Core + Send> Turn<C> {
     /// Closes the store: its passes end, and the core is returned with the places of each pass's calls. It takes no memory. The
     /// passes must be those that `new` returned, in their order.
     pub fn close(self, mut passes: Vec<Pass<C>>) -> Closed<C>
@@ -59,7 +59,7 @@ impl<C: Core> Turn<C> {
         } = self;
         drop(waiting);
         let Pass { mut seat, calls } = passes.remove(0);
-        lists.push_reserved(Places { list: calls });
+        lists.push_reserved(calls);
         gather(&table.shared, &mut seat, &mut lists, passes);
         let mut closed = table.close_with(seat);
         let slot = closed.take(0);

@@ -7,6 +7,7 @@ ghost use Rattle.turn_store.specs.Views.{idle, new_passes};
 ghost use Rattle.turn_store.specs.Passes.{number_of, passes_of, setup_of, IsPassOf, HasDoneNothing};
 ghost use Rattle.turn_store.specs.Seats.{IsDealt};
 
+use crate::calls::Places;
 use crate::rule::{SharedTurn, Start, TurnSeat};
 use crate::store::{Pass, Turn};
 use crate::taking::split_pass;
@@ -17,7 +18,7 @@ use std::snapshot::Snapshot;
 use std::sync::atomic::AtomicU64;
 
 // Deals the passes of a seat, each to a seat of its own, in their order.
-fn deal<C: Core>(
+fn deal<C: Core + Send>(
     shared: &SharedTurn<C>,
     alloc: Global,
     mut seat: TurnSeat<C>,
@@ -37,14 +38,14 @@ fn deal<C: Core>(
         let one = split_pass(shared, &mut seat);
         dealt.push_reserved(Pass {
             seat: one,
-            calls: Vec::new(alloc),
+            calls: Places::new(alloc),
         });
         left -= 1;
     }
     dealt
 }
 
-impl<C: Core> Turn<C> {
+impl<C: Core + Send> Turn<C> {
     /// A store of this core, which must have an empty history, and its passes: 1 to 64, numbered from 0 in their order.
     ///
     /// # Errors

@@ -28,7 +28,8 @@ pub struct TurnRule<C> {
     core: PhantomData<C>,
 }
 
-impl<C: Core> TableRule<Option<C>, SeatView<C, Pair<C::Ask, C::Reply>>, Start<C>> for TurnRule<C> {
+impl<C: Core + Send> TableRule<Option<C>, SeatView<C, Pair<C::Ask, C::Reply>>, Start<C>>
+    for TurnRule<C> {
     ghost use Rattle.turn_store.specs.Rule.{KeepsRule};
     ghost use Rattle.turn_store.specs.Views.{first_seat};
 
@@ -42,7 +43,7 @@ pub struct Taking<C> {
     core: PhantomData<C>,
 }
 
-impl<C: Core> Play<Option<C>, SeatView<C, Pair<C::Ask, C::Reply>>> for Taking<C> {
+impl<C: Core + Send> Play<Option<C>, SeatView<C, Pair<C::Ask, C::Reply>>> for Taking<C> {
     ghost use Rattle.turn_store.specs.Steps.{Takes};
 
     ghost then = { Takes C.history C.setup C.is_legal };
@@ -53,7 +54,7 @@ pub struct Counting<C> {
     core: PhantomData<C>,
 }
 
-impl<C: Core> Play<Option<C>, SeatView<C, Pair<C::Ask, C::Reply>>> for Counting<C> {
+impl<C: Core + Send> Play<Option<C>, SeatView<C, Pair<C::Ask, C::Reply>>> for Counting<C> {
     ghost use Rattle.turn_store.specs.Steps.{Counts};
 
     ghost then = { Counts C.history C.setup C.is_legal };
@@ -64,7 +65,7 @@ pub struct Leaving<C> {
     core: PhantomData<C>,
 }
 
-impl<C: Core> Play<Option<C>, SeatView<C, Pair<C::Ask, C::Reply>>> for Leaving<C> {
+impl<C: Core + Send> Play<Option<C>, SeatView<C, Pair<C::Ask, C::Reply>>> for Leaving<C> {
     ghost use Rattle.turn_store.specs.Steps.{Leaves};
 
     ghost then = { Leaves C.history C.setup C.is_legal };
@@ -75,7 +76,7 @@ pub struct LeavingFull<C> {
     core: PhantomData<C>,
 }
 
-impl<C: Core> Play<Option<C>, SeatView<C, Pair<C::Ask, C::Reply>>> for LeavingFull<C> {
+impl<C: Core + Send> Play<Option<C>, SeatView<C, Pair<C::Ask, C::Reply>>> for LeavingFull<C> {
     ghost use Rattle.turn_store.specs.Steps.{LeavesFull};
 
     ghost then = { LeavesFull C.history C.setup C.is_legal };
@@ -86,7 +87,7 @@ pub struct Passing<C> {
     core: PhantomData<C>,
 }
 
-impl<C: Core> Split<SeatView<C, Pair<C::Ask, C::Reply>>> for Passing<C> {
+impl<C: Core + Send> Split<SeatView<C, Pair<C::Ask, C::Reply>>> for Passing<C> {
     ghost use Rattle.turn_store.specs.Views.{without_first, only_first};
 
     ghost left = { without_first };
@@ -94,7 +95,7 @@ impl<C: Core> Split<SeatView<C, Pair<C::Ask, C::Reply>>> for Passing<C> {
     ghost right = { only_first };
 }
 
-impl<C: Core> Join<SeatView<C, Pair<C::Ask, C::Reply>>> for Passing<C> {
+impl<C: Core + Send> Join<SeatView<C, Pair<C::Ask, C::Reply>>> for Passing<C> {
     ghost use Rattle.turn_store.specs.Views.{joined, spent};
 
     ghost both = { joined };

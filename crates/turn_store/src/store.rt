@@ -9,15 +9,15 @@ use std::sync::atomic::AtomicU64;
 
 /// The right of one thread to call, one call after another. It is numbered among the passes of its store.
 #[derive(Drop)]
-pub struct Pass<C: Core> {
+pub struct Pass<C: Core + Send> {
     pub(crate) seat: TurnSeat<C>,
     // The places of its calls, in their order.
-    pub(crate) calls: Vec<u64>,
+    pub(crate) calls: Places,
 }
 
 /// One core, which passes step in turn. Threads share it by reference.
 #[derive(Drop)]
-pub struct Turn<C: Core> {
+pub struct Turn<C: Core + Send> {
     pub(crate) table: TurnTable<C>,
     // The number of threads that sleep until the turn is given back, or are about to.
     pub(crate) waiting: AtomicU64,

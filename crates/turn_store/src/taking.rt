@@ -14,7 +14,7 @@ use std::sync::Wait;
 use std::sync::atomic::{AtomicU64, Ordering};
 
 // Sleeps until the turn is given back, if the word of the taken turn is still this one.
-fn sleep_on<C: Core, R: Wait>(rt: &R, shared: &SharedTurn<C>, waiting: &AtomicU64, word: u64)
+fn sleep_on<C: Core + Send, R: Wait>(rt: &R, shared: &SharedTurn<C>, waiting: &AtomicU64, word: u64)
     requires { shared.now.table_id.words ≡ 1 }
 {
     waiting.fetch_add(1, Ordering::SeqCst);
@@ -22,9 +22,9 @@ fn sleep_on<C: Core, R: Wait>(rt: &R, shared: &SharedTurn<C>, waiting: &AtomicU6
     waiting.fetch_sub(1, Ordering::SeqCst);
 }
 
-// Wakes one of the threads that wait, after the turn was given back. Where none waits, the system is not called. A thread that is
+// Wakes one of the threads that wait, after the turn was given back. If none waits, the system is not called. A thread that is
 // counted only after this look sleeps only if the turn was taken again, and that turn ends with a look too.
-fn wake_next<C: Core>(shared: &SharedTurn<C>, waiting: &AtomicU64)
+fn wake_next<C: Core + Send>(shared: &SharedTurn<C>, waiting: &AtomicU64)
     requires { shared.now.table_id.words ≡ 1 }
 {
     if waiting.load(Ordering::SeqCst) > 0 {
@@ -33,7 +33,7 @@ fn wake_next<C: Core>(shared: &SharedTurn<C>, waiting: &AtomicU64)
 }
 
 // Waits for the turn, and takes the core. A waiting seat sleeps, and tries again when the turn was given back.
-pub(crate) fn take_turn<C: Core, R: Wait>(
+pub(crate) fn take_turn<C: Core + Send, R: Wait>(
     rt: &R,
     shared: &SharedTurn<C>,
     waiting: &AtomicU64,
@@ -63,7 +63,7 @@ pub(crate) fn take_turn<C: Core, R: Wait>(
 }
 
 // Gives the turn back, with one more entry.
-pub(crate) fn count_entry<C: Core>(
+pub(crate) fn count_entry<C: Core + Send>(
     shared: &SharedTurn<C>,
     waiting: &AtomicU64,
     seat: &mut TurnSeat<C>,
@@ -86,7 +86,7 @@ pub(crate) fn count_entry<C: Core>(
 }
 
 // Gives the turn back, with the history unchanged.
-pub(crate) fn leave_turn<C: Core>(
+pub(crate) fn leave_turn<C: Core + Send>(
     shared: &SharedTurn<C>,
     waiting: &AtomicU64,
     seat: &mut TurnSeat<C>,
@@ -106,7 +106,7 @@ pub(crate) fn leave_turn<C: Core>(
 }
 
 // The same, and the pass has seen that history.
-pub(crate) fn leave_full<C: Core>(
+pub(crate) fn leave_full<C: Core + Send>(
     shared: &SharedTurn<C>,
     waiting: &AtomicU64,
     seat: &mut TurnSeat<C>,
@@ -126,7 +126,10 @@ pub(crate) fn leave_full<C: Core>(
 }
 
 // Gives the first pass of a seat to a new one.
-pub(crate) fn split_pass<C: Core>(shared: &SharedTurn<C>, seat: &mut TurnSeat<C>) -> TurnSeat<C>
+pub(crate) fn split_pass<C: Core + Send>(
+    shared: &SharedTurn<C>,
+    seat: &mut TurnSeat<C>,
+) -> TurnSeat<C>
     requires place { seat.old.table_id ≡ shared.now.table_id }
     requires counts { (shared.now.table_id.words ≡ 1) × (shared.now.table_id.slots ≡ 1) }
     requires idle { seat.old.me.0.holds ≡ false }
@@ -137,7 +140,7 @@ pub(crate) fn split_pass<C: Core>(shared: &SharedTurn<C>, seat: &mut TurnSeat<C>
 }
 
 // Gives the passes of a seat to another.
-pub(crate) fn join_passes<C: Core>(
+pub(crate) fn join_passes<C: Core + Send>(
     shared: &SharedTurn<C>,
     seat: &mut TurnSeat<C>,
     other: TurnSeat<C>,

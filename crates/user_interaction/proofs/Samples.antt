@@ -39,6 +39,7 @@ sample = record {
   clients = client ∷ record client { asks_consent = false } ∷ [];
   parties = [];
   subjects = (codes "alice" ∷ []) ∷ (codes "alice" ∷ []) ∷ [];
+  lasting = false;
 }
 
 abbrev profile : Scopes

@@ -1,4 +1,4 @@
--- An answer is read exactly where it is a UserInfo response, and others are refused for the first reason.
+-- An answer is read if and only if it is a UserInfo response, and others are refused for the first reason.
 use Rattle.std.proofs.Common.{◌≡◌, ◌≢◌, ℕ, List, Option, Some, None, Result, Ok, Err, codes, refl, ap, ◌∙◌}
 use Rattle.serde_json.specs.Data.{string, Members}
 use Rattle.serde_json.specs.Find.{get_member}

@@ -66,6 +66,7 @@ here = record {
   clients = [];
   parties = [];
   subjects = (codes "x7" ∷ []) ∷ [];
+  lasting = false;
 }
 
 members_with-two_of_three : members_with (λ k. is_wanted email_only [] k) all_of_alice ≡ member (codes "email") (string (codes "a@b.org")) (member (codes "email_verified") (boolean true) no_members)

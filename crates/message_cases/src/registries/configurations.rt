@@ -25,10 +25,12 @@ fn refusal(why: &RegNo) -> (&str, &str) {
     }
 }
 
+// The numbers of rows, and whether the histories last.
 fn counts(alloc: Global, registry: &Registry) -> Result<String, NoMemory> {
     let (users, clients) = (registry.users(), registry.clients());
     let parties = registry.parties();
-    Ok(format!(in alloc; "{users} users, {clients} clients, {parties} parties")?)
+    let lasting = if registry.lasting() { ", lasting" } else { "" };
+    Ok(format!(in alloc; "{users} users, {clients} clients, {parties} parties{lasting}")?)
 }
 
 fn told_registry(alloc: Global, answer: &Result<Registry, RegNo>) -> Result<String, NoMemory> {

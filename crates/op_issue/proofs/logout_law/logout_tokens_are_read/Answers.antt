@@ -1,5 +1,6 @@
 use Rattle.op_issue.proofs.LogoutSealable.{has_texts, sealable, is_read_back}
 use Rattle.op_issue.proofs.LogoutForms.{form_is_read}
+use Rattle.op_issue.proofs.OpenedTexts.{logout_opens}
 use Rattle.op_issue.proofs.logout_law.logout_tokens_are_read.Goals as goal
 
 pub returns-clause-texts : goal.returns-clause-texts
@@ -10,6 +11,9 @@ returns-clause-sealable c = sealable
 
 pub returns-clause-read_back : goal.returns-clause-read_back
 returns-clause-read_back c = is_read_back
+
+pub returns-clause-opened : goal.returns-clause-opened
+returns-clause-opened c = logout_opens
 
 pub returns-clause-form : goal.returns-clause-form
 returns-clause-form c = form_is_read

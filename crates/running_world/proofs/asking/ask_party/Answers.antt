@@ -1,6 +1,6 @@
 use Rattle.std.proofs.Common.{◌≡◌, ℕ, ◌<◌, ◌+◌, Result, Err, ap, ◌∙◌, subst}
 use Rattle.std.proofs.lemmas.Result.{err_from_is_err_and}
-use Rattle.sso_base.specs.Journal.{most_weight}
+use Rattle.sso_base.specs.Journal.{most_of}
 use Rattle.sso_base.specs.declared.step.CoreNo.{CoreNo}
 use Rattle.sso_base.specs.declared.step.CoreNo.TheVariants.{JournalFull}
 use Rattle.client_registry.specs.Configuration.{Configuration}
@@ -22,5 +22,5 @@ returns-in_err-told-clause-full c =
     let returned = err_from_is_err_and c.from_residual-in_err-told.result c.from_residual-in_err-told.ensures.1 in
     let refused : c.in_err-told.field-0.0 ≡ JournalFull w = refused_so c.from_residual-in_err-told.result returned.0 c.in_err-told.field-0.0 w returned.1 returned.2 is in
     let full = c.in_err-told.ensures.full role w there (ap (λ (no : CoreNo). Err no) refused) in
-    let W : RpAsk → Type 0 = λ a. most_weight < w + ask_weight a in
+    let W : RpAsk → Type 0 = λ a. most_of role.setup.configuration.lasting < w + ask_weight a in
     (full.0, subst W asked full.1))

@@ -1,10 +1,10 @@
 use Rattle.std.proofs.Common.{◌≡◌}
 use Rattle.turn_store.specs.Passes.{IsPassOf, number_of}
-use Rattle.serve_cases.specs.Tally.{no_setup, IsLight}
+use Rattle.serve_cases.specs.Tally.{lasts_of, IsLight}
 use Rattle.serve_cases.proofs.two_passes.call_often.Given as goal
 
 abbrev pub invariant-loop : goal.invariant-loop
 invariant-loop g l = record {
-  pass : IsPassOf no_setup IsLight l.turn l.pass;
+  pass : IsPassOf lasts_of IsLight l.turn l.pass;
   number : number_of l.pass ≡ number_of l.initial.pass;
 }

@@ -1,6 +1,6 @@
 use Rattle.std.proofs.Common.{slice_index_or, subst, arith}
 use denote.Param.Send.{sendable}
-use Rattle.turn_store.specs.Passes.{IsPassOf}
+use Rattle.turn_store.specs.Passes.{IsPassOf, setup_of}
 use Rattle.serving.proofs.Seatings.{seats_served, seat_left}
 use Rattle.serving.proofs.seats.serve_seats.Goals as goal
 
@@ -20,8 +20,8 @@ returns-clause-passes g c = λ k d lt.
 pub returns-clause-served : goal.returns-clause-served
 returns-clause-served g c =
     let long = c.for_each_mut.auto.s in
-    seats_served (record { state = g.D.Door.state; closings = g.D.Door.closings; door_faults = g.D.Door.faults; link_state = g.L.Link.state; moments = g.C.Clock.ahead; words = g.W.Draw.ahead; left = g.D.Source.Source.left; read_faults = g.D.Source.Source.faults; taken = g.D.Sink.Sink.taken; write_faults = g.D.Sink.Sink.faults }) (g.X.Role.manner c.args.backend.now.role.now)
+    seats_served (record { state = g.D.Door.state; closings = g.D.Door.closings; door_faults = g.D.Door.faults; link_state = g.L.Link.state; moments = g.C.Clock.ahead; words = g.W.Draw.ahead; left = g.D.Source.Source.left; read_faults = g.D.Source.Source.faults; taken = g.D.Sink.Sink.taken; write_faults = g.D.Sink.Sink.faults }) (g.X.Role.manner c.args.backend.now.role.now) (g.X.Core.Core.most (setup_of g.X.Core.Core.setup c.args.backend.now.store.now))
     c.args.seats.now c.for_each_mut.new.s (omega arith) (λ i d lt.
     let at = (c.for_each_mut.ensures i d lt).1 in
-    seat_left (record { state = g.D.Door.state; closings = g.D.Door.closings; door_faults = g.D.Door.faults; link_state = g.L.Link.state; moments = g.C.Clock.ahead; words = g.W.Draw.ahead; left = g.D.Source.Source.left; read_faults = g.D.Source.Source.faults; taken = g.D.Sink.Sink.taken; write_faults = g.D.Sink.Sink.faults }) (g.X.Role.manner c.args.backend.now.role.now)
+    seat_left (record { state = g.D.Door.state; closings = g.D.Door.closings; door_faults = g.D.Door.faults; link_state = g.L.Link.state; moments = g.C.Clock.ahead; words = g.W.Draw.ahead; left = g.D.Source.Source.left; read_faults = g.D.Source.Source.faults; taken = g.D.Sink.Sink.taken; write_faults = g.D.Sink.Sink.faults }) (g.X.Role.manner c.args.backend.now.role.now) (g.X.Core.Core.most (setup_of g.X.Core.Core.setup c.args.backend.now.store.now))
     (slice_index_or c.args.seats.now i d) (slice_index_or c.for_each_mut.new.s i d) at.argument.now at.after_call.now at.argument_is at.left at.call.1)

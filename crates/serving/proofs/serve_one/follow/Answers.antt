@@ -22,7 +22,7 @@ returns-in_err-ask-in-Some-clause-followed g c =
     let asked = c.in_err-ask-in-Some.ensures in (
       calls_alone asked.0,
       did_calls c.args.pass.now (g.L.Link.state c.args.tools.now.link) (g.L.Link.state c.asked_back.new.link) (g.C.Clock.ahead c.args.tools.now.clock) (g.W.Draw.ahead c.args.tools.now.draw) asked.0 asked.1,
-      rw (p.1, p.2) (refl, round_unanswered (g.X.Role.manner c.args.backend.now.role.now) (front_of c.args.pass.now) c.args.reply asked.0 c.in_err-ask-in-Some.field-0.0 asked.2),
+      rw (p.1, p.2) (refl, round_unanswered (g.X.Role.manner c.args.backend.now.role.now) (g.X.Core.Core.most (setup_of g.X.Core.Core.setup c.args.backend.now.store.now)) (front_of c.args.pass.now) c.args.reply asked.0 c.in_err-ask-in-Some.field-0.0 asked.2),
       omega arith,
     )
 
@@ -35,7 +35,7 @@ returns-in_err-next-clause-followed g c =
     let end = c.in_err-next.ensures in (
       no_step asked.0,
       did_no_step c.args.pass.now c.step.new.pass (g.L.Link.state c.args.tools.now.link) (g.L.Link.state c.asked_back.new.link) (g.C.Clock.ahead c.args.tools.now.clock) (g.C.Clock.ahead c.step.new.clock) (g.W.Draw.ahead c.args.tools.now.draw) (g.W.Draw.ahead c.step.new.draw) asked.0 asked.1 end.later end.refused end.clock end.draw,
-      rw (p.1, p.2) (refl, round_refused (g.X.Role.manner c.args.backend.now.role.now) g.X.Core.Core.weighs (front_of c.step.new.pass) c.args.reply asked.0 c.in_ok-ask-in-Some.ask c.in_err-next.field-0.0 (laws.same_weights c.args.backend.now.role.now) asked.2 end.why),
+      rw (p.1, p.2) (refl, round_refused (g.X.Role.manner c.args.backend.now.role.now) g.X.Core.Core.weighs (g.X.Core.Core.most (setup_of g.X.Core.Core.setup c.args.backend.now.store.now)) (front_of c.step.new.pass) c.args.reply asked.0 c.in_ok-ask-in-Some.ask c.in_err-next.field-0.0 (laws.same_weights c.args.backend.now.role.now) asked.2 end.why),
       omega arith,
     )
 

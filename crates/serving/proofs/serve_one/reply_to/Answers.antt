@@ -1,6 +1,6 @@
 use Rattle.std.proofs.Common.{[], refl, sym, subst, arith}
 use Rattle.std.proofs.lemmas.Result.{err_from_is_err_and}
-use Rattle.turn_store.specs.Passes.{front_of}
+use Rattle.turn_store.specs.Passes.{front_of, setup_of}
 use Rattle.serving.specs.Serving.{IsAsked}
 use Rattle.serving.proofs.Doing.{did_calls, did_no_step, did_one_step, did_both, calls_alone, no_step, one_step, with_work}
 use Rattle.serving.proofs.Calls.{took_none}
@@ -15,7 +15,7 @@ returns-in_err-ask-clause-replied g c =
       calls_alone [],
       did_calls c.args.pass.now (g.L.Link.state c.args.tools.now.link) (g.L.Link.state c.args.tools.now.link) (g.C.Clock.ahead c.args.tools.now.clock) (g.W.Draw.ahead c.args.tools.now.draw) [] (took_none (g.L.Link.state c.args.tools.now.link)),
       refl,
-      rw (p.1, p.2) (cause_unread (g.X.Role.manner c.args.backend.now.role.now) (g.S.Source.left c.args.source.now) (g.S.Source.left c.asked.new.source) (g.S.Source.faults c.args.source.now) (g.S.Source.faults c.asked.new.source) (front_of c.args.pass.now) c.in_err-ask.field-0.0 c.in_err-ask.ensures.err),
+      rw (p.1, p.2) (cause_unread (g.X.Role.manner c.args.backend.now.role.now) (g.X.Core.Core.most (setup_of g.X.Core.Core.setup c.args.backend.now.store.now)) (g.S.Source.left c.args.source.now) (g.S.Source.left c.asked.new.source) (g.S.Source.faults c.args.source.now) (g.S.Source.faults c.asked.new.source) (front_of c.args.pass.now) c.in_err-ask.field-0.0 c.in_err-ask.ensures.err),
       c.requires.places,
     )
 
@@ -28,7 +28,7 @@ returns-in_err-first-clause-replied g c =
       no_step [],
       did_no_step c.args.pass.now c.step.new.pass (g.L.Link.state c.args.tools.now.link) (g.L.Link.state c.args.tools.now.link) (g.C.Clock.ahead c.args.tools.now.clock) (g.C.Clock.ahead c.step.new.clock) (g.W.Draw.ahead c.args.tools.now.draw) (g.W.Draw.ahead c.step.new.draw) [] (took_none (g.L.Link.state c.args.tools.now.link)) end.later end.refused end.clock end.draw,
       refl,
-      rw (p.1, p.2) (cause_refused (g.X.Role.manner c.args.backend.now.role.now) g.X.Core.Core.weighs (g.S.Source.left c.args.source.now) (g.S.Source.left c.asked.new.source) (g.S.Source.faults c.args.source.now) (g.S.Source.faults c.asked.new.source) (front_of c.step.new.pass) c.in_ok-ask.ask c.in_err-first.field-0.0 (laws.same_weights c.args.backend.now.role.now) c.in_ok-ask.ensures.ok end.why),
+      rw (p.1, p.2) (cause_refused (g.X.Role.manner c.args.backend.now.role.now) g.X.Core.Core.weighs (g.X.Core.Core.most (setup_of g.X.Core.Core.setup c.args.backend.now.store.now)) (g.S.Source.left c.args.source.now) (g.S.Source.left c.asked.new.source) (g.S.Source.faults c.args.source.now) (g.S.Source.faults c.asked.new.source) (front_of c.step.new.pass) c.in_ok-ask.ask c.in_err-first.field-0.0 (laws.same_weights c.args.backend.now.role.now) c.in_ok-ask.ensures.ok end.why),
       c.requires.places,
     )
 
@@ -45,7 +45,7 @@ returns-clause-replied g c =
           (did_one_step c.args.pass.now c.step.new.pass (g.L.Link.state c.args.tools.now.link) (g.L.Link.state c.args.tools.now.link) (g.C.Clock.ahead c.args.tools.now.clock) (g.C.Clock.ahead c.step.new.clock) (g.W.Draw.ahead c.args.tools.now.draw) (g.W.Draw.ahead c.step.new.draw) [] s (took_none (g.L.Link.state c.args.tools.now.link)) end.made.1 end.made.4 end.clock end.draw)
           refl
           rest.1,
-      is_run (g.X.Role.manner c.args.backend.now.role.now) (g.S.Source.left c.args.source.now) (g.S.Source.left c.asked.new.source) (front_of c.last_reply.new.pass) s c.in_ok-first.first rest.0.steps rest.0.calls c.last_reply.result asked end.made.3 rest.2,
-      is_cause (g.X.Role.manner c.args.backend.now.role.now) (g.S.Source.left c.args.source.now) (g.S.Source.left c.asked.new.source) (g.S.Source.faults c.args.source.now) (g.S.Source.faults c.asked.new.source) (front_of c.last_reply.new.pass) s c.in_ok-first.first rest.0.steps rest.0.calls c.last_reply.result asked end.made.3 rest.2,
+      is_run (g.X.Role.manner c.args.backend.now.role.now) (g.X.Core.Core.most (setup_of g.X.Core.Core.setup c.args.backend.now.store.now)) (g.S.Source.left c.args.source.now) (g.S.Source.left c.asked.new.source) (front_of c.last_reply.new.pass) s c.in_ok-first.first rest.0.steps rest.0.calls c.last_reply.result asked end.made.3 rest.2,
+      is_cause (g.X.Role.manner c.args.backend.now.role.now) (g.X.Core.Core.most (setup_of g.X.Core.Core.setup c.args.backend.now.store.now)) (g.S.Source.left c.args.source.now) (g.S.Source.left c.asked.new.source) (g.S.Source.faults c.args.source.now) (g.S.Source.faults c.asked.new.source) (front_of c.last_reply.new.pass) s c.in_ok-first.first rest.0.steps rest.0.calls c.last_reply.result asked end.made.3 rest.2,
       (let a = c.requires.places in let b = rest.3 in omega arith),
     )

@@ -1,4 +1,4 @@
-use Rattle.std.proofs.Common.{◌≡◌, ◌^◌, ◌≤◌, ◌<◌, ◌++◌, map, length, take, drop, ap, sym, subst, ◌∙◌, arith}
+use Rattle.std.proofs.Common.{◌≡◌, ◌^◌, ◌≤◌, ◌<◌, ◌++◌, map, length, take, drop, ap, refl, sym, subst, ◌∙◌, arith}
 use Rattle.std.specs.List.{AllByRecursion}
 use Rattle.turn_store.specs.Passes.{IsPassOf, HasDoneNothing, number_of, setup_of}
 use Rattle.turn_store.proofs.Ending.{all_by, by_all}
@@ -43,8 +43,8 @@ rise-count-requires-clause-served g c κs within =
     let long : length c.as_mut_slice.result.now ≡ length c.sit.new.seats.items = ap (λ l. length l) c.as_mut_slice.ensures.value in
     let kept = c.sit.new.seats.ok in let left = c.open_and_serve.auto.seats in let len = c.as_mut_slice.ensures.len in
     let back = whole_list c.sit.new.seats.len c.open_and_serve.new.seats c.sit.new.seats.items (omega arith) (omega arith) in
-    let w = whole_from t (g.X.Role.manner c.args.role.now) c.args.place.now c.args.desks.now.items c.args.passes.items c.as_mut_slice.result.now c.open_and_serve.new.seats c.requires.same sits c.open_and_serve.ensures.served in
-    rw back (by_all (λ s. s.worked.served ≤ 2 ^ 56) c.open_and_serve.new.seats (whole_bound t (g.X.Role.manner c.args.role.now) c.args.place.now c.args.desks.now.items c.args.passes.items c.open_and_serve.new.seats w (all_by (λ d. (d.turns ≤ 2 ^ 56) × ((g.D.Door.state d.door).given < 2 ^ 63)) c.args.desks.now.items c.requires.desks)))
+    let w = whole_from t (g.X.Role.manner c.args.role.now) (g.X.Core.Core.most (setup_of g.X.Core.Core.setup c.args.store)) c.args.place.now c.args.desks.now.items c.args.passes.items c.as_mut_slice.result.now c.open_and_serve.new.seats c.requires.same sits c.open_and_serve.ensures.served in
+    rw back (by_all (λ s. s.worked.served ≤ 2 ^ 56) c.open_and_serve.new.seats (whole_bound t (g.X.Role.manner c.args.role.now) (g.X.Core.Core.most (setup_of g.X.Core.Core.setup c.args.store)) c.args.place.now c.args.desks.now.items c.args.passes.items c.open_and_serve.new.seats w (all_by (λ d. (d.turns ≤ 2 ^ 56) × ((g.D.Door.state d.door).given < 2 ^ 63)) c.args.desks.now.items c.requires.desks)))
 
 pub rise-count-requires-clause-room : goal.rise-count-requires-clause-room
 rise-count-requires-clause-room g c κs within =
@@ -77,9 +77,9 @@ close-closed-requires-clause-order g c κs within =
     let long : length c.as_mut_slice.result.now ≡ length c.sit.new.seats.items = ap (λ l. length l) c.as_mut_slice.ensures.value in
     let kept = c.sit.new.seats.ok in let left = c.open_and_serve.auto.seats in let len = c.as_mut_slice.ensures.len in
     let back = whole_list c.sit.new.seats.len c.open_and_serve.new.seats c.sit.new.seats.items (omega arith) (omega arith) in
-    let w = whole_from t (g.X.Role.manner c.args.role.now) c.args.place.now c.args.desks.now.items c.args.passes.items c.as_mut_slice.result.now c.open_and_serve.new.seats c.requires.same sits c.open_and_serve.ensures.served in
+    let w = whole_from t (g.X.Role.manner c.args.role.now) (g.X.Core.Core.most (setup_of g.X.Core.Core.setup c.args.store)) c.args.place.now c.args.desks.now.items c.args.passes.items c.as_mut_slice.result.now c.open_and_serve.new.seats c.requires.same sits c.open_and_serve.ensures.served in
     let passes_are = passes_same c.rise-count.new.passes.items (take c.sit.new.seats.len (c.open_and_serve.new.seats ++ drop (length c.open_and_serve.new.seats) c.sit.new.seats.items)) c.open_and_serve.new.seats c.rise-count.ensures.passes back in
-    ap (λ l. map number_of l) passes_are ∙ whole_numbers t (g.X.Role.manner c.args.role.now) c.args.place.now c.args.desks.now.items c.args.passes.items c.open_and_serve.new.seats w ∙ c.requires.order
+    ap (λ l. map number_of l) passes_are ∙ whole_numbers t (g.X.Role.manner c.args.role.now) (g.X.Core.Core.most (setup_of g.X.Core.Core.setup c.args.store)) c.args.place.now c.args.desks.now.items c.args.passes.items c.open_and_serve.new.seats w ∙ c.requires.order
 
 pub returns : goal.returns
 returns g c =
@@ -90,12 +90,12 @@ returns g c =
     let long : length c.as_mut_slice.result.now ≡ length c.sit.new.seats.items = ap (λ l. length l) c.as_mut_slice.ensures.value in
     let kept = c.sit.new.seats.ok in let left = c.open_and_serve.auto.seats in let len = c.as_mut_slice.ensures.len in
     let back = whole_list c.sit.new.seats.len c.open_and_serve.new.seats c.sit.new.seats.items (omega arith) (omega arith) in
-    let w = whole_from t (g.X.Role.manner c.args.role.now) c.args.place.now c.args.desks.now.items c.args.passes.items c.as_mut_slice.result.now c.open_and_serve.new.seats c.requires.same sits c.open_and_serve.ensures.served in
-    summarised t (g.X.Role.manner c.args.role.now) c.args.place.now c.args.desks.now.items c.args.passes.items c.open_and_serve.new.seats w
-    g.X.Core.Core.setup g.X.Core.Core.history g.X.Core.Core.is_legal (setup_of g.X.Core.Core.setup c.args.store)
+    let w = whole_from t (g.X.Role.manner c.args.role.now) (g.X.Core.Core.most (setup_of g.X.Core.Core.setup c.args.store)) c.args.place.now c.args.desks.now.items c.args.passes.items c.as_mut_slice.result.now c.open_and_serve.new.seats c.requires.same sits c.open_and_serve.ensures.served in
+    summarised t (g.X.Role.manner c.args.role.now) (g.X.Core.Core.most (setup_of g.X.Core.Core.setup c.args.store)) c.args.place.now c.args.desks.now.items c.args.passes.items c.open_and_serve.new.seats w
+    g.X.Core.Core.most g.X.Core.Core.setup g.X.Core.Core.history g.X.Core.Core.is_legal (setup_of g.X.Core.Core.setup c.args.store)
     (take c.sit.new.seats.len (c.open_and_serve.new.seats ++ drop (length c.open_and_serve.new.seats) c.sit.new.seats.items))
     c.rise-count.new.desks.items c.rise-count.new.passes.items c.close-closed.result c.rise-count.result.served c.count.result c.rise-count.result.fault
-    (all_by HasDoneNothing c.args.passes.items c.requires.fresh)
+    refl (all_by HasDoneNothing c.args.passes.items c.requires.fresh)
     back c.rise-count.ensures.desks c.rise-count.ensures.passes c.rise-count.ensures.served c.rise-count.ensures.fault
     c.close-closed.ensures.setup c.close-closed.ensures.legal c.close-closed.ensures.fronts c.close-closed.ensures.lists c.close-closed.ensures.once
     c.count.ensures.count

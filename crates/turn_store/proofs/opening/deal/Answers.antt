@@ -19,7 +19,7 @@ loop-left-preserved g c =
     let seat = still_has start c.loop-left.seat.me c.split_pass-one.new.seat.me (length dealt) n (n - 1) size i.seat c.split_pass-one.ensures.passes.0 in
     let one = was_dealt start c.loop-left.seat.me c.split_pass-one.result.me (length dealt) n (n - 1) size i.seat c.split_pass-one.ensures.passes.1 in
     let pass : Pass g.row.C.Denot g.row.C-Ask.Denot g.row.C-Reply.Denot = record { seat = c.split_pass-one.result; calls = c.new.result } in
-    let is = is_dealt c.args.shared.now.table_id start pass (length dealt) (c.split_pass-one.ensures.place.1 ∙ i.place) one c.new.ensures.items in
+    let is = is_dealt c.args.shared.now.table_id start pass (length dealt) (c.split_pass-one.ensures.place.1 ∙ i.place) one c.new.ensures in
     let all = All-push (IsDealt c.args.shared.now.table_id start) dealt pass i.dealt is in
     let numbers = numbers_grew dealt pass i.numbers (dealt_number start pass (length dealt) one) in
     let pushed = c.push_reserved.ensures.items in

@@ -66,7 +66,7 @@ returns-clause-lists g c =
     let all = passes_count c.args.passes.items (passes_of c.args.self) c.requires.order in
     let cut = removed c.args.passes.items c.remove-seat.new.self.items c.remove-seat.result (omega (arith, all, c.args.self.some)) c.remove-seat.ensures.value c.remove-seat.ensures.items in
     let good = all_by (IsPassOf g.C.Core.setup g.C.Core.is_legal c.args.self) c.args.passes.items c.requires.passes in
-    let lists : c.from_lists.result ≡ lists_of c.args.passes.items = c.from_lists.ensures ∙ c.gather.ensures.lists ∙ ap (λ l. l ++ lists_of c.remove-seat.new.self.items) (c.push_reserved.ensures.items ∙ ap (λ l. l ++ c.remove-seat.result.calls.items ∷ []) (empty_list c.args.self.lists.items c.args.self.room.0)) ∙ ap (λ ps. lists_of ps) (sym cut) in
+    let lists : c.from_lists.result ≡ lists_of c.args.passes.items = c.from_lists.ensures ∙ c.gather.ensures.lists ∙ ap (λ l. l ++ lists_of c.remove-seat.new.self.items) (c.push_reserved.ensures.items ∙ ap (λ l. l ++ c.remove-seat.result.calls ∷ []) (empty_list c.args.self.lists.items c.args.self.room.0)) ∙ ap (λ ps. lists_of ps) (sym cut) in
     lists ∙ lists_are g.C.Core.setup g.C.Core.is_legal c.args.self c.args.passes.items good
 
 pub returns-clause-once : goal.returns-clause-once
@@ -77,7 +77,7 @@ returns-clause-once g c place pos high =
     c.close_with-closed.ensures.values.2 c.take-slot.ensures.value in
     let out = comes_out g.C.Core.history g.C.Core.setup g.C.Core.is_legal c.args.self c.args.passes.items c.take-slot.result c.unwrap.result slot c.unwrap.ensures in
     let good = all_by (IsPassOf g.C.Core.setup g.C.Core.is_legal c.args.self) c.args.passes.items c.requires.passes in
-    let lists : c.from_lists.result ≡ lists_of c.args.passes.items = c.from_lists.ensures ∙ c.gather.ensures.lists ∙ ap (λ l. l ++ lists_of c.remove-seat.new.self.items) (c.push_reserved.ensures.items ∙ ap (λ l. l ++ c.remove-seat.result.calls.items ∷ []) (empty_list c.args.self.lists.items c.args.self.room.0)) ∙ ap (λ ps. lists_of ps) (sym cut) in
+    let lists : c.from_lists.result ≡ lists_of c.args.passes.items = c.from_lists.ensures ∙ c.gather.ensures.lists ∙ ap (λ l. l ++ lists_of c.remove-seat.new.self.items) (c.push_reserved.ensures.items ∙ ap (λ l. l ++ c.remove-seat.result.calls ∷ []) (empty_list c.args.self.lists.items c.args.self.room.0)) ∙ ap (λ ps. lists_of ps) (sym cut) in
     ap (λ l. total (times place) l) lists ∙ once g.C.Core.setup g.C.Core.is_legal c.args.self place (length (g.C.Core.history c.unwrap.result)) c.args.passes.items good out.places pos high
 
 pub returns-clause-setup : goal.returns-clause-setup

@@ -1,0 +1,40 @@
+// What a core replies to requests, one after another.
+
+ghost use Rattle.std.specs.Prelude.{◌≡◌, [], length, IfOk};
+ghost use Rattle.sso_base.specs.Asked.{history_by};
+
+use crate::asked::Asked;
+use crate::step::{Core, CoreNo};
+use std::alloc::Global;
+
+/// The replies of a core with an empty history to these requests, one after another. There are as many replies as requests. The
+/// list of these requests with these replies is a legal history: each request at its moment, or at the last one's if that is
+/// later.
+///
+/// The clauses name the caller's requests and the returned replies, and no history of the core. So they are true for a core that
+/// stores nothing, too: its history in contracts is what was really requested and replied.
+///
+/// # Errors
+///
+/// Those of the core's steps.
+pub fn replies_in_turn<C: Core>(
+    alloc: Global,
+    mut core: C,
+    asks: Vec<Asked<C::Ask>>,
+) -> Result<Vec<C::Reply>, CoreNo>
+    requires { C.history core ≡ [] }
+    ensures each { IfOk result (λ replies. length replies.items ≡ length asks.items) }
+    ensures legal { IfOk result (λ replies. C.is_legal (C.setup core) (history_by [] asks.items replies.items)) }
+{
+    let _count = core.count();
+    let mut replies = Vec::new(alloc);
+    for asked in asks {
+        let Asked { at, fresh, ask } = asked;
+        if replies.reserve(1).is_err() {
+            return Err(CoreNo::NoMemory);
+        }
+        let reply = core.step(alloc, at, fresh, ask)?;
+        replies.push_reserved(reply);
+    }
+    Ok(replies)
+}
