@@ -5,11 +5,10 @@ use platform::SystemClock;
 use server_desk::Clock;
 use sso_base::NoMemory;
 use std::alloc::Global;
-use std::io;
 use std::io::ErrorKind;
 use std::sync::atomic::{AtomicU64, Ordering};
-use std::time;
 use std::time::Duration;
+use std::{io, time};
 
 /// A clock that shows this can't be read.
 const BROKEN: u64 = u64::MAX;

@@ -149,7 +149,10 @@ impl TimedProvider {
         let Some(word) = word else {
             return None;
         };
-        self.core.tables().live_session(*word, self.moment(at)).copied()
+        self.core
+            .tables()
+            .live_session(*word, self.moment(at))
+            .copied()
     }
 
     /// Sends a request to the provider.

@@ -33,12 +33,7 @@ fn told_next(alloc: Global, answer: &Result<u64, CoreNo>) -> Result<String, NoMe
 
 /// `often|stored|COUNT` or `often|lasting|COUNT`: after so many calls of a store with one pass, the number of entries, the number of
 /// places that are stored, and the reply of the core to one more request.
-pub fn answer<R: Wait>(
-    rt: &R,
-    alloc: Global,
-    lasts: bool,
-    times: u32,
-) -> Result<String, NoMemory> {
+pub fn answer<R: Wait>(rt: &R, alloc: Global, lasts: bool, times: u32) -> Result<String, NoMemory> {
     let (turn, mut passes) = Turn::new(alloc, Tally::new(alloc, lasts), 1)?;
     let pass = take_pass(&turn, &mut passes);
     let pass = call_often(rt, alloc, &turn, pass, times);

@@ -35,7 +35,14 @@ fn tally<R: Threads + Wait + Sync>(
     requires desks { All (λ desk. (desk.turns ≤ 2 ^ 56) × ((⟦<CaseDoor as Door>⟧.state desk.door).given < 2 ^ 63)) desks.old.items }
 {
     let place = Text::new(alloc, "127.0.0.1:8080")?;
-    let summary = serve(rt, alloc, &TallyRole, Tally::new(alloc, false), &place, desks)?;
+    let summary = serve(
+        rt,
+        alloc,
+        &TallyRole,
+        Tally::new(alloc, false),
+        &place,
+        desks,
+    )?;
     told_summary(alloc, &summary)
 }
 
