@@ -7,6 +7,7 @@ use denote.Param.Send.{IsSend, sendable, recorded_send, enum_send}
 use denote.Enum.Declared.{shape}
 use Rattle.rp_exchange.specs.contracts.ask.RpAsk.{the_row, the_type}
 use Rattle.rp_core.specs.contracts.state.RpCore as core
+use Rattle.sso_base.proofs.chain.Chain.TheLaws.TheKnot as chain
 use Rattle.sso_base.specs.contracts.journal.Journal as journal
 use Rattle.rp_exchange.specs.contracts.reply.RpReply as reply_row
 use Rattle.rp_exchange.proofs.reply.RpReply.TheSendSync as reply
@@ -47,7 +48,7 @@ asks_are_sent =
     ))
 
 pub journal_is_sent : (g : weighed.Ghosts the_row.Denot) → IsSend (journal.the_row the_row reply_row.the_row g)
-journal_is_sent g = search (asks_are_sent, reply.the_send, maps.crosses, crosses, json.crosses, sendable) depth 60 fits 20000
+journal_is_sent g = search (asks_are_sent, reply.the_send, maps.crosses, crosses, json.crosses, chain.crosses, sendable) depth 60 fits 20000
 
 pub core_is_sent : IsSend core.the_row
 core_is_sent = search (setup.the_send, logins.the_send, journal_is_sent, sendable) depth 60 fits 20000
