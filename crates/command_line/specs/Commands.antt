@@ -1,5 +1,5 @@
 -- The command of the words after the program's name.
-use Rattle.std.specs.Prelude.{◌≤◌, ℕ, Bool, false, true, not, ◌==◌, List, [], ◌∷◌, Option, Some, None, is_some, codes, if◌then◌else◌, ◌≡◌}
+use Rattle.std.specs.Prelude.{◌≤◌, ℕ, Bool, false, true, not, ◌==◌, List, [], ◌∷◌, Option, Some, None, is_some, codes, if◌then◌else◌}
 use Rattle.std.specs.Fmt.{decimal}
 use Rattle.std.specs.List.{list_all}
 use Rattle.std.specs.Str.{bytes_eq}
@@ -89,19 +89,3 @@ words_of (Token secret token) = codes "token" ∷ secret ∷ token ∷ []
 abbrev pub IsInRange : Command → Type 0
 IsInRange (Storm number count) = (number ≤ 4294967295) × (1 ≤ count) × (count ≤ 10000)
 IsInRange command = Unit {0}
-
--- these words are such a command
-abbrev pub AsksReplay : List Text → Type 0
-AsksReplay words = asks_replay (command_of words) ≡ true
-
-abbrev pub AsksStorm : List Text → Type 0
-AsksStorm words = asks_storm (command_of words) ≡ true
-
-abbrev pub AsksToken : List Text → Type 0
-AsksToken words = asks_token (command_of words) ≡ true
-
-abbrev pub AsksOp : List Text → Type 0
-AsksOp words = asks_op (command_of words) ≡ true
-
-abbrev pub AsksRp : List Text → Type 0
-AsksRp words = asks_rp (command_of words) ≡ true

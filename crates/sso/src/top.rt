@@ -4,7 +4,7 @@ ghost use Rattle.std.specs.Prelude.{◌≡◌, ◌⊎◌, ◌^◌, ◌≤◌, �
 ghost use Rattle.std.specs.List.{All};
 ghost use Rattle.sso_base.specs.Outside.{Content};
 ghost use Rattle.command_line.specs.declared.command.Command.TheVariants.{Storm};
-ghost use Rattle.command_line.specs.Commands.{command_of, is_command, asks_storm, AsksReplay, AsksStorm, AsksToken, AsksOp, AsksRp};
+ghost use Rattle.command_line.specs.Commands.{command_of, is_command, asks_replay, asks_storm, asks_token, asks_op, asks_rp};
 ghost use Rattle.sso.specs.Answer.{storm_answer};
 ghost use Rattle.sso.specs.Ends.{ShowsUsage, ReportsShelf, RefusesConfiguration, RefusesTrace, OpensToken, RunsProvider, RunsServer, RefusesTokenOrMetadata};
 ghost use Rattle.sso.specs.Ends.{RunsParty, StopsWriting, status_for, IsStatus, IsStatusOf, is_refusal, asks_play, is_serving};
@@ -111,18 +111,21 @@ pub fn sso<R: Threads + Wait + Sync, H: Shelf, K: Sink, D: Door, L: Link, C: Clo
 
     // The sign-on theorem, and that honest logins succeed, are parts of these six clauses. They are about the same play whose
     // text was written.
-    ensures replayed { result ≡ 0 → AsksReplay words.now → Replays (H.contents shelf.old) words.now 0 (K.taken out.old) (K.taken out.new) }
-    ensures broken { result ≡ 7 → AsksReplay words.now → Replays (H.contents shelf.old) words.now 7 (K.taken out.old) (K.taken out.new) }
-    ensures full { result ≡ 8 → AsksReplay words.now → Replays (H.contents shelf.old) words.now 8 (K.taken out.old) (K.taken out.new) }
-    ensures stormed { result ≡ 0 → AsksStorm words.now → Storms words.now 0 (K.taken out.old) (K.taken out.new) }
-    ensures storm_broken { result ≡ 7 → AsksStorm words.now → Storms words.now 7 (K.taken out.old) (K.taken out.new) }
-    ensures storm_full { result ≡ 8 → AsksStorm words.now → Storms words.now 8 (K.taken out.old) (K.taken out.new) }
+    ensures replayed { result ≡ 0 → asks_replay (command_of words.now) ≡ true
+        → Replays (H.contents shelf.old) words.now 0 (K.taken out.old) (K.taken out.new) }
+    ensures broken { result ≡ 7 → asks_replay (command_of words.now) ≡ true
+        → Replays (H.contents shelf.old) words.now 7 (K.taken out.old) (K.taken out.new) }
+    ensures full { result ≡ 8 → asks_replay (command_of words.now) ≡ true
+        → Replays (H.contents shelf.old) words.now 8 (K.taken out.old) (K.taken out.new) }
+    ensures stormed { result ≡ 0 → asks_storm (command_of words.now) ≡ true → Storms words.now 0 (K.taken out.old) (K.taken out.new) }
+    ensures storm_broken { result ≡ 7 → asks_storm (command_of words.now) ≡ true → Storms words.now 7 (K.taken out.old) (K.taken out.new) }
+    ensures storm_full { result ≡ 8 → asks_storm (command_of words.now) ≡ true → Storms words.now 8 (K.taken out.old) (K.taken out.new) }
     ensures play { (result ≡ 7) ⊎ (result ≡ 8) → asks_play (command_of words.now) ≡ true }
-    ensures opened { result ≡ 0 → AsksToken words.now → OpensToken (H.contents shelf.old) words.now (K.taken out.old) (K.taken out.new) }
-    ensures provider { result ≡ 0 → AsksOp words.now
+    ensures opened { result ≡ 0 → asks_token (command_of words.now) ≡ true → OpensToken (H.contents shelf.old) words.now (K.taken out.old) (K.taken out.new) }
+    ensures provider { result ≡ 0 → asks_op (command_of words.now) ≡ true
         → RunsProvider ⟦<Desk<D, L, C, W> as Tells>⟧.telling desks.old.items desks.new.items
         (H.contents shelf.old) words.now false (K.taken out.old) (K.taken out.new) }
-    ensures party { result ≡ 0 → AsksRp words.now
+    ensures party { result ≡ 0 → asks_rp (command_of words.now) ≡ true
         → RunsParty ⟦<Desk<D, L, C, W> as Tells>⟧.telling desks.old.items desks.new.items
         (H.contents shelf.old) words.now false (K.taken out.old) (K.taken out.new) }
     ensures command { result ≡ 0 → is_command words.now ≡ true }
