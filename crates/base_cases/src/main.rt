@@ -1,5 +1,5 @@
 //! Cases of the lowest crates, each a line that a person can read: texts, bytes, moments and words, rows with names and tables
-//! of them, sinks and shelves, scope values and response types.
+//! of them, scope values and response types.
 //!
 //! The file `stdin` has the cases, and `stdout` has them with their answers. The crate `case_lines` documents how a line is
 //! read. The comments in the table name the source of the expected answers.
@@ -8,7 +8,6 @@
 //! |---|---|
 //! | `words` | texts, bytes, moments, and words with their texts |
 //! | `rows` | `put row`, `find row` and `remove row`: a table of rows with names |
-//! | `outside` | `write` and `fetch`: sinks and shelves in memory, some of whose calls fail |
 //! | `scopes` | `claim`, `claims`, `asks`, `joined` and `covers`: scope values, and the claims that they request |
 //! | `types` | `types`: response types |
 //! | `beside` | `table` and `many`: the held rows of a table compared with a plain list, with the same calls |
@@ -20,7 +19,6 @@
 mod beside;
 mod held;
 mod members;
-mod outside;
 mod plain;
 mod rows;
 mod scopes;
@@ -46,8 +44,6 @@ impl Cases for BaseCases {
             ["put row" | "find row" | "remove row", ..] => {
                 rows::answer(alloc, &mut self.doors, fields)
             }
-            ["write", most, failing, pieces] => outside::write(alloc, most, failing, pieces),
-            ["fetch", failing, names, most] => outside::fetch(alloc, failing, names, most),
             ["claim", name] => scopes::claim(alloc, name),
             ["claims", names] => scopes::claims(alloc, names),
             ["asks", scope, name] => scopes::asks(alloc, scope, name),

@@ -1,5 +1,5 @@
 //! Cases of the servers' HTTP, each a line that a person can read: how requests are read, how replies and messages are written,
-//! and the answers of other servers.
+//! and the answers of other servers. Then cases of sinks and shelves in memory.
 //!
 //! The file `stdin` has the cases, and `stdout` has them with their answers. The crate `case_lines` documents how a line is
 //! read. The comments in the table name the source of the expected answers. In the bytes of a request or of an answer, `\r` and
@@ -11,8 +11,10 @@
 //! | `requests` | `ask`, `cut`, `fronts` and `fault` read a request |
 //! | `replies` | `reply`, `refusal` and `message` write a reply or a message |
 //! | `peers` | `peer` reads the answer of another server |
+//! | `outside` | `write` and `fetch`: sinks and shelves in memory, some of whose calls fail |
 #![tactic(auto)]
 
+mod outside;
 mod peers;
 mod replies;
 mod requests;
@@ -37,6 +39,8 @@ impl Cases for HttpCases {
             ["refusal", name] => replies::refusal(alloc, name),
             ["message", to, auth, body] => replies::message(alloc, to, auth, body),
             ["peer", bytes] => peers::peer(alloc, bytes),
+            ["write", most, failing, pieces] => outside::write(alloc, most, failing, pieces),
+            ["fetch", failing, names, most] => outside::fetch(alloc, failing, names, most),
             _ => told(alloc, "no call"),
         }
     }

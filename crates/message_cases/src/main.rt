@@ -7,8 +7,7 @@
 //!
 //! | Module | Its calls |
 //! |---|---|
-//! | `registries` | the table of registries: what they consist of, and queries of one: |
-//! | `registries::urls` | `url`, `same_server`, `query_names` and `urls` |
+//! | `registries` | the table of registries: |
 //! | `registries::configurations` | `registry`, `version`, `secrets`, `file`, `users` and `rows` read configurations |
 //! | `registries::registered` | `provider`, `find`, `row` and `subject` query the sample's registry |
 //! | `registries::discovery` | `document`, `discovery` and `less` |

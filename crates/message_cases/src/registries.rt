@@ -1,10 +1,9 @@
-// The table of registries: what they consist of (URLs, configurations and discovery documents), and queries of one.
+// The table of registries: configurations, discovery documents, and queries of one.
 
 mod configurations;
 mod discovery;
 mod registered;
 mod sample;
-mod urls;
 
 use case_lines::{Cases, told};
 use client_registry::{RegNo, Registry, read_registry};
@@ -29,10 +28,6 @@ impl RegistryCases {
 impl Cases for RegistryCases {
     fn answer(&mut self, alloc: Global, fields: &[&str]) -> Result<String, NoMemory> {
         match fields {
-            ["url", text] => urls::url(alloc, text),
-            ["same_server", one, other] => urls::same_server(alloc, one, other),
-            ["query_names", url] => urls::query_names(alloc, url),
-            ["urls", one, other] => urls::urls(alloc, one, other),
             ["registry", old, new] => configurations::registry(alloc, old, new),
             ["version", version, old, new] => configurations::version(alloc, version, old, new),
             ["secrets", version, old, new] => configurations::secrets(alloc, version, old, new),

@@ -1,18 +1,13 @@
-// The desk over this machine, with clients over loopback.
+// Doors and links of this machine, with clients over loopback.
 
-ghost use Rattle.std.specs.Prelude.{◌≡◌, length};
-
-use crate::running::run_op;
 use case_lines::{as_text, push_part, told, told_quoted};
-use platform::{TcpDoor, TcpLink, desk};
+use platform::{TcpDoor, TcpLink};
 use server_desk::{Door, Link, LinkNo, Source, read_whole};
-use sso_base::{Blob, File, NoMemory, Text, write_whole};
+use sso_base::{Blob, NoMemory, Text, write_whole};
 use std::alloc::{AllocGlobal, Global};
 use std::io;
 use std::io::{Read, Write};
 use std::net::{Net, TcpListener, TcpStream};
-use std::random::RandomSource;
-use std::sync::Wait;
 use std::thread::{Threads, join, sleep};
 use std::time::{Clock, Duration, Instant};
 
@@ -320,69 +315,4 @@ where
         far.as_str(),
         near.as_str()
     )?)
-}
-
-// A configuration whose provider listens at this address.
-fn file_at(alloc: Global, place: &Text) -> Result<File, NoMemory> {
-    let place = place.as_str();
-    let config = format!(in alloc;
-        "version = 1\n[provider]\nissuer = \"http://{place}\"\nlisten = \"{place}\"\nsalt = \"00112233445566778899aabbccddeeff\"\n"
-    )?;
-    Ok(File {
-        name: Text::new(alloc, "config")?,
-        content: Blob::new(alloc, config.as_str().as_bytes())?,
-    })
-}
-
-// Runs the provider at this address, for one connection.
-fn run_provider<R>(rt: &R, alloc: Global, place: &Text) -> Result<String, NoMemory>
-where
-    R: Threads + Wait + Net<Listener = TcpListener, Stream = TcpStream>,
-    R: Clock + RandomSource + Sync + AllocGlobal,
-{
-    let file = file_at(alloc, place)?;
-    let Ok(mut one) = desk(rt) else {
-        return told(alloc, "no random bytes");
-    };
-    one.turns = 1;
-    let mut desks = vec![in alloc; one]?;
-    run_op(rt, alloc, file, &mut desks)
-}
-
-// Requests the keys as soon as somebody listens, with at most 500 attempts.
-fn ask_keys<R: Net<Stream = TcpStream> + Clock>(
-    rt: &R,
-    alloc: Global,
-    place: &Text,
-) -> Option<Vec<u8>> {
-    let (first, second) = (b"GET /jwks HTTP/1.1\r\nHost: a", b"\r\n\r\n");
-    for _ in 0..500 {
-        if let Some(back) = ask(rt, alloc, place, first, second) {
-            return Some(back);
-        }
-        sleep(rt, Duration::from_millis(BETWEEN / 10));
-    }
-    None
-}
-
-/// `machine|keys`: the exit status and the text of `op` with a desk of one turn, and the answer to a client that requests the
-/// keys.
-pub fn keys<R>(rt: &R, alloc: Global) -> Result<String, NoMemory>
-where
-    R: Threads + Wait + Net<Listener = TcpListener, Stream = TcpStream>,
-    R: Clock + RandomSource + Sync + AllocGlobal,
-{
-    let mut door = TcpDoor::new(rt);
-    let place = listen(alloc, &mut door)?;
-    drop(door);
-    let Some(place) = place else {
-        return told(alloc, "no port is free");
-    };
-    let (ended, back) = join(
-        rt,
-        || run_provider(rt, alloc, &place),
-        || ask_keys(rt, alloc, &place),
-    );
-    let (ended, back) = (ended?, told_came(alloc, &back)?);
-    Ok(format!(in alloc; "{ended} / {back}")?)
 }

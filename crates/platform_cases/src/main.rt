@@ -1,5 +1,5 @@
 //! Cases of this machine, each a line that a person can read: a writer, the words of a process, addresses, the clock, random
-//! words, a door and a link over loopback, and the top call at a desk over this machine.
+//! words, a door and a link over loopback.
 //!
 //! The file `stdin` has the cases, and `stdout` has them with their answers. The crate `case_lines` documents how a line is
 //! read.
@@ -10,7 +10,7 @@
 //! | `words|NAME|WORD|..` | the words of a process |
 //! | `clock|STEADY WALL|..` | what the clock shows at these readings of the steady clock and the wall clock |
 //! | `tries|ADDRESS|..` | to which of these addresses a link tries to connect, over a network in memory |
-//! | `machine|CALL` | the answers of the clock, the random words, a door, a link or the desk of this machine |
+//! | `machine|CALL` | the answers of the clock, the random words, a door or a link of this machine |
 //!
 //! | Module | What it has |
 //! |---|---|
@@ -18,14 +18,12 @@
 //! | `hands` | the call `clock`: a clock over two clocks that are set by hand |
 //! | `network` | the call `tries`: a link over a network in memory |
 //! | `this_machine`, `loopback` | the call `machine` |
-//! | `running` | the top call over one file in memory |
 #![tactic(auto)]
 
 mod hands;
 mod loopback;
 mod network;
 mod process;
-mod running;
 mod this_machine;
 
 use case_lines::{Cases, print_lines, told, written_out};
@@ -34,7 +32,6 @@ use std::alloc::{AllocGlobal, Global};
 use std::io;
 use std::net::{Net, TcpListener, TcpStream};
 use std::random::RandomSource;
-use std::sync::Wait;
 use std::thread::Threads;
 use std::time::Clock;
 
@@ -65,7 +62,7 @@ fn answer<R>(
     line: &str,
 ) -> Result<String, NoMemory>
 where
-    R: Threads + Wait + Net<Listener = TcpListener, Stream = TcpStream>,
+    R: Threads + Net<Listener = TcpListener, Stream = TcpStream>,
     R: Clock + RandomSource + Sync + AllocGlobal,
 {
     let whole = written_out(alloc, cases, line)?;

@@ -8,7 +8,6 @@ use sso_base::NoMemory;
 use std::alloc::{AllocGlobal, Global};
 use std::net::{Net, TcpListener, TcpStream};
 use std::random::RandomSource;
-use std::sync::Wait;
 use std::thread::Threads;
 use std::time;
 
@@ -40,7 +39,7 @@ fn draw<R: RandomSource>(rt: &R, alloc: Global) -> Result<String, NoMemory> {
 /// `machine|CALL`: a part of this machine.
 pub fn answer<R>(rt: &R, alloc: Global, call: &str) -> Result<String, NoMemory>
 where
-    R: Threads + Wait + Net<Listener = TcpListener, Stream = TcpStream>,
+    R: Threads + Net<Listener = TcpListener, Stream = TcpStream>,
     R: time::Clock + RandomSource + Sync + AllocGlobal,
 {
     match call {
@@ -51,7 +50,6 @@ where
         "large" => loopback::large(rt, alloc),
         "link" => loopback::link(rt, alloc),
         "elsewhere" => loopback::elsewhere(rt, alloc),
-        "keys" => loopback::keys(rt, alloc),
         _ => told(alloc, "no such call"),
     }
 }

@@ -6,6 +6,7 @@ mod parameters;
 pub mod request_objects;
 mod sample;
 
+use crate::urls;
 use case_lines::{Cases, told};
 use client_registry::{RegNo, Registry, read_registry};
 use sso_base::NoMemory;
@@ -61,6 +62,17 @@ fn object_answer(alloc: Global, registry: &Registry, fields: &[&str]) -> Result<
         ["unseal_request", id, object] => request_objects::unseal(alloc, registry, id, object),
         ["seal_request", pairs] => request_objects::seal(alloc, registry, "mail-client", pairs),
         ["seal_request", id, pairs] => request_objects::seal(alloc, registry, id, pairs),
+        _ => url_answer(alloc, fields),
+    }
+}
+
+// The answers to the calls about URLs.
+fn url_answer(alloc: Global, fields: &[&str]) -> Result<String, NoMemory> {
+    match fields {
+        ["url", text] => urls::url(alloc, text),
+        ["same_server", one, other] => urls::same_server(alloc, one, other),
+        ["query_names", url] => urls::query_names(alloc, url),
+        ["urls", one, other] => urls::urls(alloc, one, other),
         _ => told(alloc, "no such call"),
     }
 }

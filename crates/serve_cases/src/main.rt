@@ -19,6 +19,7 @@
 //! | `sso|SHELF|SINK|WORDS|DESK|..` | the exit status for the words, the text, and each desk |
 //! | `sso|SHELF|SINK|WORDS|two logins` or `two keys` | the same for two desks that wait for each other |
 //! | `sso|SHELF|SINK|WORDS|late|DESK` | the same for a desk at which connections take nothing before calls of its link |
+//! | `this machine` | the exit status and the text of `op` at a desk over this machine, and its reply to a client that requests the keys |
 //! | `last|SHELF|SINK|WORDS` | the exit status for the words with no desk, how many lines the text has, and the last of them |
 //!
 //! `ends`, `work` and `serve` use their own role, whose core is full after one request. `calls`, `often` and `two threads` use only
@@ -37,6 +38,7 @@
 //! | `files`, `top` | the calls `file`, `lines`, `sso` and `last` |
 //! | `meeting`, `login_door`, `two` | desks that wait for each other |
 //! | `late` | a desk at which connections take nothing before calls of its link |
+//! | `this_machine` | the call `this machine` |
 #![tactic(auto)]
 
 mod desks;
@@ -52,6 +54,7 @@ mod sinks;
 mod sources;
 mod tally;
 mod tally_role;
+mod this_machine;
 mod tick;
 mod top;
 mod two;
@@ -61,10 +64,13 @@ mod workers;
 use case_lines::{Cases, number, print_lines, told, written_out};
 use sample_configuration::{ALICE, PROVIDER, sample};
 use sso_base::{File, NoMemory, Text};
-use std::alloc::Global;
+use std::alloc::{AllocGlobal, Global};
 use std::io;
+use std::net::{Net, TcpListener, TcpStream};
+use std::random::RandomSource;
 use std::sync::Wait;
 use std::thread::Threads;
+use std::time::Clock;
 
 #[derive(Drop)]
 struct ServeCases {
@@ -100,12 +106,11 @@ impl Cases for ServeCases {
 }
 
 // The answer to a line. The calls that need threads are answered here, and the others by the table.
-fn answer<R: Threads + Wait + Sync>(
-    rt: &R,
-    alloc: Global,
-    cases: &mut ServeCases,
-    line: &str,
-) -> Result<String, NoMemory> {
+fn answer<R>(rt: &R, alloc: Global, cases: &mut ServeCases, line: &str) -> Result<String, NoMemory>
+where
+    R: Threads + Wait + Net<Listener = TcpListener, Stream = TcpStream>,
+    R: Clock + RandomSource + Sync + AllocGlobal,
+{
     let whole = written_out(alloc, cases, line)?;
     let fields: Vec<&str> = whole.as_str().split('|').collect(alloc)?;
     match fields.as_slice() {
@@ -124,6 +129,7 @@ fn answer<R: Threads + Wait + Sync>(
         ["often", "stored", times] => often::answer(rt, alloc, false, number(times)),
         ["often", "lasting", times] => often::answer(rt, alloc, true, number(times)),
         ["two threads"] => two_passes::answer(rt, alloc),
+        ["this machine"] => this_machine::answer(rt, alloc),
         fields => cases.answer(alloc, fields),
     }
 }
