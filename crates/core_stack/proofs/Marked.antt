@@ -277,7 +277,7 @@ module _ {A R M : Type 0} (plain : A → Option OpAsk) (given : R → Option OpR
   -- a response with a code makes it in both
   code_both : (past : List (Pair A R)) (p : Pair A R) (by : ℕ) (m : M) (code : Option Word) (wish : Wish) (session : SessionRow)
       → ((w : Word) → code ≡ Some w → CodeAsked plain given mark (p ∷ past) w m wish)
-      → BothIf (IsOfCode plain given mark (p ∷ past)) (option_map (λ w. code_mark w m p.entry.at) code) (code_made_by by p.entry.at code (Some wish) (Some session))
+      → BothIf (IsOfCode plain given mark (p ∷ past)) (option_map (λ (w : Word). code_mark w m p.entry.at) code) (code_made_by by p.entry.at code (Some wish) (Some session))
   code_both past p by m None wish session each = tt
   code_both past p by m (Some w) wish session each = (refl, refl, each w refl)
 
@@ -304,10 +304,10 @@ module _ {A R M : Type 0} (plain : A → Option OpAsk) (given : R → Option OpR
       → plain p.entry.ask ≡ Some request → given p.reply ≡ Some (told.Answered answer session)
       → Both (IsOfTurn plain given mark past) (marked_turns plain given mark past) (turns before)
       → AnsweredCause c before (record { at = p.entry.at; fresh = p.entry.fresh; ask = request }) request answer session
-      → BothIf (IsOfCode plain given mark (p ∷ past)) (option_map (λ w. code_mark w (answer_mark plain given mark none past p.entry.at (mark p.entry.ask) (Some request)) p.entry.at) answer.code)
+      → BothIf (IsOfCode plain given mark (p ∷ past)) (option_map (λ (w : Word). code_mark w (answer_mark plain given mark none past p.entry.at (mark p.entry.ask) (Some request)) p.entry.at) answer.code)
         (code_made_by (length before) p.entry.at answer.code (wish_found before p.entry.at request) (session_found before (record { at = p.entry.at; fresh = p.entry.fresh; ask = request }) request))
   answer_both c past p before (ask.Authorize (verdict.Grant wish) browser presented) answer session asks gave both cause =
-      let N : Option SessionRow → Type 0 = λ s. BothIf (IsOfCode plain given mark (p ∷ past)) (option_map (λ w. code_mark w (mark p.entry.ask) p.entry.at) answer.code)
+      let N : Option SessionRow → Type 0 = λ s. BothIf (IsOfCode plain given mark (p ∷ past)) (option_map (λ (w : Word). code_mark w (mark p.entry.ask) p.entry.at) answer.code)
       (code_made_by (length before) p.entry.at answer.code (Some wish) s) in
       subst N (sym cause.live) (code_both plain given mark past p (length before) (mark p.entry.ask) answer.code wish cause.session (λ w is. inl (record {
         later = []; maker = p; earlier = past; parts = refl; browser = browser; presented = presented;
@@ -316,7 +316,7 @@ module _ {A R M : Type 0} (plain : A → Option OpAsk) (given : R → Option OpR
   answer_both c past p before (ask.Login turn (Some user) browser presented) answer session asks gave both cause =
       let m : M = mark_in_turn none (marked_turn plain given mark past p.entry.at turn) in
       let after : SessionRow = session_after before (record { at = p.entry.at; fresh = p.entry.fresh; ask = ask.Login turn (Some user) browser presented }) user presented in
-      let W : Option TurnRow → Type 0 = λ o. BothIf (IsOfCode plain given mark (p ∷ past)) (option_map (λ w. code_mark w m p.entry.at) answer.code)
+      let W : Option TurnRow → Type 0 = λ o. BothIf (IsOfCode plain given mark (p ∷ past)) (option_map (λ (w : Word). code_mark w m p.entry.at) answer.code)
       (code_made_by (length before) p.entry.at answer.code (option_map (λ (row : TurnRow). row.wish) o) (Some after)) in
       subst W (sym cause.own.live) (code_both plain given mark past p (length before) m answer.code cause.row.wish after (λ w is. inr (record {
         later = []; form = p; earlier = past; parts = refl; request = ask.Login turn (Some user) browser presented; asked = asks;
@@ -325,10 +325,10 @@ module _ {A R M : Type 0} (plain : A → Option OpAsk) (given : R → Option OpR
       })))
   answer_both c past p before (ask.Consent turn true browser presented) answer session asks gave both cause =
       let m : M = mark_in_turn none (marked_turn plain given mark past p.entry.at turn) in
-      let W : Option TurnRow → Type 0 = λ o. BothIf (IsOfCode plain given mark (p ∷ past)) (option_map (λ w. code_mark w m p.entry.at) answer.code)
+      let W : Option TurnRow → Type 0 = λ o. BothIf (IsOfCode plain given mark (p ∷ past)) (option_map (λ (w : Word). code_mark w m p.entry.at) answer.code)
       (code_made_by (length before) p.entry.at answer.code (option_map (λ (row : TurnRow). row.wish) o)
        (option_and_then (λ (row : TurnRow). live_session before p.entry.at row.session) o)) in
-      let N : Option SessionRow → Type 0 = λ s. BothIf (IsOfCode plain given mark (p ∷ past)) (option_map (λ w. code_mark w m p.entry.at) answer.code)
+      let N : Option SessionRow → Type 0 = λ s. BothIf (IsOfCode plain given mark (p ∷ past)) (option_map (λ (w : Word). code_mark w m p.entry.at) answer.code)
       (code_made_by (length before) p.entry.at answer.code (Some cause.row.wish) s) in
       subst W (sym cause.own.own.live) (subst N (sym cause.own.live) (code_both plain given mark past p (length before) m answer.code cause.row.wish cause.session (λ w is. inr (record {
         later = []; form = p; earlier = past; parts = refl; request = ask.Consent turn true browser presented; asked = asks;
