@@ -1,0 +1,7 @@
+mod KeyTexts
+pub mod KeptRows
+pub mod Together
+mod Living
+mod Noted
+mod Pairing
+mod Taking

@@ -1,0 +1,4 @@
+pub mod Verifiers
+pub mod Adding
+pub mod Keeping
+pub mod Noting
