@@ -2,3 +2,5 @@ pub mod Verifiers
 pub mod Adding
 pub mod Keeping
 pub mod Noting
+pub mod Telling
+pub mod Inside

@@ -13,6 +13,8 @@
 //! | `noting` | the verifiers after a reply |
 //! | `adding` | what is added to a reply |
 //! | `step` | one step |
+//! | `telling` | a reply in HTTP, and the message after it |
+//! | `relying` | the core as one that a relying party is in |
 //! | `in_turn` | the replies to requests, one after another, as a legal history |
 #![tactic(auto)]
 
@@ -22,9 +24,11 @@ mod key_text;
 mod known;
 mod noting;
 mod party;
+mod relying;
 mod reply;
 mod rows;
 mod step;
+mod telling;
 mod timed;
 
 pub use in_turn::pkce_party_in_turn;
@@ -32,3 +36,4 @@ pub use key_text::KeyText;
 pub use party::PkceParty;
 pub use reply::PartyReply;
 pub use rows::VerifierRow;
+pub use telling::{party_http, party_message};
