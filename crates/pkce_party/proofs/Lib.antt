@@ -5,3 +5,6 @@ mod Living
 mod Noted
 mod Pairing
 mod Taking
+pub mod Requesting
+mod Sent
+mod Samples

@@ -4,3 +4,4 @@ pub mod Keeping
 pub mod Noting
 pub mod Telling
 pub mod Inside
+pub mod Laws

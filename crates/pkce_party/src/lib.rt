@@ -16,12 +16,14 @@
 //! | `telling` | a reply in HTTP, and the message after it |
 //! | `relying` | the core as one that a relying party is in |
 //! | `in_turn` | the replies to requests, one after another, as a legal history |
+//! | `law` | laws of its histories |
 #![tactic(auto)]
 
 mod adding;
 mod in_turn;
 mod key_text;
 mod known;
+mod law;
 mod noting;
 mod party;
 mod relying;
@@ -33,6 +35,11 @@ mod timed;
 
 pub use in_turn::pkce_party_in_turn;
 pub use key_text::KeyText;
+pub use law::{
+    authorization_requests_have_a_challenge, challenges_are_in_the_location,
+    inner_histories_are_legal, rows_stand, token_requests_have_a_verifier,
+    verifiers_are_in_the_token_request, verifiers_are_of_their_login, verifiers_tell_their_words,
+};
 pub use party::PkceParty;
 pub use reply::PartyReply;
 pub use rows::VerifierRow;
