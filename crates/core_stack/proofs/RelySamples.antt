@@ -8,7 +8,8 @@ use Rattle.rp_answer.specs.Past.{RpPair}
 use Rattle.core_stack.specs.Relied.{party_pair, exchange_named, sending_in}
 use Rattle.core_stack.specs.Rounds.{rounds_of}
 
-sent-a_token_request : (pending : Word) (message : Message) → sending_in (reply.Exchange pending message) ≡ Some (record { pending = pending; message = message })
+sent-a_token_request : (pending : Word) (message : Message)
+    → sending_in (reply.Exchange pending message) ≡ Some (record { pending = pending; message = message })
 sent-a_token_request pending message = refl
 
 sent-nothing : sending_in reply.NotHere ≡ None
@@ -20,7 +21,9 @@ exchange-of_a_user_info_request pending message = refl
 exchange-of_no_request : exchange_named reply.Nobody ≡ None
 exchange-of_no_request = refl
 
-rounds-fall : (pending : Word) (message : Message) → (rounds_of (reply.Fetch pending message) < rounds_of (reply.Exchange pending message)) × (rounds_of reply.NotHere < rounds_of (reply.Fetch pending message))
+rounds-fall : (pending : Word) (message : Message)
+    → (rounds_of (reply.Fetch pending message) < rounds_of (reply.Exchange pending message))
+    × (rounds_of reply.NotHere < rounds_of (reply.Fetch pending message))
 rounds-fall pending message = (omega arith, omega arith)
 
 -- the pair of the party has the moment and the words of the core's

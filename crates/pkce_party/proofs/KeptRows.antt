@@ -25,7 +25,8 @@ verifier_same past p row after h = dropped_same (is_word (state_named p.entry.as
 pub verifier_names : KeepsNames verifier_name verifier_kept
 verifier_names past p row after h = ap verifier_name (verifier_same past p row after h)
 
-pub verifier_begun_kept : (past : RpPast) (p : RpPair) (row after : VerifierRow) → verifier_kept past p row ≡ Some after → verifier_begun after ≡ verifier_begun row
+pub verifier_begun_kept : (past : RpPast) (p : RpPair) (row after : VerifierRow) → verifier_kept past p row ≡ Some after
+    → verifier_begun after ≡ verifier_begun row
 verifier_begun_kept past p row after h = ap verifier_begun (verifier_same past p row after h)
 
 -- ---- the row that is made
@@ -33,16 +34,19 @@ verifier_begun_kept past p row after h = ap verifier_begun (verifier_same past p
 abbrev pub drawn_row : ℕ → List Word → VerifierRow
 drawn_row at fresh = record { state = fresh_word fresh 1; word = fresh_word fresh 3; begun = at }
 
-drawn_begun : (at : ℕ) (fresh : List Word) (asked : RpAsk) (told : RpReply) (row : VerifierRow) → if_begun told (row_drawn at fresh asked) ≡ Some row → verifier_begun row ≡ at
+drawn_begun : (at : ℕ) (fresh : List Word) (asked : RpAsk) (told : RpReply) (row : VerifierRow) → if_begun told (row_drawn at fresh asked) ≡ Some row
+    → verifier_begun row ≡ at
 drawn_begun at fresh (ask.Begin presented) (reply.Ask to browser) row h = ap verifier_begun (sym (some_same (drawn_row at fresh) row h))
 drawn_begun at fresh asked told row h = cc
 
-pub verifier_made_begun : (held : List VerifierRow) (past : RpPast) (p : RpPair) (row : VerifierRow) → verifier_made held past p ≡ Some row → verifier_begun row ≡ p.entry.at
+pub verifier_made_begun : (held : List VerifierRow) (past : RpPast) (p : RpPair) (row : VerifierRow) → verifier_made held past p ≡ Some row
+    → verifier_begun row ≡ p.entry.at
 verifier_made_begun held past p row h = drawn_begun p.entry.at p.entry.fresh p.entry.ask p.reply row h
 
 -- ---- the rows that are left
 
-pub left_as_kept : (ends : Bool) (state : Option Word) (rows : List VerifierRow) → ended_rows ends state rows ≡ filter_map (ended_rule verifier_name state ends) rows
+pub left_as_kept : (ends : Bool) (state : Option Word) (rows : List VerifierRow)
+    → ended_rows ends state rows ≡ filter_map (ended_rule verifier_name state ends) rows
 left_as_kept false state rows = sym (unended verifier_name state false refl rows)
 left_as_kept true None rows = sym (unnamed verifier_name None true refl rows)
 left_as_kept true (Some w) rows = sym (ended verifier_name (Some w) true w refl refl rows)

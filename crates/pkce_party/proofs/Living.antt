@@ -17,7 +17,8 @@ use Rattle.pkce_party.specs.Adding.{PartyPair}
 use Rattle.pkce_party.specs.Keeping.{KeepsVerifiers, KeepsParty}
 use Rattle.pkce_party.proofs.KeptRows.{verifier_names}
 
-module _ (r : Relying) (rows : List VerifierRow) (keeps : KeepsVerifiers (past_of r) rows) (shown : Relying) (view : r ≡ shown) (at : ℕ) (order : last_moment (past_of shown) ≤ at) where
+module _ (r : Relying) (rows : List VerifierRow) (keeps : KeepsVerifiers (past_of r) rows) (shown : Relying) (view : r ≡ shown) (at : ℕ)
+    (order : last_moment (past_of shown) ≤ at) where
   in_order : last_moment (past_of r) ≤ at
   in_order = let B : Relying → Type 0 = λ x. last_moment (past_of x) ≤ at in subst B (sym view) order
 

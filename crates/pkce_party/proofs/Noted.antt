@@ -1,5 +1,6 @@
 -- What a step leaves of the verifiers: the row that it makes has room, and afterwards those that live are those of the past.
-use Rattle.std.proofs.Common.{◌≡◌, ◌≤◌, ℕ, Bool, true, false, nat_lt, cond, ltb-false, List, [], ◌∷◌, filter_map, Option, Some, None, IfSome, refl, sym, ◌∙◌, ap, subst, arith}
+use Rattle.std.proofs.Common.{◌≡◌, ◌≤◌, ℕ, Bool, true, false, nat_lt, cond, ltb-false, List, [], ◌∷◌, filter_map, Option, Some, None, IfSome, refl, sym, ◌∙◌}
+use Rattle.std.proofs.Common.{ap, subst, arith}
 use Rattle.sso_base.specs.Words.{Word, fresh_word}
 use Rattle.sso_base.specs.Rows.{put, live_rows}
 use Rattle.sso_base.specs.Legal.{last_moment}
@@ -52,10 +53,12 @@ module _ (s : PartySetup) (past : RpPast) (e : Entry RpAsk) where
       let F : VerifierRow → Bool = λ r. is_full most_rows verifier_name (verifier_name r) (live_verifiers past e.at) in
       ap F (sym (some_same (drawn_row e.at e.fresh) row h))
       ∙ as_full past e.at (fresh_word e.fresh 1)
-      ∙ not_full table.Logins (is_full most_rows login_name (fresh_word e.fresh 1) (live_logins past e.at)) (own_replies_stand s past e (reply.Ask to browser) refl (sym answered)).room
+      ∙ not_full table.Logins (is_full most_rows login_name (fresh_word e.fresh 1) (live_logins past e.at))
+      (own_replies_stand s past e (reply.Ask to browser) refl (sym answered)).room
   fits asked told row answered h = cc
 
-  module _ (told : RpReply) (answered : told ≡ rp_answer s past e) (order : last_moment past ≤ e.at) (rows : List VerifierRow) (keeps : KeepsVerifiers past rows) where
+  module _ (told : RpReply) (answered : told ≡ rp_answer s past e) (order : last_moment past ≤ e.at) (rows : List VerifierRow)
+      (keeps : KeepsVerifiers past rows) where
     abbrev pair : RpPair
     pair = record { entry = e; reply = told }
 
@@ -76,7 +79,8 @@ module _ (s : PartySetup) (past : RpPast) (e : Entry RpAsk) where
         if_made (MayAddVerifier left) begun (λ row is.
         let A : List VerifierRow → Type 0 = λ xs. MayAddVerifier xs row in
         let added =
-        may_add most_rows verifier_name login_life verifier_begun (verifier_kept past pair) (last_moment past) e.at order rows (verifier_names past pair) (verifier_begun_kept past pair) keeps.begun (verifiers past) keeps.agrees row
+        may_add most_rows verifier_name login_life verifier_begun (verifier_kept past pair) (last_moment past) e.at order rows (verifier_names past pair)
+        (verifier_begun_kept past pair) keeps.begun (verifiers past) keeps.agrees row
         (verifier_made_begun [] past pair row is) (fits e.ask told row answered is) in
         subst A (sym left_is) (record { few = added.few; unnamed = added.unnamed; latest = added.latest }))
 
@@ -86,10 +90,12 @@ module _ (s : PartySetup) (past : RpPast) (e : Entry RpAsk) where
         let follows : news ≡ put verifier_name begun (filter_map (verifier_kept past pair) live) = is ∙ pushed_put begun left may ∙ ap P left_is in
         record {
           agrees =
-              rows_carried verifier_name login_life verifier_begun (last_moment past) e.at (verifier_kept past pair) (verifier_made (verifiers past) past pair) rows news order (verifier_begun_kept past pair)
+              rows_carried verifier_name login_life verifier_begun (last_moment past) e.at (verifier_kept past pair) (verifier_made (verifiers past) past pair)
+              rows news order (verifier_begun_kept past pair)
               (verifiers past) keeps.agrees follows;
           begun =
-              begun_carried verifier_name login_life verifier_begun (last_moment past) e.at (verifier_kept past pair) (verifier_made (verifiers past) past pair) rows news order (verifier_begun_kept past pair)
+              begun_carried verifier_name login_life verifier_begun (last_moment past) e.at (verifier_kept past pair) (verifier_made (verifiers past) past pair)
+              rows news order (verifier_begun_kept past pair)
               (verifier_made_begun (verifiers past) past pair) keeps.begun follows;
         }
 
@@ -102,7 +108,9 @@ later_order last at = order_by last at (nat_lt at last) refl
 
 -- ---- of the party as a value
 
-module _ (before after_it : Relying) (at : ℕ) (fresh : List Word) (asked : RpAsk) (told : RpReply) (rows held : List VerifierRow) (k : Known) (keeps : KeepsVerifiers (past_of before) rows) (known : k ≡ known_of (past_of before) at fresh asked) (steps : Steps before after_it at fresh asked told) (same : held ≡ rows) where
+module _ (before after_it : Relying) (at : ℕ) (fresh : List Word) (asked : RpAsk) (told : RpReply) (rows held : List VerifierRow) (k : Known)
+    (keeps : KeepsVerifiers (past_of before) rows) (known : k ≡ known_of (past_of before) at fresh asked) (steps : Steps before after_it at fresh asked told)
+    (same : held ≡ rows) where
   abbrev entry : Entry RpAsk
   entry = record { at = later (last_moment (past_of before)) at; fresh = fresh; ask = asked }
 
@@ -113,7 +121,8 @@ module _ (before after_it : Relying) (at : ℕ) (fresh : List Word) (asked : RpA
   may_note =
       let K : Known → Type 0 = λ x. IfSome (if_begun told x.drawn) (MayAddVerifier (rows_left x (ends_login told) held)) in
       let H : List VerifierRow → Type 0 = λ xs. IfSome (if_begun told first.drawn) (MayAddVerifier (rows_left first (ends_login told) xs)) in
-      subst K (sym known) (subst H (sym same) (may before.setup (past_of before) entry told steps.answer_is (later_order (last_moment (past_of before)) at) rows keeps))
+      subst K (sym known) (subst H (sym same)
+      (may before.setup (past_of before) entry told steps.answer_is (later_order (last_moment (past_of before)) at) rows keeps))
 
   pub keeps_noted : (news : List VerifierRow) → news ≡ noted k told held → KeepsVerifiers (past_of after_it) news
   keeps_noted news is =
@@ -121,4 +130,5 @@ module _ (before after_it : Relying) (at : ℕ) (fresh : List Word) (asked : RpA
       let H : List VerifierRow → List VerifierRow = λ xs. noted first told xs in
       let P : RpPast → Type 0 = λ past. KeepsVerifiers past news in
       subst P (sym steps.past)
-      (after before.setup (past_of before) entry told steps.answer_is (later_order (last_moment (past_of before)) at) rows keeps news (is ∙ ap K known ∙ ap H same))
+      (after before.setup (past_of before) entry told steps.answer_is (later_order (last_moment (past_of before)) at) rows keeps news
+      (is ∙ ap K known ∙ ap H same))

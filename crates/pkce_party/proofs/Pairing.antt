@@ -96,7 +96,8 @@ last_of_pairs r =
     let types : Types = (party_of r.setup).types in
     ap (λ (past : PartyPast). last_moment past) (pairs_reversed types r.history) ∙ last_with types (past_of r)
 
-pub pairs_are_legal : (r : Relying) → IsLegalRp r.setup (past_of r) → history_weight ask_weight r.history ≤ most_of r.setup.configuration.lasting → IsLegalParty r.setup (pairs_of r)
+pub pairs_are_legal : (r : Relying) → IsLegalRp r.setup (past_of r) → history_weight ask_weight r.history ≤ most_of r.setup.configuration.lasting
+    → IsLegalParty r.setup (pairs_of r)
 pairs_are_legal r legal light =
     let types : Types = (party_of r.setup).types in
     let L : PartyPast → Type 0 = λ past. IsLegalBy IsRpAsk (party_answer r.setup) past in

@@ -1,6 +1,7 @@
 -- The additions in a legal history: an authorization request has the challenge of the verifier that was drawn for its login, and a token
 -- request has the verifier of the login whose code it exchanges.
-use Rattle.std.proofs.Common.{◌≡◌, ◌≢◌, ℕ, Bool, true, false, cond, List, [], ◌∷◌, ◌++◌, length, reverse, Option, Some, None, Result, Ok, option_map, option_and_then, refl, sym, ◌∙◌, ap, subst}
+use Rattle.std.proofs.Common.{◌≡◌, ◌≢◌, ℕ, Bool, true, false, cond, List, [], ◌∷◌, ◌++◌, length, reverse, Option, Some, None, Result, Ok, option_map}
+use Rattle.std.proofs.Common.{option_and_then, refl, sym, ◌∙◌, ap, subst}
 use Rattle.sso_base.specs.Words.{Word, Text, is_word, fresh_word, word_text}
 use Rattle.sso_base.specs.Rows.{row_of, lives, if_lives}
 use Rattle.sso_base.specs.Legal.{IsLegalBy}
@@ -41,12 +42,14 @@ use Rattle.pkce_party.proofs.Together.{MadeOnce, Beside, beside, together}
 -- ---- a pair of a legal history
 
 -- its reply is the answer, and the pairs before it are legal
-answered : (s : PartySetup) (history : List PartyPair) (later earlier : PartyPast) (p : PartyPair) → IsLegalParty s history → IsAmong history later p earlier → p.reply ≡ party_answer s earlier p.entry
+answered : (s : PartySetup) (history : List PartyPair) (later earlier : PartyPast) (p : PartyPair) → IsLegalParty s history → IsAmong history later p earlier
+    → p.reply ≡ party_answer s earlier p.entry
 answered s history later earlier p legal among =
     let L : PartyPast → Type 0 = λ past. IsLegalBy IsRpAsk (party_answer s) past in
     legal_reply IsRpAsk (party_answer s) later earlier p (subst L among legal.past)
 
-before_is_legal : (s : PartySetup) (history : List PartyPair) (later earlier : PartyPast) (p : PartyPair) → IsLegalParty s history → IsAmong history later p earlier → IsLegalBy IsRpAsk (party_answer s) earlier
+before_is_legal : (s : PartySetup) (history : List PartyPair) (later earlier : PartyPast) (p : PartyPair) → IsLegalParty s history
+    → IsAmong history later p earlier → IsLegalBy IsRpAsk (party_answer s) earlier
 before_is_legal s history later earlier p legal among =
     let L : PartyPast → Type 0 = λ past. IsLegalBy IsRpAsk (party_answer s) past in
     (earlier_is_legal IsRpAsk (party_answer s) later (p ∷ earlier) (subst L among legal.past)).0
@@ -79,7 +82,8 @@ record Verifies (held : Option Word) (told : RpReply) (verifier : Text) : Type 0
   held_is : held ≡ Some word
   verifier_is : verifier ≡ word_text word
 
-verifies_one : (held : Option Word) (pending : Word) (message : Message) (verifier : Text) → option_map word_text held ≡ Some verifier → Verifies held (reply.Exchange pending message) verifier
+verifies_one : (held : Option Word) (pending : Word) (message : Message) (verifier : Text) → option_map word_text held ≡ Some verifier
+    → Verifies held (reply.Exchange pending message) verifier
 verifies_one None pending message verifier h = cc
 verifies_one (Some word) pending message verifier h =
     record { pending = pending; message = message; told_is = refl; word = word; held_is = refl; verifier_is = sym (some_same (word_text word) verifier h) }
@@ -95,7 +99,8 @@ record Begins (e : Entry RpAsk) : Type 0 where
   presented : Option Word
   is : e.ask ≡ ask.Begin presented
 
-begins_by : (s : PartySetup) (past : RpPast) (e : Entry RpAsk) (asked : RpAsk) (to : Text) (browser : Word) → e.ask ≡ asked → AskCause s past e asked to browser → Begins e
+begins_by : (s : PartySetup) (past : RpPast) (e : Entry RpAsk) (asked : RpAsk) (to : Text) (browser : Word) → e.ask ≡ asked → AskCause s past e asked to browser
+    → Begins e
 begins_by s past e (ask.Begin presented) to browser is cause = record { presented = presented; is = is }
 begins_by s past e asked to browser is cause = absurd cause
 
@@ -103,7 +108,8 @@ begins : (s : PartySetup) (past : RpPast) (e : Entry RpAsk) (to : Text) (browser
 begins s past e to browser h = begins_by s past e e.ask to browser refl (asks_have_a_cause s past e to browser h)
 
 -- the challenge of a party's authorization request
-challenge_drawn : (s : PartySetup) (past : RpPast) (e : Entry RpAsk) (told : RpReply) (to : Text) (browser : Word) → told ≡ rp_answer s past e → told ≡ reply.Ask to browser → (party_of s).types.code ≡ true
+challenge_drawn : (s : PartySetup) (past : RpPast) (e : Entry RpAsk) (told : RpReply) (to : Text) (browser : Word) → told ≡ rp_answer s past e
+    → told ≡ reply.Ask to browser → (party_of s).types.code ≡ true
     → (party_reply (party_of s).types past e told).challenge ≡ Some (challenge_of (word_text (fresh_word e.fresh 3)))
 challenge_drawn s past e told to browser answered asks code =
     let begun : Begins e = begins s past e to browser (sym answered ∙ asks) in
@@ -112,7 +118,8 @@ challenge_drawn s past e told to browser answered asks code =
     let A : RpAsk → Option Text = λ a. challenge_for (row_drawn e.at e.fresh a) (reply.Ask to browser) in
     ap W code ∙ ap R asks ∙ ap A begun.is
 
-pub have_a_challenge : (s : PartySetup) (history : List PartyPair) (later earlier : PartyPast) (p : PartyPair) (to : Text) (browser : Word) → IsLegalParty s history → IsAmong history later p earlier
+pub have_a_challenge : (s : PartySetup) (history : List PartyPair) (later earlier : PartyPast) (p : PartyPair) (to : Text) (browser : Word)
+    → IsLegalParty s history → IsAmong history later p earlier
     → (party_of s).types.code ≡ true → p.reply.inner ≡ reply.Ask to browser → p.reply.challenge ≡ Some (challenge_of (word_text (fresh_word p.entry.fresh 3)))
 have_a_challenge s history later earlier p to browser legal among code asks =
     let is : p.reply ≡ party_answer s earlier p.entry = answered s history later earlier p legal among in
@@ -121,7 +128,8 @@ have_a_challenge s history later earlier p to browser legal among code asks =
     ap (λ (r : PartyReply). r.challenge) is
     ∙ challenge_drawn s past p.entry told to browser refl (sym (ap (λ (r : PartyReply). r.inner) is) ∙ asks) code
 
-pub only_with_a_challenge : (s : PartySetup) (history : List PartyPair) (later earlier : PartyPast) (p : PartyPair) (challenge : Text) → IsLegalParty s history → IsAmong history later p earlier
+pub only_with_a_challenge : (s : PartySetup) (history : List PartyPair) (later earlier : PartyPast) (p : PartyPair) (challenge : Text) → IsLegalParty s history
+    → IsAmong history later p earlier
     → p.reply.challenge ≡ Some challenge → (to : Text) × (browser : Word) × (p.reply.inner ≡ reply.Ask to browser)
 only_with_a_challenge s history later earlier p challenge legal among has =
     let is : p.reply ≡ party_answer s earlier p.entry = answered s history later earlier p legal among in
@@ -143,17 +151,21 @@ record Sends (s : PartySetup) (past : RpPast) (e : Entry RpAsk) (verifier : Text
   held_is : word_held past e.at e.ask ≡ Some word
   verifier_is : verifier ≡ word_text word
 
-sends : (s : PartySetup) (history : List PartyPair) (later earlier : PartyPast) (p : PartyPair) (verifier : Text) → IsLegalParty s history → IsAmong history later p earlier → p.reply.verifier ≡ Some verifier
+sends : (s : PartySetup) (history : List PartyPair) (later earlier : PartyPast) (p : PartyPair) (verifier : Text) → IsLegalParty s history
+    → IsAmong history later p earlier → p.reply.verifier ≡ Some verifier
     → Sends s (inner_past earlier) p.entry verifier
 sends s history later earlier p verifier legal among has =
     let is : p.reply ≡ party_answer s earlier p.entry = answered s history later earlier p legal among in
     let past : RpPast = inner_past earlier in
     let held : Option Word = word_held past p.entry.at p.entry.ask in
-    let given = wanted_one (party_of s).types.code (verifier_for held (rp_answer s past p.entry)) verifier (sym (ap (λ (r : PartyReply). r.verifier) is) ∙ has) in
+    let given = wanted_one (party_of s).types.code (verifier_for held (rp_answer s past p.entry)) verifier
+    (sym (ap (λ (r : PartyReply). r.verifier) is) ∙ has) in
     let by = verifies held (rp_answer s past p.entry) verifier given.given_is in
-    record { code = given.on; pending = by.pending; message = by.message; answer_is = by.told_is; word = by.word; held_is = by.held_is; verifier_is = by.verifier_is }
+    record { code = given.on; pending = by.pending; message = by.message; answer_is = by.told_is; word = by.word; held_is = by.held_is;
+    verifier_is = by.verifier_is }
 
-pub only_with_a_verifier : (s : PartySetup) (history : List PartyPair) (later earlier : PartyPast) (p : PartyPair) (verifier : Text) → IsLegalParty s history → IsAmong history later p earlier
+pub only_with_a_verifier : (s : PartySetup) (history : List PartyPair) (later earlier : PartyPast) (p : PartyPair) (verifier : Text) → IsLegalParty s history
+    → IsAmong history later p earlier
     → p.reply.verifier ≡ Some verifier → (w : Word) × (message : Message) × (p.reply.inner ≡ reply.Exchange w message)
 only_with_a_verifier s history later earlier p verifier legal among has =
     let is : p.reply ≡ party_answer s earlier p.entry = answered s history later earlier p legal among in
@@ -187,13 +199,15 @@ lives_one true row login h = refl
 lives_one false row login h = cc
 
 -- the login that was found lives
-login_lives : (past : RpPast) (at : ℕ) (state : Option Word) (login : LoginRow) → login_of past state ≡ Some login → live_login past at state ≡ Some login → lives login_life login.begun at ≡ true
+login_lives : (past : RpPast) (at : ℕ) (state : Option Word) (login : LoginRow) → login_of past state ≡ Some login → live_login past at state ≡ Some login
+    → lives login_life login.begun at ≡ true
 login_lives past at state login there live =
     let F : Option LoginRow → Option LoginRow = λ o. option_and_then (if_lives login_life login_begun at) o in
     lives_one (lives login_life login.begun at) login login (sym (ap F there) ∙ live)
 
 module _ (s : PartySetup) (past : RpPast) (e : Entry RpAsk) (w : Word) (message : Message) where
-  exchanged_state : (heard : Heard) (id : Option (Result IdClaims IdNo)) (browser : Option Word) → e.ask ≡ ask.Callback (Ok heard) id browser → (cause : CodeExchanged s past e heard id browser w message)
+  exchanged_state : (heard : Heard) (id : Option (Result IdClaims IdNo)) (browser : Option Word) → e.ask ≡ ask.Callback (Ok heard) id browser
+      → (cause : CodeExchanged s past e heard id browser w message)
       → (state : Option Word) → heard.state ≡ state → login_of past state ≡ Some cause.login → Exchanged s past e
   exchanged_state heard id browser responds cause None is there = cc
   exchanged_state heard id browser responds cause (Some state) is there =
@@ -235,7 +249,8 @@ held_for s past e x =
     let C : Bool → Option VerifierRow = λ b. cond b (Some x.row) None in
     ap W (ap A x.responds ∙ ap S x.state_is ∙ ap F x.found ∙ ap C x.living)
 
-pub have_a_verifier : (s : PartySetup) (history : List PartyPair) (later earlier : PartyPast) (p : PartyPair) (w : Word) (message : Message) → IsLegalParty s history → IsAmong history later p earlier
+pub have_a_verifier : (s : PartySetup) (history : List PartyPair) (later earlier : PartyPast) (p : PartyPair) (w : Word) (message : Message)
+    → IsLegalParty s history → IsAmong history later p earlier
     → p.reply.inner ≡ reply.Exchange w message → (verifier : Text) × (p.reply.verifier ≡ Some verifier)
 have_a_verifier s history later earlier p w message legal among sent =
     let is : p.reply ≡ party_answer s earlier p.entry = answered s history later earlier p legal among in
@@ -263,9 +278,11 @@ record MadeAs (maker : RpPair) (login : LoginRow) (row : VerifierRow) : Type 0 w
   word_is : fresh_word maker.entry.fresh 3 ≡ row.word
 
 made_as : (maker : RpPair) (by : ℕ) (login : LoginRow) (row : VerifierRow) (asked : RpAsk) (told : RpReply) → maker.entry.ask ≡ asked → maker.reply ≡ told
-    → login_started by maker.entry.at maker.entry.fresh asked told ≡ Some login → if_begun told (row_drawn maker.entry.at maker.entry.fresh asked) ≡ Some row → MadeAs maker login row
+    → login_started by maker.entry.at maker.entry.fresh asked told ≡ Some login → if_begun told (row_drawn maker.entry.at maker.entry.fresh asked) ≡ Some row
+    → MadeAs maker login row
 made_as maker by login row (ask.Begin presented) (reply.Ask to browser) asks tells login_is row_is =
-    let made : LoginRow = record { state = fresh_word maker.entry.fresh 1; nonce = fresh_word maker.entry.fresh 2; browser = browser; begun = maker.entry.at; by = by } in
+    let made : LoginRow = record { state = fresh_word maker.entry.fresh 1; nonce = fresh_word maker.entry.fresh 2; browser = browser; begun = maker.entry.at;
+    by = by } in
     let drawn : VerifierRow = record { state = fresh_word maker.entry.fresh 1; word = fresh_word maker.entry.fresh 3; begun = maker.entry.at } in
     let same : made ≡ login = some_same made login login_is in
     record {
@@ -304,7 +321,8 @@ outside (p ∷ past) (q ∷ later) maker earlier h =
     let rest : Outside past maker = outside past later maker earlier (ap (λ (l : RpPast). tail_of l) h) in
     record { later = p ∷ rest.later; pair = rest.pair; earlier = rest.earlier; parts = ap (λ (l : PartyPast). p ∷ l) rest.parts; pair_is = rest.pair_is }
 
-pub of_its_login : (s : PartySetup) (history : List PartyPair) (later earlier : PartyPast) (p : PartyPair) (verifier : Text) → IsLegalParty s history → IsAmong history later p earlier → p.reply.verifier ≡ Some verifier
+pub of_its_login : (s : PartySetup) (history : List PartyPair) (later earlier : PartyPast) (p : PartyPair) (verifier : Text) → IsLegalParty s history
+    → IsAmong history later p earlier → p.reply.verifier ≡ Some verifier
     → IsOfLogin earlier p.entry verifier
 of_its_login s history later earlier p verifier legal among has =
     let past : RpPast = inner_past earlier in
@@ -312,7 +330,8 @@ of_its_login s history later earlier p verifier legal among has =
     let x : Exchanged s past p.entry = exchanged s past p.entry sent.pending sent.message sent.answer_is in
     let word : sent.word ≡ x.row.word = some_same sent.word x.row.word (sym sent.held_is ∙ held_for s past p.entry x) in
     let once : MadeOnce past x.login x.row = x.once in
-    let made : MadeAs once.maker x.login x.row = made_as once.maker (length once.earlier) x.login x.row once.maker.entry.ask once.maker.reply refl refl once.login_is once.row_is in
+    let made : MadeAs once.maker x.login x.row = made_as once.maker (length once.earlier) x.login x.row once.maker.entry.ask once.maker.reply refl refl
+    once.login_is once.row_is in
     let out : Outside earlier once.maker = outside earlier once.later once.maker once.earlier once.parts in
     let L : PartyPast → Type 0 = λ q. IsLegalBy IsRpAsk (party_answer s) q in
     let is : out.pair.reply ≡ party_answer s out.earlier out.pair.entry =
@@ -341,9 +360,12 @@ of_its_login s history later earlier p verifier legal among has =
       drawn = drawn;
       challenged =
           ap (λ (r : PartyReply). r.challenge) is
-          ∙ challenge_drawn s (inner_past out.earlier) out.pair.entry (rp_answer s (inner_past out.earlier) out.pair.entry) made.to made.given refl (sym (ap (λ (r : PartyReply). r.inner) is) ∙ asks) sent.code
+          ∙ challenge_drawn s (inner_past out.earlier) out.pair.entry (rp_answer s (inner_past out.earlier) out.pair.entry) made.to made.given refl
+          (sym (ap (λ (r : PartyReply). r.inner) is) ∙ asks) sent.code
           ∙ ap (λ (t : Text). Some (challenge_of t)) (sym drawn);
     }
 
-pub tell_their_words : (s : PartySetup) (history : List PartyPair) (v w : Word) → IsLegalParty s history → IsDrawn (reverse history) v → IsDrawn (reverse history) w → v ≢ w → word_text v ≢ word_text w
-tell_their_words s history v w legal one other different same = different (texts_tell_words IsRpAsk (party_answer s) (reverse history) v w legal.past one other same)
+pub tell_their_words : (s : PartySetup) (history : List PartyPair) (v w : Word) → IsLegalParty s history → IsDrawn (reverse history) v
+    → IsDrawn (reverse history) w → v ≢ w → word_text v ≢ word_text w
+tell_their_words s history v w legal one other different same =
+    different (texts_tell_words IsRpAsk (party_answer s) (reverse history) v w legal.past one other same)

@@ -99,7 +99,8 @@ verifier-of_a_token_request = refl
 nothing-with_another_reply : party_reply only_code past_begin begin_entry reply.NotHere ≡ record { inner = reply.NotHere; challenge = None; verifier = None }
 nothing-with_another_reply = refl
 
-answer-to_a_request_to_begin : party_answer shop_setup [] begin_entry ≡ record { inner = asked; challenge = Some (challenge_of (word_text (word 4))); verifier = None }
+answer-to_a_request_to_begin : party_answer shop_setup [] begin_entry
+    ≡ record { inner = asked; challenge = Some (challenge_of (word_text (word 4))); verifier = None }
 unfolding rp_answer
 answer-to_a_request_to_begin = refl
 
@@ -111,7 +112,8 @@ callback_is_legal = (entered_is_legal (word_text (word 3)) (bytes_true (word_tex
 past_is_legal-of_a_first_login : IsLegalBy IsRpAsk (party_answer shop_setup) (past_with only_code past_callback)
 past_is_legal-of_a_first_login = past_is_legal shop_setup past_callback callback_is_legal
 
-without_a_challenge-is_not_legal : IsLegalBy IsRpAsk (party_answer shop_setup) ((record { entry = begin_entry; reply = record { inner = asked; challenge = None; verifier = None } }) ∷ []) → ⊥
+without_a_challenge-is_not_legal : IsLegalBy IsRpAsk (party_answer shop_setup)
+    ((record { entry = begin_entry; reply = record { inner = asked; challenge = None; verifier = None } }) ∷ []) → ⊥
 without_a_challenge-is_not_legal legal =
     let told = ap (λ (r : PartyReply). r.challenge) legal.3 ∙ ap (λ (r : PartyReply). r.challenge) answer-to_a_request_to_begin in
     let k : None ≡ Some (challenge_of (word_text (word 4))) = told in cc

@@ -15,7 +15,8 @@ asks_at : (c : Configuration) (n : ℕ) (to : Text) (browser : Word) → (http_o
 unfolding http_of
 asks_at c n to browser = refl
 
-pub in_the_location : (c : Configuration) (n : ℕ) (r : PartyReply) (to : Text) (browser : Word) (challenge : Text) → r.inner ≡ reply.Ask to browser → r.challenge ≡ Some challenge
+pub in_the_location : (c : Configuration) (n : ℕ) (r : PartyReply) (to : Text) (browser : Word) (challenge : Text) → r.inner ≡ reply.Ask to browser
+    → r.challenge ≡ Some challenge
     → (party_http c n r).location ≡ Some (challenge_added challenge to)
 in_the_location c n r to browser challenge asks has =
     let D : Option Text → Option Text = λ o. (challenged o (http_of c n r.inner)).location in

@@ -20,10 +20,12 @@ use Rattle.pkce_party.specs.Keeping.{pairs_after, pairs_of, later, known_of, Ste
 use Rattle.pkce_party.proofs.Pairing.{pairs_more, last_of_pairs, pairs_are_legal, weight_of_pairs}
 
 -- what the party keeps after the step
-pub taken_keeps : (before after : Relying) (at : ℕ) (fresh : List Word) (asked : RpAsk) (told : RpReply) (rows : List VerifierRow) → Steps before after at fresh asked told → KeepsVerifiers (past_of after) rows → KeepsParty after rows
+pub taken_keeps : (before after : Relying) (at : ℕ) (fresh : List Word) (asked : RpAsk) (told : RpReply) (rows : List VerifierRow)
+    → Steps before after at fresh asked told → KeepsVerifiers (past_of after) rows → KeepsParty after rows
 taken_keeps before after at fresh asked told rows steps keeps = record { verifiers = keeps; legal = pairs_are_legal after steps.legal steps.light }
 
-module _ (inside shown after : Relying) (view : inside ≡ shown) (at : ℕ) (fresh : List Word) (asked : RpAsk) (told : RpReply) (steps : Steps inside after at fresh asked told) where
+module _ (inside shown after : Relying) (view : inside ≡ shown) (at : ℕ) (fresh : List Word) (asked : RpAsk) (told : RpReply)
+    (steps : Steps inside after at fresh asked told) where
   abbrev its_types : Types
   its_types = (party_of inside.setup).types
 
@@ -50,7 +52,8 @@ module _ (inside shown after : Relying) (view : inside ≡ shown) (at : ℕ) (fr
       ap S steps.setup ∙ ap H history_is ∙ pairs_more its_types [] inside.history pair ∙ ap P (append-nil (reverse inside.history))
 
   -- the reply with what was known
-  reply_is : (k : Known) (types : Types) (out : PartyReply) → k ≡ known_of (past_of shown) at fresh asked → types ≡ its_types → out ≡ added types k.drawn k.held told
+  reply_is : (k : Known) (types : Types) (out : PartyReply) → k ≡ known_of (past_of shown) at fresh asked → types ≡ its_types
+      → out ≡ added types k.drawn k.held told
       → out ≡ party_reply its_types (past_of inside) entry told
   reply_is k types out known same is =
       let T : Types → PartyReply = λ t. added t k.drawn k.held told in
@@ -58,23 +61,27 @@ module _ (inside shown after : Relying) (view : inside ≡ shown) (at : ℕ) (fr
       let V : Relying → PartyReply = λ r. K (known_of (past_of r) at fresh asked) in
       is ∙ ap T same ∙ ap K known ∙ ap V (sym view)
 
-  pub taken_pairs : (k : Known) (types : Types) (out : PartyReply) → k ≡ known_of (past_of shown) at fresh asked → types ≡ its_types → out ≡ added types k.drawn k.held told
+  pub taken_pairs : (k : Known) (types : Types) (out : PartyReply) → k ≡ known_of (past_of shown) at fresh asked → types ≡ its_types
+      → out ≡ added types k.drawn k.held told
       → pairs_of after ≡ extended (pairs_of shown) at fresh asked out
   taken_pairs k types out known same is =
-      let M : ℕ → List PartyPair = λ n. pairs_of inside ++ (record { entry = record { at = cond (nat_lt at n) n at; fresh = fresh; ask = asked }; reply = out }) ∷ [] in
+      let M : ℕ → List PartyPair = λ n. pairs_of inside
+      ++ (record { entry = record { at = cond (nat_lt at n) n at; fresh = fresh; ask = asked }; reply = out }) ∷ [] in
       let R : PartyReply → List PartyPair = λ r. pairs_of inside ++ (record { entry = entry; reply = r }) ∷ [] in
       let V : Relying → List PartyPair = λ r. extended (pairs_of r) at fresh asked out in
       pairs_are ∙ ap R (sym (reply_is k types out known same is)) ∙ ap M (sym (last_of_pairs inside)) ∙ ap V view
 
 -- the weights with the additions are those without
-pub taken_room : (inside shown : Relying) (asked : RpAsk) → inside ≡ shown → history_weight ask_weight inside.history + ask_weight asked ≤ most_of inside.setup.configuration.lasting
+pub taken_room : (inside shown : Relying) (asked : RpAsk) → inside ≡ shown
+    → history_weight ask_weight inside.history + ask_weight asked ≤ most_of inside.setup.configuration.lasting
     → history_weight ask_weight (pairs_of shown) + ask_weight asked ≤ most_of shown.setup.configuration.lasting
 taken_room inside shown asked view room =
     let W : ℕ → Type 0 = λ n. n + ask_weight asked ≤ most_of inside.setup.configuration.lasting in
     let V : Relying → Type 0 = λ r. history_weight ask_weight (pairs_of r) + ask_weight asked ≤ most_of r.setup.configuration.lasting in
     subst V view (subst W (sym (weight_of_pairs inside)) room)
 
-pub taken_full : (inside shown : Relying) (asked : RpAsk) (w : ℕ) → inside ≡ shown → (w ≡ history_weight ask_weight inside.history) × (most_of inside.setup.configuration.lasting < w + ask_weight asked)
+pub taken_full : (inside shown : Relying) (asked : RpAsk) (w : ℕ) → inside ≡ shown
+    → (w ≡ history_weight ask_weight inside.history) × (most_of inside.setup.configuration.lasting < w + ask_weight asked)
     → (w ≡ history_weight ask_weight (pairs_of shown)) × (most_of shown.setup.configuration.lasting < w + ask_weight asked)
 taken_full inside shown asked w view full =
     let V : Relying → Type 0 = λ r. (w ≡ history_weight ask_weight (pairs_of r)) × (most_of r.setup.configuration.lasting < w + ask_weight asked) in

@@ -1,5 +1,6 @@
 -- The verifiers stand beside the logins: one row of each for every login, and one pair made both.
-use Rattle.std.proofs.Common.{◌≡◌, ℕ, suc, Bool, true, false, not, ◌&&◌, ◌||◌, nat_lt, cond, List, [], ◌∷◌, ◌++◌, filter_map, length, Option, Some, None, is_some, refl, sym, ◌∙◌, ap, subst}
+use Rattle.std.proofs.Common.{◌≡◌, ℕ, suc, Bool, true, false, not, ◌&&◌, ◌||◌, nat_lt, cond, List, [], ◌∷◌, ◌++◌, filter_map, length, Option, Some, None}
+use Rattle.std.proofs.Common.{is_some, refl, sym, ◌∙◌, ap, subst}
 use Rattle.std.specs.List.{cons_option}
 use Rattle.std.specs.Str.{bytes_eq}
 use Rattle.sso_base.specs.Words.{Word, is_word}
@@ -62,7 +63,8 @@ later_all past p (login ∷ held) (row ∷ rows) all = (later_once past p login 
 -- ---- rows that are kept, left out, put, and live
 
 module _ (past : RpPast) where
-  kept_one : (gone : Bool) (login : LoginRow) (row : VerifierRow) (held : List LoginRow) (rows : List VerifierRow) → MadeOnce past login row → AllMade past held rows
+  kept_one : (gone : Bool) (login : LoginRow) (row : VerifierRow) (held : List LoginRow) (rows : List VerifierRow) → MadeOnce past login row
+      → AllMade past held rows
       → AllMade past (cons_option (cond gone None (Some login)) held) (cons_option (cond gone None (Some row)) rows)
   kept_one true login row held rows once all = all
   kept_one false login row held rows once all = (once, all)
@@ -81,12 +83,14 @@ module _ (past : RpPast) where
       let A : Bool → Type 0 = λ b. AllMade past (cons_option (cond (E login.state) None (Some login)) left) (cons_option (cond b None (Some row)) left_rows) in
       subst A (sym (ap E all.0.same_state)) (kept_one (E login.state) login row left left_rows all.0 (kept_all before p held rows all.1))
 
-  without_one : (gone : Bool) (login : LoginRow) (row : VerifierRow) (held : List LoginRow) (rows : List VerifierRow) → MadeOnce past login row → AllMade past held rows
+  without_one : (gone : Bool) (login : LoginRow) (row : VerifierRow) (held : List LoginRow) (rows : List VerifierRow) → MadeOnce past login row
+      → AllMade past held rows
       → AllMade past (cond gone held (login ∷ held)) (cond gone rows (row ∷ rows))
   without_one true login row held rows once all = all
   without_one false login row held rows once all = (once, all)
 
-  without_all : (w : Word) (held : List LoginRow) (rows : List VerifierRow) → AllMade past held rows → AllMade past (without login_name w held) (without verifier_name w rows)
+  without_all : (w : Word) (held : List LoginRow) (rows : List VerifierRow) → AllMade past held rows
+      → AllMade past (without login_name w held) (without verifier_name w rows)
   without_all w [] [] all = tt
   without_all w [] (row ∷ rows) all = absurd all
   without_all w (login ∷ held) [] all = absurd all
@@ -118,9 +122,11 @@ module _ (past : RpPast) where
   put_all (Some login) None held rows both all = absurd both
   put_all (Some login) (Some row) held rows both all =
       let A : Word → Type 0 = λ w. AllMade past (without login_name login.state held) (without verifier_name w rows) in
-      push_all (without login_name login.state held) (without verifier_name row.state rows) login row (subst A (sym both.same_state) (without_all login.state held rows all)) both
+      push_all (without login_name login.state held) (without verifier_name row.state rows) login row
+      (subst A (sym both.same_state) (without_all login.state held rows all)) both
 
-  live_one : (live : Bool) (login : LoginRow) (row : VerifierRow) (held : List LoginRow) (rows : List VerifierRow) → MadeOnce past login row → AllMade past held rows
+  live_one : (live : Bool) (login : LoginRow) (row : VerifierRow) (held : List LoginRow) (rows : List VerifierRow) → MadeOnce past login row
+      → AllMade past held rows
       → AllMade past (cond live (login ∷ held) held) (cond live (row ∷ rows) rows)
   live_one true login row held rows once all = (once, all)
   live_one false login row held rows once all = all
@@ -161,7 +167,8 @@ made_by past p asked told asks tells = tt
 pub together : (past : RpPast) → AllMade past (logins past) (verifiers past)
 together [] = tt
 together (p ∷ past) =
-    put_all (p ∷ past) (login_made (logins past) past p) (verifier_made (verifiers past) past p) (filter_map (login_kept past p) (logins past)) (filter_map (verifier_kept past p) (verifiers past))
+    put_all (p ∷ past) (login_made (logins past) past p) (verifier_made (verifiers past) past p) (filter_map (login_kept past p) (logins past))
+    (filter_map (verifier_kept past p) (verifiers past))
     (made_by past p p.entry.ask p.reply refl refl)
     (kept_all (p ∷ past) past p (logins past) (verifiers past) (later_all past p (logins past) (verifiers past) (together past)))
 
@@ -186,10 +193,12 @@ same_named past w (login ∷ held) [] all = absurd all
 same_named past w (login ∷ held) (row ∷ rows) all =
     let E : Word → Bool = λ v. bytes_eq v w in
     let S : Bool → Bool = λ b. is_some (cond b (Some row) (row_of verifier_name w rows)) in
-    ap S (ap E all.0.same_state) ∙ named_one (E login.state) login row (row_of login_name w held) (row_of verifier_name w rows) (same_named past w held rows all.1)
+    ap S (ap E all.0.same_state) ∙ named_one (E login.state) login row (row_of login_name w held) (row_of verifier_name w rows)
+    (same_named past w held rows all.1)
 
 -- so there is room for a verifier where there is room for its login
-pub as_full : (past : RpPast) (at : ℕ) (w : Word) → is_full most_rows verifier_name w (live_verifiers past at) ≡ is_full most_rows login_name w (live_logins past at)
+pub as_full : (past : RpPast) (at : ℕ) (w : Word)
+    → is_full most_rows verifier_name w (live_verifiers past at) ≡ is_full most_rows login_name w (live_logins past at)
 as_full past at w =
     let all : AllMade past (live_logins past at) (live_verifiers past at) = live_all past at (logins past) (verifiers past) (together past) in
     let N : ℕ → Bool = λ n. not (nat_lt n most_rows) || is_some (row_of verifier_name w (live_verifiers past at)) in
@@ -203,8 +212,10 @@ pub record Beside (past : RpPast) (w : Word) (login : LoginRow) (rows : List Ver
   pub found : row_of verifier_name w rows ≡ Some row
   pub once : MadeOnce past login row
 
-found_one : (past : RpPast) (w : Word) (here : Bool) (first login : LoginRow) (row : VerifierRow) (held : List LoginRow) (rows : List VerifierRow) → bytes_eq row.state w ≡ here → MadeOnce past first row
-    → (row_of login_name w held ≡ Some login → Beside past w login rows) → cond here (Some first) (row_of login_name w held) ≡ Some login → Beside past w login (row ∷ rows)
+found_one : (past : RpPast) (w : Word) (here : Bool) (first login : LoginRow) (row : VerifierRow) (held : List LoginRow) (rows : List VerifierRow)
+    → bytes_eq row.state w ≡ here → MadeOnce past first row
+    → (row_of login_name w held ≡ Some login → Beside past w login rows) → cond here (Some first) (row_of login_name w held) ≡ Some login
+    → Beside past w login (row ∷ rows)
 found_one past w true first login row held rows is once rest h =
     let C : Bool → Option VerifierRow = λ b. cond b (Some row) (row_of verifier_name w rows) in
     let M : LoginRow → Type 0 = λ l. MadeOnce past l row in
@@ -214,7 +225,8 @@ found_one past w false first login row held rows is once rest h =
     let more : Beside past w login rows = rest h in
     record { row = more.row; found = ap C is ∙ more.found; once = more.once }
 
-pub beside : (past : RpPast) (w : Word) (login : LoginRow) (held : List LoginRow) (rows : List VerifierRow) → AllMade past held rows → row_of login_name w held ≡ Some login → Beside past w login rows
+pub beside : (past : RpPast) (w : Word) (login : LoginRow) (held : List LoginRow) (rows : List VerifierRow) → AllMade past held rows
+    → row_of login_name w held ≡ Some login → Beside past w login rows
 beside past w login [] [] all h = cc
 beside past w login [] (row ∷ rows) all h = absurd all
 beside past w login (first ∷ held) [] all h = absurd all

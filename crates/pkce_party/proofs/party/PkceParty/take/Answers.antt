@@ -14,7 +14,8 @@ returns-in-Err-clause-full c = λ w is.
 
 pub invariant_of-self-2 : goal.invariant_of-self-2
 invariant_of-self-2 c =
-    taken_keeps c.self.inside.party c.pass.new.party c.args.at c.args.fresh c.args.ask c.in-Ok.reply c.pass.new.verifiers.rows c.in-Ok.ensures.ok c.in-Ok.ensures.keeps
+    taken_keeps c.self.inside.party c.pass.new.party c.args.at c.args.fresh c.args.ask c.in-Ok.reply c.pass.new.verifiers.rows c.in-Ok.ensures.ok
+    c.in-Ok.ensures.keeps
 
 pub returns-clause-ok : goal.returns-clause-ok
 returns-clause-ok c =
