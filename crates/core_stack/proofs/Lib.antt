@@ -9,3 +9,4 @@ pub mod Marked
 pub mod Rooms
 pub mod Holding
 pub mod Samples
+mod RelySamples

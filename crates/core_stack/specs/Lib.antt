@@ -7,3 +7,5 @@ pub mod Kept
 pub mod KeptJournal
 pub mod Stacked
 pub mod Holding
+pub mod Relied
+pub mod Rounds

@@ -42,8 +42,8 @@ impl<'a> Role for OpRole<'a> {
         prepare_op(alloc, self.registry, request)
     }
 
-    fn question<'r>(&self, _reply: &'r OpReply) -> Option<&'r Message> {
-        None
+    fn question(&self, _alloc: Global, _reply: &OpReply) -> Result<Option<Message>, NoMemory> {
+        Ok(None)
     }
 
     fn prepare_answer(

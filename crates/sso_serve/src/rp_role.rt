@@ -45,10 +45,12 @@ impl<'a> Role for RpRole<'a> {
         prepare_rp(alloc, self.registry, self.party, request)
     }
 
-    fn question<'r>(&self, reply: &'r RpReply) -> Option<&'r Message> {
+    fn question(&self, alloc: Global, reply: &RpReply) -> Result<Option<Message>, NoMemory> {
         match reply {
-            RpReply::Exchange { message, .. } | RpReply::Fetch { message, .. } => Some(message),
-            _ => None,
+            RpReply::Exchange { message, .. } | RpReply::Fetch { message, .. } => {
+                Ok(Some(message.copy(alloc)?))
+            }
+            _ => Ok(None),
         }
     }
 
