@@ -12,7 +12,7 @@ returns-in_err-question-clause-followed g c =
     let p = err_from_is_err_and c.from_residual.result c.from_residual.ensures.1 in (
       calls_alone [],
       did_calls c.args.pass.now (g.L.Link.state c.args.tools.now.link) (g.L.Link.state c.args.tools.now.link) (g.C.Clock.ahead c.args.tools.now.clock) (g.W.Draw.ahead c.args.tools.now.draw) [] (took_none (g.L.Link.state c.args.tools.now.link)),
-      rw (p.1, p.2) (refl, round_without_memory (g.X.Role.manner c.args.backend.now.role.now) (front_of c.args.pass.now) c.args.reply),
+      rw (p.1, p.2) (refl, round_without_memory (g.X.Role.manner c.args.backend.now.role.now) (g.X.Core.Core.most (setup_of g.X.Core.Core.setup c.args.backend.now.store.now)) (front_of c.args.pass.now) c.args.reply),
       omega arith,
     )
 
