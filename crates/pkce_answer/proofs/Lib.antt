@@ -1,3 +1,4 @@
 pub mod Refusing
 pub mod Redeeming
+pub mod OneRequest
 pub mod Samples

@@ -1,5 +1,5 @@
 -- The definitions computed: what each accepts, and what it refuses.
-use Rattle.std.proofs.Common.{◌≡◌, ℕ, Bool, true, cond, List, [], ◌∷◌, Option, Some, None, codes, replicate, refl, ap}
+use Rattle.std.proofs.Common.{◌≡◌, ℕ, Bool, true, cond, List, [], ◌∷◌, ◌++◌, Option, Some, None, codes, replicate, refl, ap, arith}
 use Rattle.sso_base.proofs.RowLaws.{bytes_true}
 use Rattle.auth_request.specs.declared.wish.Verdict.TheVariants.{Grant}
 use Rattle.token_endpoint.specs.declared.error.TokenError.TheVariants.{InvalidRequest, InvalidGrant}
@@ -17,7 +17,7 @@ use Rattle.pkce_answer.specs.declared.asks.PkceReply.TheVariants.{Through, Own}
 use Rattle.pkce_answer.specs.Challenges.{Digest, challenge_of, IsChallenge}
 use Rattle.pkce_answer.specs.Around.{Outer, inner_history, outer_given}
 use Rattle.pkce_answer.specs.Answering.{token_refusal, invalid_request, wish_refusal, IsReply, code_challenge, pkce_answer}
-use Rattle.pkce_answer.specs.Laws.{Fits}
+use Rattle.pkce_answer.specs.Laws.{HasNewWords, Fits}
 
 abbrev digest : Digest
 digest = replicate 43 97
@@ -108,3 +108,15 @@ provider_gave_none = refl
 
 digest_is_one : IsChallenge (challenge.S256 digest)
 digest_is_one = refl
+
+-- ---- new words
+
+nothing_before : (later earlier : List (Outer OpAsk OpReply)) (p : Outer OpAsk OpReply) → [] ≡ later ++ p ∷ earlier → ⊥
+nothing_before [] earlier p is = cc
+nothing_before (q ∷ later) earlier p is = cc
+
+one_pair_draws_new_words : HasNewWords (asked_pair ∷ [])
+one_pair_draws_new_words = (tt, λ n low drawn. nothing_before drawn.later drawn.earlier drawn.maker drawn.parts)
+
+not_the_same_words_twice : HasNewWords (asked_pair ∷ asked_pair ∷ []) → ⊥
+not_the_same_words_twice new = new.1 0 (omega arith) (record { later = []; maker = asked_pair; earlier = []; parts = refl; number = 0; low = omega arith; drawn = refl })

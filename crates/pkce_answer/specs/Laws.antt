@@ -1,7 +1,9 @@
 -- What is true of codes and their verifiers, over the codes that the provider holds.
-use Rattle.std.specs.Prelude.{◌≡◌, ℕ, List, reverse, Option, Some, None}
-use Rattle.sso_base.specs.Words.{Word, word_of_text}
+use Rattle.std.specs.Prelude.{◌≡◌, ◌<◌, ℕ, List, [], ◌∷◌, reverse, Option, Some, None}
+use Rattle.sso_base.specs.Words.{Word, word_of_text, fresh_word}
+use Rattle.sso_base.specs.Drawn.{IsDrawn}
 use Rattle.sso_base.specs.declared.history.Entry.{Entry}
+use Rattle.sso_base.specs.declared.history.Pair.{Pair}
 use Rattle.token_endpoint.specs.declared.granting.Grant.{Grant}
 use Rattle.code_grant.specs.declared.rows.CodeRow.{CodeRow}
 use Rattle.op_exchange.specs.declared.ask.OpAsk.{OpAsk}
@@ -20,6 +22,11 @@ use Rattle.pkce_answer.specs.Answering.{code_challenge}
 abbrev pub Fits : Option Digest → Verifier → Type 0
 Fits (Some digest) sent = (text : List ℕ) × (sent ≡ Given text) × (challenge_of text ≡ digest)
 Fits None sent = sent ≡ Absent
+
+-- no pair of a past, newest pair first, drew a word that an earlier pair drew
+abbrev pub HasNewWords : {A R : Type 0} → List (Pair A R) → Type 0
+HasNewWords [] = Unit {0}
+HasNewWords (p ∷ past) = HasNewWords past × ((n : ℕ) → n < 4 → IsDrawn past (fresh_word p.entry.fresh n) → ⊥)
 
 module _ {A R : Type 0} (plain : A → Option OpAsk) (given : R → Option OpReply) where
   -- the code of a word answers an authorization request with this challenge, and the core finds it

@@ -5,12 +5,14 @@ ghost use Rattle.sso_base.specs.Rows.{row_of};
 ghost use Rattle.sso_base.specs.Stands.{Stands};
 ghost use Rattle.sso_base.specs.Words.{Word, Text};
 ghost use Rattle.token_endpoint.specs.declared.granting.Grant.{Grant};
+ghost use Rattle.auth_request.specs.declared.wish.Wish.{Wish};
 ghost use Rattle.code_grant.specs.declared.rows.CodeRow.{CodeRow};
 ghost use Rattle.op_exchange.specs.declared.ask.OpAsk.TheVariants as op_ask;
 ghost use Rattle.op_exchange.specs.declared.reply.OpReply.TheVariants as op_told;
 ghost use Rattle.op_answer.specs.Codes.{held_code};
 ghost use Rattle.core_stack.specs.declared.marks.TurnMark.{TurnMark};
 ghost use Rattle.core_stack.specs.declared.marks.CodeMark.{CodeMark};
+ghost use Rattle.core_stack.specs.Asked.{CodeAsked};
 ghost use Rattle.core_stack.specs.Rows.{turn_mark_name, code_mark_name};
 ghost use Rattle.core_stack.specs.Marks as marks;
 ghost use Rattle.pkce_answer.specs.declared.asks.Verifier.{Verifier};
@@ -18,7 +20,7 @@ ghost use Rattle.pkce_answer.specs.declared.asks.Verifier.TheVariants as verifie
 ghost use Rattle.pkce_answer.specs.Challenges.{Digest, challenge_of, asked_mark};
 ghost use Rattle.pkce_answer.specs.Around.{Outer, inner_history, outer_plain, outer_told, outer_given};
 ghost use Rattle.pkce_answer.specs.Answering.{IsLegalPkce};
-ghost use Rattle.pkce_answer.specs.Laws.{Fits, WasAsked, IsRedeemed};
+ghost use Rattle.pkce_answer.specs.Laws.{HasNewWords, Fits, WasAsked, IsRedeemed};
 
 use core_stack::Provides;
 
@@ -29,6 +31,16 @@ pub fn codes_keep_their_challenge<P: Provides>()
         → IsLegalPkce P.plain_ask P.given_reply P.IsAsk P.weighs P.most P.is_legal (P.setup x) h
         → held_code (reverse (P.provided (inner_history h))) at (Some w) ≡ Some code
         → WasAsked P.plain_ask P.given_reply (reverse h) at w code }
+{}
+
+/// If no step draws a word that an earlier step drew, a code answers no two authorization requests with different challenges or wishes.
+/// So each code that the provider holds has exactly one challenge.
+pub fn codes_answer_one_request<P: Provides>()
+    ensures { (x : P) (h : List (Outer P.Ask P.Reply)) (w : Word) (one other : Option Digest) (wish wanted : Wish)
+        → IsLegalPkce P.plain_ask P.given_reply P.IsAsk P.weighs P.most P.is_legal (P.setup x) h → HasNewWords (reverse h)
+        → CodeAsked (outer_plain P.plain_ask) (outer_given P.given_reply) asked_mark (reverse h) w one wish
+        → CodeAsked (outer_plain P.plain_ask) (outer_given P.given_reply) asked_mark (reverse h) w other wanted
+        → (one ≡ other) × (wish ≡ wanted) }
 {}
 
 /// A token request gets tokens only for a code that the provider holds. If the authorization request that the code answers had a
