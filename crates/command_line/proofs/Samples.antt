@@ -4,7 +4,8 @@ use Rattle.std.specs.Fmt.{digits}
 use Rattle.std.specs.List.{list_all}
 use Rattle.sso_base.specs.Words.{Text}
 use Rattle.command_line.specs.declared.command.Command.TheVariants.{Replay, Op, Rp, OpPlus, RpPlus, Storm, Token}
-use Rattle.command_line.specs.Commands.{is_plain, command_of, is_command, asks_replay, asks_op, asks_rp, asks_op_plus, asks_rp_plus, asks_storm, asks_token, words_of, IsInRange}
+use Rattle.command_line.specs.Commands.{is_plain, command_of, is_command, asks_replay, asks_op, asks_rp, asks_op_plus, asks_rp_plus, asks_storm, asks_token}
+use Rattle.command_line.specs.Commands.{words_of, IsInRange}
 
 -- ---- each list of words that is accepted
 

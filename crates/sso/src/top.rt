@@ -80,7 +80,7 @@ fn run<R: Threads + Wait + Sync, H: Shelf, K: Sink, D: Door, L: Link, C: Clock, 
 /// | 0 | `replay`: the trace was played to its end, and no premise failed | the text of its play |
 /// | | `storm`: its play went to its end, and no premise failed | the summary of its play |
 /// | | `token`: the token is sealed under the secret | its payload and a line feed |
-/// | | `op`, `rp`, `op-plus`, `rp-plus`: each desk served its turns or has a closed door | `served` with the number of connections, `entries` with those of the history |
+/// | | `op`, `rp`, `op-plus`, `rp-plus`: each desk served its turns or has a closed door | `served` and the connections, `entries` and those of the history |
 /// | 1 | out of memory | none |
 /// | 2 | the words are not a command | the usage |
 /// | 3 | CONFIG is rejected, or has no party NAME | `configuration`, the refusal's name and its values, or `configuration NoParty` |
