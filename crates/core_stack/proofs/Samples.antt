@@ -117,7 +117,7 @@ error_page_is_hidden = inr (record { pair = provider_pair 1000 [] ask.Twice (tol
 page_is_not_its_own : may_be_own login_page ≡ false
 page_is_not_its_own = refl
 
--- the provider alone is a core that the provider stands in
+-- the provider alone is a core that the provider is in
 provider_is_a_stack : IsStack plain given (λ h. h) (IsLegalHistory sample) sample
 provider_is_a_stack =
     record {

@@ -1,4 +1,4 @@
--- A core that stands around another one is a core that the provider stands in, with the same history of the provider.
+-- A core that stands around another one is a core that the provider is in, with the same history of the provider.
 use Rattle.std.proofs.Common.{◌≡◌, ℕ, List, [], ◌∷◌, ◌++◌, filter_map, Option, Some, None, sym, ap, subst, inl, inr}
 use Rattle.sso_base.specs.Words.{Word}
 use Rattle.sso_base.specs.declared.history.Entry.{Entry}

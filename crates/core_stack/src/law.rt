@@ -1,4 +1,4 @@
-// What each step of a core that the provider stands in adds to the provider's history.
+// What each step of a core that the provider is in adds to the provider's history.
 
 ghost use Rattle.std.specs.Prelude.{◌≡◌, List, [], ◌∷◌, ◌++◌, Option, Some, true, false};
 ghost use Rattle.sso_base.specs.Words.{Word};

@@ -1,6 +1,6 @@
 //! Cores that stand around the provider or around a relying party, one within the other, and what they share.
 //!
-//! [`Provides`] is a core that the provider stands in, alone or within further cores. The provider's history is a function of the
+//! [`Provides`] is a core that the provider is in, alone or within further cores. The provider's history is a function of the
 //! core's history, and the laws say what each step adds to it. [`Relies`] is the same for a relying party.
 //!
 //! | Module | What it has |

@@ -1,4 +1,4 @@
-// The provider alone, as a core that the provider stands in.
+// The provider alone, as a core that the provider is in.
 
 use crate::provides::Provides;
 use client_registry::Registry;

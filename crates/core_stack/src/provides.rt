@@ -1,4 +1,4 @@
-// A core that the provider stands in.
+// A core that the provider is in.
 
 ghost use Rattle.std.specs.Prelude.{◌≡◌, ◌≤◌, List, [], ◌∷◌, ◌++◌, reverse, Option, Some, false, IfOk};
 ghost use Rattle.std.specs.Option.{option_copied};
@@ -11,7 +11,7 @@ use op_exchange::{OpAsk, OpReply};
 use sso_base::{Ask, Core, Entry, HttpReply, Messages, Moment, NoMemory, Word};
 use std::alloc::Global;
 
-/// A core that the provider stands in, alone or within further cores.
+/// A core that the provider is in, alone or within further cores.
 pub trait Provides: Core {
     ghost use Rattle.sso_base.specs.Words as words;
     ghost use Rattle.sso_base.specs.declared.history.Pair as pair_of;

@@ -1,6 +1,6 @@
 //! Proof Key for Code Exchange (RFC 7636), with the method S256.
 //!
-//! [`PkceCore`] stands around another core that the provider stands in. A code that was asked with a challenge gets tokens only with the
+//! [`PkceCore`] stands around another core that the provider is in. A code that was asked with a challenge gets tokens only with the
 //! verifier of that challenge. Each reply and each legal history is the one of `pkce_answer`, and the inner core's history is legal.
 //!
 //! | Module | What it has |
@@ -11,7 +11,7 @@
 //! | `finding` | the challenges of turns and codes |
 //! | `refusing` | which requests are refused without the inner core |
 //! | `step` | one step |
-//! | `providing` | the core as one that the provider stands in |
+//! | `providing` | the core as one that the provider is in |
 #![tactic(auto)]
 
 mod challenges;

@@ -1,4 +1,4 @@
-// The core as one that the provider stands in.
+// The core as one that the provider is in.
 
 ghost use Rattle.std.specs.Prelude.{◌≡◌, IfOk};
 ghost use Rattle.std.specs.Option.{option_copied};
