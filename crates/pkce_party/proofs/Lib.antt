@@ -1,0 +1,10 @@
+mod KeyTexts
+pub mod KeptRows
+pub mod Together
+mod Living
+mod Noted
+mod Pairing
+mod Taking
+pub mod Requesting
+mod Sent
+mod Samples
