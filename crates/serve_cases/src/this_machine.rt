@@ -52,24 +52,21 @@ where
     run(rt, alloc, files.as_slice(), &call, &mut desks)
 }
 
-// A connection to this address as soon as somebody listens there. It tries for ten seconds.
-fn connect<R: Net<Stream = TcpStream> + Clock>(rt: &R, place: &str) -> Option<TcpStream> {
-    for _ in 0..500 {
-        if let Ok(stream) = TcpStream::connect(rt, place) {
-            return Some(stream);
-        }
-        sleep(rt, Duration::from_millis(20));
-    }
-    None
-}
-
-// The reply to a request for the keys.
+// The reply to a request for the keys, which is sent as soon as somebody listens at this address. The client tries for ten seconds.
 fn ask_keys<R: Net<Stream = TcpStream> + Clock>(
     rt: &R,
     alloc: Global,
     place: &str,
 ) -> Option<Vec<u8>> {
-    let mut stream = connect(rt, place)?;
+    let mut tried = TcpStream::connect(rt, place);
+    for _ in 0..500 {
+        if tried.is_ok() {
+            break;
+        }
+        sleep(rt, Duration::from_millis(20));
+        tried = TcpStream::connect(rt, place);
+    }
+    let mut stream = tried.ok()?;
     stream.set_read_timeout(Some(Duration::from_secs(5))).ok()?;
     stream
         .write_all(b"GET /jwks HTTP/1.1\r\nHost: a\r\n\r\n")

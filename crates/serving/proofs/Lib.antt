@@ -11,6 +11,7 @@ pub mod Stopping
 pub mod Histories
 pub mod Workers
 pub mod Dealing
+pub mod Sharing
 pub mod Seatings
 pub mod Summing
 mod Samples

@@ -5,4 +5,5 @@ pub mod Passing
 pub mod Dealing
 pub mod Ending
 pub mod Moving
+pub mod Sharing
 mod Samples

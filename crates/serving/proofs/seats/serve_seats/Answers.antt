@@ -1,8 +1,13 @@
 use Rattle.std.proofs.Common.{slice_index_or, subst, arith}
+use Rattle.std.proofs.Crossing.{crosses}
 use denote.Param.Send.{sendable}
 use Rattle.turn_store.specs.Passes.{IsPassOf, setup_of}
+use Rattle.serving.proofs.Sharing.{backend_is_shared}
 use Rattle.serving.proofs.Seatings.{seats_served, seat_left}
 use Rattle.serving.proofs.seats.serve_seats.Goals as goal
+
+pub for_each_mut-requires-sync-F : goal.for_each_mut-requires-sync-F
+for_each_mut-requires-sync-F g c κs within = search (backend_is_shared, crosses, sendable) depth 60 fits 20000
 
 pub for_each_mut-requires-clause-accepts : goal.for_each_mut-requires-clause-accepts
 for_each_mut-requires-clause-accepts g c κs within = λ i p lt e.
