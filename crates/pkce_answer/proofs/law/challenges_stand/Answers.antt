@@ -10,13 +10,15 @@ use Rattle.pkce_answer.proofs.law.challenges_stand.Goals as goal
 pub returns-clause-turns : goal.returns-clause-turns
 returns-clause-turns g c = λ past w row.
     let plain = outer_plain g.P.Provides.plain_ask in
-    let given = outer_given g.P.Provides.given_reply in
-    (stands-row_of turn_mark_name (turn_made plain given asked_mark) (turn_kept plain given) (turn_mark_names plain given) w past row,
-     row_of-stands turn_mark_name (turn_made plain given asked_mark) (turn_kept plain given) (turn_mark_names plain given) w past row)
+    let given = outer_given g.P.Provides.given_reply in (
+      stands-row_of turn_mark_name (turn_made plain given asked_mark) (turn_kept plain given) (turn_mark_names plain given) w past row,
+      row_of-stands turn_mark_name (turn_made plain given asked_mark) (turn_kept plain given) (turn_mark_names plain given) w past row,
+    )
 
 pub returns-clause-codes : goal.returns-clause-codes
 returns-clause-codes g c = λ past w row.
     let plain = outer_plain g.P.Provides.plain_ask in
-    let given = outer_given g.P.Provides.given_reply in
-    (stands-row_of code_mark_name (code_made plain given asked_mark None) code_kept code_mark_names w past row,
-     row_of-stands code_mark_name (code_made plain given asked_mark None) code_kept code_mark_names w past row)
+    let given = outer_given g.P.Provides.given_reply in (
+      stands-row_of code_mark_name (code_made plain given asked_mark None) code_kept code_mark_names w past row,
+      row_of-stands code_mark_name (code_made plain given asked_mark None) code_kept code_mark_names w past row,
+    )
