@@ -55,6 +55,7 @@ fn asked_around<P: Provides>(
 }
 
 impl<P: Provides> Provides for PkceCore<P> {
+    ghost use Rattle.sso_base.specs.Legal.{IsEntry};
     ghost use Rattle.core_stack.proofs.Stacking.{outer_adds, legal_inside};
     ghost use Rattle.pkce_answer.specs.Challenges.{IsPkceAsk};
     ghost use Rattle.pkce_answer.specs.Around.{passed, inner_history, outer_plain, outer_told, outer_given, outer_notices, outer_weight};
@@ -138,7 +139,10 @@ impl<P: Provides> Provides for PkceCore<P> {
         }
     }
 
-    fn known(entry: Entry<PkceAsk<P::Ask>>) -> Entry<PkceAsk<P::Ask>> {
+    fn known(entry: Entry<PkceAsk<P::Ask>>) -> Entry<PkceAsk<P::Ask>>
+        ensures same { result ≡ entry }
+        ensures values { IsEntry (IsPkceAsk P.IsAsk) result }
+    {
         known::<P>(entry)
     }
 

@@ -2,7 +2,7 @@ use Rattle.std.proofs.Common.{None}
 use Rattle.sso_base.proofs.Literal.{stands-row_of, row_of-stands}
 use Rattle.core_stack.specs.Rows.{turn_mark_name, code_mark_name}
 use Rattle.core_stack.specs.Marks.{turn_made, turn_kept, code_made, code_kept}
-use Rattle.core_stack.proofs.Holding.{turn_mark_names, code_mark_names}
+use Rattle.core_stack.proofs.MarksHeld.{turn_mark_names, code_mark_names}
 use Rattle.pkce_answer.specs.Challenges.{asked_mark}
 use Rattle.pkce_answer.specs.Around.{outer_plain, outer_given}
 use Rattle.pkce_answer.proofs.law.challenges_stand.Goals as goal
