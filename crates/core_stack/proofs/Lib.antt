@@ -7,6 +7,6 @@ pub mod Stacking
 pub mod Added
 pub mod Marked
 pub mod Rooms
-pub mod Holding
+pub mod MarksHeld
 pub mod Samples
 mod RelySamples
