@@ -8,7 +8,7 @@ use Rattle.std.specs.Str.{bytes_eq}
 use Rattle.std.proofs.lemmas.Slice.Eq.{bytes_eq-Decides}
 use Rattle.sso_base.specs.Words.{Text}
 use Rattle.command_line.specs.declared.command.Command.{Command}
-use Rattle.command_line.specs.declared.command.Command.TheVariants.{Replay, Op, Rp, Storm, Token}
+use Rattle.command_line.specs.declared.command.Command.TheVariants.{Replay, Op, Rp, OpPlus, RpPlus, Storm, Token}
 use Rattle.command_line.specs.declared.positionals.Positionals.{Positionals}
 use Rattle.command_line.specs.Commands.{is_plain, of_two, storm_of, of_three, of_four, command_in, command_of, words_of, IsInRange}
 use Rattle.command_line.specs.Numbers.{number_in}
@@ -26,11 +26,13 @@ named : (name other : Text) → bytes_eq name other ≡ true → (rest : List Te
 named name other same rest = ap (λ (n : Text). n ∷ rest) ((bytes_eq-Decides name other).0 same)
 
 two : (name config : Text) → IsOf (of_two name config) (name ∷ config ∷ [])
-two name config = at (bytes_eq name (codes "op")) refl
+two name config = at (bytes_eq name (codes "op")) (bytes_eq name (codes "op-plus")) refl refl
   where
-    at : (op : Bool) → bytes_eq name (codes "op") ≡ op → IsOf (if op then Some (Op config) else None) (name ∷ config ∷ [])
-    at true is = (named name (codes "op") is (config ∷ []), tt)
-    at false is = tt
+    at : (op plus : Bool) → bytes_eq name (codes "op") ≡ op → bytes_eq name (codes "op-plus") ≡ plus
+        → IsOf (if op then Some (Op config) else if plus then Some (OpPlus config) else None) (name ∷ config ∷ [])
+    at true plus is _ = (named name (codes "op") is (config ∷ []), tt)
+    at false true _ is = (named name (codes "op-plus") is (config ∷ []), tt)
+    at false false _ _ = tt
 
 storm : (name first second : Text) (number count : Option ℕ) → bytes_eq name (codes "storm") ≡ true
     → number_in 0 4294967295 first ≡ number → number_in 1 10000 second ≡ count → IsOf (storm_of number count) (name ∷ first ∷ second ∷ [])
@@ -47,16 +49,22 @@ storm name first second (Some number) (Some count) is here there =
 
 three : (name first second : Text) → IsOf (of_three name first second) (name ∷ first ∷ second ∷ [])
 three name first second =
-    at (bytes_eq name (codes "replay")) (bytes_eq name (codes "rp")) (bytes_eq name (codes "storm")) (bytes_eq name (codes "token")) refl refl refl refl
+    at (bytes_eq name (codes "replay")) (bytes_eq name (codes "rp")) (bytes_eq name (codes "rp-plus")) (bytes_eq name (codes "storm"))
+    (bytes_eq name (codes "token")) refl refl refl refl refl
   where
-    at : (replay rp made token : Bool)
-        → bytes_eq name (codes "replay") ≡ replay → bytes_eq name (codes "rp") ≡ rp → bytes_eq name (codes "storm") ≡ made → bytes_eq name (codes "token") ≡ token
-        → IsOf (if replay then Some (Replay first second) else if rp then Some (Rp first second None) else if made then storm_of (number_in 0 4294967295 first) (number_in 1 10000 second) else if token then Some (Token first second) else None) (name ∷ first ∷ second ∷ [])
-    at true rp made token is _ _ _ = (named name (codes "replay") is (first ∷ second ∷ []), tt)
-    at false true made token _ is _ _ = (named name (codes "rp") is (first ∷ second ∷ []), tt)
-    at false false true token _ _ is _ = storm name first second (number_in 0 4294967295 first) (number_in 1 10000 second) is refl refl
-    at false false false true _ _ _ is = (named name (codes "token") is (first ∷ second ∷ []), tt)
-    at false false false false _ _ _ _ = tt
+    at : (replay rp plus made token : Bool)
+        → bytes_eq name (codes "replay") ≡ replay → bytes_eq name (codes "rp") ≡ rp → bytes_eq name (codes "rp-plus") ≡ plus
+        → bytes_eq name (codes "storm") ≡ made → bytes_eq name (codes "token") ≡ token
+        → IsOf
+        (if replay then Some (Replay first second) else if rp then Some (Rp first second None) else if plus then Some (RpPlus first second)
+        else if made then storm_of (number_in 0 4294967295 first) (number_in 1 10000 second) else if token then Some (Token first second) else None)
+        (name ∷ first ∷ second ∷ [])
+    at true rp plus made token is _ _ _ _ = (named name (codes "replay") is (first ∷ second ∷ []), tt)
+    at false true plus made token _ is _ _ _ = (named name (codes "rp") is (first ∷ second ∷ []), tt)
+    at false false true made token _ _ is _ _ = (named name (codes "rp-plus") is (first ∷ second ∷ []), tt)
+    at false false false true token _ _ _ is _ = storm name first second (number_in 0 4294967295 first) (number_in 1 10000 second) is refl refl
+    at false false false false true _ _ _ _ is = (named name (codes "token") is (first ∷ second ∷ []), tt)
+    at false false false false false _ _ _ _ _ = tt
 
 four : (name config party discovery : Text) → IsOf (of_four name config party discovery) (name ∷ config ∷ party ∷ discovery ∷ [])
 four name config party discovery = at (bytes_eq name (codes "rp")) refl
@@ -101,6 +109,8 @@ written_read (Replay config trace) plain range = rw plain
 written_read (Op config) plain range = rw plain
 written_read (Rp config name None) plain range = rw plain
 written_read (Rp config name (Some discovery)) plain range = rw plain
+written_read (OpPlus config) plain range = rw plain
+written_read (RpPlus config name) plain range = rw plain
 written_read (Storm number count) plain range =
     let least : 0 ≤ number = omega arith in
     let n : number_in 0 4294967295 (decimal number) ≡ Some number = number_read 0 4294967295 number least range.0 (omega arith) in

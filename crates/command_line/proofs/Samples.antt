@@ -3,8 +3,9 @@ use Rattle.std.proofs.Common.{◌≡◌, true, false, List, [], ◌∷◌, Some,
 use Rattle.std.specs.Fmt.{digits}
 use Rattle.std.specs.List.{list_all}
 use Rattle.sso_base.specs.Words.{Text}
-use Rattle.command_line.specs.declared.command.Command.TheVariants.{Replay, Op, Rp, Storm, Token}
-use Rattle.command_line.specs.Commands.{is_plain, command_of, is_command, asks_replay, asks_op, asks_rp, asks_storm, asks_token, words_of, IsInRange}
+use Rattle.command_line.specs.declared.command.Command.TheVariants.{Replay, Op, Rp, OpPlus, RpPlus, Storm, Token}
+use Rattle.command_line.specs.Commands.{is_plain, command_of, is_command, asks_replay, asks_op, asks_rp, asks_op_plus, asks_rp_plus, asks_storm, asks_token}
+use Rattle.command_line.specs.Commands.{words_of, IsInRange}
 
 -- ---- each list of words that is accepted
 
@@ -23,6 +24,14 @@ rp = refl
 rp_with_discovery : command_of (codes "rp" ∷ codes "sample.toml" ∷ codes "news" ∷ codes "op.json" ∷ []) ≡ Some (Rp (codes "sample.toml") (codes "news") (Some (codes "op.json")))
 unfolding command_of
 rp_with_discovery = refl
+
+op_plus : command_of (codes "op-plus" ∷ codes "sample.toml" ∷ []) ≡ Some (OpPlus (codes "sample.toml"))
+unfolding command_of
+op_plus = refl
+
+rp_plus : command_of (codes "rp-plus" ∷ codes "sample.toml" ∷ codes "news" ∷ []) ≡ Some (RpPlus (codes "sample.toml") (codes "news"))
+unfolding command_of
+rp_plus = refl
 
 token : command_of (codes "token" ∷ codes "secret" ∷ codes "id.jwt" ∷ []) ≡ Some (Token (codes "secret") (codes "id.jwt"))
 unfolding command_of
@@ -69,6 +78,11 @@ a_word_too_many = refl
 a_word_too_few : command_of (codes "replay" ∷ codes "sample.toml" ∷ []) ≡ None
 unfolding command_of
 a_word_too_few = refl
+
+-- a party with proof keys takes no metadata
+rp_plus_with_discovery : command_of (codes "rp-plus" ∷ codes "sample.toml" ∷ codes "news" ∷ codes "op.json" ∷ []) ≡ None
+unfolding command_of
+rp_plus_with_discovery = refl
 
 -- a storm of no login, of too many, of a number out of range, with a leading zero, a sign, or no number
 abbrev storm_words : Text → Text → List Text
@@ -138,6 +152,18 @@ asked_rp = refl
 
 asked_other_than_rp : asks_rp (Some (Op (codes "c"))) ≡ false
 asked_other_than_rp = refl
+
+asked_op_plus : asks_op_plus (Some (OpPlus (codes "c"))) ≡ true
+asked_op_plus = refl
+
+asked_op_for_op_plus : asks_op_plus (Some (Op (codes "c"))) ≡ false
+asked_op_for_op_plus = refl
+
+asked_rp_plus : asks_rp_plus (Some (RpPlus (codes "c") (codes "n"))) ≡ true
+asked_rp_plus = refl
+
+asked_rp_for_rp_plus : asks_rp_plus (Some (Rp (codes "c") (codes "n") None)) ≡ false
+asked_rp_for_rp_plus = refl
 
 asked_storm : asks_storm (Some (Storm 1 2)) ≡ true
 asked_storm = refl

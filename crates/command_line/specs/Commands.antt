@@ -5,7 +5,7 @@ use Rattle.std.specs.List.{list_all}
 use Rattle.std.specs.Str.{bytes_eq}
 use Rattle.sso_base.specs.Words.{Text}
 use Rattle.command_line.specs.declared.command.Command.{Command}
-use Rattle.command_line.specs.declared.command.Command.TheVariants.{Replay, Op, Rp, Storm, Token}
+use Rattle.command_line.specs.declared.command.Command.TheVariants.{Replay, Op, Rp, OpPlus, RpPlus, Storm, Token}
 use Rattle.command_line.specs.Numbers.{number_in}
 
 -- the word is not empty, and does not begin with `-`
@@ -15,7 +15,10 @@ is_plain (first ∷ rest) = not (first == 45)
 
 -- the commands of two words
 abbrev pub of_two : Text → Text → Option Command
-of_two name config = if bytes_eq name (codes "op") then Some (Op config) else None
+of_two name config =
+    if bytes_eq name (codes "op") then Some (Op config)
+    else if bytes_eq name (codes "op-plus") then Some (OpPlus config)
+    else None
 
 -- a storm of these numbers, if there are both
 abbrev pub storm_of : Option ℕ → Option ℕ → Option Command
@@ -27,6 +30,7 @@ abbrev pub of_three : Text → Text → Text → Option Command
 of_three name first second =
     if bytes_eq name (codes "replay") then Some (Replay first second)
     else if bytes_eq name (codes "rp") then Some (Rp first second None)
+    else if bytes_eq name (codes "rp-plus") then Some (RpPlus first second)
     else if bytes_eq name (codes "storm") then storm_of (number_in 0 4294967295 first) (number_in 1 10000 second)
     else if bytes_eq name (codes "token") then Some (Token first second)
     else None
@@ -66,6 +70,16 @@ abbrev pub asks_rp : Option Command → Bool
 asks_rp (Some (Rp config name discovery)) = true
 asks_rp command = false
 
+-- the command serves the provider with proof keys
+abbrev pub asks_op_plus : Option Command → Bool
+asks_op_plus (Some (OpPlus config)) = true
+asks_op_plus command = false
+
+-- the command serves a relying party with proof keys
+abbrev pub asks_rp_plus : Option Command → Bool
+asks_rp_plus (Some (RpPlus config name)) = true
+asks_rp_plus command = false
+
 -- the command plays a storm
 abbrev pub asks_storm : Option Command → Bool
 asks_storm (Some (Storm number count)) = true
@@ -82,6 +96,8 @@ words_of (Replay config trace) = codes "replay" ∷ config ∷ trace ∷ []
 words_of (Op config) = codes "op" ∷ config ∷ []
 words_of (Rp config name None) = codes "rp" ∷ config ∷ name ∷ []
 words_of (Rp config name (Some discovery)) = codes "rp" ∷ config ∷ name ∷ discovery ∷ []
+words_of (OpPlus config) = codes "op-plus" ∷ config ∷ []
+words_of (RpPlus config name) = codes "rp-plus" ∷ config ∷ name ∷ []
 words_of (Storm number count) = codes "storm" ∷ decimal number ∷ decimal count ∷ []
 words_of (Token secret token) = codes "token" ∷ secret ∷ token ∷ []
 

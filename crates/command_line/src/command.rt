@@ -39,6 +39,18 @@ pub enum Command {
         /// The name of the file with the provider's discovery document, if one is given.
         discovery: Option<Text>,
     },
+    /// `op-plus CONFIG`: serves the provider with proof keys (RFC 7636).
+    OpPlus {
+        /// The name of the configuration's file.
+        config: Text,
+    },
+    /// `rp-plus CONFIG NAME`: serves a relying party with proof keys (RFC 7636).
+    RpPlus {
+        /// The name of the configuration's file.
+        config: Text,
+        /// The relying party's name in the configuration.
+        name: Text,
+    },
     /// `storm NUMBER COUNT`: plays many logins, which are generated from two numbers.
     Storm {
         /// The seed that chooses the users, at most 4,294,967,295.
@@ -90,12 +102,12 @@ fn borrowed(alloc: Global, words: &[Text]) -> Result<Vec<&str>, NoMemory>
 fn of_two(alloc: Global, name: &str, config: &str) -> Result<Option<Command>, NoMemory>
     ensures { IfOk result (λ c. c ≡ spec.of_two name.now config.now) }
 {
-    if name != "op" {
-        return Ok(None);
-    }
-    Ok(Some(Command::Op {
-        config: Text::new(alloc, config)?,
-    }))
+    let config = Text::new(alloc, config)?;
+    Ok(match name {
+        "op" => Some(Command::Op { config }),
+        "op-plus" => Some(Command::OpPlus { config }),
+        _ => None,
+    })
 }
 
 // The command `storm` with these two arguments.
@@ -134,6 +146,10 @@ fn of_three(
             config: first,
             name: second,
             discovery: None,
+        }),
+        "rp-plus" => Some(Command::RpPlus {
+            config: first,
+            name: second,
         }),
         "token" => Some(Command::Token {
             secret: first,

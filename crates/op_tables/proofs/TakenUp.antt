@@ -52,11 +52,11 @@ use Rattle.op_tables.proofs.TakenSessions.{few_beside}
 
 -- ---- what was lacking for a row that is made
 
-first_false : (a b c d : Bool) → (a || b || c || d) ≡ false → a ≡ false
+pub first_false : (a b c d : Bool) → (a || b || c || d) ≡ false → a ≡ false
 first_false true b c d h = cc
 first_false false b c d h = refl
 
-third_false : (a b c d : Bool) → (a || b || c || d) ≡ false → c ≡ false
+pub third_false : (a b c d : Bool) → (a || b || c || d) ≡ false → c ≡ false
 third_false true b c d h = cc
 third_false false true c d h = cc
 third_false false false true d h = cc
@@ -70,7 +70,7 @@ fourth_false false false false true h = cc
 fourth_false false false false false h = refl
 
 module _ (past : OpPast) (at : ℕ) where
-  turn_lacks : (asked : OpAsk) (told : OpReply) (row : TurnRow) → turn_started at asked told ≡ Some row
+  pub turn_lacks : (asked : OpAsk) (told : OpReply) (row : TurnRow) → turn_started at asked told ≡ Some row
       → (is_own told ≡ true) × (lacks_turn past at asked told ≡ is_full most_rows turn_name row.word (live_turns past at))
   turn_lacks (ask.Authorize (verdict.Grant wish) b session) (reply.LoginPage w browser again) row h =
       let made : TurnRow = record { word = w; browser = browser; wish = wish; session = None; in_turn = false; begun = at } in
@@ -83,7 +83,7 @@ module _ (past : OpPast) (at : ℕ) where
   turn_lacks asked told row h = cc
 
 -- a reply with a code or an access token is the provider's own
-own_code : (told : OpReply) (w : Word) → code_in told ≡ Some w → is_own told ≡ true
+pub own_code : (told : OpReply) (w : Word) → code_in told ≡ Some w → is_own told ≡ true
 own_code (reply.Answered answer given) w h = refl
 own_code told w h = cc
 
@@ -92,7 +92,7 @@ own_access (reply.Answered answer given) w h = refl
 own_access (reply.Tokens access id) w h = refl
 own_access told w h = cc
 
-code_by_word : (by at : ℕ) (w : Option Word) (wish : Option Wish) (session : Option SessionRow) (row : CodeRow) → code_made_by by at w wish session ≡ Some row → w ≡ Some row.word
+pub code_by_word : (by at : ℕ) (w : Option Word) (wish : Option Wish) (session : Option SessionRow) (row : CodeRow) → code_made_by by at w wish session ≡ Some row → w ≡ Some row.word
 code_by_word by at (Some w) (Some wish) (Some session) row h =
     let N : CodeRow → Option Word = λ r. Some r.word in
     ap N (some_same (code_issued by at w wish session) row h)

@@ -1,5 +1,5 @@
 mod LiveInBoth
-mod KeptRows
+pub mod KeptRows
 mod Answered
 mod KeptTables
 mod Carried

@@ -28,7 +28,9 @@ fn leaves_login(why: &RpNo) -> bool
     )
 }
 
-fn ends_login(reply: &RpReply) -> bool
+/// Whether a reply ends the login that its authorization response belongs to. It does not if the response belongs to no login,
+/// or to that of another browser, or if a table is full.
+pub fn ends_login(reply: &RpReply) -> bool
     ensures { result ≡ logins.ends_login reply.now }
 {
     match reply {

@@ -13,8 +13,8 @@
 //! | `alive` | whether a logout came before its login |
 //! | `questions`, `room` | lookups in the tables, and whether they have room |
 //! | `in_turn` | the replies to requests, one after another, as a legal history |
-//! | `making` | the rows that a reply makes |
-//! | `keeping` | updating the tables with a pair |
+//! | `making` | the rows that a reply makes, and [`state_named`] in an authorization response |
+//! | `keeping` | updating the tables with a pair, and whether a reply [`ends_login`] |
 #![tactic(auto)]
 
 mod alive;
@@ -31,4 +31,6 @@ mod state;
 mod step;
 
 pub use in_turn::party_in_turn;
+pub use keeping::ends_login;
+pub use making::state_named;
 pub use state::RpCore;

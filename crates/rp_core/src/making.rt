@@ -35,8 +35,8 @@ pub(crate) struct Made {
     pub dead: Option<DeadRow>,
 }
 
-// The state of an authorization response that can be read.
-pub(crate) fn state_named(ask: &RpAsk) -> Option<Word>
+/// The state of an authorization response that can be read.
+pub fn state_named(ask: &RpAsk) -> Option<Word>
     ensures { result ≡ asked.state_named ask.now }
 {
     match ask {

@@ -9,6 +9,7 @@ ghost use Rattle.rp_core.specs.Agreeing.{Agrees};
 ghost use Rattle.rp_core.specs.Relying.{past_of};
 
 use client_registry::{Provider, Registry};
+use oidc_words::Types;
 use rp_accept::Setup;
 use rp_exchange::{RpAsk, RpReply};
 use rp_login::Logins;
@@ -62,6 +63,13 @@ impl RpCore {
             journal: Journal::new(alloc, lasts),
             logins,
         })
+    }
+
+    /// The response type of the party's requests.
+    pub fn types(&self) -> Types
+        ensures { result ≡ (party_of self.now.setup).types }
+    {
+        self.setup.party().types
     }
 
     /// The tables. Their live rows at the moment of the last entry are exactly those that live after the history.

@@ -35,8 +35,8 @@ impl Role for TallyRole {
         Ok(Tick { more: HEAVY })
     }
 
-    fn question<'r>(&self, _reply: &'r u64) -> Option<&'r Message> {
-        None
+    fn question(&self, _alloc: Global, _reply: &u64) -> Result<Option<Message>, NoMemory> {
+        Ok(None)
     }
 
     fn prepare_answer(

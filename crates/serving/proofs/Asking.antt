@@ -91,6 +91,10 @@ module _ {A R : Type 0} (m : Manner A R) where
   unanswered before after reply question Full puts (inl call) = absurd (never_full call.0.answer call.3)
   unanswered before after reply question Full puts (inr none) = absurd (cc none.1)
 
+  -- a round whose question could not be put for lack of memory
+  pub round_without_memory : (most : ℕ) (history : List (Pair A R)) (reply : R) → RoundFailed m most history reply [] NoMemory
+  round_without_memory most history reply = inl refl
+
   -- a round whose question was not answered
   pub round_unanswered : (most : ℕ) (history : List (Pair A R)) (reply : R) (calls : List LinkCall) (why : NoReply)
       → IsAnswered m reply calls (Err why) → RoundFailed m most history reply calls why

@@ -30,8 +30,12 @@ pub trait Role: Sync {
         ensures { IfOk result (λ asked. asked ≡ (manner self.now).prepared request.now) };
 
     /// The request to another server that a reply makes, if it makes one.
-    fn question<'r>(&self, reply: &'r <Self::Core as Core>::Reply) -> Option<&'r Message>
-        ensures { option_map (λ m. m.now) result ≡ (manner self.now).question reply.now };
+    fn question(
+        &self,
+        alloc: Global,
+        reply: &<Self::Core as Core>::Reply,
+    ) -> Result<Option<Message>, NoMemory>
+        ensures { IfOk result (λ question. question ≡ (manner self.now).question reply.now) };
 
     /// Parses the answer to such a request for the core.
     fn prepare_answer(

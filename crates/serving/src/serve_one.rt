@@ -124,14 +124,15 @@ fn follow<R: Wait, X: Role, L: Link, C: Clock, W: Draw>(
         X.rounds (front_of pass.new) reply w result
         × (places.new ≡ places.old + length w.steps) }
 {
-    let ask = match backend.role.question(&reply) {
+    let question = backend.role.question(backend.alloc, &reply)?;
+    let ask = match question {
         None => return Ok(reply),
-        Some(question) => asked_back(
+        Some(message) => asked_back(
             backend.alloc,
             backend.role,
             &mut tools.link,
             &reply,
-            question,
+            &message,
         )?,
     };
     drop(reply);

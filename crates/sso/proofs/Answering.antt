@@ -15,10 +15,11 @@ use Rattle.client_registry.specs.Rules.{party_place}
 use Rattle.discovery_doc.specs.declared.no.DiscNo.{DiscNo}
 use Rattle.discovery_doc.specs.Reading.{discovery_read}
 use Rattle.rp_accept.specs.Serving.{setup_of}
-use Rattle.rp_answer.specs.Setup.{PartySetup}
 use Rattle.command_line.specs.declared.command.Command.{Command}
-use Rattle.command_line.specs.declared.command.Command.TheVariants.{Replay, Op, Rp, Storm, Token}
+use Rattle.command_line.specs.declared.command.Command.TheVariants.{Replay, Op, Rp, OpPlus, RpPlus, Storm, Token}
 use Rattle.command_line.specs.Commands.{command_of, is_command}
+use Rattle.serving.specs.declared.summary.Summary.{Summary}
+use Rattle.sso_serve.specs.Servers.{ServesOp, ServesRp, ServesOpPlus, ServesRpPlus}
 use Rattle.trace_lines.specs.declared.no.TraceNo.{TraceNo}
 use Rattle.trace_lines.specs.Trace.{Told, trace_told}
 use Rattle.storm_texts.specs.Config.{config_text}
@@ -28,10 +29,12 @@ use Rattle.oidc_replay.specs.declared.replaying.ReplayEnd.TheVariants as end
 use Rattle.oidc_replay.specs.End.{end_of}
 use Rattle.sso.specs.Answer.{Answer, registry_name, configuration_refusal, end_status, trace_answer, replay_answer, answer_to, storm_told, storm_over, storm_answer, without_feed, is_secret, token_refusal, verdict_answer, token_answer}
 use Rattle.sso.specs.Asked.{provider_asked, op_asked, metadata_refusal, metadata_name, provider_read, described, trusted, setup_asked, number_asked, party_asked, rp_asked, server_answer}
+use Rattle.sso.specs.Ends.{IsConfigOf, RunsProviderBy}
 use Rattle.sso.specs.Ends.{IsConfigurationNo, IsTokenNo, IsMetadataNo, status_of_both, status_of_asked, op_status, content_if, rp_status, status_for, IsStatus, IsStatusOf, is_serving}
-use Rattle.sso.specs.Outcomes.{IsContent, IsContentIf, Plays, FailsAtShelf, AnswersReplay, AnswersStorm, AnswersToken, ServedOp, ServedRp, MayReplay, MayOpen, MayServeOp, MayServeRp, MayAnswer, IsWritten, usage_answer, shelf_answer}
+use Rattle.sso.specs.Outcomes.{IsContent, IsContentIf, Plays, FailsAtShelf, AnswersReplay, AnswersStorm, AnswersToken, ServedBy, ServedRp, ServedRpPlus, MayReplay, MayOpen, MayAnswer, IsWritten}
+use Rattle.sso.specs.Outcomes.{MayServe, MayServeOp, MayServeRp, MayServeOpPlus, MayServeRpPlus, usage_answer, shelf_answer}
 use Rattle.sso.specs.SignOn.{Replays, Storms}
-use Rattle.sso.specs.Statuses.{Call, Ended}
+use Rattle.sso.specs.Statuses.{Call, Runs, FailsAtDoor, Ended}
 use Rattle.sso.proofs.Endings.{runs_end, usage_ends, configuration_ends, trace_ends, shelf_ends, broken_ends, full_ends, sink_ends, door_ends, refusal_ends}
 
 module _ {D L C W S K : Type 0} (call : Call D L C W S K) where
@@ -152,7 +155,7 @@ module _ {D L C W S K : Type 0} (call : Call D L C W S K) where
 
   -- the status of a play, by how it ended
   storm_played : call.news ≡ call.olds → (end : ReplayEnd) → Storms call.words (end_status end) call.old call.new → Ended call (end_status end)
-  storm_played idle end.Met storms = runs_end call (inr (inr (inr (inr storms))))
+  storm_played idle end.Met storms = runs_end call (inr (inr (inr (inr (inr (inr storms))))))
   storm_played idle (end.Broken broken) storms = broken_ends call idle (inr storms)
   storm_played idle (end.Journal place) storms = full_ends call idle (inr storms)
 
@@ -262,44 +265,97 @@ module _ {D L C W S K : Type 0} (call : Call D L C W S K) where
         | inr other ↦ token_refused secret_at token_at answer words_are idle a (codes "Secret") (inl (other, refl)) (a.answers ∙ ap A other) wrote
       ]
 
-  -- ---- `op`
+  -- ---- `op` and `op-plus`
 
-  op_by : (config_at : Text) (answer : Answer) → command_of call.words ≡ Some (Op config_at)
-      → (config : List ℕ) → IsContent call.contents config_at config
-      → (read : Result Configuration RegNo) → registry_read config ≡ read
-      → ServedOp call.tells call.olds call.news (provider_asked read) answer → Whole answer → Ended call answer.status
-  op_by config_at answer words_are config there (Err why) read (is, idle) wrote =
-      ended_as answer (configuration_refusal (registry_name why)) is
+  -- a command rejects its configuration for a reason of this name
+  configuration_no : (command : Command) (config : List ℕ) (name : Text) (answer : Answer) → command_of call.words ≡ Some command
+      → IsConfigOf call.contents command config → call.news ≡ call.olds → IsConfigurationNo command config name
+      → answer ≡ configuration_refusal name → Whole answer → Ended call answer.status
+  configuration_no command config name answer words_are there idle why is wrote =
+      ended_as answer (configuration_refusal name) is
       (configuration_ends call idle
       (record {
-        command = Op config_at;
+        command = command;
         words_are = words_are;
         config = config;
         there = there;
-        name = registry_name why;
-        why = inl (why, read, refl);
-        wrote = whole_as answer (configuration_refusal (registry_name why)) wrote is;
+        name = name;
+        why = why;
+        wrote = whole_as answer (configuration_refusal name) wrote is;
       }))
-  op_by config_at answer words_are config there (Ok c) read (s, serves, is) wrote =
+
+  provider_by : {Core A R : Type 0} (command : Text → Command) (Serves : Configuration → Summary Core A R → Type 0)
+      → ((place : Text) (config : List ℕ) → IsContent call.contents place config → IsConfigOf call.contents (command place) config)
+      → (RunsProviderBy command Serves call.contents call.words false call.old call.new → Runs call)
+      → (RunsProviderBy command Serves call.contents call.words true call.old call.new → FailsAtDoor call)
+      → (config_at : Text) (answer : Answer) → command_of call.words ≡ Some (command config_at)
+      → (config : List ℕ) → IsContent call.contents config_at config
+      → (read : Result Configuration RegNo) → registry_read config ≡ read
+      → ServedBy (call.news ≡ call.olds) Serves (provider_asked read) answer → Whole answer → Ended call answer.status
+  provider_by command Serves of_command runs fails config_at answer words_are config there (Err why) read (is, idle) wrote =
+      configuration_no (command config_at) config (registry_name why) answer words_are (of_command config_at config there) idle
+      (inl (why, read, refl)) is wrote
+  provider_by command Serves of_command runs fails config_at answer words_are config there (Ok c) read (s, serves, is) wrote =
       elim (bool_cases s.fault) [
         | inl failed ↦
             let so : answer ≡ server_answer true s.served s.entries = is ∙ ap (λ (b : Bool). server_answer b s.served s.entries) failed in
             ended_as answer (server_answer true s.served s.entries) so
-            (door_ends call (inl
-            (record { config_at = config_at; words_are = words_are; config = config; there = there; configuration = c; read = read; summary = s; served = serves; ended = failed; wrote = whole_as answer (server_answer true s.served s.entries) wrote so })))
+            (door_ends call (fails
+            (record {
+              config_at = config_at;
+              words_are = words_are;
+              config = config;
+              there = there;
+              configuration = c;
+              read = read;
+              summary = s;
+              served = serves;
+              ended = failed;
+              wrote = whole_as answer (server_answer true s.served s.entries) wrote so;
+            })))
         | inr well ↦
             let so : answer ≡ server_answer false s.served s.entries = is ∙ ap (λ (b : Bool). server_answer b s.served s.entries) well in
             ended_as answer (server_answer false s.served s.entries) so
-            (runs_end call (inr (inr (inl
-            (record { config_at = config_at; words_are = words_are; config = config; there = there; configuration = c; read = read; summary = s; served = serves; ended = well; wrote = whole_as answer (server_answer false s.served s.entries) wrote so })))))
+            (runs_end call (runs
+            (record {
+              config_at = config_at;
+              words_are = words_are;
+              config = config;
+              there = there;
+              configuration = c;
+              read = read;
+              summary = s;
+              served = serves;
+              ended = well;
+              wrote = whole_as answer (server_answer false s.served s.entries) wrote so;
+            })))
       ]
+
+  provider_ends : {Core A R : Type 0} (command : Text → Command) (Serves : Configuration → Summary Core A R → Type 0)
+      → ((place : Text) (config : List ℕ) → IsContent call.contents place config → IsConfigOf call.contents (command place) config)
+      → (RunsProviderBy command Serves call.contents call.words false call.old call.new → Runs call)
+      → (RunsProviderBy command Serves call.contents call.words true call.old call.new → FailsAtDoor call)
+      → (config_at : Text) (answer : Answer) → command_of call.words ≡ Some (command config_at)
+      → MayServe (call.news ≡ call.olds) Serves op_asked call.contents call.shelf_before call.shelf_after config_at answer
+      → Whole answer → Ended call answer.status
+  unfolding op_asked
+  provider_ends command Serves of_command runs fails config_at answer words_are (inl failed) wrote =
+      shelf_failed (command config_at) answer words_are failed.1 failed.0 wrote
+  provider_ends command Serves of_command runs fails config_at answer words_are (inr a) wrote =
+      provider_by command Serves of_command runs fails config_at answer words_are a.config a.config_there (registry_read a.config) refl a.served wrote
 
   op_ends : (config_at : Text) (answer : Answer) → command_of call.words ≡ Some (Op config_at)
       → MayServeOp call.tells call.olds call.news call.contents call.shelf_before call.shelf_after config_at answer → Whole answer → Ended call answer.status
-  unfolding op_asked
-  op_ends config_at answer words_are (inl failed) wrote = shelf_failed (Op config_at) answer words_are failed.1 failed.0 wrote
-  op_ends config_at answer words_are (inr a) wrote =
-      op_by config_at answer words_are a.config a.config_there (registry_read a.config) refl a.served wrote
+  op_ends config_at answer words_are may wrote =
+      provider_ends (λ place. Op place) (ServesOp call.tells call.olds call.news) (λ place config there. there)
+      (λ runs. inr (inr (inl runs))) (λ fails. inl fails) config_at answer words_are may wrote
+
+  op_plus_ends : (config_at : Text) (answer : Answer) → command_of call.words ≡ Some (OpPlus config_at)
+      → MayServeOpPlus call.tells call.olds call.news call.contents call.shelf_before call.shelf_after config_at answer → Whole answer
+      → Ended call answer.status
+  op_plus_ends config_at answer words_are may wrote =
+      provider_ends (λ place. OpPlus place) (ServesOpPlus call.tells call.olds call.news) (λ place config there. there)
+      (λ runs. inr (inr (inr (inr (inl runs))))) (λ fails. inr (inr (inl fails))) config_at answer words_are may wrote
 
   -- ---- `rp`
 
@@ -313,17 +369,7 @@ module _ {D L C W S K : Type 0} (call : Call D L C W S K) where
       → Party config_at party metadata_at config metadata → call.news ≡ call.olds → (name : Text)
       → IsConfigurationNo (Rp config_at party metadata_at) config name → answer ≡ configuration_refusal name → Whole answer → Ended call answer.status
   party_refused config_at party metadata_at config metadata answer given idle name why is wrote =
-      ended_as answer (configuration_refusal name) is
-      (configuration_ends call idle
-      (record {
-        command = Rp config_at party metadata_at;
-        words_are = given.words_are;
-        config = config;
-        there = given.config_there;
-        name = name;
-        why = why;
-        wrote = whole_as answer (configuration_refusal name) wrote is;
-      }))
+      configuration_no (Rp config_at party metadata_at) config name answer given.words_are given.config_there idle why is wrote
 
   -- the metadata are refused
   metadata_ends : (config_at party metadata_at : Text) (config metadata : List ℕ) (answer : Answer)
@@ -362,8 +408,8 @@ module _ {D L C W S K : Type 0} (call : Call D L C W S K) where
         | inl failed ↦
             let so : answer ≡ server_answer true s.served s.entries = is ∙ ap (λ (b : Bool). server_answer b s.served s.entries) failed in
             ended_as answer (server_answer true s.served s.entries) so
-            (door_ends call (inr
-            (record { config_at = config_at; party = party; metadata_at = metadata_at; words_are = given.words_are; config = config; config_there = given.config_there; metadata = metadata; metadata_there = given.metadata_there; configuration = c; read = read; number = number; known = known; provider = provider; trusts = trusts; summary = s; served = serves; ended = failed; wrote = whole_as answer (server_answer true s.served s.entries) wrote so })))
+            (door_ends call (inr (inl
+            (record { config_at = config_at; party = party; metadata_at = metadata_at; words_are = given.words_are; config = config; config_there = given.config_there; metadata = metadata; metadata_there = given.metadata_there; configuration = c; read = read; number = number; known = known; provider = provider; trusts = trusts; summary = s; served = serves; ended = failed; wrote = whole_as answer (server_answer true s.served s.entries) wrote so }))))
         | inr well ↦
             let so : answer ≡ server_answer false s.served s.entries = is ∙ ap (λ (b : Bool). server_answer b s.served s.entries) well in
             ended_as answer (server_answer false s.served s.entries) so
@@ -437,6 +483,80 @@ module _ {D L C W S K : Type 0} (call : Call D L C W S K) where
       rp_by config_at party metadata_at a.config a.metadata answer
       (record { words_are = words_are; config_there = a.config_there; metadata_there = a.metadata_there }) (registry_read a.config) refl a.served wrote
 
+  -- ---- `rp-plus`
+
+  party_plus_ends : (config_at party : Text) (config : List ℕ) (answer : Answer) → command_of call.words ≡ Some (RpPlus config_at party)
+      → IsContent call.contents config_at config
+      → (c : Configuration) → registry_read config ≡ Ok c → (number : ℕ) → party_place party c.parties ≡ Some number
+      → ServedRpPlus call.tells call.olds call.news (Ok (setup_of c number c.provider)) answer → Whole answer → Ended call answer.status
+  party_plus_ends config_at party config answer words_are there c read number known (s, serves, is) wrote =
+      elim (bool_cases s.fault) [
+        | inl failed ↦
+            let so : answer ≡ server_answer true s.served s.entries = is ∙ ap (λ (b : Bool). server_answer b s.served s.entries) failed in
+            ended_as answer (server_answer true s.served s.entries) so
+            (door_ends call (inr (inr (inr
+            (record {
+              config_at = config_at;
+              party = party;
+              words_are = words_are;
+              config = config;
+              there = there;
+              configuration = c;
+              read = read;
+              number = number;
+              known = known;
+              summary = s;
+              served = serves;
+              ended = failed;
+              wrote = whole_as answer (server_answer true s.served s.entries) wrote so;
+            })))))
+        | inr well ↦
+            let so : answer ≡ server_answer false s.served s.entries = is ∙ ap (λ (b : Bool). server_answer b s.served s.entries) well in
+            ended_as answer (server_answer false s.served s.entries) so
+            (runs_end call (inr (inr (inr (inr (inr (inl
+            (record {
+              config_at = config_at;
+              party = party;
+              words_are = words_are;
+              config = config;
+              there = there;
+              configuration = c;
+              read = read;
+              number = number;
+              known = known;
+              summary = s;
+              served = serves;
+              ended = well;
+              wrote = whole_as answer (server_answer false s.served s.entries) wrote so;
+            }))))))))
+      ]
+
+  numbered_plus : (config_at party : Text) (config : List ℕ) (answer : Answer) → command_of call.words ≡ Some (RpPlus config_at party)
+      → IsContent call.contents config_at config
+      → (c : Configuration) → registry_read config ≡ Ok c → (number : Option ℕ) → party_place party c.parties ≡ number
+      → ServedRpPlus call.tells call.olds call.news (number_asked c number None) answer → Whole answer → Ended call answer.status
+  numbered_plus config_at party config answer words_are there c read (Some number) known served wrote =
+      party_plus_ends config_at party config answer words_are there c read number known served wrote
+  numbered_plus config_at party config answer words_are there c read None unknown (is, idle) wrote =
+      configuration_no (RpPlus config_at party) config (codes "NoParty") answer words_are there idle (inr (c, read, (unknown, refl))) is wrote
+
+  party_plus_by : (config_at party : Text) (config : List ℕ) (answer : Answer) → command_of call.words ≡ Some (RpPlus config_at party)
+      → IsContent call.contents config_at config
+      → (read : Result Configuration RegNo) → registry_read config ≡ read
+      → ServedRpPlus call.tells call.olds call.news (party_asked read party None) answer → Whole answer → Ended call answer.status
+  party_plus_by config_at party config answer words_are there (Ok c) read served wrote =
+      numbered_plus config_at party config answer words_are there c read (party_place party c.parties) refl served wrote
+  party_plus_by config_at party config answer words_are there (Err why) read (is, idle) wrote =
+      configuration_no (RpPlus config_at party) config (registry_name why) answer words_are there idle (inl (why, read, refl)) is wrote
+
+  rp_plus_ends : (config_at party : Text) (answer : Answer) → command_of call.words ≡ Some (RpPlus config_at party)
+      → MayServeRpPlus call.tells call.olds call.news call.contents call.shelf_before call.shelf_after config_at party answer → Whole answer
+      → Ended call answer.status
+  unfolding rp_asked
+  rp_plus_ends config_at party answer words_are (inl failed) wrote = shelf_failed (RpPlus config_at party) answer words_are failed.1 failed.0 wrote
+  rp_plus_ends config_at party answer words_are (inr a) wrote =
+      party_plus_by config_at party a.config answer words_are a.config_there (registry_read a.config) refl a.served wrote
+
   -- ---- Every answer
 
   -- what may be answered to a command
@@ -456,6 +576,8 @@ module _ {D L C W S K : Type 0} (call : Call D L C W S K) where
   whole_ends (Some (Token secret token)) answer words_are idle may wrote = token_ends secret token answer words_are (idle refl) may wrote
   whole_ends (Some (Op config)) answer words_are idle may wrote = op_ends config answer words_are may wrote
   whole_ends (Some (Rp config party metadata)) answer words_are idle may wrote = rp_ends config party metadata answer words_are may wrote
+  whole_ends (Some (OpPlus config)) answer words_are idle may wrote = op_plus_ends config answer words_are may wrote
+  whole_ends (Some (RpPlus config party)) answer words_are idle may wrote = rp_plus_ends config party answer words_are may wrote
 
   abbrev Written : Answer → ℕ → Type 0
   Written answer status = IsWritten call.old call.new call.before call.after answer status
@@ -513,17 +635,10 @@ module _ {D L C W S K : Type 0} (call : Call D L C W S K) where
   failed_told None answer is = inr (inr (inr (inl (ap (λ (v : Answer). v.status) is))))
 
   -- what was to be served was refused, or was served
-  op_told : (asked : Result Configuration Answer) (answer : Answer) → ServedOp call.tells call.olds call.news asked answer → IsStatusOf (status_of_asked asked) answer.status
-  op_told (Err refusal) answer (is, idle) = inl (ap (λ (v : Answer). v.status) is)
-  op_told (Ok c) answer (s, serves, is) =
-      elim (bool_cases s.fault) [
-        | inl failed ↦ inr (inl (ap (λ (v : Answer). v.status) is ∙ ap (λ (b : Bool). (server_answer b s.served s.entries).status) failed))
-        | inr well ↦ inl (ap (λ (v : Answer). v.status) is ∙ ap (λ (b : Bool). (server_answer b s.served s.entries).status) well)
-      ]
-
-  rp_told : (asked : Result PartySetup Answer) (answer : Answer) → ServedRp call.tells call.olds call.news asked answer → IsStatusOf (status_of_asked asked) answer.status
-  rp_told (Err refusal) answer (is, idle) = inl (ap (λ (v : Answer). v.status) is)
-  rp_told (Ok p) answer (s, serves, is) =
+  served_told : {X Core A R : Type 0} (Serves : X → Summary Core A R → Type 0) (asked : Result X Answer) (answer : Answer)
+      → ServedBy (call.news ≡ call.olds) Serves asked answer → IsStatusOf (status_of_asked asked) answer.status
+  served_told Serves (Err refusal) answer (is, idle) = inl (ap (λ (v : Answer). v.status) is)
+  served_told Serves (Ok x) answer (s, serves, is) =
       elim (bool_cases s.fault) [
         | inl failed ↦ inr (inl (ap (λ (v : Answer). v.status) is ∙ ap (λ (b : Bool). (server_answer b s.served s.entries).status) failed))
         | inr well ↦ inl (ap (λ (v : Answer). v.status) is ∙ ap (λ (b : Bool). (server_answer b s.served s.entries).status) well)
@@ -552,13 +667,24 @@ module _ {D L C W S K : Type 0} (call : Call D L C W S K) where
   whole_told held is (Some (Op config)) answer (inl failed) = failed_told (status_for held (Some (Op config))) answer failed.0.0
   whole_told held is (Some (Op config)) answer (inr a) =
       let S : Option (List ℕ) → Type 0 = λ o. IsStatusOf (op_status o) answer.status in
-      subst S (sym (told_at held config a.config is a.config_there)) (op_told (op_asked a.config) answer a.served)
+      subst S (sym (told_at held config a.config is a.config_there)) (served_told (ServesOp call.tells call.olds call.news) (op_asked a.config) answer a.served)
   whole_told held is (Some (Rp config party metadata)) answer (inl failed) = failed_told (status_for held (Some (Rp config party metadata))) answer failed.0.0
   whole_told held is (Some (Rp config party metadata)) answer (inr a) =
       let S : Option (List ℕ) → Type 0 = λ o. IsStatusOf (rp_status party o (content_if held metadata)) answer.status in
       let M : Option (Option (List ℕ)) → Type 0 = λ o. IsStatusOf (rp_status party (Some a.config) o) answer.status in
       subst S (sym (told_at held config a.config is a.config_there))
-      (subst M (sym (metadata_told held metadata a.metadata is a.metadata_there)) (rp_told (rp_asked a.config party a.metadata) answer a.served))
+      (subst M (sym (metadata_told held metadata a.metadata is a.metadata_there))
+      (served_told (ServesRp call.tells call.olds call.news) (rp_asked a.config party a.metadata) answer a.served))
+  whole_told held is (Some (OpPlus config)) answer (inl failed) = failed_told (status_for held (Some (OpPlus config))) answer failed.0.0
+  whole_told held is (Some (OpPlus config)) answer (inr a) =
+      let S : Option (List ℕ) → Type 0 = λ o. IsStatusOf (op_status o) answer.status in
+      subst S (sym (told_at held config a.config is a.config_there))
+      (served_told (ServesOpPlus call.tells call.olds call.news) (op_asked a.config) answer a.served)
+  whole_told held is (Some (RpPlus config party)) answer (inl failed) = failed_told (status_for held (Some (RpPlus config party))) answer failed.0.0
+  whole_told held is (Some (RpPlus config party)) answer (inr a) =
+      let S : Option (List ℕ) → Type 0 = λ o. IsStatusOf (rp_status party o (Some None)) answer.status in
+      subst S (sym (told_at held config a.config is a.config_there))
+      (served_told (ServesRpPlus call.tells call.olds call.news) (rp_asked a.config party None) answer a.served)
 
   cut_told : (wanted : Option ℕ) (status : ℕ) → status ≡ 6 → IsStatusOf wanted status
   cut_told (Some wanted) status is = inr (inr (inr is))

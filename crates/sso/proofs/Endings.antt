@@ -4,14 +4,16 @@ use Rattle.sso_base.specs.Words.{Text}
 use Rattle.client_registry.specs.Configuration.{Configuration}
 use Rattle.client_registry.specs.Reading.{registry_read}
 use Rattle.command_line.specs.declared.command.Command.{Command}
-use Rattle.command_line.specs.declared.command.Command.TheVariants.{Replay, Op, Rp, Storm, Token}
-use Rattle.command_line.specs.Commands.{command_of, is_command, asks_replay, asks_op, asks_rp, asks_storm, asks_token, IsInRange}
+use Rattle.command_line.specs.declared.command.Command.TheVariants.{Replay, Op, Rp, OpPlus, RpPlus, Storm, Token}
+use Rattle.command_line.specs.Commands.{command_of, is_command, asks_replay, asks_op, asks_rp, asks_op_plus, asks_rp_plus, asks_storm, asks_token}
+use Rattle.command_line.specs.Commands.{IsInRange}
 use Rattle.command_line.proofs.Laws.{range_read}
 use Rattle.trace_lines.specs.declared.no.TraceNo.{TraceNo}
 use Rattle.trace_lines.specs.Trace.{trace_told}
 use Rattle.storm_texts.proofs.Accepted.{storm_accepted}
 use Rattle.storm_texts.proofs.Configured.{storm_configured, storm_known}
-use Rattle.sso.specs.Ends.{asks_play, ShowsUsage, ReportsShelf, IsConfigOf, IsTraceOf, IsConfigurationNo, RefusesConfiguration, RefusesTrace, OpensToken, RunsProvider, RunsParty}
+use Rattle.sso.specs.Ends.{asks_play, ShowsUsage, ReportsShelf, IsConfigOf, IsTraceOf, IsConfigurationNo, RefusesConfiguration, RefusesTrace, OpensToken}
+use Rattle.sso.specs.Ends.{RunsProvider, RunsParty, RunsProviderPlus, RunsPartyPlus}
 use Rattle.sso.specs.SignOn.{Replays, Storms}
 use Rattle.sso.specs.Statuses.{Call, Runs, Played, FailsAtDoor, Refuses, Stops, At, Ended}
 
@@ -68,14 +70,18 @@ module _ {D L C W S K : Type 0} (call : Call D L C W S K) where
   replayed_of (inr (inl opens)) is_so = not_both asks_replay _ is_so opens.words_are refl
   replayed_of (inr (inr (inl serves))) is_so = not_both asks_replay _ is_so serves.words_are refl
   replayed_of (inr (inr (inr (inl serves)))) is_so = not_both asks_replay _ is_so serves.words_are refl
-  replayed_of (inr (inr (inr (inr storms)))) is_so = not_both asks_replay _ is_so storms.words_are refl
+  replayed_of (inr (inr (inr (inr (inl serves))))) is_so = not_both asks_replay _ is_so serves.words_are refl
+  replayed_of (inr (inr (inr (inr (inr (inl serves)))))) is_so = not_both asks_replay _ is_so serves.words_are refl
+  replayed_of (inr (inr (inr (inr (inr (inr storms)))))) is_so = not_both asks_replay _ is_so storms.words_are refl
 
   opened_of : Runs call → asks_token (command_of call.words) ≡ true → OpensToken call.contents call.words call.old call.new
   opened_of (inl replays) is_so = not_both asks_token _ is_so replays.words_are refl
   opened_of (inr (inl opens)) is_so = opens
   opened_of (inr (inr (inl serves))) is_so = not_both asks_token _ is_so serves.words_are refl
   opened_of (inr (inr (inr (inl serves)))) is_so = not_both asks_token _ is_so serves.words_are refl
-  opened_of (inr (inr (inr (inr storms)))) is_so = not_both asks_token _ is_so storms.words_are refl
+  opened_of (inr (inr (inr (inr (inl serves))))) is_so = not_both asks_token _ is_so serves.words_are refl
+  opened_of (inr (inr (inr (inr (inr (inl serves)))))) is_so = not_both asks_token _ is_so serves.words_are refl
+  opened_of (inr (inr (inr (inr (inr (inr storms)))))) is_so = not_both asks_token _ is_so storms.words_are refl
 
   provider_of : Runs call → asks_op (command_of call.words) ≡ true
       → RunsProvider call.tells call.olds call.news call.contents call.words false call.old call.new
@@ -83,7 +89,9 @@ module _ {D L C W S K : Type 0} (call : Call D L C W S K) where
   provider_of (inr (inl opens)) is_so = not_both asks_op _ is_so opens.words_are refl
   provider_of (inr (inr (inl serves))) is_so = serves
   provider_of (inr (inr (inr (inl serves)))) is_so = not_both asks_op _ is_so serves.words_are refl
-  provider_of (inr (inr (inr (inr storms)))) is_so = not_both asks_op _ is_so storms.words_are refl
+  provider_of (inr (inr (inr (inr (inl serves))))) is_so = not_both asks_op _ is_so serves.words_are refl
+  provider_of (inr (inr (inr (inr (inr (inl serves)))))) is_so = not_both asks_op _ is_so serves.words_are refl
+  provider_of (inr (inr (inr (inr (inr (inr storms)))))) is_so = not_both asks_op _ is_so storms.words_are refl
 
   party_of : Runs call → asks_rp (command_of call.words) ≡ true
       → RunsParty call.tells call.olds call.news call.contents call.words false call.old call.new
@@ -91,14 +99,38 @@ module _ {D L C W S K : Type 0} (call : Call D L C W S K) where
   party_of (inr (inl opens)) is_so = not_both asks_rp _ is_so opens.words_are refl
   party_of (inr (inr (inl serves))) is_so = not_both asks_rp _ is_so serves.words_are refl
   party_of (inr (inr (inr (inl serves)))) is_so = serves
-  party_of (inr (inr (inr (inr storms)))) is_so = not_both asks_rp _ is_so storms.words_are refl
+  party_of (inr (inr (inr (inr (inl serves))))) is_so = not_both asks_rp _ is_so serves.words_are refl
+  party_of (inr (inr (inr (inr (inr (inl serves)))))) is_so = not_both asks_rp _ is_so serves.words_are refl
+  party_of (inr (inr (inr (inr (inr (inr storms)))))) is_so = not_both asks_rp _ is_so storms.words_are refl
+
+  provider_plus_of : Runs call → asks_op_plus (command_of call.words) ≡ true
+      → RunsProviderPlus call.tells call.olds call.news call.contents call.words false call.old call.new
+  provider_plus_of (inl replays) is_so = not_both asks_op_plus _ is_so replays.words_are refl
+  provider_plus_of (inr (inl opens)) is_so = not_both asks_op_plus _ is_so opens.words_are refl
+  provider_plus_of (inr (inr (inl serves))) is_so = not_both asks_op_plus _ is_so serves.words_are refl
+  provider_plus_of (inr (inr (inr (inl serves)))) is_so = not_both asks_op_plus _ is_so serves.words_are refl
+  provider_plus_of (inr (inr (inr (inr (inl serves))))) is_so = serves
+  provider_plus_of (inr (inr (inr (inr (inr (inl serves)))))) is_so = not_both asks_op_plus _ is_so serves.words_are refl
+  provider_plus_of (inr (inr (inr (inr (inr (inr storms)))))) is_so = not_both asks_op_plus _ is_so storms.words_are refl
+
+  party_plus_of : Runs call → asks_rp_plus (command_of call.words) ≡ true
+      → RunsPartyPlus call.tells call.olds call.news call.contents call.words false call.old call.new
+  party_plus_of (inl replays) is_so = not_both asks_rp_plus _ is_so replays.words_are refl
+  party_plus_of (inr (inl opens)) is_so = not_both asks_rp_plus _ is_so opens.words_are refl
+  party_plus_of (inr (inr (inl serves))) is_so = not_both asks_rp_plus _ is_so serves.words_are refl
+  party_plus_of (inr (inr (inr (inl serves)))) is_so = not_both asks_rp_plus _ is_so serves.words_are refl
+  party_plus_of (inr (inr (inr (inr (inl serves))))) is_so = not_both asks_rp_plus _ is_so serves.words_are refl
+  party_plus_of (inr (inr (inr (inr (inr (inl serves)))))) is_so = serves
+  party_plus_of (inr (inr (inr (inr (inr (inr storms)))))) is_so = not_both asks_rp_plus _ is_so storms.words_are refl
 
   stormed_of : Runs call → asks_storm (command_of call.words) ≡ true → Storms call.words 0 call.old call.new
   stormed_of (inl replays) is_so = not_both asks_storm _ is_so replays.words_are refl
   stormed_of (inr (inl opens)) is_so = not_both asks_storm _ is_so opens.words_are refl
   stormed_of (inr (inr (inl serves))) is_so = not_both asks_storm _ is_so serves.words_are refl
   stormed_of (inr (inr (inr (inl serves)))) is_so = not_both asks_storm _ is_so serves.words_are refl
-  stormed_of (inr (inr (inr (inr storms)))) is_so = storms
+  stormed_of (inr (inr (inr (inr (inl serves))))) is_so = not_both asks_storm _ is_so serves.words_are refl
+  stormed_of (inr (inr (inr (inr (inr (inl serves)))))) is_so = not_both asks_storm _ is_so serves.words_are refl
+  stormed_of (inr (inr (inr (inr (inr (inr storms)))))) is_so = storms
 
   -- a play that ended with this status is of one of two commands
   replay_of : (status : ℕ) → Played call status → asks_replay (command_of call.words) ≡ true → Replays call.contents call.words status call.old call.new
@@ -118,7 +150,9 @@ module _ {D L C W S K : Type 0} (call : Call D L C W S K) where
   command_in (inr (inl opens)) = ap is_some opens.words_are
   command_in (inr (inr (inl serves))) = ap is_some serves.words_are
   command_in (inr (inr (inr (inl serves)))) = ap is_some serves.words_are
-  command_in (inr (inr (inr (inr storms)))) = ap is_some storms.words_are
+  command_in (inr (inr (inr (inr (inl serves))))) = ap is_some serves.words_are
+  command_in (inr (inr (inr (inr (inr (inl serves)))))) = ap is_some serves.words_are
+  command_in (inr (inr (inr (inr (inr (inr storms)))))) = ap is_some storms.words_are
 
   -- no configuration of a storm is refused
   none_refused : (command : Command) (config : List ℕ) (name : Text) → IsConfigOf call.contents command config → IsConfigurationNo command config name → asks_storm (Some command) ≡ false
@@ -128,6 +162,8 @@ module _ {D L C W S K : Type 0} (call : Call D L C W S K) where
   none_refused (Replay config_at trace_at) config name is why = refl
   none_refused (Op config_at) config name is why = refl
   none_refused (Rp config_at party metadata_at) config name is why = refl
+  none_refused (OpPlus config_at) config name is why = refl
+  none_refused (RpPlus config_at party) config name is why = refl
   none_refused (Token secret_at token_at) config name is why = refl
 
   no_storm : RefusesConfiguration call.contents call.words call.old call.new → asks_storm (command_of call.words) ≡ false
@@ -142,6 +178,8 @@ module _ {D L C W S K : Type 0} (call : Call D L C W S K) where
   none_unread (Replay config_at trace_at) config c trace why range is read made refused = refl
   none_unread (Op config_at) config c trace why range is read made refused = refl
   none_unread (Rp config_at party metadata_at) config c trace why range is read made refused = refl
+  none_unread (OpPlus config_at) config c trace why range is read made refused = refl
+  none_unread (RpPlus config_at party) config c trace why range is read made refused = refl
   none_unread (Token secret_at token_at) config c trace why range is read made refused = refl
 
   read_storm : RefusesTrace call.contents call.words call.old call.new → asks_storm (command_of call.words) ≡ false
@@ -187,6 +225,14 @@ module _ {D L C W S K : Type 0} (call : Call D L C W S K) where
   pub party : (status : ℕ) → Ended call status → status ≡ 0 → asks_rp (command_of call.words) ≡ true
       → RunsParty call.tells call.olds call.news call.contents call.words false call.old call.new
   party status ended is = party_of (at_status status 0 ended is)
+
+  pub provider_plus : (status : ℕ) → Ended call status → status ≡ 0 → asks_op_plus (command_of call.words) ≡ true
+      → RunsProviderPlus call.tells call.olds call.news call.contents call.words false call.old call.new
+  provider_plus status ended is = provider_plus_of (at_status status 0 ended is)
+
+  pub party_plus : (status : ℕ) → Ended call status → status ≡ 0 → asks_rp_plus (command_of call.words) ≡ true
+      → RunsPartyPlus call.tells call.olds call.news call.contents call.words false call.old call.new
+  party_plus status ended is = party_plus_of (at_status status 0 ended is)
 
   pub command : (status : ℕ) → Ended call status → status ≡ 0 → is_command call.words ≡ true
   command status ended is = command_in (at_status status 0 ended is)

@@ -22,9 +22,12 @@ use Rattle.trace_lines.specs.declared.no.TraceNo.TheVariants as no
 use Rattle.trace_lines.specs.Trace.{trace_told, told_of, lines_of}
 use Rattle.sso.specs.Answer.{Answer, answer_to, trace_answer, replay_answer, without_feed, is_secret, token_refusal, verdict_answer, token_answer}
 use Rattle.server_desk.specs.declared.desk.Desk.{Desk}
+use Rattle.serving.specs.declared.summary.Summary.{Summary}
 use Rattle.serving.specs.Summaries.{Telling}
+use Rattle.sso_serve.specs.Servers.{ServesOp, ServesOpPlus, ServesRpPlus}
 use Rattle.sso.specs.Asked.{op_asked, provider_asked, metadata_refusal, provider_read, described, trusted, rp_asked, party_asked, number_asked, setup_asked}
-use Rattle.sso.specs.Outcomes.{IsContent, IsContentIf, IsFetched, IsFetchedIf, AnswersReplay, AnswersToken, ServedOp, AnswersOp, ServedRp, AnswersRp, Plays}
+use Rattle.sso.specs.Outcomes.{IsContent, IsContentIf, IsFetched, IsFetchedIf, AnswersReplay, AnswersToken, ServedBy, AnswersServer, ServedOp}
+use Rattle.sso.specs.Outcomes.{ServedRp, ServedOpPlus, ServedRpPlus, AnswersRp, Plays}
 
 -- ---- One content
 
@@ -220,13 +223,35 @@ from_fetch_if contents None None fetched = (None, tt, refl)
 from_fetch_if contents (Some name) None fetched = absurd (fetched)
 from_fetch_if contents None (Some bytes) fetched = absurd (fetched)
 
+server_fetched : {X Core A R : Type 0} (Unchanged : Type 0) (Serves : X → Summary Core A R → Type 0) (asked : List ℕ → Result X Answer)
+    → ((config : List ℕ) → asked (take 1048577 config) ≡ asked config)
+    → (contents : Option (List Content)) (config_at : Text) (bytes config : List ℕ) (answer : Answer)
+    → bytes ≡ config → IsFetched contents config_at 1048577 config → ServedBy Unchanged Serves (asked bytes) answer
+    → AnswersServer Unchanged Serves asked contents config_at answer
+server_fetched {X} Unchanged Serves asked cut contents config_at bytes config answer same config_from served =
+    let c = from_fetch contents config_at 1048577 config config_from in
+    let V : Result X Answer → Type 0 = λ a. ServedBy Unchanged Serves a answer in
+    record { config = c.0; config_there = c.1; served = subst V (ap asked (same ∙ c.2) ∙ cut c.0) served }
+
 module _ {D L C W S K : Type 0} (t : Telling D L C W S K) (olds news : List (Desk D L C W)) where
   pub op_fetched : (contents : Option (List Content)) (config_at : Text) (bytes config : List ℕ) (answer : Answer)
-      → bytes ≡ config → IsFetched contents config_at 1048577 config → ServedOp t olds news (op_asked bytes) answer → AnswersOp t olds news contents config_at answer
+      → bytes ≡ config → IsFetched contents config_at 1048577 config → ServedOp t olds news (op_asked bytes) answer
+      → AnswersServer (news ≡ olds) (ServesOp t olds news) op_asked contents config_at answer
   op_fetched contents config_at bytes config answer same config_from served =
-      let c = from_fetch contents config_at 1048577 config config_from in
-      let V : Result Configuration Answer → Type 0 = λ asked. ServedOp t olds news asked answer in
-      record { config = c.0; config_there = c.1; served = subst V (ap op_asked (same ∙ c.2) ∙ op_cut c.0) served }
+      server_fetched (news ≡ olds) (ServesOp t olds news) op_asked op_cut contents config_at bytes config answer same config_from served
+
+  pub op_plus_fetched : (contents : Option (List Content)) (config_at : Text) (bytes config : List ℕ) (answer : Answer)
+      → bytes ≡ config → IsFetched contents config_at 1048577 config → ServedOpPlus t olds news (op_asked bytes) answer
+      → AnswersServer (news ≡ olds) (ServesOpPlus t olds news) op_asked contents config_at answer
+  op_plus_fetched contents config_at bytes config answer same config_from served =
+      server_fetched (news ≡ olds) (ServesOpPlus t olds news) op_asked op_cut contents config_at bytes config answer same config_from served
+
+  pub rp_plus_fetched : (contents : Option (List Content)) (config_at party : Text) (bytes config : List ℕ) (answer : Answer)
+      → bytes ≡ config → IsFetched contents config_at 1048577 config → ServedRpPlus t olds news (rp_asked bytes party None) answer
+      → AnswersServer (news ≡ olds) (ServesRpPlus t olds news) (λ v. rp_asked v party None) contents config_at answer
+  rp_plus_fetched contents config_at party bytes config answer same config_from served =
+      server_fetched (news ≡ olds) (ServesRpPlus t olds news) (λ v. rp_asked v party None) (λ v. rp_cut v party None) contents config_at
+      bytes config answer same config_from served
 
   pub rp_fetched : (contents : Option (List Content)) (config_at party : Text) (metadata_at : Option Text) (bytes config : List ℕ) (metadata : Option (List ℕ)) (answer : Answer)
       → bytes ≡ config → IsFetched contents config_at 1048577 config → IsFetchedIf contents metadata_at 65537 metadata

@@ -45,14 +45,15 @@ use Rattle.op_exchange.specs.declared.ask.OpAsk.{OpAsk}
 use Rattle.op_exchange.specs.declared.reply.OpReply.{OpReply}
 use Rattle.op_core.specs.Providing.{Providing}
 use Rattle.command_line.specs.declared.command.Command.{Command}
-use Rattle.command_line.specs.declared.command.Command.TheVariants.{Replay, Rp, Storm, Token}
+use Rattle.command_line.specs.declared.command.Command.TheVariants.{Replay, Rp, OpPlus, RpPlus, Storm, Token}
 use Rattle.command_line.specs.Commands.{command_of}
 use Rattle.serving.specs.declared.summary.Summary.{Summary}
 use Rattle.serving.specs.Summaries.{Telling}
-use Rattle.sso_serve.specs.Servers.{ServesOp}
+use Rattle.sso_serve.specs.Servers.{OpPlusSummary, ServesOp, ServesOpPlus}
 use Rattle.sso.specs.Answer.{configuration_refusal, end_status, answer_to, replay_answer, registry_name, configuration_text, usage_text, trace_name, refused_text, without_feed, token_text, token_answer}
 use Rattle.sso.specs.Asked.{provider_asked, op_asked, metadata_refusal, described, party_asked, rp_asked, served_text}
-use Rattle.sso.specs.Ends.{IsConfigOf, IsTraceOf, asks_play, ShowsUsage, ReportsShelf, IsConfigurationNo, RefusesConfiguration, RefusesTrace, RefusesToken, OpensToken, RunsProvider, IsTokenNo, op_status, rp_status, status_of_asked, status_for}
+use Rattle.sso.specs.Ends.{IsConfigOf, IsTraceOf, asks_play, ShowsUsage, ReportsShelf, IsConfigurationNo, RefusesConfiguration, RefusesTrace, RefusesToken, OpensToken, IsTokenNo, op_status, rp_status, status_of_asked, status_for}
+use Rattle.sso.specs.Ends.{RunsProvider, RunsProviderPlus, RunsPartyPlus, is_serving}
 use Rattle.sso.specs.SignOn.{Replays, Storms}
 
 -- a small configuration, and what is read of it
@@ -421,6 +422,36 @@ unfolding configuration_text command_of
 no_party_refused =
     record { command = Rp (codes "config") (codes "shop") None; words_are = refl; config = small; there = refl; name = codes "NoParty"; why = inr (configuration, small_read, (refl, refl)); wrote = refl }
 
+-- with proof keys
+provider_plus-is_for_the_doors : status_for (with small header) (Some (OpPlus (codes "config"))) ≡ None
+provider_plus-is_for_the_doors = provider-is_for_the_doors
+
+no_party_plus-is_3 : status_for (with small header) (Some (RpPlus (codes "config") (codes "shop"))) ≡ Some 3
+no_party_plus-is_3 = no_party-is_3
+
+absent_party_plus-is_5 : status_for [] (Some (RpPlus (codes "config") (codes "shop"))) ≡ Some 5
+absent_party_plus-is_5 = refl
+
+plus-serves : is_serving (Some (OpPlus (codes "config"))) ≡ true
+plus-serves = refl
+
+token-serves_not : is_serving opening ≡ false
+token-serves_not = refl
+
+no_party_plus_refused : RefusesConfiguration (Some (with small header)) (codes "rp-plus" ∷ codes "config" ∷ codes "shop" ∷ []) (Some [])
+    (Some (codes "configuration NoParty\n"))
+unfolding configuration_text command_of
+no_party_plus_refused =
+    record {
+      command = RpPlus (codes "config") (codes "shop");
+      words_are = refl;
+      config = small;
+      there = refl;
+      name = codes "NoParty";
+      why = inr (configuration, small_read, (refl, refl));
+      wrote = refl;
+    }
+
 -- ---- Servers without desks
 
 module _ {D L C W S K : Type 0} (t : Telling D L C W S K) where
@@ -441,3 +472,35 @@ module _ {D L C W S K : Type 0} (t : Telling D L C W S K) where
   -- no door failed
   provider_not_run : RunsProvider t [] [] (Some (with small header)) op_words true (Some []) (Some (codes "door\n")) → ⊥
   provider_not_run runs = runs.served.failed runs.ended
+
+  -- with proof keys
+  abbrev op_plus_words : List Text
+  op_plus_words = codes "op-plus" ∷ codes "config" ∷ []
+
+  abbrev nothing_plus : OpPlusSummary
+  nothing_plus = record { served = 0; entries = 0; fault = false; closed = None }
+
+  nothing_plus_served : ServesOpPlus t [] [] configuration nothing_plus
+  nothing_plus_served =
+      record { none = λ _. (refl, refl, refl, refl, refl); some = λ few. absurd (omega arith); failed = λ never. absurd (cc); well = λ _. tt }
+
+  provider_plus_run : RunsProviderPlus t [] [] (Some (with small header)) op_plus_words false (Some []) (Some (codes "served 0 entries 0\n"))
+  unfolding command_of served_text digits
+  provider_plus_run =
+      record {
+        config_at = codes "config";
+        words_are = refl;
+        config = small;
+        there = refl;
+        configuration = configuration;
+        read = small_read;
+        summary = nothing_plus;
+        served = nothing_plus_served;
+        ended = refl;
+        wrote = refl;
+      }
+
+  -- other words are no party with proof keys
+  party_plus_not_run : RunsPartyPlus t [] [] (Some (with small header)) words false None None → ⊥
+  party_plus_not_run runs =
+      (let never : ◌≡◌ {A = Option Command} replaying (Some (RpPlus runs.config_at runs.party)) = sym words_read ∙ runs.words_are in cc)

@@ -28,7 +28,9 @@ pub record Answer : Type 0 where
   pub text : Text
 
 unfoldable pub usage_text : Text
-usage_text = codes "usage: sso replay CONFIG TRACE, op CONFIG, rp CONFIG NAME [DISCOVERY], storm NUMBER COUNT, token SECRETFILE TOKENFILE\n"
+usage_text =
+    codes "usage: sso replay CONFIG TRACE, op CONFIG, rp CONFIG NAME [DISCOVERY], op-plus CONFIG, rp-plus CONFIG NAME, "
+    ++ codes "storm NUMBER COUNT, token SECRETFILE TOKENFILE\n"
 
 unfoldable pub shelf_text : Text
 shelf_text = codes "shelf\n"

@@ -16,20 +16,17 @@ use Rattle.client_registry.specs.Reading.{registry_read}
 use Rattle.client_registry.specs.Rules.{party_place}
 use Rattle.discovery_doc.specs.declared.no.DiscNo.{DiscNo}
 use Rattle.discovery_doc.specs.Reading.{discovery_read}
-use Rattle.op_exchange.specs.declared.ask.OpAsk.{OpAsk}
-use Rattle.op_exchange.specs.declared.reply.OpReply.{OpReply}
-use Rattle.op_core.specs.Providing.{Providing}
 use Rattle.rp_exchange.specs.declared.ask.RpAsk.{RpAsk}
 use Rattle.rp_exchange.specs.declared.reply.RpReply.{RpReply}
 use Rattle.rp_accept.specs.Serving.{setup_of}
 use Rattle.rp_core.specs.Relying.{Relying}
 use Rattle.command_line.specs.declared.command.Command.{Command}
-use Rattle.command_line.specs.declared.command.Command.TheVariants.{Replay, Op, Rp, Storm, Token}
+use Rattle.command_line.specs.declared.command.Command.TheVariants.{Replay, Op, Rp, OpPlus, RpPlus, Storm, Token}
 use Rattle.command_line.specs.Commands.{command_of, is_command}
 use Rattle.server_desk.specs.declared.desk.Desk.{Desk}
 use Rattle.serving.specs.declared.summary.Summary.{Summary}
 use Rattle.serving.specs.Summaries.{Telling}
-use Rattle.sso_serve.specs.Servers.{ServesOp, ServesRp}
+use Rattle.sso_serve.specs.Servers.{RpPlusSummary, ServesOp, ServesRp, ServesOpPlus, ServesRpPlus}
 use Rattle.trace_lines.specs.declared.no.TraceNo.{TraceNo}
 use Rattle.trace_lines.specs.Trace.{trace_told}
 use Rattle.storm_texts.specs.Config.{config_text}
@@ -59,6 +56,8 @@ abbrev pub IsConfigOf : Option (List Content) → Command → List ℕ → Type 
 IsConfigOf contents (Replay config_at trace_at) config = IsContent contents config_at config
 IsConfigOf contents (Op config_at) config = IsContent contents config_at config
 IsConfigOf contents (Rp config_at party metadata_at) config = IsContent contents config_at config
+IsConfigOf contents (OpPlus config_at) config = IsContent contents config_at config
+IsConfigOf contents (RpPlus config_at party) config = IsContent contents config_at config
 IsConfigOf contents (Storm number count) config = config ≡ config_text
 IsConfigOf contents (Token secret_at token_at) config = ⊥
 
@@ -71,6 +70,7 @@ IsTraceOf contents command trace = ⊥
 -- the configuration lacks the party that the command names; this is the name of that reason
 abbrev pub IsPartyNo : Command → Configuration → Text → Type 0
 IsPartyNo (Rp config_at party metadata_at) c name = (party_place party c.parties ≡ None) × (name ≡ codes "NoParty")
+IsPartyNo (RpPlus config_at party) c name = (party_place party c.parties ≡ None) × (name ≡ codes "NoParty")
 IsPartyNo command c name = ⊥
 
 -- the name of the reason for which a command rejects a configuration: reading rejects it, or it lacks the party
@@ -167,23 +167,35 @@ pub record RefusesMetadata (contents : Option (List Content)) (words : List Text
   pub why : IsMetadataNo configuration metadata name
   pub wrote : Takes old new (metadata_text name)
 
+-- ---- servers: the desks served
+
+-- The configuration is accepted, the desks served its provider, and the result was written: that a door failed, or how much was
+-- served.
+pub record RunsProviderBy
+    {Core A R : Type 0} (command : Text → Command) (Serves : Configuration → Summary Core A R → Type 0)
+    (contents : Option (List Content)) (words : List Text) (failed : Bool) (old new : Option (List ℕ)) : Type 0 where
+  pub config_at : Text
+  pub words_are : command_of words ≡ Some (command config_at)
+  pub config : List ℕ
+  pub there : IsContent contents config_at config
+  pub configuration : Configuration
+  pub read : registry_read config ≡ Ok configuration
+  pub summary : Summary Core A R
+  pub served : Serves configuration summary
+  pub ended : summary.fault ≡ failed
+  pub wrote : Takes old new (server_answer failed summary.served summary.entries).text
+
 module _ {D L C W S K : Type 0} (t : Telling D L C W S K) (olds news : List (Desk D L C W)) where
-  -- ---- `op` and `rp`: the desks served
+  -- `op`
+  abbrev pub RunsProvider : Option (List Content) → List Text → Bool → Option (List ℕ) → Option (List ℕ) → Type 0
+  RunsProvider contents words failed old new = RunsProviderBy (λ config_at. Op config_at) (ServesOp t olds news) contents words failed old new
 
-  -- The configuration is accepted, the desks served its provider, and the result was written: that a door failed, or how much
-  -- was served.
-  pub record RunsProvider (contents : Option (List Content)) (words : List Text) (failed : Bool) (old new : Option (List ℕ)) : Type 0 where
-    pub config_at : Text
-    pub words_are : command_of words ≡ Some (Op config_at)
-    pub config : List ℕ
-    pub there : IsContent contents config_at config
-    pub configuration : Configuration
-    pub read : registry_read config ≡ Ok configuration
-    pub summary : Summary Providing OpAsk OpReply
-    pub served : ServesOp t olds news configuration summary
-    pub ended : summary.fault ≡ failed
-    pub wrote : Takes old new (server_answer failed summary.served summary.entries).text
+  -- `op-plus`
+  abbrev pub RunsProviderPlus : Option (List Content) → List Text → Bool → Option (List ℕ) → Option (List ℕ) → Type 0
+  RunsProviderPlus contents words failed old new =
+      RunsProviderBy (λ config_at. OpPlus config_at) (ServesOpPlus t olds news) contents words failed old new
 
+  -- `rp`
   -- The same for a party of the configuration, which trusts the configuration's provider, or the one of the metadata.
   pub record RunsParty (contents : Option (List Content)) (words : List Text) (failed : Bool) (old new : Option (List ℕ)) : Type 0 where
     pub config_at : Text
@@ -202,6 +214,22 @@ module _ {D L C W S K : Type 0} (t : Telling D L C W S K) (olds news : List (Des
     pub trusts : trusted configuration metadata ≡ Ok provider
     pub summary : Summary Relying RpAsk RpReply
     pub served : ServesRp t olds news (setup_of configuration number provider) summary
+    pub ended : summary.fault ≡ failed
+    pub wrote : Takes old new (server_answer failed summary.served summary.entries).text
+
+  -- `rp-plus`: a party of the configuration, which trusts the configuration's provider
+  pub record RunsPartyPlus (contents : Option (List Content)) (words : List Text) (failed : Bool) (old new : Option (List ℕ)) : Type 0 where
+    pub config_at : Text
+    pub party : Text
+    pub words_are : command_of words ≡ Some (RpPlus config_at party)
+    pub config : List ℕ
+    pub there : IsContent contents config_at config
+    pub configuration : Configuration
+    pub read : registry_read config ≡ Ok configuration
+    pub number : ℕ
+    pub known : party_place party configuration.parties ≡ Some number
+    pub summary : RpPlusSummary
+    pub served : ServesRpPlus t olds news (setup_of configuration number configuration.provider) summary
     pub ended : summary.fault ≡ failed
     pub wrote : Takes old new (server_answer failed summary.served summary.entries).text
 
@@ -251,6 +279,8 @@ status_for contents (Some (Storm number count)) = Some (storm_answer number coun
 status_for contents (Some (Token secret token)) = Some (status_of_both token_answer (content_of contents secret) (content_of contents token))
 status_for contents (Some (Op config)) = op_status (content_of contents config)
 status_for contents (Some (Rp config party metadata)) = rp_status party (content_of contents config) (content_if contents metadata)
+status_for contents (Some (OpPlus config)) = op_status (content_of contents config)
+status_for contents (Some (RpPlus config party)) = rp_status party (content_of contents config) (Some None)
 
 -- The status is this one, unless memory ran out or the sink failed.
 abbrev pub IsStatus : ℕ → ℕ → Type 0
@@ -275,13 +305,18 @@ asks_play command = false
 abbrev pub is_serving : Option Command → Bool
 is_serving (Some (Op config)) = true
 is_serving (Some (Rp config party metadata)) = true
+is_serving (Some (OpPlus config)) = true
+is_serving (Some (RpPlus config party)) = true
 is_serving command = false
 
 -- the provider or a party is served
 abbrev pub RunsServer : {D L C W S K : Type 0} → Telling D L C W S K → List (Desk D L C W) → List (Desk D L C W)
     → Option (List Content) → List Text → Bool → Option (List ℕ) → Option (List ℕ) → Type 0
 RunsServer t olds news contents words failed old new =
-    RunsProvider t olds news contents words failed old new ⊎ RunsParty t olds news contents words failed old new
+    RunsProvider t olds news contents words failed old new
+    ⊎ RunsParty t olds news contents words failed old new
+    ⊎ RunsProviderPlus t olds news contents words failed old new
+    ⊎ RunsPartyPlus t olds news contents words failed old new
 
 -- a token or a discovery document is refused
 abbrev pub RefusesTokenOrMetadata : Option (List Content) → List Text → Option (List ℕ) → Option (List ℕ) → Type 0

@@ -6,19 +6,13 @@ use Rattle.sso_base.specs.Faults.{Rose}
 use Rattle.sso_base.specs.Outside.{Content, content_of, Fetches, Takes, TakesFront}
 use Rattle.client_registry.specs.Configuration.{Configuration}
 use Rattle.client_registry.specs.Reading.{registry_read}
-use Rattle.op_exchange.specs.declared.ask.OpAsk.{OpAsk}
-use Rattle.op_exchange.specs.declared.reply.OpReply.{OpReply}
-use Rattle.op_core.specs.Providing.{Providing}
-use Rattle.rp_exchange.specs.declared.ask.RpAsk.{RpAsk}
-use Rattle.rp_exchange.specs.declared.reply.RpReply.{RpReply}
 use Rattle.rp_answer.specs.Setup.{PartySetup}
-use Rattle.rp_core.specs.Relying.{Relying}
 use Rattle.command_line.specs.declared.command.Command.{Command}
-use Rattle.command_line.specs.declared.command.Command.TheVariants.{Replay, Op, Rp, Storm, Token}
+use Rattle.command_line.specs.declared.command.Command.TheVariants.{Replay, Op, Rp, OpPlus, RpPlus, Storm, Token}
 use Rattle.server_desk.specs.declared.desk.Desk.{Desk}
 use Rattle.serving.specs.declared.summary.Summary.{Summary}
 use Rattle.serving.specs.Summaries.{Telling}
-use Rattle.sso_serve.specs.Servers.{ServesOp, ServesRp}
+use Rattle.sso_serve.specs.Servers.{ServesOp, ServesRp, ServesOpPlus, ServesRpPlus}
 use Rattle.trace_lines.specs.Trace.{Told, trace_told}
 use Rattle.storm_texts.specs.Config.{config_text}
 use Rattle.storm_texts.specs.Trace.{trace_text}
@@ -99,28 +93,49 @@ abbrev pub MayOpen : Option (List Content) → ℕ → ℕ → Text → Text →
 MayOpen contents before after secret_at token_at answer =
     FailsAtShelf before after answer ⊎ AnswersToken contents secret_at token_at answer
 
--- ---- `op` and `rp`
+-- ---- servers
+
+-- the possible outcomes of serving: if it is refused, the desks are unchanged; otherwise they served
+abbrev pub ServedBy : {X Core A R : Type 0} → Type 0 → (X → Summary Core A R → Type 0) → Result X Answer → Answer → Type 0
+ServedBy {X} {Core} {A} {R} Unchanged Serves (Err refusal) answer = (answer ≡ refusal) × Unchanged
+ServedBy {X} {Core} {A} {R} Unchanged Serves (Ok x) answer =
+    (s : Summary Core A R) × Serves x s × (answer ≡ server_answer s.fault s.served s.entries)
+
+-- The outcome is the one for a configuration with this name.
+pub record AnswersServer
+    {X Core A R : Type 0} (Unchanged : Type 0) (Serves : X → Summary Core A R → Type 0) (asked : List ℕ → Result X Answer)
+    (contents : Option (List Content)) (config_at : Text) (answer : Answer) : Type 0 where
+  pub config : List ℕ
+  pub config_there : IsContent contents config_at config
+  pub served : ServedBy Unchanged Serves (asked config) answer
+
+-- the possible outcomes of a server that needs a configuration alone
+abbrev pub MayServe : {X Core A R : Type 0} → Type 0 → (X → Summary Core A R → Type 0) → (List ℕ → Result X Answer)
+    → Option (List Content) → ℕ → ℕ → Text → Answer → Type 0
+MayServe Unchanged Serves asked contents before after config_at answer =
+    (FailsAtShelf before after answer × Unchanged) ⊎ AnswersServer Unchanged Serves asked contents config_at answer
 
 module _ {D L C W S K : Type 0} (t : Telling D L C W S K) (olds news : List (Desk D L C W)) where
-  -- the possible outcomes of serving: if it is refused, the desks are unchanged; otherwise they served
   abbrev pub ServedOp : Result Configuration Answer → Answer → Type 0
-  ServedOp (Err refusal) answer = (answer ≡ refusal) × (news ≡ olds)
-  ServedOp (Ok c) answer = (s : Summary Providing OpAsk OpReply) × ServesOp t olds news c s × (answer ≡ server_answer s.fault s.served s.entries)
+  ServedOp asked answer = ServedBy (news ≡ olds) (ServesOp t olds news) asked answer
 
   abbrev pub ServedRp : Result PartySetup Answer → Answer → Type 0
-  ServedRp (Err refusal) answer = (answer ≡ refusal) × (news ≡ olds)
-  ServedRp (Ok p) answer = (s : Summary Relying RpAsk RpReply) × ServesRp t olds news p s × (answer ≡ server_answer s.fault s.served s.entries)
+  ServedRp asked answer = ServedBy (news ≡ olds) (ServesRp t olds news) asked answer
 
-  -- The outcome is the one for a configuration with this name.
-  pub record AnswersOp (contents : Option (List Content)) (config_at : Text) (answer : Answer) : Type 0 where
-    pub config : List ℕ
-    pub config_there : IsContent contents config_at config
-    pub served : ServedOp (op_asked config) answer
+  abbrev pub ServedOpPlus : Result Configuration Answer → Answer → Type 0
+  ServedOpPlus asked answer = ServedBy (news ≡ olds) (ServesOpPlus t olds news) asked answer
 
-  -- the possible outcomes of `op`
+  abbrev pub ServedRpPlus : Result PartySetup Answer → Answer → Type 0
+  ServedRpPlus asked answer = ServedBy (news ≡ olds) (ServesRpPlus t olds news) asked answer
+
+  -- the possible outcomes of `op`, and of `op-plus`
   abbrev pub MayServeOp : Option (List Content) → ℕ → ℕ → Text → Answer → Type 0
   MayServeOp contents before after config_at answer =
-      (FailsAtShelf before after answer × (news ≡ olds)) ⊎ AnswersOp contents config_at answer
+      MayServe (news ≡ olds) (ServesOp t olds news) op_asked contents before after config_at answer
+
+  abbrev pub MayServeOpPlus : Option (List Content) → ℕ → ℕ → Text → Answer → Type 0
+  MayServeOpPlus contents before after config_at answer =
+      MayServe (news ≡ olds) (ServesOpPlus t olds news) op_asked contents before after config_at answer
 
   -- The outcome is the one for a configuration with this name, and for the metadata with this name, if one is given.
   pub record AnswersRp (contents : Option (List Content)) (config_at name : Text) (metadata_at : Option Text) (answer : Answer) : Type 0 where
@@ -135,6 +150,11 @@ module _ {D L C W S K : Type 0} (t : Telling D L C W S K) (olds news : List (Des
   MayServeRp contents before after config_at name metadata_at answer =
       (FailsAtShelf before after answer × (news ≡ olds)) ⊎ AnswersRp contents config_at name metadata_at answer
 
+  -- the possible outcomes of `rp-plus`, whose party trusts the configuration's provider
+  abbrev pub MayServeRpPlus : Option (List Content) → ℕ → ℕ → Text → Text → Answer → Type 0
+  MayServeRpPlus contents before after config_at name answer =
+      MayServe (news ≡ olds) (ServesRpPlus t olds news) (λ config. rp_asked config name None) contents before after config_at answer
+
   -- ---- any words
 
   -- the possible outcomes for the words of a command, or of none
@@ -145,6 +165,8 @@ module _ {D L C W S K : Type 0} (t : Telling D L C W S K) (olds news : List (Des
   MayAnswer contents before after (Some (Token secret token)) answer = MayOpen contents before after secret token answer
   MayAnswer contents before after (Some (Op config)) answer = MayServeOp contents before after config answer
   MayAnswer contents before after (Some (Rp config name metadata)) answer = MayServeRp contents before after config name metadata answer
+  MayAnswer contents before after (Some (OpPlus config)) answer = MayServeOpPlus contents before after config answer
+  MayAnswer contents before after (Some (RpPlus config name)) answer = MayServeRpPlus contents before after config name answer
 
 -- how an outcome is written: either all of it, and the status is its own, or a prefix of it, and the sink failed
 abbrev pub IsWritten : Option (List ℕ) → Option (List ℕ) → ℕ → ℕ → Answer → ℕ → Type 0

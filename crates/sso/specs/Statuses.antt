@@ -5,8 +5,8 @@ use Rattle.sso_base.specs.Words.{Text}
 use Rattle.sso_base.specs.Outside.{Content}
 use Rattle.server_desk.specs.declared.desk.Desk.{Desk}
 use Rattle.serving.specs.Summaries.{Telling}
-use Rattle.sso.specs.Ends.{ShowsUsage, ReportsShelf, RefusesConfiguration, RefusesTrace, RefusesToken, RefusesMetadata, OpensToken, RunsProvider, RunsParty}
-use Rattle.sso.specs.Ends.{StopsWriting, is_refusal}
+use Rattle.sso.specs.Ends.{ShowsUsage, ReportsShelf, RefusesConfiguration, RefusesTrace, RefusesToken, RefusesMetadata, OpensToken}
+use Rattle.sso.specs.Ends.{RunsProvider, RunsParty, RunsProviderPlus, RunsPartyPlus, RunsServer, StopsWriting, is_refusal}
 use Rattle.sso.specs.SignOn.{Replays, Storms}
 
 -- a call: its inputs and its results
@@ -31,6 +31,8 @@ module _ {D L C W S K : Type 0} (call : Call D L C W S K) where
       ⊎ OpensToken call.contents call.words call.old call.new
       ⊎ RunsProvider call.tells call.olds call.news call.contents call.words false call.old call.new
       ⊎ RunsParty call.tells call.olds call.news call.contents call.words false call.old call.new
+      ⊎ RunsProviderPlus call.tells call.olds call.news call.contents call.words false call.old call.new
+      ⊎ RunsPartyPlus call.tells call.olds call.news call.contents call.words false call.old call.new
       ⊎ Storms call.words 0 call.old call.new
 
   -- a play ended with this status
@@ -38,9 +40,7 @@ module _ {D L C W S K : Type 0} (call : Call D L C W S K) where
   Played status = Replays call.contents call.words status call.old call.new ⊎ Storms call.words status call.old call.new
 
   abbrev pub FailsAtDoor : Type 0
-  FailsAtDoor =
-      RunsProvider call.tells call.olds call.news call.contents call.words true call.old call.new
-      ⊎ RunsParty call.tells call.olds call.news call.contents call.words true call.old call.new
+  FailsAtDoor = RunsServer call.tells call.olds call.news call.contents call.words true call.old call.new
 
   abbrev pub Refuses : Type 0
   Refuses = RefusesToken call.contents call.words call.old call.new ⊎ RefusesMetadata call.contents call.words call.old call.new

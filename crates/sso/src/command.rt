@@ -5,11 +5,12 @@ ghost use Rattle.std.specs.List.{All};
 ghost use Rattle.sso_base.specs.Faults.{Rose};
 ghost use Rattle.command_line.specs.Commands.{command_of};
 ghost use Rattle.sso.specs.Ends.{is_serving};
-ghost use Rattle.sso.specs.Outcomes.{IsFetched, IsFetchedIf, AnswersStorm, MayReplay, MayOpen, MayServeOp, MayServeRp, MayAnswer};
+ghost use Rattle.sso.specs.Outcomes.{IsFetched, IsFetchedIf, AnswersStorm, MayReplay, MayOpen, MayServeOp, MayServeRp, MayServeOpPlus};
+ghost use Rattle.sso.specs.Outcomes.{MayServeRpPlus, MayAnswer};
 
 use crate::outcome::{Outcome, answer_shelf, answer_usage};
 use crate::replaying::answer_replay;
-use crate::servers::{answer_op, answer_rp};
+use crate::servers::{answer_op, answer_op_plus, answer_rp, answer_rp_plus};
 use crate::storms::answer_storm;
 use crate::token::answer_token;
 use command_line::{Command, read_command};
@@ -174,6 +175,51 @@ fn rp_words<R: Threads + Wait + Sync, H: Shelf, D: Door, L: Link, C: Clock, W: D
     }
 }
 
+/// Serves the provider of the configuration with this name with proof keys.
+fn op_plus_words<R: Threads + Wait + Sync, H: Shelf, D: Door, L: Link, C: Clock, W: Draw>(
+    rt: &R,
+    alloc: Global,
+    shelf: &mut H,
+    config: &Text,
+    desks: &mut Vec<Desk<D, L, C, W>>,
+) -> Result<Outcome, NoMemory>
+    requires few { length desks.old.items ≤ 64 }
+    requires desks { All (λ desk. (desk.turns ≤ 2 ^ 56) × ((D.state desk.door).given < 2 ^ 63)) desks.old.items }
+    ensures may { IfOk result (λ outcome. MayServeOpPlus ⟦<Desk<D, L, C, W> as Tells>⟧.telling desks.old.items desks.new.items
+        (H.contents shelf.old) (H.faults shelf.old) (H.faults shelf.new) config.now outcome) }
+    ensures kept { H.contents shelf.new ≡ H.contents shelf.old }
+    ensures later { H.faults shelf.old ≤ H.faults shelf.new }
+{
+    match shelf.fetch(alloc, config, MOST_CONFIG) {
+        Ok(config) => answer_op_plus(rt, alloc, config.as_bytes(), desks),
+        Err(ShelfNo::NoMemory) => Err(NoMemory),
+        Err(ShelfNo::Failed) => answer_shelf(alloc),
+    }
+}
+
+/// Serves the party `name` of the configuration `config` with proof keys.
+fn rp_plus_words<R: Threads + Wait + Sync, H: Shelf, D: Door, L: Link, C: Clock, W: Draw>(
+    rt: &R,
+    alloc: Global,
+    shelf: &mut H,
+    config: &Text,
+    name: &Text,
+    desks: &mut Vec<Desk<D, L, C, W>>,
+) -> Result<Outcome, NoMemory>
+    requires few { length desks.old.items ≤ 64 }
+    requires desks { All (λ desk. (desk.turns ≤ 2 ^ 56) × ((D.state desk.door).given < 2 ^ 63)) desks.old.items }
+    ensures may { IfOk result (λ outcome. MayServeRpPlus ⟦<Desk<D, L, C, W> as Tells>⟧.telling desks.old.items desks.new.items
+        (H.contents shelf.old) (H.faults shelf.old) (H.faults shelf.new) config.now name.now outcome) }
+    ensures kept { H.contents shelf.new ≡ H.contents shelf.old }
+    ensures later { H.faults shelf.old ≤ H.faults shelf.new }
+{
+    match shelf.fetch(alloc, config, MOST_CONFIG) {
+        Ok(config) => answer_rp_plus(rt, alloc, config.as_bytes(), name, desks),
+        Err(ShelfNo::NoMemory) => Err(NoMemory),
+        Err(ShelfNo::Failed) => answer_shelf(alloc),
+    }
+}
+
 /// The outcome for the words after the program's name.
 pub fn answer_words<R: Threads + Wait + Sync, H: Shelf, D: Door, L: Link, C: Clock, W: Draw>(
     rt: &R,
@@ -196,6 +242,10 @@ pub fn answer_words<R: Threads + Wait + Sync, H: Shelf, D: Door, L: Link, C: Clo
         Some(Command::Storm { number, count }) => storm_words(alloc, number, count),
         Some(Command::Token { secret, token }) => token_words(alloc, shelf, &secret, &token),
         Some(Command::Op { config }) => op_words(rt, alloc, shelf, &config, desks),
+        Some(Command::OpPlus { config }) => op_plus_words(rt, alloc, shelf, &config, desks),
+        Some(Command::RpPlus { config, name }) => {
+            rp_plus_words(rt, alloc, shelf, &config, &name, desks)
+        }
         Some(
             Command::Rp {
                 config,

@@ -8,7 +8,7 @@
 //! | `outcome` | the outcomes for no command, and for a shelf that failed | `Outcomes` |
 //! | `replaying` | the outcomes of `replay` | `Answer` |
 //! | `storms` | the outcomes of `storm` | `Answer` |
-//! | `servers` | the outcomes of `op` and `rp` | `Asked`, `Outcomes` |
+//! | `servers` | the outcomes of `op`, `rp`, `op-plus` and `rp-plus` | `Asked`, `Outcomes` |
 //! | `configuration` | the outcomes for a rejected configuration | `Answer` |
 //! | `refusal` | why a command is refused, as it is displayed, and the outcome | `Refused` |
 //! | `token` | the outcomes of `token` | `Answer` |

@@ -34,7 +34,8 @@ pub fn answer_usage(alloc: Global) -> Result<Outcome, NoMemory>
         status: 2,
         text: Blob::new(
             alloc,
-            b"usage: sso replay CONFIG TRACE, op CONFIG, rp CONFIG NAME [DISCOVERY], storm NUMBER COUNT, token SECRETFILE TOKENFILE\n",
+            b"usage: sso replay CONFIG TRACE, op CONFIG, rp CONFIG NAME [DISCOVERY], op-plus CONFIG, rp-plus CONFIG NAME, \
+              storm NUMBER COUNT, token SECRETFILE TOKENFILE\n",
         )?,
     })
 }

@@ -1,11 +1,11 @@
-//! The outcomes of serving the provider of a configuration, or one of its parties.
+//! The outcomes of serving the provider of a configuration, or one of its parties, alone or with proof keys (RFC 7636).
 
-ghost use Rattle.std.specs.Prelude.{◌≡◌, ◌^◌, ◌≤◌, ◌<◌, false, length, Ok, IfOk, codes};
+ghost use Rattle.std.specs.Prelude.{◌≡◌, ◌^◌, ◌≤◌, ◌<◌, false, length, None, Ok, IfOk, codes};
 ghost use Rattle.std.specs.List.{All};
 ghost use Rattle.rp_accept.specs.Serving.{setup_of};
 ghost use Rattle.sso.specs.Asked as spec;
 ghost use Rattle.sso.specs.Asked.{metadata_refusal, server_answer, op_asked, rp_asked, name_asked};
-ghost use Rattle.sso.specs.Outcomes.{ServedOp, ServedRp};
+ghost use Rattle.sso.specs.Outcomes.{ServedOp, ServedRp, ServedOpPlus, ServedRpPlus};
 
 use crate::configuration::{refuse_party, refuse_registry};
 use crate::outcome::Outcome;
@@ -15,7 +15,7 @@ use discovery_doc::{DiscNo, read_discovery};
 use server_desk::{Clock, Desk, Door, Draw, Link};
 use serving::Tells;
 use sso_base::{Blob, NoMemory, Text};
-use sso_serve::{run_op, run_rp};
+use sso_serve::{run_op, run_op_plus, run_rp, run_rp_plus};
 use std::alloc::Global;
 use std::sync::Wait;
 use std::thread::Threads;
@@ -79,6 +79,40 @@ pub fn answer_op<R: Threads + Wait + Sync, D: Door, L: Link, C: Clock, W: Draw>(
 {
     match read_registry(alloc, config) {
         Ok(registry) => serve_provider(rt, alloc, &registry, desks),
+        Err(RegNo::NoMemory) => Err(NoMemory),
+        Err(why) => refuse_registry(alloc, why),
+    }
+}
+
+/// Serves the provider of a registry with proof keys.
+fn serve_provider_plus<R: Threads + Wait + Sync, D: Door, L: Link, C: Clock, W: Draw>(
+    rt: &R,
+    alloc: Global,
+    registry: &Registry,
+    desks: &mut Vec<Desk<D, L, C, W>>,
+) -> Result<Outcome, NoMemory>
+    requires few { length desks.old.items ≤ 64 }
+    requires desks { All (λ desk. (desk.turns ≤ 2 ^ 56) × ((D.state desk.door).given < 2 ^ 63)) desks.old.items }
+    ensures { IfOk result (ServedOpPlus ⟦<Desk<D, L, C, W> as Tells>⟧.telling desks.old.items desks.new.items (Ok registry.now)) }
+{
+    let ran = run_op_plus(rt, alloc, registry, desks)?;
+    answer_server(alloc, ran.fault, ran.served, ran.entries)
+}
+
+/// Serves the provider of a configuration with proof keys. Returns how that ended, or why the configuration is rejected.
+#[tactic(auto, unfolding(crate::specs::Asked::op_asked))]
+pub fn answer_op_plus<R: Threads + Wait + Sync, D: Door, L: Link, C: Clock, W: Draw>(
+    rt: &R,
+    alloc: Global,
+    config: &[u8],
+    desks: &mut Vec<Desk<D, L, C, W>>,
+) -> Result<Outcome, NoMemory>
+    requires few { length desks.old.items ≤ 64 }
+    requires desks { All (λ desk. (desk.turns ≤ 2 ^ 56) × ((D.state desk.door).given < 2 ^ 63)) desks.old.items }
+    ensures { IfOk result (ServedOpPlus ⟦<Desk<D, L, C, W> as Tells>⟧.telling desks.old.items desks.new.items (op_asked config.now)) }
+{
+    match read_registry(alloc, config) {
+        Ok(registry) => serve_provider_plus(rt, alloc, &registry, desks),
         Err(RegNo::NoMemory) => Err(NoMemory),
         Err(why) => refuse_registry(alloc, why),
     }
@@ -193,6 +227,71 @@ pub fn answer_rp<R: Threads + Wait + Sync, D: Door, L: Link, C: Clock, W: Draw>(
 {
     match read_registry(alloc, config) {
         Ok(registry) => serve_party(rt, alloc, &registry, name, metadata, desks),
+        Err(RegNo::NoMemory) => Err(NoMemory),
+        Err(why) => refuse_registry(alloc, why),
+    }
+}
+
+/// Serves the party with this number with proof keys. It trusts this provider.
+fn serve_trusting_plus<R: Threads + Wait + Sync, D: Door, L: Link, C: Clock, W: Draw>(
+    rt: &R,
+    alloc: Global,
+    registry: &Registry,
+    party: u32,
+    provider: Provider,
+    desks: &mut Vec<Desk<D, L, C, W>>,
+) -> Result<Outcome, NoMemory>
+    requires party { party < length registry.now.parties }
+    requires issuer { provider.issuer ≡ registry.now.provider.issuer }
+    requires few { length desks.old.items ≤ 64 }
+    requires desks { All (λ desk. (desk.turns ≤ 2 ^ 56) × ((D.state desk.door).given < 2 ^ 63)) desks.old.items }
+    ensures { IfOk result
+        (ServedRpPlus ⟦<Desk<D, L, C, W> as Tells>⟧.telling desks.old.items desks.new.items (Ok (setup_of registry.now party provider))) }
+{
+    let ran = run_rp_plus(rt, alloc, registry, party, provider, desks)?;
+    answer_server(alloc, ran.fault, ran.served, ran.entries)
+}
+
+/// Serves the party with this name with proof keys. It trusts the registry's provider.
+fn serve_party_plus<R: Threads + Wait + Sync, D: Door, L: Link, C: Clock, W: Draw>(
+    rt: &R,
+    alloc: Global,
+    registry: &Registry,
+    name: &Text,
+    desks: &mut Vec<Desk<D, L, C, W>>,
+) -> Result<Outcome, NoMemory>
+    requires few { length desks.old.items ≤ 64 }
+    requires desks { All (λ desk. (desk.turns ≤ 2 ^ 56) × ((D.state desk.door).given < 2 ^ 63)) desks.old.items }
+    ensures { IfOk result
+        (ServedRpPlus ⟦<Desk<D, L, C, W> as Tells>⟧.telling desks.old.items desks.new.items (name_asked registry.now name.now None)) }
+{
+    let Some(party) = registry.find_party(name.as_str().as_bytes()) else {
+        return refuse_party(alloc);
+    };
+    let metadata = None;
+    match trusted(alloc, registry, &metadata)? {
+        Ok(provider) => serve_trusting_plus(rt, alloc, registry, party, provider, desks),
+        Err(refusal) => Ok(refusal),
+    }
+}
+
+/// Serves the party with this name in a configuration with proof keys. It trusts the configuration's provider. Returns how that ended,
+/// or why nothing was served.
+#[tactic(auto, unfolding(crate::specs::Asked::rp_asked))]
+pub fn answer_rp_plus<R: Threads + Wait + Sync, D: Door, L: Link, C: Clock, W: Draw>(
+    rt: &R,
+    alloc: Global,
+    config: &[u8],
+    name: &Text,
+    desks: &mut Vec<Desk<D, L, C, W>>,
+) -> Result<Outcome, NoMemory>
+    requires few { length desks.old.items ≤ 64 }
+    requires desks { All (λ desk. (desk.turns ≤ 2 ^ 56) × ((D.state desk.door).given < 2 ^ 63)) desks.old.items }
+    ensures { IfOk result
+        (ServedRpPlus ⟦<Desk<D, L, C, W> as Tells>⟧.telling desks.old.items desks.new.items (rp_asked config.now name.now None)) }
+{
+    match read_registry(alloc, config) {
+        Ok(registry) => serve_party_plus(rt, alloc, &registry, name, desks),
         Err(RegNo::NoMemory) => Err(NoMemory),
         Err(why) => refuse_registry(alloc, why),
     }

@@ -5,8 +5,10 @@ ghost use Rattle.std.specs.List.{All};
 ghost use Rattle.sso_base.specs.Outside.{Content};
 ghost use Rattle.command_line.specs.declared.command.Command.TheVariants.{Storm};
 ghost use Rattle.command_line.specs.Commands.{command_of, is_command, asks_replay, asks_storm, asks_token, asks_op, asks_rp};
+ghost use Rattle.command_line.specs.Commands.{asks_op_plus, asks_rp_plus};
 ghost use Rattle.sso.specs.Answer.{storm_answer};
 ghost use Rattle.sso.specs.Ends.{ShowsUsage, ReportsShelf, RefusesConfiguration, RefusesTrace, OpensToken, RunsProvider, RunsServer, RefusesTokenOrMetadata};
+ghost use Rattle.sso.specs.Ends.{RunsProviderPlus, RunsPartyPlus};
 ghost use Rattle.sso.specs.Ends.{RunsParty, StopsWriting, status_for, IsStatus, IsStatusOf, is_refusal, asks_play, is_serving};
 ghost use Rattle.sso.specs.SignOn.{Replays, Storms};
 ghost use Rattle.sso.specs.Outcomes.{IsWritten};
@@ -78,7 +80,7 @@ fn run<R: Threads + Wait + Sync, H: Shelf, K: Sink, D: Door, L: Link, C: Clock, 
 /// | 0 | `replay`: the trace was played to its end, and no premise failed | the text of its play |
 /// | | `storm`: its play went to its end, and no premise failed | the summary of its play |
 /// | | `token`: the token is sealed under the secret | its payload and a line feed |
-/// | | `op`, `rp`: each desk served its turns or has a closed door | `served` with the number of connections, `entries` with those of the history |
+/// | | `op`, `rp`, `op-plus`, `rp-plus`: each desk served its turns or has a closed door | `served` and the connections, `entries` and those of the history |
 /// | 1 | out of memory | none |
 /// | 2 | the words are not a command | the usage |
 /// | 3 | CONFIG is rejected, or has no party NAME | `configuration`, the refusal's name and its values, or `configuration NoParty` |
@@ -127,6 +129,12 @@ pub fn sso<R: Threads + Wait + Sync, H: Shelf, K: Sink, D: Door, L: Link, C: Clo
         (H.contents shelf.old) words.now false (K.taken out.old) (K.taken out.new) }
     ensures party { result ≡ 0 → asks_rp (command_of words.now) ≡ true
         → RunsParty ⟦<Desk<D, L, C, W> as Tells>⟧.telling desks.old.items desks.new.items
+        (H.contents shelf.old) words.now false (K.taken out.old) (K.taken out.new) }
+    ensures provider_plus { result ≡ 0 → asks_op_plus (command_of words.now) ≡ true
+        → RunsProviderPlus ⟦<Desk<D, L, C, W> as Tells>⟧.telling desks.old.items desks.new.items
+        (H.contents shelf.old) words.now false (K.taken out.old) (K.taken out.new) }
+    ensures party_plus { result ≡ 0 → asks_rp_plus (command_of words.now) ≡ true
+        → RunsPartyPlus ⟦<Desk<D, L, C, W> as Tells>⟧.telling desks.old.items desks.new.items
         (H.contents shelf.old) words.now false (K.taken out.old) (K.taken out.new) }
     ensures command { result ≡ 0 → is_command words.now ≡ true }
 

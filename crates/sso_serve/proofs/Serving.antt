@@ -1,24 +1,55 @@
--- What a relying party's server did, if its core has this setup and its first door listens there.
+-- What a server of each of the four cores did, if its core has this setup.
 use Rattle.std.proofs.Common.{◌≡◌, List, Result, subst}
 use Rattle.std.specs.Result.{IfOk}
-use Rattle.sso_base.specs.Words.{Text}
+use Rattle.client_registry.specs.Configuration.{Configuration}
+use Rattle.op_exchange.specs.declared.ask.OpAsk.{OpAsk}
+use Rattle.op_exchange.specs.declared.reply.OpReply.{OpReply}
+use Rattle.op_answer.specs.Legal as op
+use Rattle.op_core.specs.Providing.{Providing}
 use Rattle.rp_exchange.specs.declared.ask.RpAsk.{RpAsk}
 use Rattle.rp_exchange.specs.declared.reply.RpReply.{RpReply}
-use Rattle.rp_answer.specs.Legal.{IsLegalHistory}
+use Rattle.rp_answer.specs.Legal as rp
 use Rattle.rp_answer.specs.Setup.{PartySetup, party_of}
 use Rattle.rp_core.specs.Relying.{Relying}
+use Rattle.pkce_party.specs.Adding.{IsLegalParty}
 use Rattle.server_desk.specs.declared.desk.Desk.{Desk}
 use Rattle.serving.specs.declared.summary.Summary.{Summary}
 use Rattle.serving.specs.Summaries.{Telling, Summarises}
-use Rattle.sso_serve.specs.Roles.{rp_manner, rp_most, rp_setup, rp_history}
-use Rattle.sso_serve.specs.Servers.{ServesRp}
+use Rattle.sso_serve.specs.Cores.{op_manner, op_most, op_registry, op_history, op_plus_manner, op_plus_registry, op_plus_history, IsLegalOpPlus}
+use Rattle.sso_serve.specs.Cores.{rp_manner, rp_most, rp_setup, rp_history, rp_plus_manner, rp_plus_history}
+use Rattle.sso_serve.specs.Servers.{OpPlusSummary, RpPlusSummary, ServesOp, ServesOpPlus, ServesRp, ServesRpPlus}
 
 module _ {D L C W S K : Type 0} (t : Telling D L C W S K) (olds news : List (Desk D L C W)) where
-  pub party_served : {E : Type 0} (p configured : PartySetup) (place : Text) (result : Result (Summary Relying RpAsk RpReply) E)
-      → configured ≡ p → place ≡ (party_of p).listen
-      → IfOk result (Summarises t (rp_manner p.configuration p.number) rp_most rp_setup rp_history IsLegalHistory configured place olds news)
+  pub op_served : {E : Type 0} (c configured : Configuration) (result : Result (Summary Providing OpAsk OpReply) E) → configured ≡ c
+      → IfOk result (Summarises t (op_manner c) op_most op_registry op_history op.IsLegalHistory configured c.listen olds news)
+      → IfOk result (ServesOp t olds news c)
+  op_served c configured result same summary =
+      let Configured : Configuration → Type 0 =
+      λ v. IfOk result (Summarises t (op_manner c) op_most op_registry op_history op.IsLegalHistory v c.listen olds news) in
+      subst Configured same summary
+
+  pub op_plus_served : {E : Type 0} (c configured : Configuration) (result : Result OpPlusSummary E) → configured ≡ c
+      → IfOk result (Summarises t (op_plus_manner c) op_most op_plus_registry op_plus_history IsLegalOpPlus configured c.listen olds news)
+      → IfOk result (ServesOpPlus t olds news c)
+  op_plus_served c configured result same summary =
+      let Configured : Configuration → Type 0 =
+      λ v. IfOk result (Summarises t (op_plus_manner c) op_most op_plus_registry op_plus_history IsLegalOpPlus v c.listen olds news) in
+      subst Configured same summary
+
+  pub rp_served : {E : Type 0} (p configured : PartySetup) (result : Result (Summary Relying RpAsk RpReply) E) → configured ≡ p
+      → IfOk result (Summarises t (rp_manner p.configuration p.number) rp_most rp_setup rp_history rp.IsLegalHistory configured
+      (party_of p).listen olds news)
       → IfOk result (ServesRp t olds news p)
-  party_served p configured place result same at summary =
-      let Configured : PartySetup → Type 0 = λ v. IfOk result (Summarises t (rp_manner p.configuration p.number) rp_most rp_setup rp_history IsLegalHistory v place olds news) in
-      let Placed : Text → Type 0 = λ v. IfOk result (Summarises t (rp_manner p.configuration p.number) rp_most rp_setup rp_history IsLegalHistory p v olds news) in
-      subst Placed at (subst Configured same summary)
+  rp_served p configured result same summary =
+      let Configured : PartySetup → Type 0 =
+      λ v. IfOk result (Summarises t (rp_manner p.configuration p.number) rp_most rp_setup rp_history rp.IsLegalHistory v (party_of p).listen olds news) in
+      subst Configured same summary
+
+  pub rp_plus_served : {E : Type 0} (p configured : PartySetup) (result : Result RpPlusSummary E) → configured ≡ p
+      → IfOk result (Summarises t (rp_plus_manner p.configuration p.number) rp_most rp_setup rp_plus_history IsLegalParty configured
+      (party_of p).listen olds news)
+      → IfOk result (ServesRpPlus t olds news p)
+  rp_plus_served p configured result same summary =
+      let Configured : PartySetup → Type 0 =
+      λ v. IfOk result (Summarises t (rp_plus_manner p.configuration p.number) rp_most rp_setup rp_plus_history IsLegalParty v (party_of p).listen olds news) in
+      subst Configured same summary

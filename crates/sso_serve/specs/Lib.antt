@@ -1,3 +1,4 @@
 pub mod Roles
+pub mod Cores
 pub mod Rounds
 pub mod Servers

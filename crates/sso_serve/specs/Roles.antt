@@ -1,106 +1,72 @@
--- The roles of the two servers.
-use Rattle.std.specs.Prelude.{ℕ, not, ◌||◌, List, [], Option, Some, None}
-use Rattle.sso_base.specs.Journal.{most_of}
+-- The roles of the two servers. A core that the provider or a relying party is in says of itself what its requests and replies are.
+use Rattle.std.specs.Prelude.{ℕ, Bool, true, not, ◌||◌, List, [], Option, Some, None, option_map, unwrap_or}
+use Rattle.sso_base.specs.Words.{Word}
+use Rattle.sso_base.specs.declared.http.Ask.{Ask}
+use Rattle.sso_base.specs.declared.http.HttpReply.{HttpReply}
 use Rattle.sso_base.specs.declared.message.Message.{Message}
 use Rattle.sso_base.specs.declared.message.Answered.{Answered}
 use Rattle.client_registry.specs.Configuration.{Configuration}
 use Rattle.client_registry.specs.Numbers.{party_row}
 use Rattle.op_exchange.specs.declared.ask.OpAsk.{OpAsk}
 use Rattle.op_exchange.specs.declared.ask.OpAsk.TheVariants as op_ask
-use Rattle.op_exchange.specs.declared.reply.OpReply.{OpReply}
-use Rattle.op_exchange.specs.declared.reply.OpReply.TheVariants.{SignedOut}
 use Rattle.op_exchange.specs.Held as op_held
-use Rattle.op_exchange.specs.Weight as op_weight
-use Rattle.op_request.specs.Prepared as op_request
 use Rattle.op_response.specs.Cookies as op_cookies
-use Rattle.op_response.specs.Telling as op_telling
-use Rattle.op_answer.specs.Past.{OpPair}
-use Rattle.op_core.specs.Providing.{Providing}
-use Rattle.rp_answer.specs.Past.{RpPair}
-use Rattle.rp_answer.specs.Setup.{PartySetup}
-use Rattle.rp_core.specs.Relying.{Relying}
 use Rattle.rp_exchange.specs.declared.ask.RpAsk.{RpAsk}
 use Rattle.rp_exchange.specs.declared.ask.RpAsk.TheVariants as rp_ask
 use Rattle.rp_exchange.specs.declared.reply.RpReply.{RpReply}
 use Rattle.rp_exchange.specs.declared.reply.RpReply.TheVariants.{Exchange, Fetch}
 use Rattle.rp_exchange.specs.Held as rp_held
-use Rattle.rp_exchange.specs.Weight as rp_weight
-use Rattle.rp_request.specs.Prepared.{prepared, tokens_prepared, info_prepared}
 use Rattle.rp_response.specs.Cookies as rp_cookies
-use Rattle.rp_response.specs.Telling as rp_telling
+use Rattle.core_stack.specs.declared.sending.Sending.{Sending}
 use Rattle.serving.specs.Manner.{Manner}
 
 -- ---- the provider
 
--- the clients of the session are notified of a sign-out (OpenID Connect Back-Channel Logout 1.0, 2.5)
-abbrev pub op_notices : OpReply → List Message
-op_notices (SignedOut messages) = messages
-op_notices reply = []
+-- the provider's request in a request is small, or there is none
+abbrev pub is_small_if : Option OpAsk → Bool
+is_small_if (Some asked) = op_held.is_small asked
+is_small_if None = true
 
--- It makes no requests to other servers. If its history lasts, it takes only small requests.
-abbrev pub op_manner : Configuration → Manner OpAsk OpReply
-op_manner c = record {
+-- It makes no requests to other servers. The clients of a session are notified of a sign-out before its reply is written (OpenID Connect
+-- Back-Channel Logout 1.0, 2.5). If its history lasts, it takes only small requests.
+abbrev pub provider_manner : {A R : Type 0} → (A → Option OpAsk) → (R → Option (List Message)) → (Configuration → Ask → A) → (OpAsk → A)
+    → (Configuration → R → HttpReply) → (A → ℕ) → Configuration → Manner A R
+provider_manner plain notices prepared from_op http weighs c = record {
   first = op_cookies.browser_cookie;
   second = op_cookies.session_cookie;
-  prepared = op_request.prepared c;
+  prepared = prepared c;
   question = λ reply. None;
-  answered = λ reply answer. op_ask.NotHere;
-  notices = op_notices;
-  http = op_telling.http_of c;
-  takes = λ asked. not c.lasting || op_held.is_small asked;
-  weighs = op_weight.ask_weight;
+  answered = λ reply answer. from_op op_ask.NotHere;
+  notices = λ reply. unwrap_or (notices reply) [];
+  http = http c;
+  takes = λ asked. not c.lasting || is_small_if (plain asked);
+  weighs = weighs;
 }
-
--- the greatest weight of the provider's history, its setup, and its history
-abbrev pub op_most : Configuration → ℕ
-op_most c = most_of c.lasting
-
-abbrev pub op_registry : Providing → Configuration
-op_registry p = p.registry
-
-abbrev pub op_history : Providing → List OpPair
-op_history p = p.history
 
 -- ---- the relying party with a number
 
 -- a token request and a UserInfo request go to the provider (OpenID Connect Core 1.0, 3.1.3.1 and 5.3.1)
-abbrev pub rp_question : RpReply → Option Message
-rp_question (Exchange pending message) = Some message
-rp_question (Fetch pending message) = Some message
-rp_question reply = None
+abbrev pub message_in : Option Sending → Option Message
+message_in sending = option_map (λ (s : Sending). s.message) sending
 
--- the parsed answer of the provider
-abbrev pub rp_answered : Configuration → ℕ → RpReply → Answered → RpAsk
-rp_answered c n (Exchange pending message) answer = tokens_prepared c n pending answer
-rp_answered c n (Fetch pending message) answer = info_prepared pending answer
-rp_answered c n reply answer = rp_ask.NotHere
-
--- after a token request a UserInfo request may follow, and after that no further one
-abbrev pub rp_rounds : RpReply → ℕ
-rp_rounds (Exchange pending message) = 2
-rp_rounds (Fetch pending message) = 1
-rp_rounds reply = 0
+-- the parsed answer of the provider to the request that follows a reply
+abbrev pub answered_by : {A : Type 0} → (Word → Answered → A) → (Word → Answered → A) → A → RpReply → Answered → A
+answered_by tokens info none (Exchange pending message) answer = tokens pending answer
+answered_by tokens info none (Fetch pending message) answer = info pending answer
+answered_by tokens info none reply answer = none
 
 -- if its history lasts, it takes only small requests and responses
-abbrev pub rp_manner : Configuration → ℕ → Manner RpAsk RpReply
-rp_manner c n = record {
+abbrev pub party_manner : {A R : Type 0} → (A → RpAsk) → (R → RpReply) → (R → Option Sending) → (Configuration → ℕ → Ask → A)
+    → (Configuration → ℕ → Word → Answered → A) → (Word → Answered → A) → (RpAsk → A) → (Configuration → ℕ → R → HttpReply) → (A → ℕ)
+    → Configuration → ℕ → Manner A R
+party_manner plain told sent prepared tokens info from_rp http weighs c n = record {
   first = rp_cookies.browser_cookie (party_row c n).name;
   second = rp_cookies.session_cookie (party_row c n).name;
   prepared = prepared c n;
-  question = rp_question;
-  answered = rp_answered c n;
+  question = λ reply. message_in (sent reply);
+  answered = λ reply answer. answered_by (tokens c n) info (from_rp rp_ask.NotHere) (told reply) answer;
   notices = λ reply. [];
-  http = rp_telling.http_of c n;
-  takes = λ asked. not c.lasting || rp_held.is_small asked;
-  weighs = rp_weight.ask_weight;
+  http = http c n;
+  takes = λ asked. not c.lasting || rp_held.is_small (plain asked);
+  weighs = weighs;
 }
-
--- the greatest weight of a relying party's history, its setup, and its history
-abbrev pub rp_most : PartySetup → ℕ
-rp_most p = most_of p.configuration.lasting
-
-abbrev pub rp_setup : Relying → PartySetup
-rp_setup r = r.setup
-
-abbrev pub rp_history : Relying → List RpPair
-rp_history r = r.history

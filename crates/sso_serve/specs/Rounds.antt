@@ -1,128 +1,74 @@
--- How many requests to other servers (questions) may follow a reply.
-use Rattle.std.proofs.Common.{◌≡◌, ◌≢◌, ℕ, ◌≤◌, ◌<◌, List, [], ◌∷◌, ◌++◌, reverse, Option, None, Result, Ok, Err, refl, sym, subst, arith}
-use Rattle.std.proofs.lemmas.List.{reverse-append}
-use Rattle.sso_base.specs.Words.{Word, Text}
-use Rattle.sso_base.specs.declared.message.Message.{Message}
+-- How many requests to the provider may follow a reply of a core that a relying party is in.
+use Rattle.std.proofs.Common.{◌≡◌, ◌≢◌, ℕ, ◌≤◌, ◌<◌, Option, Some, None, option_map, refl, ◌∙◌, arith}
+use Rattle.sso_base.specs.Words.{Word}
 use Rattle.sso_base.specs.declared.message.Answered.{Answered}
-use Rattle.client_registry.specs.declared.records.Client.{Client}
-use Rattle.client_registry.specs.Configuration.{Configuration}
-use Rattle.client_registry.specs.Numbers.{party_client}
-use Rattle.token_endpoint.specs.Answer.{tokens_read}
-use Rattle.token_endpoint.specs.declared.reading.Tokens.{Tokens}
-use Rattle.token_endpoint.specs.declared.no.TokensNo.{TokensNo}
-use Rattle.id_token.specs.declared.claims.IdClaims.{IdClaims}
-use Rattle.id_token.specs.declared.no.IdNo.{IdNo}
-use Rattle.userinfo.specs.declared.no.InfoNo.{InfoNo}
-use Rattle.userinfo.specs.Answer.{info_read}
-use Rattle.rp_exchange.specs.declared.ask.RpAsk.{RpAsk}
-use Rattle.rp_exchange.specs.declared.ask.RpAsk.TheVariants as ask
 use Rattle.rp_exchange.specs.declared.reply.RpReply.{RpReply}
 use Rattle.rp_exchange.specs.declared.reply.RpReply.TheVariants as reply
-use Rattle.rp_answer.specs.Past.{RpPair, RpPast}
-use Rattle.rp_answer.specs.Setup.{PartySetup}
-use Rattle.rp_answer.specs.Legal.{IsLegalHistory, IsLegalRp}
-use Rattle.rp_answer.specs.Answering.{rp_answer}
-use Rattle.rp_answer.specs.Causes.{ExchangeCause, FetchCause}
-use Rattle.rp_answer.proofs.Answers.{exchanges_have_a_cause, fetches_have_a_cause}
-use Rattle.rp_request.specs.Prepared.{tokens_prepared, tokens_asked, info_prepared}
-use Rattle.sso_serve.specs.Roles.{rp_question, rp_answered, rp_rounds}
+use Rattle.core_stack.specs.declared.sending.Sending.{Sending}
+use Rattle.core_stack.specs.Relied.{exchange_named}
+use Rattle.core_stack.specs.Rounds.{rounds_of}
+use Rattle.sso_serve.specs.Roles.{message_in, answered_by}
 
--- a reply of a relying party with a question has rounds left
-pub rp_few_rounds : (r : RpReply) → (rp_rounds r ≤ 2) × (rp_question r ≢ None → 0 < rp_rounds r)
-rp_few_rounds (reply.Ask to browser) = (omega arith, λ question. absurd (question refl))
-rp_few_rounds reply.Fragment = (omega arith, λ question. absurd (question refl))
-rp_few_rounds (reply.Exchange pending message) = (omega arith, λ question. omega arith)
-rp_few_rounds (reply.Fetch pending message) = (omega arith, λ question. omega arith)
-rp_few_rounds (reply.Entered session sub) = (omega arith, λ question. absurd (question refl))
-rp_few_rounds (reply.User sub) = (omega arith, λ question. absurd (question refl))
-rp_few_rounds reply.Nobody = (omega arith, λ question. absurd (question refl))
-rp_few_rounds (reply.Left ended) = (omega arith, λ question. absurd (question refl))
-rp_few_rounds (reply.Ended count) = (omega arith, λ question. absurd (question refl))
-rp_few_rounds (reply.Refused why) = (omega arith, λ question. absurd (question refl))
-rp_few_rounds reply.NotHere = (omega arith, λ question. absurd (question refl))
+at_most_two : (r : RpReply) → rounds_of r ≤ 2
+at_most_two (reply.Ask to browser) = omega arith
+at_most_two reply.Fragment = omega arith
+at_most_two (reply.Exchange pending message) = omega arith
+at_most_two (reply.Fetch pending message) = omega arith
+at_most_two (reply.Entered session sub) = omega arith
+at_most_two (reply.User sub) = omega arith
+at_most_two reply.Nobody = omega arith
+at_most_two (reply.Left ended) = omega arith
+at_most_two (reply.Ended count) = omega arith
+at_most_two (reply.Refused why) = omega arith
+at_most_two reply.NotHere = omega arith
 
--- the entry is a token response, or a UserInfo response
-abbrev IsTokens : RpAsk → Type 0
-IsTokens asked = (pending : Word) × (came : Result Tokens TokensNo) × (id : Option (Result IdClaims IdNo)) × (asked ≡ ask.Tokens pending came id)
+-- a reply with an exchange has rounds left
+some_left : (r : RpReply) → exchange_named r ≢ None → 0 < rounds_of r
+some_left (reply.Exchange pending message) names = omega arith
+some_left (reply.Fetch pending message) names = omega arith
+some_left (reply.Ask to browser) names = absurd (names refl)
+some_left reply.Fragment names = absurd (names refl)
+some_left (reply.Entered session sub) names = absurd (names refl)
+some_left (reply.User sub) names = absurd (names refl)
+some_left reply.Nobody names = absurd (names refl)
+some_left (reply.Left ended) names = absurd (names refl)
+some_left (reply.Ended count) names = absurd (names refl)
+some_left (reply.Refused why) names = absurd (names refl)
+some_left reply.NotHere names = absurd (names refl)
 
-abbrev IsInfo : RpAsk → Type 0
-IsInfo asked = (pending : Word) × (came : Result Text InfoNo) × (asked ≡ ask.Info pending came)
+-- after the answer to the request that follows a reply, fewer may follow
+fewer_left : {A : Type 0} (tokens info : Word → Answered → A) (none asked : A) (answer : Answered) (left : ℕ) (r : RpReply)
+    → ((w : Word) → asked ≡ tokens w answer → left < 2) → ((w : Word) → asked ≡ info w answer → left < 1)
+    → asked ≡ answered_by tokens info none r answer → exchange_named r ≢ None → left < rounds_of r
+fewer_left tokens info none asked answer left (reply.Exchange pending message) tokens_end info_ends is names = tokens_end pending is
+fewer_left tokens info none asked answer left (reply.Fetch pending message) tokens_end info_ends is names = info_ends pending is
+fewer_left tokens info none asked answer left (reply.Ask to browser) tokens_end info_ends is names = absurd (names refl)
+fewer_left tokens info none asked answer left reply.Fragment tokens_end info_ends is names = absurd (names refl)
+fewer_left tokens info none asked answer left (reply.Entered session sub) tokens_end info_ends is names = absurd (names refl)
+fewer_left tokens info none asked answer left (reply.User sub) tokens_end info_ends is names = absurd (names refl)
+fewer_left tokens info none asked answer left reply.Nobody tokens_end info_ends is names = absurd (names refl)
+fewer_left tokens info none asked answer left (reply.Left ended) tokens_end info_ends is names = absurd (names refl)
+fewer_left tokens info none asked answer left (reply.Ended count) tokens_end info_ends is names = absurd (names refl)
+fewer_left tokens info none asked answer left (reply.Refused why) tokens_end info_ends is names = absurd (names refl)
+fewer_left tokens info none asked answer left reply.NotHere tokens_end info_ends is names = absurd (names refl)
 
-is_tokens : (client : Client) (pending : Word) (read : Result Tokens TokensNo) → IsTokens (tokens_asked client pending read)
-is_tokens client pending (Ok came) = (pending, Ok came, _, refl)
-is_tokens client pending (Err why) = (pending, Err why, None, refl)
+-- a message is sent in an exchange
+in_exchange : (o : Option Sending) → message_in o ≢ None → option_map (λ (s : Sending). s.pending) o ≢ None
+in_exchange None question none = question refl
+in_exchange (Some s) question none = absurd (cc)
 
-no_exchange : (s : PartySetup) (past : RpPast) (p : RpPair) (asked : RpAsk) (w : Word) (message : Message) → IsTokens asked
-    → ExchangeCause s past p.entry asked w message → ⊥
-no_exchange s past p asked w message is cause = subst (λ (a : RpAsk). ExchangeCause s past p.entry a w message) is.3 cause
+module _ {R : Type 0} (told : R → RpReply) (sent : R → Option Sending)
+    (named : (r : R) → option_map (λ (s : Sending). s.pending) (sent r) ≡ exchange_named (told r)) where
+  asks_in_exchange : (r : R) → message_in (sent r) ≢ None → exchange_named (told r) ≢ None
+  asks_in_exchange r question none = in_exchange (sent r) question (named r ∙ none)
 
-no_exchange_now : (s : PartySetup) (past : RpPast) (p : RpPair) (asked : RpAsk) (w : Word) (message : Message) → IsInfo asked
-    → ExchangeCause s past p.entry asked w message → ⊥
-no_exchange_now s past p asked w message is cause = subst (λ (a : RpAsk). ExchangeCause s past p.entry a w message) is.2 cause
+  -- a reply with a question has rounds left, at most two
+  pub rp_few_rounds : (r : R) → (rounds_of (told r) ≤ 2) × (message_in (sent r) ≢ None → 0 < rounds_of (told r))
+  rp_few_rounds r = (at_most_two (told r), λ question. some_left (told r) (asks_in_exchange r question))
 
-no_fetch : (s : PartySetup) (past : RpPast) (p : RpPair) (asked : RpAsk) (w : Word) (message : Message) → IsInfo asked
-    → FetchCause s past p.entry asked w message → ⊥
-no_fetch s past p asked w message is cause = subst (λ (a : RpAsk). FetchCause s past p.entry a w message) is.2 cause
-
--- after a token response no token request follows
-after_tokens : (s : PartySetup) (past : RpPast) (p : RpPair) → IsTokens p.entry.ask → (r : RpReply) → rp_answer s past p.entry ≡ r → rp_rounds r < 2
-after_tokens s past p is (reply.Exchange w message) h =
-    absurd (no_exchange s past p p.entry.ask w message is (exchanges_have_a_cause s past p.entry w message h))
-after_tokens s past p is (reply.Ask to browser) h = omega arith
-after_tokens s past p is reply.Fragment h = omega arith
-after_tokens s past p is (reply.Fetch w message) h = omega arith
-after_tokens s past p is (reply.Entered session sub) h = omega arith
-after_tokens s past p is (reply.User sub) h = omega arith
-after_tokens s past p is reply.Nobody h = omega arith
-after_tokens s past p is (reply.Left ended) h = omega arith
-after_tokens s past p is (reply.Ended count) h = omega arith
-after_tokens s past p is (reply.Refused why) h = omega arith
-after_tokens s past p is reply.NotHere h = omega arith
-
--- after a UserInfo response no request to the provider follows
-after_info : (s : PartySetup) (past : RpPast) (p : RpPair) → IsInfo p.entry.ask → (r : RpReply) → rp_answer s past p.entry ≡ r → rp_rounds r < 1
-after_info s past p is (reply.Exchange w message) h =
-    absurd (no_exchange_now s past p p.entry.ask w message is (exchanges_have_a_cause s past p.entry w message h))
-after_info s past p is (reply.Fetch w message) h = absurd (no_fetch s past p p.entry.ask w message is (fetches_have_a_cause s past p.entry w message h))
-after_info s past p is (reply.Ask to browser) h = omega arith
-after_info s past p is reply.Fragment h = omega arith
-after_info s past p is (reply.Entered session sub) h = omega arith
-after_info s past p is (reply.User sub) h = omega arith
-after_info s past p is reply.Nobody h = omega arith
-after_info s past p is (reply.Left ended) h = omega arith
-after_info s past p is (reply.Ended count) h = omega arith
-after_info s past p is (reply.Refused why) h = omega arith
-after_info s past p is reply.NotHere h = omega arith
-
--- the newest reply of a legal history is the answer to its entry and the history before it
-newest_answer : (s : PartySetup) (before : List RpPair) (p : RpPair) → IsLegalHistory s (before ++ p ∷ []) → rp_answer s (reverse before) p.entry ≡ p.reply
-newest_answer s before p legal =
-    let past : IsLegalRp s (p ∷ reverse before) = subst (λ (past : RpPast). IsLegalRp s past) (reverse-append before (p ∷ [])) legal.past in
-    sym past.3
-
-asked_tokens : (c : Configuration) (n : ℕ) (pending : Word) (answer : Answered) → IsTokens (tokens_prepared c n pending answer)
-unfolding tokens_prepared
-asked_tokens c n pending answer = is_tokens (party_client c n) pending (tokens_read answer)
-
-asked_info : (pending : Word) (answer : Answered) → IsInfo (info_prepared pending answer)
-unfolding info_prepared
-asked_info pending answer = (pending, info_read answer, refl)
-
--- after a question fewer may follow
-pub rp_fewer_rounds :
-    (c : Configuration) (n : ℕ) (s : PartySetup) (before : List RpPair) (p : RpPair) (r : RpReply) (answer : Answered)
-    → IsLegalHistory s (before ++ p ∷ []) → p.entry.ask ≡ rp_answered c n r answer → rp_question r ≢ None
-    → rp_rounds p.reply < rp_rounds r
-rp_fewer_rounds c n s before p (reply.Exchange pending message) answer legal asked question =
-    after_tokens s (reverse before) p (subst IsTokens (sym asked) (asked_tokens c n pending answer)) p.reply (newest_answer s before p legal)
-rp_fewer_rounds c n s before p (reply.Fetch pending message) answer legal asked question =
-    after_info s (reverse before) p (subst IsInfo (sym asked) (asked_info pending answer)) p.reply (newest_answer s before p legal)
-rp_fewer_rounds c n s before p (reply.Ask to browser) answer legal asked question = absurd (question refl)
-rp_fewer_rounds c n s before p reply.Fragment answer legal asked question = absurd (question refl)
-rp_fewer_rounds c n s before p (reply.Entered session sub) answer legal asked question = absurd (question refl)
-rp_fewer_rounds c n s before p (reply.User sub) answer legal asked question = absurd (question refl)
-rp_fewer_rounds c n s before p reply.Nobody answer legal asked question = absurd (question refl)
-rp_fewer_rounds c n s before p (reply.Left ended) answer legal asked question = absurd (question refl)
-rp_fewer_rounds c n s before p (reply.Ended count) answer legal asked question = absurd (question refl)
-rp_fewer_rounds c n s before p (reply.Refused why) answer legal asked question = absurd (question refl)
-rp_fewer_rounds c n s before p reply.NotHere answer legal asked question = absurd (question refl)
+  -- after a question fewer may follow, if no token request follows a token response, and none a UserInfo response
+  pub rp_fewer_rounds : {A : Type 0} (tokens info : Word → Answered → A) (none asked : A) (answer : Answered) (r next : R)
+      → ((w : Word) → asked ≡ tokens w answer → rounds_of (told next) < 2) → ((w : Word) → asked ≡ info w answer → rounds_of (told next) < 1)
+      → asked ≡ answered_by tokens info none (told r) answer → message_in (sent r) ≢ None → rounds_of (told next) < rounds_of (told r)
+  rp_fewer_rounds tokens info none asked answer r next tokens_end info_ends is question =
+      fewer_left tokens info none asked answer (rounds_of (told next)) (told r) tokens_end info_ends is (asks_in_exchange r question)

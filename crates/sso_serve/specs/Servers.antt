@@ -1,4 +1,4 @@
--- What the two servers did with their desks.
+-- What servers did with their desks.
 use Rattle.std.specs.Prelude.{◌≡◌, List}
 use Rattle.client_registry.specs.Configuration.{Configuration}
 use Rattle.op_exchange.specs.declared.ask.OpAsk.{OpAsk}
@@ -10,11 +10,24 @@ use Rattle.rp_exchange.specs.declared.reply.RpReply.{RpReply}
 use Rattle.rp_answer.specs.Legal as rp
 use Rattle.rp_answer.specs.Setup.{PartySetup, party_of}
 use Rattle.rp_core.specs.Relying.{Relying}
+use Rattle.pkce_answer.specs.declared.asks.PkceAsk.{PkceAsk}
+use Rattle.pkce_answer.specs.declared.asks.PkceReply.{PkceReply}
+use Rattle.pkce_check.specs.Keeps.{Checking}
+use Rattle.pkce_party.specs.declared.reply.PartyReply.{PartyReply}
+use Rattle.pkce_party.specs.Adding.{IsLegalParty}
 use Rattle.server_desk.specs.declared.desk.Desk.{Desk}
 use Rattle.serving.specs.declared.summary.Summary.{Summary}
 use Rattle.serving.specs.Summaries.{Telling, Summarises}
 use Rattle.sso_serve.specs.declared.ran.Ran.{Ran}
-use Rattle.sso_serve.specs.Roles.{op_manner, op_most, op_registry, op_history, rp_manner, rp_most, rp_setup, rp_history}
+use Rattle.sso_serve.specs.Cores.{op_manner, op_most, op_registry, op_history, op_plus_manner, op_plus_registry, op_plus_history, IsLegalOpPlus}
+use Rattle.sso_serve.specs.Cores.{rp_manner, rp_most, rp_setup, rp_history, rp_plus_manner, rp_plus_history}
+
+-- the provider with proof keys, and a relying party with proof keys, in a summary
+abbrev pub OpPlusSummary : Type 0
+OpPlusSummary = Summary (Checking Providing OpAsk OpReply) (PkceAsk OpAsk) (PkceReply OpReply)
+
+abbrev pub RpPlusSummary : Type 0
+RpPlusSummary = Summary Relying RpAsk PartyReply
 
 -- the result of a server that did this
 abbrev pub ran_of : {O A R : Type 0} → Summary O A R → Ran
@@ -25,13 +38,28 @@ module _ {D L C W S K : Type 0} (t : Telling D L C W S K) (olds news : List (Des
   abbrev pub ServesOp : Configuration → Summary Providing OpAsk OpReply → Type 0
   ServesOp c s = Summarises t (op_manner c) op_most op_registry op_history op.IsLegalHistory c c.listen olds news s
 
+  -- the same with proof keys
+  abbrev pub ServesOpPlus : Configuration → OpPlusSummary → Type 0
+  ServesOpPlus c s = Summarises t (op_plus_manner c) op_most op_plus_registry op_plus_history IsLegalOpPlus c c.listen olds news s
+
   -- the relying party of a setup was served, at its `listen` address
   abbrev pub ServesRp : PartySetup → Summary Relying RpAsk RpReply → Type 0
   ServesRp p s = Summarises t (rp_manner p.configuration p.number) rp_most rp_setup rp_history rp.IsLegalHistory p (party_of p).listen olds news s
+
+  -- the same with proof keys
+  abbrev pub ServesRpPlus : PartySetup → RpPlusSummary → Type 0
+  ServesRpPlus p s =
+      Summarises t (rp_plus_manner p.configuration p.number) rp_most rp_setup rp_plus_history IsLegalParty p (party_of p).listen olds news s
 
   -- the same, with this result
   abbrev pub RanOp : Configuration → Ran → Type 0
   RanOp c ran = (s : Summary Providing OpAsk OpReply) × ServesOp c s × (ran ≡ ran_of s)
 
+  abbrev pub RanOpPlus : Configuration → Ran → Type 0
+  RanOpPlus c ran = (s : OpPlusSummary) × ServesOpPlus c s × (ran ≡ ran_of s)
+
   abbrev pub RanRp : PartySetup → Ran → Type 0
   RanRp p ran = (s : Summary Relying RpAsk RpReply) × ServesRp p s × (ran ≡ ran_of s)
+
+  abbrev pub RanRpPlus : PartySetup → Ran → Type 0
+  RanRpPlus p ran = (s : RpPlusSummary) × ServesRpPlus p s × (ran ≡ ran_of s)

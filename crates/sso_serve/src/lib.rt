@@ -1,15 +1,18 @@
-//! The two roles of the sign-on system for servers with worker threads, and their servers.
+//! The two roles of the sign-on system for servers with worker threads, and their servers. A server is generic in its core: any core
+//! that the provider is in, or any that a relying party is in.
 //!
-//! The crate `serving` defines how any server works. This crate has what differs between the two: their cores, how requests are
-//! parsed for them, and how their replies are sent.
+//! The crate `serving` defines how any server works. This crate has what differs between the two: how requests are parsed for their
+//! cores, and how their replies are sent.
 //!
 //! | Module | What it has |
 //! |---|---|
 //! | `op_role`, `rp_role` | [`OpRole`] and [`RpRole`], the roles |
 //! | `op`, `rp` | [`serve_op`] and [`serve_rp`], the servers |
-//! | `ran` | [`run_op`] and [`run_rp`], the same without the core, and [`Ran`], their result |
+//! | `cores` | the servers of the provider and of a relying party, alone and with proof keys (RFC 7636) |
+//! | `ran` | [`run_op`], [`run_rp`], [`run_op_plus`] and [`run_rp_plus`], the same without the core, and [`Ran`], their result |
 #![tactic(auto)]
 
+mod cores;
 mod op;
 mod op_role;
 mod ran;
@@ -18,6 +21,6 @@ mod rp_role;
 
 pub use op::serve_op;
 pub use op_role::OpRole;
-pub use ran::{Ran, run_op, run_rp};
+pub use ran::{Ran, run_op, run_op_plus, run_rp, run_rp_plus};
 pub use rp::serve_rp;
 pub use rp_role::RpRole;

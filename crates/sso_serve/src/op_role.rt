@@ -1,13 +1,16 @@
-// The provider as a role.
+// A core that the provider is in, as a role.
+
+ghost use Rattle.std.specs.Prelude.{◌≡◌};
+ghost use Rattle.std.specs.Option.{option_copied};
+ghost use Rattle.sso_serve.specs.Roles.{is_small_if};
 
 use client_registry::Registry;
-use op_core::OpCore;
-use op_exchange::{OpAsk, OpReply, is_small};
-use op_request::prepare_op;
-use op_response::op_http;
+use core_stack::Provides;
+use op_exchange::{OpAsk, is_small};
 use serving::Role;
 use sso_base::{Answered, Ask, HttpReply, Message, Messages, NoMemory, Text};
 use std::alloc::Global;
+use std::marker::PhantomData;
 
 /// The name of the browser's cookie.
 const BROWSER: &str = "op_b";
@@ -15,22 +18,33 @@ const BROWSER: &str = "op_b";
 /// The name of the session's cookie.
 const SESSION: &str = "op_s";
 
-/// The role of the provider's server: the provider of this registry.
+/// The role of the provider's server: a core of this type, which the provider of this registry is in.
 #[derive(Drop)]
-pub struct OpRole<'a> {
+pub struct OpRole<'a, P> {
     pub registry: &'a Registry,
+    pub core: PhantomData<P>,
 }
 
-impl<'a> Role for OpRole<'a> {
+// Whether the provider's request in a request is small. If there is none, the tables keep nothing of the request.
+fn is_small_if(ask: Option<&OpAsk>) -> bool
+    ensures { result ≡ is_small_if (option_copied ask.entry) }
+{
+    match ask {
+        Some(ask) => is_small(ask),
+        None => true,
+    }
+}
+
+impl<'a, P: Provides + Send + Sync> Role for OpRole<'a, P> {
     ghost use Rattle.std.specs.Prelude.{refl};
-    ghost use Rattle.sso_serve.specs.Roles.{op_manner};
+    ghost use Rattle.sso_serve.specs.Roles.{provider_manner};
     ghost use Rattle.std.proofs.Common.{arith};
 
-    type Core = OpCore;
+    type Core = P;
 
     ghost ready = { λ _. Unit {0} };
 
-    ghost manner = { λ role. op_manner role.registry.now };
+    ghost manner = { λ role. provider_manner P.plain_ask P.notices P.prepared P.from_op P.http_of P.weighs role.registry.now };
 
     ghost rounds = { λ _. 0 };
 
@@ -38,36 +52,33 @@ impl<'a> Role for OpRole<'a> {
         Ok((Text::new(alloc, BROWSER)?, Text::new(alloc, SESSION)?))
     }
 
-    fn prepare(&self, alloc: Global, request: &Ask) -> Result<OpAsk, NoMemory> {
-        prepare_op(alloc, self.registry, request)
+    fn prepare(&self, alloc: Global, request: &Ask) -> Result<P::Ask, NoMemory> {
+        P::prepare(alloc, self.registry, request)
     }
 
-    fn question<'r>(&self, _reply: &'r OpReply) -> Option<&'r Message> {
-        None
+    fn question(&self, _alloc: Global, _reply: &P::Reply) -> Result<Option<Message>, NoMemory> {
+        Ok(None)
     }
 
     fn prepare_answer(
         &self,
-        _alloc: Global,
-        _reply: &OpReply,
+        alloc: Global,
+        _reply: &P::Reply,
         _answer: &Answered,
-    ) -> Result<OpAsk, NoMemory> {
-        Ok(OpAsk::NotHere)
+    ) -> Result<P::Ask, NoMemory> {
+        P::from_plain(alloc, OpAsk::NotHere)
     }
 
-    fn takes(&self, ask: &OpAsk) -> bool {
-        !self.registry.lasting() || is_small(ask)
+    fn takes(&self, ask: &P::Ask) -> bool {
+        !self.registry.lasting() || is_small_if(P::plain(ask))
     }
 
-    fn notices<'r>(&self, reply: &'r OpReply) -> Option<&'r Messages> {
-        match reply {
-            OpReply::SignedOut { messages } => Some(messages),
-            _ => None,
-        }
+    fn notices<'r>(&self, reply: &'r P::Reply) -> Option<&'r Messages> {
+        P::messages(reply)
     }
 
-    fn http(&self, alloc: Global, reply: &OpReply) -> Result<HttpReply, NoMemory> {
-        op_http(alloc, self.registry, reply)
+    fn http(&self, alloc: Global, reply: &P::Reply) -> Result<HttpReply, NoMemory> {
+        P::http(alloc, self.registry, reply)
     }
 
     ghost same_weights = { λ _. refl };

@@ -3,10 +3,9 @@
 ghost use Rattle.std.specs.Prelude.{◌≡◌, ◌^◌, ◌≤◌, ◌<◌, length, IfOk, OnErr};
 ghost use Rattle.std.specs.List.{All};
 ghost use Rattle.rp_accept.specs.Serving.{setup_of};
-ghost use Rattle.sso_serve.specs.Servers.{RanOp, RanRp};
+ghost use Rattle.sso_serve.specs.Servers.{RanOp, RanOpPlus, RanRp, RanRpPlus};
 
-use crate::op::serve_op;
-use crate::rp::serve_rp;
+use crate::cores::{serve_op_alone, serve_op_plus, serve_rp_alone, serve_rp_plus};
 use client_registry::{Provider, Registry};
 use server_desk::{Clock, Desk, Door, Draw, Link};
 use serving::Tells;
@@ -26,11 +25,11 @@ pub struct Ran {
     pub entries: u64,
 }
 
-/// Serves as [`serve_op`], and returns how that ended.
+/// Serves the provider of this registry, as [`serve_op`](crate::serve_op), and returns how that ended.
 ///
 /// # Errors
 ///
-/// Those of [`serve_op`].
+/// `NoMemory` if memory ran out, before the first door was started. The desks are unchanged.
 pub fn run_op<R: Threads + Wait + Sync, D: Door, L: Link, C: Clock, W: Draw>(
     rt: &R,
     alloc: Global,
@@ -42,7 +41,7 @@ pub fn run_op<R: Threads + Wait + Sync, D: Door, L: Link, C: Clock, W: Draw>(
     ensures ran { IfOk result (RanOp ⟦<Desk<D, L, C, W> as Tells>⟧.telling desks.old.items desks.new.items registry.now) }
     ensures memory { OnErr result (desks.new.items ≡ desks.old.items) }
 {
-    let summary = serve_op(rt, alloc, registry, desks)?;
+    let summary = serve_op_alone(rt, alloc, registry, desks)?;
     Ok(Ran {
         fault: summary.fault,
         served: summary.served,
@@ -50,11 +49,36 @@ pub fn run_op<R: Threads + Wait + Sync, D: Door, L: Link, C: Clock, W: Draw>(
     })
 }
 
-/// Serves as [`serve_rp`], and returns how that ended.
+/// Serves the provider of this registry with proof keys, as [`serve_op`](crate::serve_op), and returns how that ended.
 ///
 /// # Errors
 ///
-/// Those of [`serve_rp`].
+/// `NoMemory` if memory ran out, before the first door was started. The desks are unchanged.
+pub fn run_op_plus<R: Threads + Wait + Sync, D: Door, L: Link, C: Clock, W: Draw>(
+    rt: &R,
+    alloc: Global,
+    registry: &Registry,
+    desks: &mut Vec<Desk<D, L, C, W>>,
+) -> Result<Ran, NoMemory>
+    requires few { length desks.old.items ≤ 64 }
+    requires desks { All (λ desk. (desk.turns ≤ 2 ^ 56) × ((D.state desk.door).given < 2 ^ 63)) desks.old.items }
+    ensures ran { IfOk result (RanOpPlus ⟦<Desk<D, L, C, W> as Tells>⟧.telling desks.old.items desks.new.items registry.now) }
+    ensures memory { OnErr result (desks.new.items ≡ desks.old.items) }
+{
+    let summary = serve_op_plus(rt, alloc, registry, desks)?;
+    Ok(Ran {
+        fault: summary.fault,
+        served: summary.served,
+        entries: summary.entries,
+    })
+}
+
+/// Serves the party with this number in the registry, as [`serve_rp`](crate::serve_rp), and returns how that ended. It trusts this
+/// provider, whose issuer must be the registry's.
+///
+/// # Errors
+///
+/// `NoMemory` if memory ran out, before the first door was started. The desks are unchanged.
 pub fn run_rp<R: Threads + Wait + Sync, D: Door, L: Link, C: Clock, W: Draw>(
     rt: &R,
     alloc: Global,
@@ -70,7 +94,37 @@ pub fn run_rp<R: Threads + Wait + Sync, D: Door, L: Link, C: Clock, W: Draw>(
     ensures ran { IfOk result (RanRp ⟦<Desk<D, L, C, W> as Tells>⟧.telling desks.old.items desks.new.items (setup_of registry.now party provider)) }
     ensures memory { OnErr result (desks.new.items ≡ desks.old.items) }
 {
-    let summary = serve_rp(rt, alloc, registry, party, provider, desks)?;
+    let summary = serve_rp_alone(rt, alloc, registry, party, provider, desks)?;
+    Ok(Ran {
+        fault: summary.fault,
+        served: summary.served,
+        entries: summary.entries,
+    })
+}
+
+/// Serves the party with this number in the registry with proof keys, as [`serve_rp`](crate::serve_rp), and returns how that ended. It trusts this
+/// provider, whose issuer must be the registry's.
+///
+/// # Errors
+///
+/// `NoMemory` if memory ran out, before the first door was started. The desks are unchanged.
+pub fn run_rp_plus<R: Threads + Wait + Sync, D: Door, L: Link, C: Clock, W: Draw>(
+    rt: &R,
+    alloc: Global,
+    registry: &Registry,
+    party: u32,
+    provider: Provider,
+    desks: &mut Vec<Desk<D, L, C, W>>,
+) -> Result<Ran, NoMemory>
+    requires party { party < length registry.now.parties }
+    requires issuer { provider.issuer ≡ registry.now.provider.issuer }
+    requires few { length desks.old.items ≤ 64 }
+    requires desks { All (λ desk. (desk.turns ≤ 2 ^ 56) × ((D.state desk.door).given < 2 ^ 63)) desks.old.items }
+    ensures ran { IfOk result
+        (RanRpPlus ⟦<Desk<D, L, C, W> as Tells>⟧.telling desks.old.items desks.new.items (setup_of registry.now party provider)) }
+    ensures memory { OnErr result (desks.new.items ≡ desks.old.items) }
+{
+    let summary = serve_rp_plus(rt, alloc, registry, party, provider, desks)?;
     Ok(Ran {
         fault: summary.fault,
         served: summary.served,

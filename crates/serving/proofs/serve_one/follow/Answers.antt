@@ -1,24 +1,32 @@
-use Rattle.std.proofs.Common.{[], sym, refl, inl, arith}
+use Rattle.std.proofs.Common.{[], sym, refl, inl, ◌∙◌, arith}
 use Rattle.std.proofs.lemmas.Result.{err_from_is_err_and}
 use Rattle.turn_store.specs.Passes.{front_of, setup_of}
 use Rattle.serving.proofs.Doing.{did_calls, did_no_step, did_one_step, calls_alone, no_step, one_step}
 use Rattle.serving.proofs.Calls.{took_none}
-use Rattle.serving.proofs.Asking.{round_unanswered, round_refused, round_made}
+use Rattle.serving.proofs.Asking.{round_without_memory, round_unanswered, round_refused, round_made}
 use Rattle.serving.proofs.serve_one.follow.Goals as goal
 
--- src/serve_one.rt:105:17
+-- memory ran out before the question
+pub returns-in_err-question-clause-followed : goal.returns-in_err-question-clause-followed
+returns-in_err-question-clause-followed g c =
+    let p = err_from_is_err_and c.from_residual.result c.from_residual.ensures.1 in (
+      calls_alone [],
+      did_calls c.args.pass.now (g.L.Link.state c.args.tools.now.link) (g.L.Link.state c.args.tools.now.link) (g.C.Clock.ahead c.args.tools.now.clock) (g.W.Draw.ahead c.args.tools.now.draw) [] (took_none (g.L.Link.state c.args.tools.now.link)),
+      rw (p.1, p.2) (refl, round_without_memory (g.X.Role.manner c.args.backend.now.role.now) (g.X.Core.Core.most (setup_of g.X.Core.Core.setup c.args.backend.now.store.now)) (front_of c.args.pass.now) c.args.reply),
+      omega arith,
+    )
+
 pub returns-in-None-clause-followed : goal.returns-in-None-clause-followed
 returns-in-None-clause-followed g c = (
   calls_alone [],
   did_calls c.args.pass.now (g.L.Link.state c.args.tools.now.link) (g.L.Link.state c.args.tools.now.link) (g.C.Clock.ahead c.args.tools.now.clock) (g.W.Draw.ahead c.args.tools.now.draw) [] (took_none (g.L.Link.state c.args.tools.now.link)),
-  (inl (refl, refl, refl, sym c.in-None.ensures), refl),
+  (inl (refl, refl, refl, sym c.in_ok-question.ensures ∙ c.in-None.is), refl),
   omega arith,
 )
 
--- src/serve_one.rt:106:27
 pub returns-in_err-ask-in-Some-clause-followed : goal.returns-in_err-ask-in-Some-clause-followed
 returns-in_err-ask-in-Some-clause-followed g c =
-    let p = err_from_is_err_and c.from_residual.result c.from_residual.ensures.1 in
+    let p = err_from_is_err_and c.from_residual-in_err-ask-in-Some.result c.from_residual-in_err-ask-in-Some.ensures.1 in
     let asked = c.in_err-ask-in-Some.ensures in (
       calls_alone asked.0,
       did_calls c.args.pass.now (g.L.Link.state c.args.tools.now.link) (g.L.Link.state c.asked_back.new.link) (g.C.Clock.ahead c.args.tools.now.clock) (g.W.Draw.ahead c.args.tools.now.draw) asked.0 asked.1,
@@ -26,7 +34,6 @@ returns-in_err-ask-in-Some-clause-followed g c =
       omega arith,
     )
 
--- src/serve_one.rt:109:16
 pub returns-in_err-next-clause-followed : goal.returns-in_err-next-clause-followed
 returns-in_err-next-clause-followed g c =
     let laws = g.met.X.Role g.world.𝓛 g.world.𝓜 g.world.𝓡 ((λ s x. x), (λ x. x), (λ x. x), λ x. x) in
@@ -39,7 +46,6 @@ returns-in_err-next-clause-followed g c =
       omega arith,
     )
 
--- src/serve_one.rt:85:1
 pub returns-clause-followed : goal.returns-clause-followed
 returns-clause-followed g c =
     let laws = g.met.X.Role g.world.𝓛 g.world.𝓜 g.world.𝓡 ((λ s x. x), (λ x. x), (λ x. x), λ x. x) in

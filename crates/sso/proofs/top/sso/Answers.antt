@@ -37,6 +37,12 @@ returns-clause-provider g c = ending.provider _ _ c.run.ensures.ended
 pub returns-clause-party : goal.returns-clause-party
 returns-clause-party g c = ending.party _ _ c.run.ensures.ended
 
+pub returns-clause-provider_plus : goal.returns-clause-provider_plus
+returns-clause-provider_plus g c = ending.provider_plus _ _ c.run.ensures.ended
+
+pub returns-clause-party_plus : goal.returns-clause-party_plus
+returns-clause-party_plus g c = ending.party_plus _ _ c.run.ensures.ended
+
 pub returns-clause-command : goal.returns-clause-command
 returns-clause-command g c = ending.command _ _ c.run.ensures.ended
 

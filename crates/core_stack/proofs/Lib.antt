@@ -1,0 +1,12 @@
+pub mod Held
+pub mod Both
+pub mod Merging
+pub mod Passing
+pub mod Stepping
+pub mod Stacking
+pub mod Added
+pub mod Marked
+pub mod Rooms
+pub mod MarksHeld
+pub mod Samples
+mod RelySamples

@@ -1,0 +1,11 @@
+pub mod Stacks
+pub mod OpStack
+pub mod Rows
+pub mod Marks
+pub mod Asked
+pub mod Kept
+pub mod KeptJournal
+pub mod Stacked
+pub mod Holding
+pub mod Relied
+pub mod Rounds

@@ -1,0 +1,4 @@
+pub mod Refusing
+pub mod Redeeming
+pub mod OneRequest
+pub mod Samples

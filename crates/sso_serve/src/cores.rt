@@ -1,0 +1,143 @@
+// The servers of four cores: the provider and a relying party, alone and with proof keys.
+
+ghost use Rattle.std.specs.Prelude.{◌≡◌, ◌^◌, ◌≤◌, ◌<◌, [], length, IfOk, OnErr};
+ghost use Rattle.std.specs.List.{All};
+ghost use Rattle.rp_accept.specs.Serving.{setup_of};
+ghost use Rattle.rp_login.specs.Tables.{no_tables};
+ghost use Rattle.sso_serve.specs.Servers.{ServesOp, ServesOpPlus, ServesRp, ServesRpPlus};
+
+use crate::op::serve_op;
+use crate::rp::serve_rp;
+use client_registry::{Provider, Registry};
+use op_core::OpCore;
+use pkce_check::PkceCore;
+use pkce_party::PkceParty;
+use rp_core::RpCore;
+use server_desk::{Clock, Desk, Door, Draw, Link};
+use serving::{Summary, Tells};
+use sso_base::NoMemory;
+use std::alloc::Global;
+use std::sync::Wait;
+use std::thread::Threads;
+
+// ---- the cores
+
+// Proof keys around a provider that has an empty history. The core lasts if the provider does.
+fn keys_around(alloc: Global, inner: OpCore, lasts: bool) -> PkceCore<OpCore>
+    requires empty { inner.history ≡ [] }
+    requires lasts { lasts ≡ inner.registry.lasting }
+    ensures history { result.history ≡ [] }
+    ensures inner { result.inner ≡ inner }
+{
+    PkceCore::new(alloc, inner, lasts)
+}
+
+// The provider of a registry with proof keys around it, with an empty history.
+fn op_with_keys(alloc: Global, registry: Registry) -> Result<PkceCore<OpCore>, NoMemory>
+    ensures history { IfOk result (λ c. c.history ≡ []) }
+    ensures registry { IfOk result (λ c. c.inner.registry ≡ registry) }
+{
+    let lasts = registry.lasting();
+    let inner = OpCore::new(alloc, registry)?;
+    Ok(keys_around(alloc, inner, lasts))
+}
+
+// Proof keys around a relying party that has an empty history.
+fn keys_within(alloc: Global, inner: RpCore) -> PkceParty
+    requires { inner.history ≡ [] }
+    ensures { result ≡ inner }
+{
+    PkceParty::new(alloc, inner)
+}
+
+// A relying party of a registry with proof keys, with an empty history.
+fn rp_with_keys(
+    alloc: Global,
+    registry: Registry,
+    party: u32,
+    provider: Provider,
+) -> Result<PkceParty, NoMemory>
+    requires party { party < length registry.parties }
+    requires issuer { provider.issuer ≡ registry.provider.issuer }
+    ensures { IfOk result (λ c. c ≡ record { setup = setup_of registry party provider; history = []; tables = no_tables }) }
+{
+    let inner = RpCore::new(alloc, registry, party, provider)?;
+    Ok(keys_within(alloc, inner))
+}
+
+// ---- the provider
+
+/// Serves the provider of this registry.
+pub(crate) fn serve_op_alone<R: Threads + Wait + Sync, D: Door, L: Link, C: Clock, W: Draw>(
+    rt: &R,
+    alloc: Global,
+    registry: &Registry,
+    desks: &mut Vec<Desk<D, L, C, W>>,
+) -> Result<Summary<OpCore>, NoMemory>
+    requires few { length desks.old.items ≤ 64 }
+    requires desks { All (λ desk. (desk.turns ≤ 2 ^ 56) × ((D.state desk.door).given < 2 ^ 63)) desks.old.items }
+    ensures summary { IfOk result (ServesOp ⟦<Desk<D, L, C, W> as Tells>⟧.telling desks.old.items desks.new.items registry.now) }
+    ensures memory { OnErr result (desks.new.items ≡ desks.old.items) }
+{
+    let core = OpCore::new(alloc, registry.copy(alloc)?)?;
+    serve_op(rt, alloc, registry, core, desks)
+}
+
+/// Serves the provider of this registry with proof keys.
+pub(crate) fn serve_op_plus<R: Threads + Wait + Sync, D: Door, L: Link, C: Clock, W: Draw>(
+    rt: &R,
+    alloc: Global,
+    registry: &Registry,
+    desks: &mut Vec<Desk<D, L, C, W>>,
+) -> Result<Summary<PkceCore<OpCore>>, NoMemory>
+    requires few { length desks.old.items ≤ 64 }
+    requires desks { All (λ desk. (desk.turns ≤ 2 ^ 56) × ((D.state desk.door).given < 2 ^ 63)) desks.old.items }
+    ensures summary { IfOk result (ServesOpPlus ⟦<Desk<D, L, C, W> as Tells>⟧.telling desks.old.items desks.new.items registry.now) }
+    ensures memory { OnErr result (desks.new.items ≡ desks.old.items) }
+{
+    let core = op_with_keys(alloc, registry.copy(alloc)?)?;
+    serve_op(rt, alloc, registry, core, desks)
+}
+
+// ---- a relying party
+
+/// Serves the party with this number in the registry. It trusts this provider.
+pub(crate) fn serve_rp_alone<R: Threads + Wait + Sync, D: Door, L: Link, C: Clock, W: Draw>(
+    rt: &R,
+    alloc: Global,
+    registry: &Registry,
+    party: u32,
+    provider: Provider,
+    desks: &mut Vec<Desk<D, L, C, W>>,
+) -> Result<Summary<RpCore>, NoMemory>
+    requires party { party < length registry.now.parties }
+    requires issuer { provider.issuer ≡ registry.now.provider.issuer }
+    requires few { length desks.old.items ≤ 64 }
+    requires desks { All (λ desk. (desk.turns ≤ 2 ^ 56) × ((D.state desk.door).given < 2 ^ 63)) desks.old.items }
+    ensures summary { IfOk result (ServesRp ⟦<Desk<D, L, C, W> as Tells>⟧.telling desks.old.items desks.new.items (setup_of registry.now party provider)) }
+    ensures memory { OnErr result (desks.new.items ≡ desks.old.items) }
+{
+    let core = RpCore::new(alloc, registry.copy(alloc)?, party, provider)?;
+    serve_rp(rt, alloc, registry, party, core, desks)
+}
+
+/// The same with proof keys.
+pub(crate) fn serve_rp_plus<R: Threads + Wait + Sync, D: Door, L: Link, C: Clock, W: Draw>(
+    rt: &R,
+    alloc: Global,
+    registry: &Registry,
+    party: u32,
+    provider: Provider,
+    desks: &mut Vec<Desk<D, L, C, W>>,
+) -> Result<Summary<PkceParty>, NoMemory>
+    requires party { party < length registry.now.parties }
+    requires issuer { provider.issuer ≡ registry.now.provider.issuer }
+    requires few { length desks.old.items ≤ 64 }
+    requires desks { All (λ desk. (desk.turns ≤ 2 ^ 56) × ((D.state desk.door).given < 2 ^ 63)) desks.old.items }
+    ensures summary { IfOk result
+        (ServesRpPlus ⟦<Desk<D, L, C, W> as Tells>⟧.telling desks.old.items desks.new.items (setup_of registry.now party provider)) }
+    ensures memory { OnErr result (desks.new.items ≡ desks.old.items) }
+{
+    let core = rp_with_keys(alloc, registry.copy(alloc)?, party, provider)?;
+    serve_rp(rt, alloc, registry, party, core, desks)
+}
