@@ -14,4 +14,4 @@ returns-clause-ok c =
 pub invariant_of-self-2 : goal.invariant_of-self-2
 invariant_of-self-2 c =
     last_is c.self.inside.core c.step.new.self c.args.at c.args.fresh c.args.ask c.in_ok-reply.reply c.in_ok-reply.ensures.ok c.self.inside.last
-    c.later_of.result c.self.invariant c.later_of.ensures.moment
+    c.later_of-at.result c.self.invariant c.later_of-at.ensures.moment
