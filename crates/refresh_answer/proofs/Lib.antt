@@ -1,0 +1,8 @@
+pub mod Answered
+pub mod Families
+pub mod Steps
+pub mod Current
+pub mod Once
+pub mod Clients
+pub mod Passed
+mod Samples
