@@ -4,6 +4,7 @@ pub mod Merging
 pub mod Passing
 pub mod Stepping
 pub mod Stacking
+pub mod OnePair
 pub mod Added
 pub mod Marked
 pub mod Rooms

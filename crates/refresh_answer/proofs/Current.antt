@@ -1,5 +1,5 @@
 -- A family that lives has one current token.
-use Rattle.std.proofs.Common.{◌≡◌, ◌≤◌, ◌<◌, ℕ, suc, nat_eq, Bool, true, false, not, cond, List, [], ◌∷◌, ◌++◌, length, filter, Option, Some, None, is_some, ◌⊎◌, inl, inr, refl, ap, sym, ◌∙◌, subst, arith}
+use Rattle.std.proofs.Common.{◌≡◌, ◌≤◌, ◌<◌, ℕ, suc, nat_eq, Bool, true, false, not, List, [], ◌∷◌, length, filter, Option, Some, None, inl, inr, refl, ap, sym, ◌∙◌, subst, arith}
 use Rattle.std.specs.Str.{bytes_eq}
 use Rattle.std.proofs.lemmas.Bool.{eqb-true}
 use Rattle.sso_base.specs.Words.{Word, fresh_word}
@@ -20,11 +20,10 @@ use Rattle.refresh_answer.specs.declared.asks.RefreshReply.TheVariants.{Through,
 use Rattle.refresh_answer.specs.declared.rows.FamilyRow.{FamilyRow}
 use Rattle.refresh_answer.specs.Rows.{family_life, token_name, new_token, old_token, RefreshRow}
 use Rattle.refresh_answer.specs.Around.{Outer}
-use Rattle.refresh_answer.specs.Families.{living, held_tokens, row_presented, tokens, families, family_at, begins, begun_by, ends, appended, token_made, token_retired}
-use Rattle.refresh_answer.specs.Answering.{IsReply, own_reply}
+use Rattle.refresh_answer.specs.Families.{living, held_tokens, row_presented, tokens, families, family_at, begins, begun_by, ends, token_made, token_retired}
 use Rattle.refresh_answer.specs.Laws.{IsCurrentIn}
 use Rattle.refresh_answer.proofs.Answered.{IsAnswered}
-use Rattle.refresh_answer.proofs.Families.{some_same, some_none, true_false, one_below, one_more, above, AreNumbered, numbered_appended, numbered_filter, found_before, found_appended, if_lives_parts, living_before, held_found, room_is_new, put_here, put_other, put_found}
+use Rattle.refresh_answer.proofs.Families.{some_same, some_none, true_false, one_below, one_more, AreNumbered, numbered_appended, numbered_filter, found_before, found_appended, if_lives_parts, living_before, held_found, room_is_new, put_here, put_other, put_found}
 use Rattle.refresh_answer.proofs.Steps.{Rotates, Replied, reply_rotates, first_parts, presented_row, begun_place, begins_room, retired_is, made_family}
 
 low_both : (a b c : ℕ) → a ≤ b → b ≤ c → a ≤ c

@@ -1,11 +1,10 @@
 -- Families by their numbers, and tokens by their words.
-use Rattle.std.proofs.Common.{◌≡◌, ◌≤◌, ◌<◌, ◌+◌, ℕ, suc, nat_eq, nat_lt, Bool, true, false, not, ◌&&◌, ◌||◌, cond, List, [], ◌∷◌, ◌++◌, length, filter, Option, Some, None, is_some, option_and_then, option_map, unwrap_or, ◌⊎◌, inl, inr, refl, ap, sym, ◌∙◌, subst, arith}
+use Rattle.std.proofs.Common.{◌≡◌, ◌≤◌, ◌<◌, ◌+◌, ℕ, suc, nat_eq, nat_lt, Bool, true, false, not, cond, List, [], ◌∷◌, ◌++◌, length, filter, Option, Some, None, is_some, option_and_then, unwrap_or, ◌⊎◌, inl, inr, refl, ap, sym, ◌∙◌, subst, arith}
 use Rattle.std.specs.Str.{bytes_eq}
 use Rattle.std.proofs.lemmas.Bool.{and_parts, eqb-true, ltb-true, lt-ltb}
 use Rattle.sso_base.specs.Words.{Word}
 use Rattle.sso_base.specs.Rows.{row_of, put, if_lives, lives}
-use Rattle.sso_base.specs.Stands.{is_named}
-use Rattle.sso_base.proofs.RowLaws.{bool_cases, bytes_same, bytes_true, row_of-put, row_has_name}
+use Rattle.sso_base.proofs.RowLaws.{bool_cases, bytes_same, bytes_true, row_of-put}
 use Rattle.refresh_answer.specs.declared.rows.FamilyRow.{FamilyRow}
 use Rattle.refresh_answer.specs.Rows.{token_name, family_life, family_begun, most_tokens, RefreshRow}
 use Rattle.refresh_answer.specs.Families.{family_at, appended, living_in, held_in, has_room}

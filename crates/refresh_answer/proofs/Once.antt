@@ -1,6 +1,5 @@
 -- Where no word was drawn twice: a token is answered by new ones once; and after an old one was presented, its family is over.
-use Rattle.std.proofs.Common.{◌≡◌, ◌≤◌, ◌<◌, ◌+◌, ℕ, suc, nat_eq, Bool, true, false, not, ◌&&◌, ◌||◌, cond, List, [], ◌∷◌, ◌++◌, length, filter, Option, Some, None, option_and_then, option_map, Ok, Err, ◌⊎◌, inl, inr, refl, ap, sym, ◌∙◌, subst, arith}
-use Rattle.std.proofs.lemmas.Bool.{eqb-true}
+use Rattle.std.proofs.Common.{◌≡◌, ◌<◌, ◌+◌, ℕ, suc, nat_eq, Bool, true, false, not, ◌&&◌, ◌||◌, cond, List, [], ◌∷◌, ◌++◌, length, filter, Option, Some, None, option_and_then, option_map, Ok, inl, inr, refl, ap, sym, ◌∙◌, subst, arith}
 use Rattle.sso_base.specs.Words.{Word, fresh_word}
 use Rattle.sso_base.specs.Rows.{row_of, put, if_lives}
 use Rattle.sso_base.specs.Drawn.{IsDrawn}
@@ -14,24 +13,23 @@ use Rattle.op_exchange.specs.declared.ask.OpAsk.TheVariants as op_ask
 use Rattle.op_exchange.specs.declared.reply.OpReply.{OpReply}
 use Rattle.userinfo.specs.declared.header.Bearer.TheVariants as bearer
 use Rattle.op_answer.specs.Past.{OpPair}
-use Rattle.code_grant.specs.declared.rows.CodeRow.{CodeRow}
 use Rattle.refresh_answer.specs.declared.asks.RefreshGrant.{RefreshGrant}
 use Rattle.refresh_answer.specs.declared.asks.RefreshAsk.{RefreshAsk}
 use Rattle.refresh_answer.specs.declared.asks.RefreshAsk.TheVariants as ask
 use Rattle.refresh_answer.specs.declared.asks.OwnReply.{OwnReply}
 use Rattle.refresh_answer.specs.declared.asks.OwnReply.TheVariants as own
 use Rattle.refresh_answer.specs.declared.asks.RefreshReply.{RefreshReply}
-use Rattle.refresh_answer.specs.declared.asks.RefreshReply.TheVariants.{Through, First, Own}
+use Rattle.refresh_answer.specs.declared.asks.RefreshReply.TheVariants.{Through}
 use Rattle.refresh_answer.specs.declared.rows.FamilyRow.{FamilyRow}
 use Rattle.refresh_answer.specs.declared.rows.AccessRow.{AccessRow}
-use Rattle.refresh_answer.specs.Rows.{token_name, access_name, access_begun, new_token, old_token, RefreshRow}
+use Rattle.refresh_answer.specs.Rows.{token_name, access_name, access_begun, old_token, RefreshRow}
 use Rattle.refresh_answer.specs.Around.{Outer, outer_plain}
-use Rattle.refresh_answer.specs.Families.{access_family, living, living_in, row_presented, presented, tokens, accesses, families, family_at, begins, begun_by, ends, is_replay, is_code_replay, code_presented, token_made, token_retired, access_made}
+use Rattle.refresh_answer.specs.Families.{access_family, living, row_presented, presented, tokens, accesses, families, family_at, begins, begun_by, ends, is_replay, is_code_replay, code_presented, token_made, token_retired, access_made}
 use Rattle.refresh_answer.specs.Answering.{IsReply, own_reply, info_reply, family_info}
 use Rattle.refresh_answer.specs.Laws.{HasNewWords, IsRefreshed, IsInfo, IsTokenOf, IsAccessOf, IsReuse}
 use Rattle.refresh_answer.proofs.Answered.{IsAnswered}
-use Rattle.refresh_answer.proofs.Families.{some_same, some_none, true_false, above, found_below, none_filtered, gone, found_appended, if_lives_parts, put_here, put_other, put_found, put_stays}
-use Rattle.refresh_answer.proofs.Steps.{Rotates, Replied, own_is, reply_rotates, rotates, presented_row, begun_place, retired_is, made_drawn, access_drawn}
+use Rattle.refresh_answer.proofs.Families.{some_same, some_none, true_false, found_below, none_filtered, gone, found_appended, if_lives_parts, put_here, put_other, put_found, put_stays}
+use Rattle.refresh_answer.proofs.Steps.{Replied, own_is, reply_rotates, presented_row, begun_place, retired_is, made_drawn, access_drawn}
 use Rattle.refresh_answer.proofs.Current.{numbered}
 
 one_low : 1 < 4

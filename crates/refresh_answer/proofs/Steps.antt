@@ -1,16 +1,14 @@
 -- One reply: where it is new tokens or first tokens, why.
-use Rattle.std.proofs.Common.{◌≡◌, ◌≤◌, ◌<◌, ℕ, suc, Bool, true, false, not, ◌&&◌, cond, List, [], ◌∷◌, ◌++◌, length, Option, Some, None, option_and_then, option_map, Ok, Err, nat_eq, ◌⊎◌, inl, inr, refl, ap, sym, ◌∙◌, subst, arith}
+use Rattle.std.proofs.Common.{◌≡◌, ℕ, Bool, true, false, ◌&&◌, cond, List, length, Option, Some, None, option_and_then, option_map, Ok, Err, nat_eq, ◌⊎◌, inl, inr, refl, ap, sym, ◌∙◌}
 use Rattle.std.proofs.lemmas.Bool.{and_parts}
 use Rattle.sso_base.specs.Words.{Word, fresh_word, word_of_text}
 use Rattle.sso_base.specs.Rows.{row_of}
-use Rattle.sso_base.specs.Drawn.{IsDrawn}
 use Rattle.sso_base.proofs.RowLaws.{bool_cases, row_has_name}
 use Rattle.sso_base.specs.declared.history.Entry.{Entry}
 use Rattle.sso_base.specs.declared.history.Pair.{Pair}
 use Rattle.client_registry.specs.Configuration.{Configuration}
 use Rattle.code_grant.specs.declared.rows.CodeRow.{CodeRow}
 use Rattle.oidc_words.specs.declared.scopes.Scopes.{Scopes}
-use Rattle.token_endpoint.specs.declared.no.GrantNo.{GrantNo}
 use Rattle.token_endpoint.specs.declared.no.GrantNo.TheVariants as no
 use Rattle.userinfo.specs.declared.header.Bearer.TheVariants as bearer
 use Rattle.op_exchange.specs.declared.ask.OpAsk.{OpAsk}
@@ -29,10 +27,9 @@ use Rattle.refresh_answer.specs.declared.rows.FamilyRow.{FamilyRow}
 use Rattle.refresh_answer.specs.declared.rows.AccessRow.{AccessRow}
 use Rattle.refresh_answer.specs.Rows.{token_name, new_token, old_token, RefreshRow}
 use Rattle.refresh_answer.specs.Around.{Outer}
-use Rattle.refresh_answer.specs.Families.{access_family, living, held_tokens, has_room, row_presented, presented, tokens, families, begins, begins_in, begun_by, if_true, family_for, token_made, token_retired, access_made}
-use Rattle.refresh_answer.specs.Answering.{IsReply, with_first, own_reply, refresh_reply, refreshed, refreshed_by, rotated, info_reply, family_info}
-use Rattle.refresh_answer.proofs.Answered.{IsAnswered}
-use Rattle.refresh_answer.proofs.Families.{some_same, some_none, true_false, one_below, one_more}
+use Rattle.refresh_answer.specs.Families.{access_family, living, held_tokens, has_room, row_presented, presented, tokens, families, begins, begun_by, if_true, family_for, token_made, token_retired, access_made}
+use Rattle.refresh_answer.specs.Answering.{IsReply, with_first, own_reply, refreshed, refreshed_by, rotated, info_reply, family_info}
+use Rattle.refresh_answer.proofs.Families.{some_same, some_none}
 
 -- ---- replies
 

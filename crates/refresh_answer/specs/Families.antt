@@ -19,7 +19,7 @@ use Rattle.refresh_answer.specs.declared.asks.RefreshAsk.{RefreshAsk}
 use Rattle.refresh_answer.specs.declared.asks.RefreshAsk.TheVariants as ask
 use Rattle.refresh_answer.specs.declared.asks.OwnReply.TheVariants as own
 use Rattle.refresh_answer.specs.declared.asks.RefreshReply.{RefreshReply}
-use Rattle.refresh_answer.specs.declared.asks.RefreshReply.TheVariants.{Through, First, Own}
+use Rattle.refresh_answer.specs.declared.asks.RefreshReply.TheVariants.{First, Own}
 use Rattle.refresh_answer.specs.declared.rows.FamilyRow.{FamilyRow}
 use Rattle.refresh_answer.specs.declared.rows.AccessRow.{AccessRow}
 use Rattle.refresh_answer.specs.Rows.{family_life, most_tokens, RefreshRow, token_name, access_name, access_begun, family_begun, new_token, old_token}
