@@ -21,7 +21,8 @@ use Rattle.refresh_answer.specs.declared.asks.OwnReply.TheVariants as own
 use Rattle.refresh_answer.specs.declared.asks.RefreshReply.{RefreshReply}
 use Rattle.refresh_answer.specs.declared.asks.RefreshReply.TheVariants.{Own}
 use Rattle.refresh_answer.specs.declared.rows.FamilyRow.{FamilyRow}
-use Rattle.refresh_answer.specs.Rows.{RefreshRow, token_name}
+use Rattle.refresh_answer.specs.declared.rows.RefreshRow.{RefreshRow}
+use Rattle.refresh_answer.specs.Rows.{token_name}
 use Rattle.refresh_answer.specs.Around.{Outer, outer_plain}
 use Rattle.refresh_answer.specs.Families.{row_presented, family_at, is_replay, is_code_replay, appended, has_room, tokens, families, living, held_tokens, ends, begins, begun_by, code_presented}
 use Rattle.refresh_answer.specs.Answering.{rotated, refreshed_by, IsReply, own_reply}

@@ -6,7 +6,8 @@ use Rattle.sso_base.specs.Words.{Word}
 use Rattle.sso_base.specs.Rows.{row_of, put, if_lives, lives}
 use Rattle.sso_base.proofs.RowLaws.{bool_cases, bytes_same, bytes_true, row_of-put}
 use Rattle.refresh_answer.specs.declared.rows.FamilyRow.{FamilyRow}
-use Rattle.refresh_answer.specs.Rows.{token_name, family_life, family_begun, most_tokens, RefreshRow}
+use Rattle.refresh_answer.specs.declared.rows.RefreshRow.{RefreshRow}
+use Rattle.refresh_answer.specs.Rows.{token_name, family_life, family_begun, most_tokens}
 use Rattle.refresh_answer.specs.Families.{family_at, appended, living_in, held_in, has_room}
 
 -- ---- plain facts

@@ -22,7 +22,8 @@ use Rattle.refresh_answer.specs.declared.asks.RefreshReply.{RefreshReply}
 use Rattle.refresh_answer.specs.declared.asks.RefreshReply.TheVariants.{Through}
 use Rattle.refresh_answer.specs.declared.rows.FamilyRow.{FamilyRow}
 use Rattle.refresh_answer.specs.declared.rows.AccessRow.{AccessRow}
-use Rattle.refresh_answer.specs.Rows.{token_name, access_name, access_begun, old_token, RefreshRow}
+use Rattle.refresh_answer.specs.declared.rows.RefreshRow.{RefreshRow}
+use Rattle.refresh_answer.specs.Rows.{token_name, access_name, access_begun, old_token}
 use Rattle.refresh_answer.specs.Around.{Outer, outer_plain}
 use Rattle.refresh_answer.specs.Families.{access_family, living, row_presented, presented, tokens, accesses, families, family_at, begins, begun_by, ends, is_replay, is_code_replay, code_presented, token_made, token_retired, access_made}
 use Rattle.refresh_answer.specs.Answering.{IsReply, own_reply, info_reply, family_info}

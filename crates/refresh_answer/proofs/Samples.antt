@@ -10,7 +10,8 @@ use Rattle.refresh_answer.specs.declared.asks.RefreshAsk.TheVariants as ask
 use Rattle.refresh_answer.specs.declared.asks.OwnReply.TheVariants as own
 use Rattle.refresh_answer.specs.declared.asks.RefreshReply.TheVariants.{Through, First}
 use Rattle.refresh_answer.specs.declared.rows.FamilyRow.{FamilyRow}
-use Rattle.refresh_answer.specs.Rows.{RefreshRow, new_token, old_token}
+use Rattle.refresh_answer.specs.declared.rows.RefreshRow.{RefreshRow}
+use Rattle.refresh_answer.specs.Rows.{new_token, old_token}
 use Rattle.refresh_answer.specs.Families.{is_replay, living_in, has_room}
 use Rattle.refresh_answer.specs.Answering.{refreshed_by, with_first}
 

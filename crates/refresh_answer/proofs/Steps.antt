@@ -25,7 +25,8 @@ use Rattle.refresh_answer.specs.declared.asks.RefreshReply.{RefreshReply}
 use Rattle.refresh_answer.specs.declared.asks.RefreshReply.TheVariants.{Through, First, Own}
 use Rattle.refresh_answer.specs.declared.rows.FamilyRow.{FamilyRow}
 use Rattle.refresh_answer.specs.declared.rows.AccessRow.{AccessRow}
-use Rattle.refresh_answer.specs.Rows.{token_name, new_token, old_token, RefreshRow}
+use Rattle.refresh_answer.specs.declared.rows.RefreshRow.{RefreshRow}
+use Rattle.refresh_answer.specs.Rows.{token_name, new_token, old_token}
 use Rattle.refresh_answer.specs.Around.{Outer}
 use Rattle.refresh_answer.specs.Families.{access_family, living, held_tokens, has_room, row_presented, presented, tokens, families, begins, begun_by, if_true, family_for, token_made, token_retired, access_made}
 use Rattle.refresh_answer.specs.Answering.{IsReply, with_first, own_reply, refreshed, refreshed_by, rotated, info_reply, family_info}

@@ -27,7 +27,8 @@ use Rattle.refresh_answer.specs.declared.asks.OwnReply.TheVariants as own
 use Rattle.refresh_answer.specs.declared.asks.RefreshReply.{RefreshReply}
 use Rattle.refresh_answer.specs.declared.asks.RefreshReply.TheVariants.{Through, First, Own}
 use Rattle.refresh_answer.specs.declared.rows.FamilyRow.{FamilyRow}
-use Rattle.refresh_answer.specs.Rows.{RefreshRow, token_name}
+use Rattle.refresh_answer.specs.declared.rows.RefreshRow.{RefreshRow}
+use Rattle.refresh_answer.specs.Rows.{token_name}
 use Rattle.refresh_answer.specs.Around.{Outer, passed, outer_weight, IsRefreshAsk}
 use Rattle.refresh_answer.specs.Families.{has_room, tokens, living, held_tokens, begins, access_family}
 

@@ -22,7 +22,8 @@ use Rattle.refresh_answer.specs.declared.asks.RefreshReply.{RefreshReply}
 use Rattle.refresh_answer.specs.declared.asks.RefreshReply.TheVariants.{First, Own}
 use Rattle.refresh_answer.specs.declared.rows.FamilyRow.{FamilyRow}
 use Rattle.refresh_answer.specs.declared.rows.AccessRow.{AccessRow}
-use Rattle.refresh_answer.specs.Rows.{family_life, most_tokens, RefreshRow, token_name, access_name, access_begun, family_begun, new_token, old_token}
+use Rattle.refresh_answer.specs.declared.rows.RefreshRow.{RefreshRow}
+use Rattle.refresh_answer.specs.Rows.{family_life, most_tokens, token_name, access_name, access_begun, family_begun, new_token, old_token}
 use Rattle.refresh_answer.specs.Around.{Outer, inner_history, outer_plain, outer_given, offline_mark}
 
 -- ---- refresh tokens

@@ -16,7 +16,8 @@ use Rattle.refresh_answer.specs.declared.asks.OwnReply.TheVariants as own
 use Rattle.refresh_answer.specs.declared.asks.RefreshReply.TheVariants.{Own}
 use Rattle.refresh_answer.specs.declared.rows.FamilyRow.{FamilyRow}
 use Rattle.refresh_answer.specs.declared.rows.AccessRow.{AccessRow}
-use Rattle.refresh_answer.specs.Rows.{RefreshRow, token_name, access_name, new_token}
+use Rattle.refresh_answer.specs.declared.rows.RefreshRow.{RefreshRow}
+use Rattle.refresh_answer.specs.Rows.{token_name, access_name, new_token}
 use Rattle.refresh_answer.specs.Around.{Outer, outer_plain}
 use Rattle.refresh_answer.specs.Families.{presented, row_presented, family_at, tokens, families, living}
 

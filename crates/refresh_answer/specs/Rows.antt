@@ -2,6 +2,7 @@
 use Rattle.std.specs.Prelude.{ℕ, Bool, true, false}
 use Rattle.sso_base.specs.Words.{Word}
 use Rattle.refresh_answer.specs.declared.rows.FamilyRow.{FamilyRow}
+use Rattle.refresh_answer.specs.declared.rows.RefreshRow.{RefreshRow}
 use Rattle.refresh_answer.specs.declared.rows.AccessRow.{AccessRow}
 use Rattle.refresh_answer.specs.Places.{place_bytes}
 
@@ -12,12 +13,6 @@ family_life = 2592000
 -- the greatest number of refresh tokens that are held
 abbrev pub most_tokens : ℕ
 most_tokens = 65536
-
--- a refresh token of the family that the pair at this place began: the current one, or an old one
-pub record RefreshRow : Type 0 where
-  pub word : Word
-  pub family : ℕ
-  pub current : Bool
 
 abbrev pub token_name : RefreshRow → Word
 token_name row = row.word

@@ -9,7 +9,7 @@
 //! |---|---|
 //! | `asks` | [`RefreshAsk`], [`RefreshReply`] and [`OwnReply`], requests and replies |
 //! | `place` | [`Place`], the index of a pair in a history |
-//! | `rows` | [`FamilyRow`] and [`AccessRow`], a family and an access token of a family |
+//! | `rows` | [`FamilyRow`], [`RefreshRow`] and [`AccessRow`], a family, its refresh tokens and its access tokens |
 //! | `law` | what is true of families, their tokens and their clients |
 //!
 //! The definitions are in `specs/`: the inner core's part of a history in `Around`, families and their tokens in `Families`, the replies
@@ -24,4 +24,4 @@ mod rows;
 pub use asks::{OwnReply, RefreshAsk, RefreshGrant, RefreshParts, RefreshReply};
 pub use law::{refresh_tokens_rotate, reuse_ends_the_family, tokens_stay_with_their_client};
 pub use place::Place;
-pub use rows::{AccessRow, FAMILY_LIFE, FamilyRow};
+pub use rows::{AccessRow, FAMILY_LIFE, FamilyRow, RefreshRow};

@@ -30,6 +30,15 @@ pub struct FamilyRow {
     pub begun: Moment,
 }
 
+/// A refresh token of a family: the current one, or an old one.
+#[derive(Clone, Copy)]
+pub struct RefreshRow {
+    pub word: Word,
+    /// The place of the pair that began the family.
+    pub family: u64,
+    pub current: bool,
+}
+
 /// An access token of a family. It lives for 3,600 seconds, and while its family lives.
 #[derive(Drop)]
 pub struct AccessRow {
