@@ -103,7 +103,7 @@ sum_low a b c d m n one two low same = omega (arith, one, two, low, same)
 sum_more : (a b d n : ℕ) → b ≡ d + n → a ≤ d → a ≤ b
 sum_more a b d n is low = omega (arith, is, low)
 
-always : {Z : Type 0} (zs : List Z) → list_all (λ (z : Z). true) zs ≡ true
+pub always : {Z : Type 0} (zs : List Z) → list_all (λ (z : Z). true) zs ≡ true
 always [] = refl
 always (z ∷ zs) = always zs
 

@@ -246,6 +246,16 @@ impl Book {
         );
     }
 
+    /// Ends no family. All tokens are of families in the book. A lemma for the proofs; the call does nothing.
+    pub fn keep_all(&mut self)
+        ensures families { self.new.families ≡ filter (λ f. true) self.old.families }
+        ensures same { self.new ≡ self.old }
+        ensures tokens { self.new.tokens ≡ filter (λ t. is_of self.new.families t.family) self.old.tokens }
+        ensures accesses { self.new.accesses ≡ filter (λ x. is_of self.new.families x.family) self.old.accesses }
+    {
+        let _last = self.last;
+    }
+
     /// Begins a family with its first token. Its place and its token are new.
     pub fn begin(&mut self, family: FamilyRow, word: Word)
         requires memory { HasMemory self.old }
