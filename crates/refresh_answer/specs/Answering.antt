@@ -1,5 +1,6 @@
 -- The replies of the core (RFC 6749, 6 and 10.4; RFC 9700, 4.14.2). It stands around an inner core, whose requests and replies are A and
 -- R. `plain` gives the provider's request in a request, `given` the reply that the provider gave, and `provided` the provider's history.
+use Rattle.std.proofs.Common.{ap}
 use Rattle.std.specs.Prelude.{◌≡◌, ℕ, ◌==◌, ◌&&◌, List, Option, Some, None, option_and_then, option_map, Result, Ok, Err, if◌then◌else◌}
 use Rattle.sso_base.specs.Words.{Word, word_of_text, fresh_word}
 use Rattle.sso_base.specs.Rows.{row_of}
@@ -92,6 +93,9 @@ module _ {A R : Type 0} (plain : A → Option OpAsk) (given : R → Option OpRep
 pub record Setup (S : Type 0) : Type 0 where
   pub inner : S
   pub registry : Configuration
+
+pub inner_setup : {S : Type 0} {s t : Setup S} → s ≡ t → s.inner ≡ t.inner
+inner_setup {S} same = let I : Setup S → S = λ u. u.inner in ap I same
 
 abbrev pub IsLegalRefresh : {A R S : Type 0} → (A → Option OpAsk) → (R → Option OpReply) → (List (Pair A R) → List OpPair) → (A → Type 0)
     → (A → ℕ) → (S → ℕ) → (S → List (Pair A R) → Type 0) → Setup S → List (Outer A R) → Type 0
