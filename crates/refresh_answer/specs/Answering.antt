@@ -94,8 +94,8 @@ pub record Setup (S : Type 0) : Type 0 where
   pub inner : S
   pub registry : Configuration
 
-pub inner_setup : {S : Type 0} {s t : Setup S} → s ≡ t → s.inner ≡ t.inner
-inner_setup {S} same = let I : Setup S → S = λ u. u.inner in ap I same
+pub inner_setup : {S : Type 0} (s t : Setup S) → s ≡ t → s.inner ≡ t.inner
+inner_setup {S} s t same = let I : Setup S → S = λ u. u.inner in ap I same
 
 abbrev pub IsLegalRefresh : {A R S : Type 0} → (A → Option OpAsk) → (R → Option OpReply) → (List (Pair A R) → List OpPair) → (A → Type 0)
     → (A → ℕ) → (S → ℕ) → (S → List (Pair A R) → Type 0) → Setup S → List (Outer A R) → Type 0

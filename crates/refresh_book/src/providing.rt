@@ -261,7 +261,7 @@ impl<P: Provides> Provides for RefreshCore<P> {
 
     ghost begins = { P.begins };
 
-    ghost registry_is = { λ x y same. P.registry_is x.inner y.inner (inner_setup same) };
+    ghost registry_is = { λ x y same. P.registry_is x.inner y.inner (inner_setup _ _ same) };
 
     ghost is_provider = { λ x h legal. P.is_provider x.inner (inner_history h) legal.inner };
 
