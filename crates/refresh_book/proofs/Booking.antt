@@ -60,7 +60,7 @@ all_by k each (x ∷ l) = (let A : Bool → Bool = λ b. b && list_all k l in ap
 pub filter_none : {X : Type 0} (k : X → Bool) → ((x : X) → k x ≡ true) → (l : List X) → filter k l ≡ l
 filter_none k each l = filter_all k l (all_by k each l)
 
-filter_pushed : {X : Type 0} (k : X → Bool) (l : List X) (x : X) → k x ≡ true → filter k (l ++ x ∷ []) ≡ filter k l ++ x ∷ []
+pub filter_pushed : {X : Type 0} (k : X → Bool) (l : List X) (x : X) → k x ≡ true → filter k (l ++ x ∷ []) ≡ filter k l ++ x ∷ []
 filter_pushed {X} k [] x good = let K : Bool → List X = λ b. cond b (x ∷ []) [] in ap K good
 filter_pushed {X} k (y ∷ l) x good =
     let K : Bool → List X = λ b. cond b (y ∷ filter k (l ++ x ∷ [])) (filter k (l ++ x ∷ [])) in
