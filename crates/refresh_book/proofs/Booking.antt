@@ -122,7 +122,7 @@ some_is None h = absurd (true_false (sym h))
 some_is (Some x) h = (x, refl)
 
 -- what lives later lives now
-living_earlier : (fs : List FamilyRow) (n last at : ℕ) → last ≤ at → is_some (living_in fs at n) ≡ true → is_some (living_in fs last n) ≡ true
+pub living_earlier : (fs : List FamilyRow) (n last at : ℕ) → last ≤ at → is_some (living_in fs at n) ≡ true → is_some (living_in fs last n) ≡ true
 living_earlier fs n last at order live =
     let found = some_is (living_in fs at n) live in
     let parts = if_lives_parts at (family_at n fs) found.0 found.1 in

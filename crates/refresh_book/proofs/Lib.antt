@@ -1,0 +1,6 @@
+pub mod Owning
+pub mod Booking
+pub mod Renewed
+pub mod Passed
+pub mod Looking
+pub mod Committing
