@@ -1,5 +1,5 @@
 -- What is kept after one more entry.
-use Rattle.std.proofs.Common.{◌≡◌, ◌≤◌, ◌<◌, ℕ, suc, ◌+◌, Bool, true, false, ◌&&◌, not, nat_lt, cond, List, [], ◌∷◌, ◌++◌, length, reverse, filter, Option, Some, None, option_map, option_and_then, IfSome, refl, ap, sym, ◌∙◌, subst, arith}
+use Rattle.std.proofs.Common.{◌≡◌, ◌≤◌, ◌<◌, ℕ, suc, ◌+◌, Bool, true, false, not, nat_lt, cond, List, [], ◌∷◌, ◌++◌, length, reverse, Option, Some, None, option_map, option_and_then, IfSome, refl, ap, sym, ◌∙◌, subst, arith}
 use Rattle.std.specs.List.{list_all}
 use Rattle.sso_base.specs.Words.{Word, fresh_word}
 use Rattle.sso_base.specs.Rows.{put, lives, if_lives, live_rows}
@@ -38,12 +38,11 @@ use Rattle.refresh_answer.specs.declared.rows.RefreshRow.{RefreshRow}
 use Rattle.refresh_answer.specs.declared.rows.AccessRow.{AccessRow}
 use Rattle.refresh_answer.specs.Rows.{family_life, family_begun, access_begun}
 use Rattle.refresh_answer.specs.Around.{Outer, passed, inner_history, reply_around, around, own_pair, merged_history, outer_plain, outer_given, outer_weight, offline_mark, IsRefreshAsk}
-use Rattle.refresh_answer.specs.Families.{if_true, family_for, family_at, living_in, families, code_offline, begins}
+use Rattle.refresh_answer.specs.Families.{if_true, family_for, family_at, families, code_offline, begins}
 use Rattle.refresh_answer.specs.Answering.{Setup, with_first, IsReply, own_reply, info_reply, IsRefreshReply, IsLegalRefresh}
-use Rattle.refresh_answer.proofs.Families.{some_none, some_same, true_false, none_at}
+use Rattle.refresh_answer.proofs.Families.{some_none, true_false}
 use Rattle.refresh_answer.proofs.Current.{numbered}
 use Rattle.refresh_answer.proofs.Passed.{passed_moment, passed_weight, around_passes, own_passes_none, outer_stack}
-use Rattle.refresh_rows.specs.TokenRows.{is_of}
 use Rattle.refresh_rows.specs.Booked.{Booked, is_of_place}
 use Rattle.refresh_book.specs.declared.renewing.Renewal.{Renewal}
 use Rattle.refresh_book.specs.declared.renewing.Renewal.TheVariants as renewed
@@ -53,6 +52,7 @@ use Rattle.refresh_book.specs.Beginning.{MayBegin, family_asked}
 use Rattle.refresh_book.proofs.Owning.{all_filtered}
 use Rattle.refresh_book.proofs.Booking.{living_found, turned_book}
 use Rattle.refresh_book.proofs.Renewed.{reply_renewed}
+use Rattle.refresh_book.proofs.Passed.{none_at}
 use Rattle.refresh_book.proofs.Looking.{inner_same, not_ahead, book_now, legal_now}
 
 low_twice : (a b c : ℕ) → a ≤ b → b ≤ c → a ≤ c
@@ -119,6 +119,12 @@ noted_own good b d renewed.Full noted all = let G : List FamilyRow → Bool = λ
 pub begun_good : (good : FamilyRow → Bool) (x : Bool) (o : Option FamilyRow) → ((f : FamilyRow) → o ≡ Some f → good f ≡ true) → (f : FamilyRow) → if_true x o ≡ Some f → good f ≡ true
 begun_good good true o each f is = each f is
 begun_good good false o each f is = absurd (some_none f (sym is))
+
+-- what is passed on is no refresh request
+pub passes_none : {A R : Type 0} (plain : A → Option OpAsk) (given : R → Option OpReply) (provided : List (Pair A R) → List OpPair) (c : Configuration) (past : List (Outer A R)) (at : ℕ) (fresh : List Word) (asked : RefreshAsk A)
+    → is_refresh_ask asked ≡ false → info_reply plain given provided c past at (outer_plain plain asked) ≡ None → own_reply plain given provided c past at fresh asked ≡ None
+passes_none plain given provided c past at fresh (ask.Through a o) other none = none
+passes_none plain given provided c past at fresh (ask.Refresh g) other none = absurd (true_false other)
 
 -- ---- one more entry
 
@@ -232,12 +238,6 @@ module _ {A R S : Type 0} (plain : A → Option OpAsk) (given : R → Option OpR
       → own_reply plain given provided s.registry (reverse H) at fresh asked ≡ Some (reply_of (renewal c fresh asked))
   renewed_is_own at c now fresh (ask.Refresh g) refresh = ap Some (sym (reply_renewed plain given provided (reverse H) at fresh c c now.book g))
   renewed_is_own at c now fresh (ask.Through a o) refresh = absurd (true_false (sym refresh))
-
-  -- what is passed on is no refresh request
-  pub passes_is_none : (at : ℕ) (fresh : List Word) (asked : RefreshAsk A) → is_refresh_ask asked ≡ false → info_reply plain given provided s.registry (reverse H) at (outer_plain plain asked) ≡ None
-      → own_reply plain given provided s.registry (reverse H) at fresh asked ≡ None
-  passes_is_none at fresh (ask.Through a o) other none = none
-  passes_is_none at fresh (ask.Refresh g) other none = absurd (true_false other)
 
   pub own_history : (own : Pair (RefreshAsk A) OwnReply) (ks' : List (KeptEntry A)) → ks' ≡ ks ++ kept.Own own ∷ [] → merged_history ks' inner ≡ H ++ own_pair own ∷ []
   own_history own ks' grown =

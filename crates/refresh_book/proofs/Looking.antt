@@ -1,5 +1,5 @@
 -- What is looked up: what the tables and the book hold is what the past holds, and the inner core's history is the one passed on.
-use Rattle.std.proofs.Common.{◌≡◌, ◌≤◌, ℕ, Bool, true, false, cond, List, [], ◌∷◌, ◌++◌, length, reverse, filter, Option, Some, None, is_some, option_and_then, inl, inr, refl, ap, sym, ◌∙◌, subst, arith}
+use Rattle.std.proofs.Common.{◌≡◌, ◌≤◌, ℕ, Bool, true, false, cond, List, [], ◌∷◌, ◌++◌, length, reverse, filter, Option, Some, None, is_some, option_map, option_and_then, inl, inr, refl, ap, sym, ◌∙◌, subst, arith}
 use Rattle.std.proofs.lemmas.List.{reverse-append, reverse-reverse}
 use Rattle.sso_base.specs.Words.{Word}
 use Rattle.sso_base.specs.Rows.{row_of, lives, if_lives, live_rows}
@@ -13,7 +13,9 @@ use Rattle.held_rows.proofs.HeldLaws.{distinct_filter}
 use Rattle.held_rows.proofs.RowOf.{row_of-filter, row_of-live_rows}
 use Rattle.oidc_words.specs.Lives.{turn_life, code_life, access_life}
 use Rattle.client_registry.specs.Configuration.{Configuration}
+use Rattle.userinfo.specs.declared.header.Bearer.TheVariants as bearers
 use Rattle.op_exchange.specs.declared.ask.OpAsk.{OpAsk}
+use Rattle.op_exchange.specs.declared.ask.OpAsk.TheVariants as op_ask
 use Rattle.op_exchange.specs.declared.reply.OpReply.{OpReply}
 use Rattle.op_answer.specs.Past.{OpPair}
 use Rattle.core_stack.specs.declared.marks.TurnMark.{TurnMark}
@@ -30,12 +32,12 @@ use Rattle.refresh_answer.specs.declared.rows.AccessRow.{AccessRow}
 use Rattle.refresh_answer.specs.Rows.{family_life, family_begun, access_name, access_begun}
 use Rattle.refresh_answer.specs.Around.{Outer, passed, inner_history, around, own_pair, merged_history, outer_plain, outer_given, offline_mark, IsRefreshAsk}
 use Rattle.refresh_answer.specs.Families.{family_at, living_in, families, accesses, access_family, code_offline}
-use Rattle.refresh_answer.specs.Answering.{Setup, IsRefreshReply, IsLegalRefresh}
+use Rattle.refresh_answer.specs.Answering.{Setup, family_info, info_reply, IsRefreshReply, IsLegalRefresh}
 use Rattle.refresh_answer.proofs.Families.{true_false, if_lives_parts, living_before}
 use Rattle.refresh_answer.proofs.Current.{numbered}
 use Rattle.refresh_answer.proofs.Passed.{around_passes, own_passes_none, outer_stack}
 use Rattle.refresh_rows.specs.Booked.{Booked}
-use Rattle.refresh_book.specs.Keeps.{KeptEntry, IsBookAt, Keeps}
+use Rattle.refresh_book.specs.Keeps.{KeptEntry, bearer_in, IsBookAt, Keeps}
 use Rattle.refresh_book.proofs.Booking.{living_found, living_earlier, accesses_distinct}
 
 low_through : (last end at : ℕ) → last ≡ end → end ≤ at → last ≤ at
@@ -44,7 +46,7 @@ low_through last end at same low = omega (arith, same, low)
 low_is : (a b : ℕ) → a ≡ b → a ≤ b
 low_is a b same = omega (arith, same)
 
-low_twice : (a b c : ℕ) → a ≤ b → b ≤ c → a ≤ c
+pub low_twice : (a b c : ℕ) → a ≤ b → b ≤ c → a ≤ c
 low_twice a b c l m = omega (arith, l, m)
 
 pub inner_same : {A R : Type 0} (ks : List (KeptEntry A)) (inner : List (Pair A R)) (H : List (Outer A R)) → passed_count ks ≡ length inner → merged_history ks inner ≡ H → inner ≡ inner_history H
@@ -135,6 +137,12 @@ module _ {A R : Type 0} (plain : A → Option OpAsk) (given : R → Option OpRep
       sym (row_of-live_rows access_name access_life access_begun at w b.accesses distinct_b) ∙ ap F is.accesses_are ∙ ap G (live_later access_life access_begun last at order Y)
       ∙ row_of-live_rows access_name access_life access_begun at w Y distinct_y ∙ ap E (row_of-filter access_name p w X distinct) in
       through_families fs at b.families each (option_and_then (if_lives access_life access_begun at) (row_of access_name w b.accesses)) ∙ ap O row_is ∙ kept_accesses last at order fs (row_of access_name w X)
+
+  -- the core's own reply to a UserInfo request, by its access token
+  pub info_by_bearer : (c : Configuration) (past : List (Outer A R)) (at : ℕ) (o : Option OpAsk)
+      → info_reply plain given provided c past at o ≡ option_and_then (λ w. option_map (family_info c) (access_family plain given provided past at w)) (bearer_in o)
+  info_by_bearer c past at (Some (op_ask.Info (bearers.Given w))) = refl
+  info_by_bearer c past at other = refl
 
   -- ---- the provider is not ahead
 

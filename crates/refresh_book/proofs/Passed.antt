@@ -1,12 +1,12 @@
 -- The book after an entry that was passed on, and after a UserInfo request that the core answered.
-use Rattle.std.proofs.Common.{◌≡◌, ◌≤◌, ◌<◌, ◌+◌, ℕ, suc, nat_eq, nat_lt, Bool, true, false, not, ◌&&◌, ◌||◌, cond, List, [], ◌∷◌, ◌++◌, length, filter, Option, Some, None, is_some, option_and_then, option_map, inl, inr, refl, ap, sym, ◌∙◌, subst, arith}
+use Rattle.std.proofs.Common.{◌≡◌, ◌<◌, ◌+◌, ℕ, suc, nat_eq, nat_lt, Bool, true, false, not, ◌&&◌, ◌||◌, cond, List, [], ◌∷◌, ◌++◌, length, filter, Option, Some, None, is_some, option_and_then, option_map, inl, inr, refl, ap, sym, ◌∙◌, subst, arith}
 use Rattle.std.specs.List.{list_all}
 use Rattle.std.specs.Str.{bytes_eq}
 use Rattle.std.proofs.lemmas.Bool.{and_parts, and_from, ltb-true, lt-ltb}
 use Rattle.sso_base.specs.Words.{Word, fresh_word}
 use Rattle.sso_base.specs.Rows.{put, row_of, lives, if_lives, live_rows}
 use Rattle.sso_base.specs.Stands.{IsDistinct}
-use Rattle.sso_base.proofs.RowLaws.{bool_cases, option_cases, bytes_same, bytes_true, row_has_name}
+use Rattle.sso_base.proofs.RowLaws.{bool_cases, bytes_same, bytes_true}
 use Rattle.sso_base.specs.declared.history.Pair.{Pair}
 use Rattle.oidc_words.specs.Lives.{access_life}
 use Rattle.code_grant.specs.declared.rows.CodeRow.{CodeRow}
@@ -22,7 +22,6 @@ use Rattle.userinfo.specs.declared.header.Bearer.{Bearer}
 use Rattle.userinfo.specs.declared.header.Bearer.TheVariants as bearers
 use Rattle.refresh_answer.specs.declared.asks.RefreshAsk.{RefreshAsk}
 use Rattle.refresh_answer.specs.declared.asks.RefreshAsk.TheVariants as ask
-use Rattle.refresh_answer.specs.declared.asks.RefreshParts.{RefreshParts}
 use Rattle.refresh_answer.specs.declared.asks.OwnReply.{OwnReply}
 use Rattle.refresh_answer.specs.declared.asks.OwnReply.TheVariants as own
 use Rattle.refresh_answer.specs.declared.asks.RefreshReply.{RefreshReply}
@@ -31,10 +30,10 @@ use Rattle.refresh_answer.specs.declared.rows.FamilyRow.{FamilyRow}
 use Rattle.refresh_answer.specs.declared.rows.RefreshRow.{RefreshRow}
 use Rattle.refresh_answer.specs.declared.rows.AccessRow.{AccessRow}
 use Rattle.refresh_answer.specs.Rows.{family_life, family_begun, token_name, access_name, access_begun, new_token}
-use Rattle.refresh_answer.specs.Around.{Outer, around, reply_around, outer_plain}
+use Rattle.refresh_answer.specs.Around.{Outer, reply_around, outer_plain}
 use Rattle.refresh_answer.specs.Families.{family_at, is_replay, is_code_replay, token_code, if_true, family_for, begun_by, appended, living_in, held_in, has_room, families, tokens, accesses, code_offline, code_presented, access_family, ends, begins, row_presented, token_made, token_retired, access_made}
 use Rattle.refresh_answer.specs.Answering.{with_first, family_info, info_reply}
-use Rattle.refresh_answer.proofs.Families.{some_same, some_none, true_false, other_number, AreNumbered, numbered_filter, found_append, above, one_more, put_found}
+use Rattle.refresh_answer.proofs.Families.{some_same, some_none, true_false, other_number, AreNumbered, numbered_filter, found_append, one_more, put_found}
 use Rattle.refresh_answer.proofs.Steps.{presented_row}
 use Rattle.refresh_answer.proofs.Current.{numbered, places}
 use Rattle.refresh_rows.specs.Booked.{Booked}
@@ -44,7 +43,7 @@ use Rattle.refresh_book.specs.declared.beginning.Spent.{Spent}
 use Rattle.refresh_book.specs.Keeps.{IsBookAt, code_held}
 use Rattle.refresh_book.specs.Renewing.{tokens_left, accesses_left}
 use Rattle.refresh_book.specs.Beginning.{is_spent, gives_tokens, first_of, token_of, family_asked}
-use Rattle.refresh_book.proofs.Booking.{filter_none, filter_put, filter_pushed, tokens_distinct, accesses_distinct, all_left, IsAfter, none_living, book_after}
+use Rattle.refresh_book.proofs.Booking.{filter_none, filter_put, filter_pushed, tokens_distinct, accesses_distinct, IsAfter, none_living, book_after}
 
 -- ---- rows of earlier families
 
@@ -107,7 +106,7 @@ differ : (b m : ℕ) → b < m → m ≡ b → ⊥
 differ b m l e = omega (arith, l, e)
 
 -- no family has the next number
-none_at : (n : ℕ) (fs : List FamilyRow) → AreNumbered n fs → family_at n fs ≡ None
+pub none_at : (n : ℕ) (fs : List FamilyRow) → AreNumbered n fs → family_at n fs ≡ None
 none_at n [] is = refl
 none_at n (g ∷ gs) is =
     let F : Bool → Option FamilyRow = λ b. cond b (Some g) (family_at n gs) in

@@ -164,6 +164,7 @@ impl<P: Provides> RefreshCore<P> {
     }
 
     /// The core's own reply to a UserInfo request with an access token of a family; `None` if and only if it is another request.
+    #[tactic(auto, using(crate::proofs::Looking::info_by_bearer))]
     pub(crate) fn info(
         &self,
         alloc: Global,

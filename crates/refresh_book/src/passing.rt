@@ -3,6 +3,7 @@
 
 ghost use Rattle.std.specs.Prelude.{◌≡◌, ℕ, ◌<◌, ◌≤◌, ◌+◌, ◌++◌, [], ◌∷◌, length, reverse, true, Some, None, Err, IfSome, IfOk, OnOk, OnErr};
 ghost use Rattle.std.specs.Option.{option_copied};
+ghost use Rattle.sso_base.specs.Words.{fresh_word};
 ghost use Rattle.sso_base.specs.Legal.{last_moment, IsEntry};
 ghost use Rattle.sso_base.specs.Rows.{put, live_rows};
 ghost use Rattle.sso_base.specs.Weights.{empty_weight};
@@ -15,6 +16,7 @@ ghost use Rattle.core_stack.specs.Marks as marks;
 ghost use Rattle.refresh_answer.specs.Around as around;
 ghost use Rattle.refresh_answer.specs.Answering as spec;
 ghost use Rattle.refresh_rows.specs.Booked.{HasMemory};
+ghost use Rattle.refresh_book.specs.Beginning.{IsPending};
 
 use crate::beginning::{Pending, note_passed};
 use crate::refresh_core::RefreshCore;
@@ -163,20 +165,33 @@ fn again(word: &Option<Word>) -> Option<Word>
     *word
 }
 
+// The second of the fresh words.
+fn second(fresh: &[Word; 4]) -> Word
+    ensures { result ≡ fresh_word fresh.now 1 }
+{
+    fresh[1]
+}
+
 impl<P: Provides> RefreshCore<P> {
-    /// Passes a request on that the core does not answer by itself.
-    pub(crate) fn pass(
+    // Passes a request of the inner core on, of which all is known.
+    fn pass_known(
         &mut self,
         alloc: Global,
-        entry: Entry<RefreshAsk<P::Ask>>,
+        pending: Pending,
+        at: Moment,
+        fresh: [Word; 4],
+        asked: P::Ask,
+        offline: bool,
         weight: u64,
     ) -> Result<RefreshReply<P::Reply>, CoreNo>
-        requires passes { spec.own_reply P.plain_ask P.given_reply P.provided self.old.registry (reverse self.old.history) entry.at entry.fresh entry.ask ≡ None }
-        requires order { last_moment (reverse self.old.history) ≤ entry.at }
-        requires values { IsEntry (around.IsRefreshAsk P.IsAsk) entry }
-        requires weight { weight ≡ around.outer_weight P.weighs entry.ask }
+        requires pending { IsPending P.plain_ask P.given_reply P.provided self.old.registry (reverse self.old.history) at (RefreshAsk.Through asked offline) pending }
+        requires passes { spec.own_reply P.plain_ask P.given_reply P.provided self.old.registry (reverse self.old.history) at fresh (RefreshAsk.Through asked offline) ≡ None }
+        requires order { last_moment (reverse self.old.history) ≤ at }
+        requires values { IsEntry (around.IsRefreshAsk P.IsAsk) (record { at = at; fresh = fresh; ask = RefreshAsk.Through asked offline }) }
+        requires weight { weight ≡ around.outer_weight P.weighs (RefreshAsk.Through asked offline) }
         requires room { history_weight (around.outer_weight P.weighs) self.old.history + weight ≤ P.most (P.setup self.old.inner) }
-        ensures history { IfOk result (λ r. self.new.history ≡ self.old.history ++ (record { entry = entry; reply = r }) ∷ []) }
+        ensures history { IfOk result (λ r. self.new.history ≡ self.old.history
+            ++ (record { entry = record { at = at; fresh = fresh; ask = RefreshAsk.Through asked offline }; reply = r }) ∷ []) }
         ensures setup { P.setup self.new.inner ≡ P.setup self.old.inner }
         ensures registry { self.new.registry ≡ self.old.registry }
         ensures err { OnErr result (self.new ≡ self.old) }
@@ -184,16 +199,7 @@ impl<P: Provides> RefreshCore<P> {
         ensures legal { spec.IsLegalRefresh P.plain_ask P.given_reply P.provided P.IsAsk P.weighs P.most P.is_legal
             (record { inner = P.setup self.new.inner; registry = self.new.registry }) self.new.history }
     {
-        let pending = self.pending(alloc, entry.at, &entry.ask)?;
-        let Entry { at, fresh, ask } = entry;
-        let RefreshAsk::Through {
-            inner: asked,
-            offline,
-        } = ask
-        else {
-            unreachable!()
-        };
-        let [_, word, _, _] = fresh;
+        let word = second(&fresh);
         let reply = match pass_on(
             &mut self.inner,
             &mut self.kept,
@@ -229,5 +235,35 @@ impl<P: Provides> RefreshCore<P> {
             changes,
         );
         Ok(reply_around(reply, first))
+    }
+
+    /// Passes a request on that the core does not answer by itself.
+    pub(crate) fn pass(
+        &mut self,
+        alloc: Global,
+        entry: Entry<RefreshAsk<P::Ask>>,
+        weight: u64,
+    ) -> Result<RefreshReply<P::Reply>, CoreNo>
+        requires passes { spec.own_reply P.plain_ask P.given_reply P.provided self.old.registry (reverse self.old.history) entry.at entry.fresh entry.ask ≡ None }
+        requires order { last_moment (reverse self.old.history) ≤ entry.at }
+        requires values { IsEntry (around.IsRefreshAsk P.IsAsk) entry }
+        requires weight { weight ≡ around.outer_weight P.weighs entry.ask }
+        requires room { history_weight (around.outer_weight P.weighs) self.old.history + weight ≤ P.most (P.setup self.old.inner) }
+        ensures history { IfOk result (λ r. self.new.history ≡ self.old.history ++ (record { entry = entry; reply = r }) ∷ []) }
+        ensures setup { P.setup self.new.inner ≡ P.setup self.old.inner }
+        ensures registry { self.new.registry ≡ self.old.registry }
+        ensures err { OnErr result (self.new ≡ self.old) }
+        ensures room { (w : ℕ) → result ≡ Err (CoreNo.JournalFull w) → ⊥ }
+        ensures legal { spec.IsLegalRefresh P.plain_ask P.given_reply P.provided P.IsAsk P.weighs P.most P.is_legal
+            (record { inner = P.setup self.new.inner; registry = self.new.registry }) self.new.history }
+    {
+        let pending = self.pending(alloc, entry.at, &entry.ask)?;
+        let Entry { at, fresh, ask } = entry;
+        match ask {
+            RefreshAsk::Through { inner, offline } => {
+                self.pass_known(alloc, pending, at, fresh, inner, offline, weight)
+            }
+            RefreshAsk::Refresh { .. } => unreachable!(),
+        }
     }
 }
