@@ -6,10 +6,12 @@
 //!
 //! | Module | Its calls |
 //! |---|---|
+//! | `cores` | none; the cores of a run |
 //! | `provider` | `provider` begins a provider with the configuration of the other cases, and `ask` sends it a request |
 //! | `texts` | none; the named texts |
 #![tactic(auto)]
 
+mod cores;
 mod provider;
 mod texts;
 

@@ -1,5 +1,6 @@
 // A provider with proof keys around it, and refresh tokens around these.
 
+use crate::cores::op_with_tokens;
 use case_lines::{Run, request, told};
 use client_registry::{RegNo, Registry, read_registry};
 use core_stack::Provides;
@@ -22,28 +23,6 @@ pub struct Provider {
     run: Run,
 }
 
-fn keys_of(alloc: Global, registry: &Registry) -> Result<PkceCore<OpCore>, NoMemory> {
-    let registry = registry.copy(alloc)?;
-    let lasts = registry.lasting();
-    let inner = OpCore::new(alloc, registry)?;
-    Ok(PkceCore::new(alloc, inner, lasts))
-}
-
-fn core_of(
-    alloc: Global,
-    registry: &Registry,
-    keys: PkceCore<OpCore>,
-) -> Result<RefreshCore<PkceCore<OpCore>>, NoMemory> {
-    let lasts = registry.lasting();
-    match registry.copy(alloc) {
-        Ok(registry) => Ok(RefreshCore::new(alloc, registry, keys, lasts)),
-        Err(no) => {
-            drop(keys);
-            Err(no)
-        }
-    }
-}
-
 fn begun(
     alloc: Global,
     registry: Registry,
@@ -60,15 +39,9 @@ fn begun(
 }
 
 fn provider_of(alloc: Global, registry: &Registry) -> Result<Option<Provider>, NoMemory> {
-    let keys = keys_of(alloc, registry)?;
-    let core = core_of(alloc, registry, keys)?;
-    match registry.copy(alloc) {
-        Ok(registry) => begun(alloc, registry, Ok(core)),
-        Err(no) => {
-            drop(core);
-            Err(no)
-        }
-    }
+    let registry = registry.copy(alloc)?;
+    let core = op_with_tokens(alloc, &registry);
+    begun(alloc, registry, core)
 }
 
 fn provider_read(
