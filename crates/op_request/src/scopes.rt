@@ -39,7 +39,8 @@ fn whole_has_scope(
     params: &Params,
     word: &str,
 ) -> Result<bool, NoMemory>
-    ensures { IfOk result (λ b. b ≡ spec.has_scope word.now (spec.whole_by registry.now params.now (spec.client_named registry.now params.now) params.now.request)) }
+    ensures { IfOk result (λ b. b ≡ spec.has_scope word.now
+        (spec.whole_by registry.now params.now (spec.client_named registry.now params.now) params.now.request)) }
 {
     match (client_named(registry, params), &params.request) {
         (Some(client), Some(object)) => {

@@ -196,7 +196,8 @@ pub(crate) fn note_passed(
 ) -> Option<Word>
     requires memory { HasMemory book.old }
     requires may { spec.MayBegin book.old family }
-    ensures first { result ≡ spec.first_of (families.if_true (families.has_room book.old.tokens word && spec.gives_tokens (option_copied given.entry)) family) word }
+    ensures first { result ≡ spec.first_of
+        (families.if_true (families.has_room book.old.tokens word && spec.gives_tokens (option_copied given.entry)) family) word }
     ensures families { book.new.families ≡ families.appended (filter (λ f. not (spec.is_spent spent f)) book.old.families)
         (families.if_true (families.has_room book.old.tokens word && spec.gives_tokens (option_copied given.entry)) family) }
     ensures tokens { book.new.tokens ≡ put token_name

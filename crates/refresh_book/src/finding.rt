@@ -172,7 +172,8 @@ impl<P: Provides> RefreshCore<P> {
         ask: &RefreshAsk<P::Ask>,
     ) -> Result<Option<OwnReply>, NoMemory>
         requires { last_moment (reverse self.now.history) ≤ at }
-        ensures { IfOk result (λ r. r ≡ spec.info_reply P.plain_ask P.given_reply P.provided self.now.registry (reverse self.now.history) at (outer_plain P.plain_ask ask.now)) }
+        ensures { IfOk result (λ r. r ≡ spec.info_reply P.plain_ask P.given_reply P.provided self.now.registry (reverse self.now.history) at
+            (outer_plain P.plain_ask ask.now)) }
     {
         let Some(word) = bearer_of(plain_of::<P>(ask)) else {
             return Ok(None);

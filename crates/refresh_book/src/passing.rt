@@ -184,8 +184,10 @@ impl<P: Provides> RefreshCore<P> {
         offline: bool,
         weight: u64,
     ) -> Result<RefreshReply<P::Reply>, CoreNo>
-        requires pending { IsPending P.plain_ask P.given_reply P.provided self.old.registry (reverse self.old.history) at (RefreshAsk.Through asked offline) pending }
-        requires passes { spec.own_reply P.plain_ask P.given_reply P.provided self.old.registry (reverse self.old.history) at fresh (RefreshAsk.Through asked offline) ≡ None }
+        requires pending { IsPending P.plain_ask P.given_reply P.provided self.old.registry (reverse self.old.history) at
+            (RefreshAsk.Through asked offline) pending }
+        requires passes { spec.own_reply P.plain_ask P.given_reply P.provided self.old.registry (reverse self.old.history) at fresh
+            (RefreshAsk.Through asked offline) ≡ None }
         requires order { last_moment (reverse self.old.history) ≤ at }
         requires values { IsEntry (around.IsRefreshAsk P.IsAsk) (record { at = at; fresh = fresh; ask = RefreshAsk.Through asked offline }) }
         requires weight { weight ≡ around.outer_weight P.weighs (RefreshAsk.Through asked offline) }
@@ -244,7 +246,8 @@ impl<P: Provides> RefreshCore<P> {
         entry: Entry<RefreshAsk<P::Ask>>,
         weight: u64,
     ) -> Result<RefreshReply<P::Reply>, CoreNo>
-        requires passes { spec.own_reply P.plain_ask P.given_reply P.provided self.old.registry (reverse self.old.history) entry.at entry.fresh entry.ask ≡ None }
+        requires passes { spec.own_reply P.plain_ask P.given_reply P.provided self.old.registry (reverse self.old.history) entry.at
+            entry.fresh entry.ask ≡ None }
         requires order { last_moment (reverse self.old.history) ≤ entry.at }
         requires values { IsEntry (around.IsRefreshAsk P.IsAsk) entry }
         requires weight { weight ≡ around.outer_weight P.weighs entry.ask }

@@ -121,7 +121,8 @@ impl<P: Provides> RefreshCore<P> {
         reply: OwnReply,
         weight: u64,
     ) -> Result<RefreshReply<P::Reply>, NoMemory>
-        requires own { spec.info_reply P.plain_ask P.given_reply P.provided self.old.registry (reverse self.old.history) entry.at (around.outer_plain P.plain_ask entry.ask) ≡ Some reply }
+        requires own { spec.info_reply P.plain_ask P.given_reply P.provided self.old.registry (reverse self.old.history) entry.at
+            (around.outer_plain P.plain_ask entry.ask) ≡ Some reply }
         requires order { last_moment (reverse self.old.history) ≤ entry.at }
         requires values { IsEntry (around.IsRefreshAsk P.IsAsk) entry }
         requires weight { weight ≡ around.outer_weight P.weighs entry.ask }

@@ -280,7 +280,8 @@ impl Book {
         requires room { has_room self.old.tokens refresh ≡ true }
         ensures families { self.new.families ≡ self.old.families }
         ensures tokens { self.new.tokens ≡ put token_name (Some (new_token row.family refresh)) (put token_name (Some (old_token row)) self.old.tokens) }
-        ensures accesses { self.new.accesses ≡ put access_name (Some (record { word = access; family = row.family; issued = self.old.last })) self.old.accesses }
+        ensures accesses { self.new.accesses ≡
+            put access_name (Some (record { word = access; family = row.family; issued = self.old.last })) self.old.accesses }
         ensures last { self.new.last ≡ self.old.last }
     {
         know_tokens(&self.tokens);
