@@ -5,4 +5,5 @@ pub mod Current
 pub mod Once
 pub mod Clients
 pub mod Passed
+pub mod Unchanged
 mod Samples

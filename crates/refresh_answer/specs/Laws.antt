@@ -19,7 +19,7 @@ use Rattle.refresh_answer.specs.declared.rows.AccessRow.{AccessRow}
 use Rattle.refresh_answer.specs.declared.rows.RefreshRow.{RefreshRow}
 use Rattle.refresh_answer.specs.Rows.{token_name, access_name, new_token}
 use Rattle.refresh_answer.specs.Around.{Outer, outer_plain}
-use Rattle.refresh_answer.specs.Families.{presented, row_presented, family_at, tokens, families, living}
+use Rattle.refresh_answer.specs.Families.{presented, row_presented, family_at, tokens, accesses, families, living}
 
 -- no pair of a past, newest pair first, drew a word that an earlier pair drew
 abbrev pub HasNewWords : {A R : Type 0} → List (Outer A R) → Type 0
@@ -83,3 +83,9 @@ module _ {A R : Type 0} (plain : A → Option OpAsk) (given : R → Option OpRep
     pub lives : living plain given provided past p.entry.at row.family ≡ Some family
     pub client : grant.client ≡ family.client
     pub scopes_are : scopes ≡ family.scopes
+
+  -- the pair leaves all families and tokens as they are
+  pub record IsAsBefore (past : List (Outer A R)) (p : Outer A R) : Type 0 where
+    pub families_stay : families plain given provided (p ∷ past) ≡ families plain given provided past
+    pub tokens_stay : tokens plain given provided (p ∷ past) ≡ tokens plain given provided past
+    pub accesses_stay : accesses plain given provided (p ∷ past) ≡ accesses plain given provided past

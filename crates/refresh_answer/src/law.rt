@@ -1,9 +1,11 @@
 // What is true of families, their tokens and their clients.
 
-ghost use Rattle.std.specs.Prelude.{◌≡◌, ◌≤◌, ℕ, List, ◌∷◌, ◌++◌, reverse, Some, Ok};
+ghost use Rattle.std.specs.Prelude.{◌≡◌, ◌≤◌, ℕ, false, List, ◌∷◌, ◌++◌, reverse, Some, Result, Ok};
 ghost use Rattle.sso_base.specs.Words.{Word};
 ghost use Rattle.sso_base.specs.Legal.{last_moment};
 ghost use Rattle.oidc_words.specs.declared.scopes.Scopes.{Scopes};
+ghost use Rattle.token_endpoint.specs.declared.no.GrantNo.{GrantNo};
+ghost use Rattle.token_endpoint.specs.declared.error.TokenError.{TokenError as token_error_of};
 ghost use Rattle.refresh_answer.specs.declared.asks.RefreshGrant.{RefreshGrant};
 ghost use Rattle.refresh_answer.specs.declared.asks.RefreshAsk.TheVariants as ask;
 ghost use Rattle.refresh_answer.specs.declared.asks.OwnReply.TheVariants as own_as;
@@ -53,4 +55,13 @@ pub fn tokens_stay_with_their_client<P: Provides>()
         → reverse h ≡ after ++ p ∷ before → p.entry.ask ≡ ask.Refresh (Ok grant) → (grant.client ≡ f.client → ⊥)
         → spec.family_at f.by (spec.families P.plain_ask P.given_reply P.provided before) ≡ Some f
         → spec.family_at f.by (spec.families P.plain_ask P.given_reply P.provided (p ∷ before)) ≡ Some f }
+{}
+
+/// A refused refresh request changes no family and no token, unless the client of a family presents an old token of it.
+pub fn refused_requests_change_nothing<P: Provides>()
+    ensures { (past : List (Outer P.Ask P.Reply)) (p : Outer P.Ask P.Reply) (grant : Result RefreshGrant GrantNo) (code : token_error_of)
+        → p.entry.ask ≡ ask.Refresh grant → p.reply ≡ reply_as.Own (own_as.Refused code)
+        → ((f : family_row) → spec.is_replay
+            (spec.row_presented (spec.tokens P.plain_ask P.given_reply P.provided past) p.entry.ask) p.entry.ask f ≡ false)
+        → laws.IsAsBefore P.plain_ask P.given_reply P.provided past p }
 {}

@@ -22,6 +22,9 @@ mod place;
 mod rows;
 
 pub use asks::{OwnReply, RefreshAsk, RefreshGrant, RefreshParts, RefreshReply};
-pub use law::{refresh_tokens_rotate, reuse_ends_the_family, tokens_stay_with_their_client};
+pub use law::{
+    refresh_tokens_rotate, refused_requests_change_nothing, reuse_ends_the_family,
+    tokens_stay_with_their_client,
+};
 pub use place::Place;
 pub use rows::{AccessRow, FAMILY_LIFE, FamilyRow, RefreshRow};
