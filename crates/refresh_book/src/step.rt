@@ -127,7 +127,8 @@ impl<P: Provides> RefreshCore<P> {
         requires values { IsEntry (around.IsRefreshAsk P.IsAsk) entry }
         requires weight { weight ≡ around.outer_weight P.weighs entry.ask }
         requires room { history_weight (around.outer_weight P.weighs) self.old.history + weight ≤ P.most (P.setup self.old.inner) }
-        ensures history { IfOk result (λ r. self.new.history ≡ self.old.history ++ (record { entry = entry; reply = r }) ∷ []) }
+        ensures told { IfOk result (λ r. r ≡ RefreshReply.Own reply) }
+        ensures history { OnOk result (self.new.history ≡ self.old.history ++ around.own_pair (record { entry = entry; reply = reply }) ∷ []) }
         ensures inner { OnOk result (self.new.inner ≡ self.old.inner) }
         ensures registry { self.new.registry ≡ self.old.registry }
         ensures err { OnErr result (self.new ≡ self.old) }

@@ -4,7 +4,7 @@ use Rattle.sso_base.specs.Journal.{history_weight}
 use Rattle.core_stack.specs.declared.kept.Kept.TheVariants as kept
 use Rattle.refresh_answer.specs.declared.asks.OwnReply.{OwnReply}
 use Rattle.refresh_answer.specs.declared.asks.RefreshReply.TheVariants.{Own}
-use Rattle.refresh_answer.specs.Around.{outer_weight}
+use Rattle.refresh_answer.specs.Around.{own_pair, outer_weight}
 use Rattle.refresh_answer.proofs.Passed.{least_outer}
 use Rattle.refresh_book.specs.Keeps.{KeptEntry, is_own_family, IsBookAt}
 use Rattle.refresh_book.specs.declared.renewing.Renewal.{Renewal}
@@ -81,10 +81,12 @@ pub returns-clause-history : goal.returns-clause-history
 returns-clause-history g c =
     let inside = c.self.inside in
     let own = record { entry = c.args.entry; reply = c.reply_of.result } in
+    let X = λ (r : OwnReply). c.args.self.now.history ++ own_pair (record { entry = c.args.entry; reply = r }) ∷ [] in
     let K = λ (l : List (KeptEntry g.row.P-Ask.Denot)). l ++ kept.Own own ∷ [] in
     own_history g.P.Provides.plain_ask g.P.Provides.given_reply g.P.Provides.provided g.P.Provides.IsAsk g.P.Core.weighs g.P.Core.most g.P.Core.is_legal (record { inner = g.P.Core.setup inside.inner; registry = inside.registry }) (g.P.Core.history inside.inner)
     inside.kept.kept inside.kept.weight inside.kept.last inside.kept.most inside.turns.rows inside.codes.rows inside.book c.self.invariant.1 c.args.self.now.history (ap (λ x. x.history) c.self.view_is)
     own c.push.new.self.kept (c.push.ensures.kept ∙ ap K c.reserve_own.ensures.kept)
+    ∙ ap X (c.reply_of.ensures ∙ sym c.reply_of-2.ensures)
 
 pub returns-clause-legal : goal.returns-clause-legal
 returns-clause-legal g c = (invariant_of-self-2 g c).1.legal
