@@ -4,3 +4,4 @@ pub mod Renewed
 pub mod Passed
 pub mod Looking
 pub mod Committing
+mod Samples
