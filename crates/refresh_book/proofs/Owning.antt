@@ -82,6 +82,3 @@ pub code_is_own : (c d : Configuration) (h : List OpPair) (at : ℕ) (w : Word) 
 code_is_own c d h at w o same legal is row found =
     let K : Configuration → Bool = λ x. is_own_code x row in
     ap K same ∙ held_is_own d (reverse h) at w row legal.past (sym is ∙ found)
-
-pub same_ok : (f g : FamilyRow) → ◌≡◌ {A = Rattle.std.specs.Prelude.Result (Option FamilyRow) Rattle.sso_base.specs.declared.memory.NoMemory.NoMemory} (Rattle.std.specs.Prelude.Ok (Some f)) (Rattle.std.specs.Prelude.Ok (Some g)) → f ≡ g
-same_ok f g h = cc

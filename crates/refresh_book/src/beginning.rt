@@ -102,7 +102,7 @@ impl<P: Provides> RefreshCore<P> {
     ) -> Result<Option<FamilyRow>, NoMemory>
         requires { last_moment (reverse self.now.history) ≤ at }
         ensures family { IfOk result (λ f. f ≡ spec.family_asked P.plain_ask P.given_reply P.provided (reverse self.now.history) at code) }
-        ensures own { (f : family_of) → result ≡ Ok (Some f) → keeps.is_own_family self.now.registry f ≡ true }
+        ensures own { IfOk result (λ o. (f : family_of) → o ≡ Some f → keeps.is_own_family self.now.registry f ≡ true) }
     {
         if !self.code_offline(at, code) {
             return Ok(None);
