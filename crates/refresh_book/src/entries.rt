@@ -1,6 +1,7 @@
-// The weights and the values of entries.
+// The weights, the words and the values of entries.
 
 ghost use Rattle.std.specs.Prelude.{◌≡◌, ◌<◌, ◌^◌, IfOk};
+ghost use Rattle.sso_base.specs.Words.{fresh_word};
 ghost use Rattle.sso_base.specs.Legal.{IsEntry};
 ghost use Rattle.sso_base.specs.Weights.{told_weight};
 ghost use Rattle.refresh_answer.specs.Around as around;
@@ -40,6 +41,20 @@ pub(crate) fn is_refresh_ask<A: Drop>(ask: &RefreshAsk<A>) -> bool
     ensures { result ≡ keeps.is_refresh_ask ask.now }
 {
     matches!(ask, RefreshAsk::Refresh { .. })
+}
+
+/// The first of the fresh words.
+pub(crate) fn first(fresh: &[Word; 4]) -> Word
+    ensures { result ≡ fresh_word fresh.now 0 }
+{
+    fresh[0]
+}
+
+/// The second of the fresh words.
+pub(crate) fn second(fresh: &[Word; 4]) -> Word
+    ensures { result ≡ fresh_word fresh.now 1 }
+{
+    fresh[1]
 }
 
 // A number has 32 bits.

@@ -10,7 +10,7 @@
 //! | `finding` | what is found of a code, and of an access token |
 //! | `renewing` | the reply to a refresh request |
 //! | `beginning` | which family begins with tokens for a code, and which families its code ends |
-//! | `entries` | weights and values of entries |
+//! | `entries` | weights, words and values of entries |
 //! | `passing` | entries that are passed on |
 //! | `step` | one step |
 //! | `providing` | the core as one that the provider is in |

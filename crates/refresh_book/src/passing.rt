@@ -3,7 +3,6 @@
 
 ghost use Rattle.std.specs.Prelude.{◌≡◌, ℕ, ◌<◌, ◌≤◌, ◌+◌, ◌++◌, [], ◌∷◌, length, reverse, true, Some, None, Err, IfSome, IfOk, OnOk, OnErr};
 ghost use Rattle.std.specs.Option.{option_copied};
-ghost use Rattle.sso_base.specs.Words.{fresh_word};
 ghost use Rattle.sso_base.specs.Legal.{last_moment, IsEntry};
 ghost use Rattle.sso_base.specs.Rows.{put, live_rows};
 ghost use Rattle.sso_base.specs.Weights.{empty_weight};
@@ -19,6 +18,7 @@ ghost use Rattle.refresh_rows.specs.Booked.{HasMemory};
 ghost use Rattle.refresh_book.specs.Beginning.{IsPending};
 
 use crate::beginning::{Pending, note_passed};
+use crate::entries::second;
 use crate::refresh_core::RefreshCore;
 use core_stack::{
     CodeMark, Kept, KeptJournal, Provides, TurnMark, code_made, ends_turn, keep_codes, keep_turns,
@@ -163,13 +163,6 @@ fn again(word: &Option<Word>) -> Option<Word>
     ensures { result ≡ word.now }
 {
     *word
-}
-
-// The second of the fresh words.
-fn second(fresh: &[Word; 4]) -> Word
-    ensures { result ≡ fresh_word fresh.now 1 }
-{
-    fresh[1]
 }
 
 impl<P: Provides> RefreshCore<P> {

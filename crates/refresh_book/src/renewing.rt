@@ -4,6 +4,7 @@ ghost use Rattle.std.specs.Prelude.{◌≡◌};
 ghost use Rattle.refresh_rows.specs.Booked.{HasMemory};
 ghost use Rattle.refresh_book.specs.Renewing as renew;
 
+use crate::entries::{first, second};
 use oidc_words::Scopes;
 use refresh_answer::{FamilyRow, OwnReply, RefreshAsk, RefreshGrant, RefreshRow};
 use refresh_rows::Book;
@@ -58,12 +59,13 @@ pub(crate) fn reply_of(renewal: Renewal) -> OwnReply
 fn rotation(book: &Book, fresh: &[Word; 4], row: RefreshRow, family: &FamilyRow) -> Renewal
     ensures { result ≡ renew.rotation book.now.tokens fresh.now row family.now }
 {
-    let [access, refresh, _, _] = fresh;
-    if book.has_room(*refresh) {
+    let access = first(fresh);
+    let refresh = second(fresh);
+    if book.has_room(refresh) {
         Renewal::Rotated {
             row,
-            access: *access,
-            refresh: *refresh,
+            access,
+            refresh,
             scopes: family.scopes,
         }
     } else {
