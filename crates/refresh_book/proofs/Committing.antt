@@ -1,5 +1,5 @@
 -- What is kept after one more entry.
-use Rattle.std.proofs.Common.{◌≡◌, ◌≤◌, ◌<◌, ℕ, suc, ◌+◌, Bool, true, false, not, nat_lt, cond, List, [], ◌∷◌, ◌++◌, length, reverse, Option, Some, None, option_map, option_and_then, IfSome, refl, ap, sym, ◌∙◌, subst, arith}
+use Rattle.std.proofs.Common.{◌≡◌, ◌≤◌, ◌<◌, ℕ, suc, ◌+◌, Bool, true, false, not, nat_lt, cond, List, [], ◌∷◌, ◌++◌, length, reverse, Option, Some, None, option_map, option_and_then, Ok, Err, IfSome, refl, ap, sym, ◌∙◌, subst, arith}
 use Rattle.std.specs.List.{list_all}
 use Rattle.sso_base.specs.Words.{Word, fresh_word}
 use Rattle.sso_base.specs.Rows.{put, lives, if_lives, live_rows}
@@ -12,6 +12,7 @@ use Rattle.client_registry.specs.Configuration.{Configuration}
 use Rattle.code_grant.specs.declared.rows.CodeRow.{CodeRow}
 use Rattle.oidc_words.specs.Lives.{turn_life, code_life, access_life}
 use Rattle.held_rows.specs.Held.{MayAddRow}
+use Rattle.token_endpoint.specs.declared.no.GrantNo.TheVariants as no
 use Rattle.op_exchange.specs.declared.ask.OpAsk.{OpAsk}
 use Rattle.op_exchange.specs.declared.reply.OpReply.{OpReply}
 use Rattle.op_answer.specs.Past.{OpPair}
@@ -31,6 +32,7 @@ use Rattle.refresh_answer.specs.declared.asks.RefreshAsk.{RefreshAsk}
 use Rattle.refresh_answer.specs.declared.asks.RefreshAsk.TheVariants as ask
 use Rattle.refresh_answer.specs.declared.asks.RefreshParts.{RefreshParts}
 use Rattle.refresh_answer.specs.declared.asks.OwnReply.{OwnReply}
+use Rattle.refresh_answer.specs.declared.asks.OwnReply.TheVariants as replies
 use Rattle.refresh_answer.specs.declared.asks.RefreshReply.{RefreshReply}
 use Rattle.refresh_answer.specs.declared.asks.RefreshReply.TheVariants.{Own}
 use Rattle.refresh_answer.specs.declared.rows.FamilyRow.{FamilyRow}
@@ -39,7 +41,7 @@ use Rattle.refresh_answer.specs.declared.rows.AccessRow.{AccessRow}
 use Rattle.refresh_answer.specs.Rows.{family_life, family_begun, access_begun}
 use Rattle.refresh_answer.specs.Around.{Outer, passed, inner_history, reply_around, around, own_pair, merged_history, outer_plain, outer_given, outer_weight, offline_mark, IsRefreshAsk}
 use Rattle.refresh_answer.specs.Families.{if_true, family_for, family_at, families, code_offline, begins}
-use Rattle.refresh_answer.specs.Answering.{Setup, with_first, IsReply, own_reply, info_reply, IsRefreshReply, IsLegalRefresh}
+use Rattle.refresh_answer.specs.Answering.{Setup, with_first, IsReply, refresh_reply, own_reply, info_reply, IsRefreshReply, IsLegalRefresh}
 use Rattle.refresh_answer.proofs.Families.{some_none, true_false}
 use Rattle.refresh_answer.proofs.Current.{numbered}
 use Rattle.refresh_answer.proofs.Passed.{passed_moment, passed_weight, around_passes, own_passes_none, outer_stack}
@@ -125,6 +127,14 @@ pub passes_none : {A R : Type 0} (plain : A → Option OpAsk) (given : R → Opt
     → is_refresh_ask asked ≡ false → info_reply plain given provided c past at (outer_plain plain asked) ≡ None → own_reply plain given provided c past at fresh asked ≡ None
 passes_none plain given provided c past at fresh (ask.Through a o) other none = none
 passes_none plain given provided c past at fresh (ask.Refresh g) other none = absurd (true_false other)
+
+-- a refresh request is not passed on
+pub refresh_is_own : {A R : Type 0} (plain : A → Option OpAsk) (given : R → Option OpReply) (provided : List (Pair A R) → List OpPair) (c : Configuration) (past : List (Outer A R)) (at : ℕ) (fresh : List Word) (asked : RefreshAsk A)
+    → is_refresh_ask asked ≡ true → own_reply plain given provided c past at fresh asked ≡ None → ⊥
+refresh_is_own plain given provided c past at fresh (ask.Through a o) is none = true_false (sym is)
+refresh_is_own plain given provided c past at fresh (ask.Refresh (Err no.NoMemory)) is none = some_none replies.NotHere none
+refresh_is_own plain given provided c past at fresh (ask.Refresh (Err e)) is none = some_none (refresh_reply plain given provided past at fresh (Err e)) none
+refresh_is_own plain given provided c past at fresh (ask.Refresh (Ok g)) is none = some_none (refresh_reply plain given provided past at fresh (Ok g)) none
 
 -- ---- one more entry
 

@@ -1,11 +1,19 @@
-use Rattle.std.proofs.Common.{◌≡◌, ◌++◌, ◌∷◌, [], sym, subst, reverse, None}
+use Rattle.std.proofs.Common.{◌≡◌, ◌++◌, ◌∷◌, [], ap, sym, subst, reverse, None}
 use Rattle.std.specs.Result.{IfOk}
 use Rattle.sso_base.specs.Legal.{IsEntry}
 use Rattle.refresh_answer.specs.declared.asks.RefreshAsk.{RefreshAsk}
 use Rattle.refresh_answer.specs.Around.{outer_weight, IsRefreshAsk}
 use Rattle.refresh_answer.specs.Answering.{own_reply}
+use Rattle.refresh_book.specs.Keeps.{is_refresh_ask}
 use Rattle.refresh_book.specs.Beginning.{IsPending}
+use Rattle.refresh_book.proofs.Committing.{refresh_is_own}
 use Rattle.refresh_book.proofs.passing.RefreshCore.pass.Goals as goal
+
+pub unreachable-requires : goal.unreachable-requires
+unreachable-requires g c =
+    let Q = λ (a : RefreshAsk g.row.P-Ask.Denot). is_refresh_ask a in
+    refresh_is_own g.P.Provides.plain_ask g.P.Provides.given_reply g.P.Provides.provided c.args.self.now.registry (reverse c.args.self.now.history) c.args.entry.at c.args.entry.fresh c.args.entry.ask
+    (ap Q c.in-Refresh.is) c.requires.passes
 
 pub pass_known-requires-clause-pending : goal.pass_known-requires-clause-pending
 pass_known-requires-clause-pending g c =
