@@ -320,9 +320,9 @@ module _ {A R : Type 0} (plain : A → Option OpAsk) (given : R → Option OpRep
         → (d.families ≡ live_rows family_life family_begun at (appended (filter k Fs) o))
           × (d.tokens ≡ held_in (appended (filter k Fs) o) at (put token_name (token_of o w) (tokens plain given provided past)))
           × (d.accesses ≡ live_rows access_life access_begun at (filter (λ (x : AccessRow). is_some (living_in (appended (filter k Fs) o) at x.family)) (accesses plain given provided past)))
-    by_begun None is own families_are tokens_are accesses_are last_is after = (families_are ∙ after.families_are, tokens_are ∙ after.tokens_are, accesses_are ∙ after.accesses_are)
-    by_begun (Some f) is own families_are tokens_are accesses_are last_is after =
-        let mine = own f refl in
+    by_begun None is owned families_are tokens_are accesses_are last_is after = (families_are ∙ after.families_are, tokens_are ∙ after.tokens_are, accesses_are ∙ after.accesses_are)
+    by_begun (Some f) is owned families_are tokens_are accesses_are last_is after =
+        let mine = owned f refl in
         begun_book k left f w after mine.0 mine.1 families_are tokens_are accesses_are last_is
 
     token_made_by : (first : Option Word) (o : Option FamilyRow) → first ≡ first_of o w → ((f : FamilyRow) → o ≡ Some f → f.by ≡ n)
