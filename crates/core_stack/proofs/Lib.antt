@@ -4,6 +4,8 @@ pub mod Merging
 pub mod Passing
 pub mod Stepping
 pub mod Stacking
+pub mod OnePair
+pub mod Same
 pub mod Added
 pub mod Marked
 pub mod Rooms

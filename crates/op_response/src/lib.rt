@@ -3,7 +3,7 @@
 //!
 //! | Module | What it has |
 //! |---|---|
-//! | `telling` | [`op_http`]: the status, the fields and the body of a reply |
+//! | `telling` | [`op_http`] and [`token_response`]: the status, the fields and the body of a reply |
 //! | `html` | the login page and the consent page |
 //! | `cookies` | the browser's cookie and the session's |
 //! | `lines` | [`op_line`]: the line of a reply |
@@ -22,4 +22,4 @@ pub use law::{
     plain_bodies_are_lines, responses_send_the_user_agent_on, token_responses_are_not_cached,
 };
 pub use lines::op_line;
-pub use telling::op_http;
+pub use telling::{op_http, token_response};

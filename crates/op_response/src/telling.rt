@@ -49,7 +49,8 @@ fn sent_with_session(
     Ok(http_reply::sent_to(alloc, location, cookies))
 }
 
-fn token_response(alloc: Global, status: u16, challenge: Option<Text>, body: Blob) -> HttpReply
+/// A response of the token endpoint with this body, which must not be cached (RFC 6749, 5.1 and 5.2).
+pub fn token_response(alloc: Global, status: u16, challenge: Option<Text>, body: Blob) -> HttpReply
     ensures { result ≡ spec.token_response status challenge body }
 {
     HttpReply {

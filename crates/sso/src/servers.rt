@@ -1,4 +1,5 @@
-//! The outcomes of serving the provider of a configuration, or one of its parties, alone or with proof keys (RFC 7636).
+//! The outcomes of serving the provider of a configuration, alone or with proof keys (RFC 7636) and refresh tokens (RFC 6749, 6), or one of
+//! its parties, alone or with proof keys.
 
 ghost use Rattle.std.specs.Prelude.{◌≡◌, ◌^◌, ◌≤◌, ◌<◌, false, length, None, Ok, IfOk, codes};
 ghost use Rattle.std.specs.List.{All};
@@ -84,7 +85,7 @@ pub fn answer_op<R: Threads + Wait + Sync, D: Door, L: Link, C: Clock, W: Draw>(
     }
 }
 
-/// Serves the provider of a registry with proof keys.
+/// Serves the provider of a registry with proof keys and refresh tokens.
 fn serve_provider_plus<R: Threads + Wait + Sync, D: Door, L: Link, C: Clock, W: Draw>(
     rt: &R,
     alloc: Global,
@@ -99,7 +100,7 @@ fn serve_provider_plus<R: Threads + Wait + Sync, D: Door, L: Link, C: Clock, W: 
     answer_server(alloc, ran.fault, ran.served, ran.entries)
 }
 
-/// Serves the provider of a configuration with proof keys. Returns how that ended, or why the configuration is rejected.
+/// Serves the provider of a configuration with proof keys and refresh tokens. Returns how that ended, or why the configuration is rejected.
 #[tactic(auto, unfolding(crate::specs::Asked::op_asked))]
 pub fn answer_op_plus<R: Threads + Wait + Sync, D: Door, L: Link, C: Clock, W: Draw>(
     rt: &R,

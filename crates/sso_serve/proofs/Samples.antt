@@ -1,5 +1,5 @@
 -- The roles and their servers, computed over the definitions on small cases.
-use Rattle.std.proofs.Common.{◌≡◌, ℕ, Bool, true, false, [], ◌∷◌, Option, Some, None, refl, arith}
+use Rattle.std.proofs.Common.{◌≡◌, ℕ, Result, Bool, true, false, [], ◌∷◌, Option, Some, None, refl, arith}
 use Rattle.sso_base.specs.Words.{Word, Text}
 use Rattle.sso_base.specs.Journal.{lasting_weight}
 use Rattle.sso_base.specs.declared.message.Message.{Message}
@@ -20,6 +20,11 @@ use Rattle.rp_request.specs.Prepared.{tokens_prepared, info_prepared}
 use Rattle.pkce_answer.specs.declared.asks.PkceAsk.{PkceAsk}
 use Rattle.pkce_answer.specs.declared.asks.PkceReply.TheVariants.{Through, Own}
 use Rattle.pkce_party.specs.Telling.{verified}
+use Rattle.token_endpoint.specs.declared.no.GrantNo.{GrantNo}
+use Rattle.refresh_answer.specs.declared.asks.RefreshGrant.{RefreshGrant}
+use Rattle.refresh_answer.specs.declared.asks.RefreshAsk.TheVariants as token_ask
+use Rattle.refresh_answer.specs.declared.asks.OwnReply.{OwnReply}
+use Rattle.refresh_answer.specs.declared.asks.RefreshReply.TheVariants as tokens
 use Rattle.serving.specs.declared.summary.Summary.{Summary}
 use Rattle.serving.specs.Summaries.{Telling}
 use Rattle.sso_serve.specs.Roles.{is_small_if}
@@ -34,12 +39,15 @@ told-to_the_clients_of_the_session c message = refl
 told-to_nobody : (c : Configuration) → (op_manner c).notices op.NotHere ≡ []
 told-to_nobody c = refl
 
--- also through the core that checks proof keys, and its own refusals are told to nobody
-told-through : (c : Configuration) (message : Message) → (op_plus_manner c).notices (Through (op.SignedOut (message ∷ []))) ≡ message ∷ []
+-- also through the cores around it, and their own replies are told to nobody
+told-through : (c : Configuration) (message : Message) → (op_plus_manner c).notices (tokens.Through (Through (op.SignedOut (message ∷ [])))) ≡ message ∷ []
 told-through c message = refl
 
-told-to_nobody_by_a_refusal : (c : Configuration) (reply : OpReply) → (op_plus_manner c).notices (Own reply) ≡ []
+told-to_nobody_by_a_refusal : (c : Configuration) (reply : OpReply) → (op_plus_manner c).notices (tokens.Through (Own reply)) ≡ []
 told-to_nobody_by_a_refusal c reply = refl
+
+told-to_nobody_by_a_refresh : (c : Configuration) (reply : OwnReply) → (op_plus_manner c).notices (tokens.Own reply) ≡ []
+told-to_nobody_by_a_refresh c reply = refl
 
 asked-nobody_by_the_provider : (c : Configuration) (reply : OpReply) → (op_manner c).question reply ≡ None
 asked-nobody_by_the_provider c reply = refl
@@ -77,8 +85,12 @@ taken-in_a_lasting_history : (c : Configuration) (asked : OpAsk) → (op_manner 
 taken-in_a_lasting_history c asked = refl
 
 taken-by_the_request_inside : (c : Configuration) (asked : PkceAsk OpAsk)
-    → (op_plus_manner (record c { lasting = true })).takes asked ≡ is_small asked.inner
+    → (op_plus_manner (record c { lasting = true })).takes (token_ask.Through asked false) ≡ is_small asked.inner
 taken-by_the_request_inside c asked = refl
+
+taken-to_be_refreshed : (c : Configuration) (grant : Result RefreshGrant GrantNo)
+    → (op_plus_manner (record c { lasting = true })).takes (token_ask.Refresh grant) ≡ true
+taken-to_be_refreshed c grant = refl
 
 taken-without_a_request_of_the_provider : is_small_if None ≡ true
 taken-without_a_request_of_the_provider = refl

@@ -1,6 +1,10 @@
--- The cores that are served: the provider and a relying party, alone and with proof keys (RFC 7636).
+-- The cores that are served: the provider alone, and with proof keys (RFC 7636) and refresh tokens (RFC 6749, 6), and a relying party
+-- alone, and with proof keys.
 use Rattle.std.specs.Prelude.{ℕ, List, Option, Some}
 use Rattle.sso_base.specs.Journal.{most_of}
+use Rattle.sso_base.specs.declared.history.Pair.{Pair}
+use Rattle.sso_base.specs.declared.http.Ask.{Ask}
+use Rattle.sso_base.specs.declared.http.HttpReply.{HttpReply}
 use Rattle.client_registry.specs.Configuration.{Configuration}
 use Rattle.op_exchange.specs.declared.ask.OpAsk.{OpAsk}
 use Rattle.op_exchange.specs.declared.reply.OpReply.{OpReply}
@@ -23,10 +27,18 @@ use Rattle.core_stack.specs.OpStack.{op_notices}
 use Rattle.core_stack.specs.Relied.{sending_in}
 use Rattle.pkce_answer.specs.declared.asks.PkceAsk.{PkceAsk}
 use Rattle.pkce_answer.specs.declared.asks.PkceReply.{PkceReply}
-use Rattle.pkce_answer.specs.Around.{Outer, outer_plain, outer_notices, outer_weight}
+use Rattle.pkce_answer.specs.Challenges.{IsPkceAsk}
+use Rattle.pkce_answer.specs.Around as keys
 use Rattle.pkce_answer.specs.Answering.{IsLegalPkce}
 use Rattle.pkce_check.specs.Keeps.{Checking}
-use Rattle.pkce_check.specs.Prepared.{asked_around, alone, outer_http}
+use Rattle.pkce_check.specs.Prepared as key_read
+use Rattle.refresh_answer.specs.declared.asks.RefreshAsk.{RefreshAsk}
+use Rattle.refresh_answer.specs.declared.asks.RefreshReply.{RefreshReply}
+use Rattle.refresh_answer.specs.Around as tokens
+use Rattle.refresh_answer.specs.Around.{Outer}
+use Rattle.refresh_answer.specs.Answering.{Setup, IsLegalRefresh}
+use Rattle.refresh_book.specs.Keeps.{Refreshing}
+use Rattle.refresh_book.specs.Prepared as token_read
 use Rattle.pkce_party.specs.declared.reply.PartyReply.{PartyReply}
 use Rattle.pkce_party.specs.Adding.{PartyPair}
 use Rattle.pkce_party.specs.Inside.{reply_inside}
@@ -56,22 +68,62 @@ op_registry p = p.registry
 abbrev pub op_history : Providing → List OpPair
 op_history p = p.history
 
--- ---- the provider with proof keys around it
+-- ---- the provider with proof keys around it, and refresh tokens around these
 
-abbrev pub op_plus_manner : Configuration → Manner (PkceAsk OpAsk) (PkceReply OpReply)
+-- the requests and the replies of the provider with proof keys
+abbrev pub KeyAsk : Type 0
+KeyAsk = PkceAsk OpAsk
+
+abbrev pub KeyReply : Type 0
+KeyReply = PkceReply OpReply
+
+abbrev pub key_plain : KeyAsk → Option OpAsk
+key_plain asked = keys.outer_plain op_plain asked
+
+abbrev pub key_given : KeyReply → Option OpReply
+key_given reply = keys.outer_given op_given reply
+
+abbrev pub key_told : KeyReply → Option OpReply
+key_told reply = keys.outer_told op_given reply
+
+abbrev pub key_provided : List (Pair KeyAsk KeyReply) → List OpPair
+key_provided h = keys.inner_history h
+
+abbrev pub key_weight : KeyAsk → ℕ
+key_weight asked = keys.outer_weight op_weight.ask_weight asked
+
+abbrev pub key_prepared : Configuration → Ask → KeyAsk
+key_prepared c request = key_read.asked_around op_plain request (op_request.prepared c request)
+
+abbrev pub key_http : Configuration → KeyReply → HttpReply
+key_http c reply = key_read.outer_http op_telling.http_of c reply
+
+abbrev pub op_plus_manner : Configuration → Manner (RefreshAsk KeyAsk) (RefreshReply KeyReply)
 op_plus_manner c =
-    provider_manner (outer_plain op_plain) (outer_notices op_notices)
-    (λ d request. asked_around op_plain request (op_request.prepared d request)) (λ asked. alone asked)
-    (outer_http op_telling.http_of) (outer_weight op_weight.ask_weight) c
+    provider_manner (tokens.outer_plain key_plain) (tokens.outer_notices (λ reply. keys.outer_notices op_notices reply))
+    (λ d request. token_read.asked_around key_plain d request (key_prepared d request)) (λ asked. token_read.alone (key_read.alone asked))
+    (token_read.outer_http key_http key_told) (tokens.outer_weight key_weight) c
 
-abbrev pub op_plus_registry : Checking Providing OpAsk OpReply → Configuration
-op_plus_registry p = p.inner.registry
+-- the provider and the registry beside it have the same configuration
+abbrev pub alike : Configuration → Setup Configuration
+alike c = record { inner = c; registry = c }
 
-abbrev pub op_plus_history : Checking Providing OpAsk OpReply → List (Outer OpAsk OpReply)
+abbrev pub op_plus_most : Setup Configuration → ℕ
+op_plus_most s = op_most s.inner
+
+abbrev pub OpPlus : Type 0
+OpPlus = Refreshing (Checking Providing OpAsk OpReply) KeyAsk KeyReply
+
+abbrev pub op_plus_setup : OpPlus → Setup Configuration
+op_plus_setup p = record { inner = p.inner.inner.registry; registry = p.registry }
+
+abbrev pub op_plus_history : OpPlus → List (Outer KeyAsk KeyReply)
 op_plus_history p = p.history
 
-abbrev pub IsLegalOpPlus : Configuration → List (Outer OpAsk OpReply) → Type 0
-IsLegalOpPlus c h = IsLegalPkce op_plain op_given IsOpAsk op_weight.ask_weight op_most op.IsLegalHistory c h
+abbrev pub IsLegalOpPlus : Setup Configuration → List (Outer KeyAsk KeyReply) → Type 0
+IsLegalOpPlus s h =
+    IsLegalRefresh key_plain key_given key_provided (IsPkceAsk IsOpAsk) key_weight op_most
+    (λ c l. IsLegalPkce op_plain op_given IsOpAsk op_weight.ask_weight op_most op.IsLegalHistory c l) s h
 
 -- ---- the relying party with a number, alone
 

@@ -10,21 +10,21 @@ use Rattle.rp_exchange.specs.declared.reply.RpReply.{RpReply}
 use Rattle.rp_answer.specs.Legal as rp
 use Rattle.rp_answer.specs.Setup.{PartySetup, party_of}
 use Rattle.rp_core.specs.Relying.{Relying}
-use Rattle.pkce_answer.specs.declared.asks.PkceAsk.{PkceAsk}
-use Rattle.pkce_answer.specs.declared.asks.PkceReply.{PkceReply}
-use Rattle.pkce_check.specs.Keeps.{Checking}
+use Rattle.refresh_answer.specs.declared.asks.RefreshAsk.{RefreshAsk}
+use Rattle.refresh_answer.specs.declared.asks.RefreshReply.{RefreshReply}
 use Rattle.pkce_party.specs.declared.reply.PartyReply.{PartyReply}
 use Rattle.pkce_party.specs.Adding.{IsLegalParty}
 use Rattle.server_desk.specs.declared.desk.Desk.{Desk}
 use Rattle.serving.specs.declared.summary.Summary.{Summary}
 use Rattle.serving.specs.Summaries.{Telling, Summarises}
 use Rattle.sso_serve.specs.declared.ran.Ran.{Ran}
-use Rattle.sso_serve.specs.Cores.{op_manner, op_most, op_registry, op_history, op_plus_manner, op_plus_registry, op_plus_history, IsLegalOpPlus}
+use Rattle.sso_serve.specs.Cores.{op_manner, op_most, op_registry, op_history}
+use Rattle.sso_serve.specs.Cores.{KeyAsk, KeyReply, OpPlus, alike, op_plus_manner, op_plus_most, op_plus_setup, op_plus_history, IsLegalOpPlus}
 use Rattle.sso_serve.specs.Cores.{rp_manner, rp_most, rp_setup, rp_history, rp_plus_manner, rp_plus_history}
 
--- the provider with proof keys, and a relying party with proof keys, in a summary
+-- the provider with proof keys and refresh tokens, and a relying party with proof keys, in a summary
 abbrev pub OpPlusSummary : Type 0
-OpPlusSummary = Summary (Checking Providing OpAsk OpReply) (PkceAsk OpAsk) (PkceReply OpReply)
+OpPlusSummary = Summary OpPlus (RefreshAsk KeyAsk) (RefreshReply KeyReply)
 
 abbrev pub RpPlusSummary : Type 0
 RpPlusSummary = Summary Relying RpAsk PartyReply
@@ -38,9 +38,9 @@ module _ {D L C W S K : Type 0} (t : Telling D L C W S K) (olds news : List (Des
   abbrev pub ServesOp : Configuration → Summary Providing OpAsk OpReply → Type 0
   ServesOp c s = Summarises t (op_manner c) op_most op_registry op_history op.IsLegalHistory c c.listen olds news s
 
-  -- the same with proof keys
+  -- the same with proof keys and refresh tokens
   abbrev pub ServesOpPlus : Configuration → OpPlusSummary → Type 0
-  ServesOpPlus c s = Summarises t (op_plus_manner c) op_most op_plus_registry op_plus_history IsLegalOpPlus c c.listen olds news s
+  ServesOpPlus c s = Summarises t (op_plus_manner c) op_plus_most op_plus_setup op_plus_history IsLegalOpPlus (alike c) c.listen olds news s
 
   -- the relying party of a setup was served, at its `listen` address
   abbrev pub ServesRp : PartySetup → Summary Relying RpAsk RpReply → Type 0

@@ -1,4 +1,4 @@
-// The servers of four cores: the provider and a relying party, alone and with proof keys.
+// The servers of four cores: the provider alone, and with proof keys and refresh tokens, and a relying party alone, and with proof keys.
 
 ghost use Rattle.std.specs.Prelude.{◌≡◌, ◌^◌, ◌≤◌, ◌<◌, [], length, IfOk, OnErr};
 ghost use Rattle.std.specs.List.{All};
@@ -12,6 +12,7 @@ use client_registry::{Provider, Registry};
 use op_core::OpCore;
 use pkce_check::PkceCore;
 use pkce_party::PkceParty;
+use refresh_book::RefreshCore;
 use rp_core::RpCore;
 use server_desk::{Clock, Desk, Door, Draw, Link};
 use serving::{Summary, Tells};
@@ -40,6 +41,43 @@ fn op_with_keys(alloc: Global, registry: Registry) -> Result<PkceCore<OpCore>, N
     let lasts = registry.lasting();
     let inner = OpCore::new(alloc, registry)?;
     Ok(keys_around(alloc, inner, lasts))
+}
+
+// Refresh tokens around proof keys around a provider of this registry, with an empty history. The core lasts if the provider does.
+fn tokens_around(
+    alloc: Global,
+    registry: Registry,
+    inner: PkceCore<OpCore>,
+    lasts: bool,
+) -> RefreshCore<PkceCore<OpCore>>
+    requires empty { inner.history ≡ [] }
+    requires registry { registry ≡ inner.inner.registry }
+    requires lasts { lasts ≡ inner.inner.registry.lasting }
+    ensures history { result.history ≡ [] }
+    ensures inner { result.inner ≡ inner }
+    ensures registry { result.registry ≡ registry }
+{
+    RefreshCore::new(alloc, registry, inner, lasts)
+}
+
+// The provider of a registry with proof keys and refresh tokens around it, with an empty history.
+fn op_with_tokens(
+    alloc: Global,
+    registry: &Registry,
+) -> Result<RefreshCore<PkceCore<OpCore>>, NoMemory>
+    ensures history { IfOk result (λ c. c.history ≡ []) }
+    ensures registry { IfOk result (λ c. c.inner.inner.registry ≡ registry.now) }
+    ensures own { IfOk result (λ c. c.registry ≡ registry.now) }
+{
+    let lasts = registry.lasting();
+    let inner = op_with_keys(alloc, registry.copy(alloc)?)?;
+    match registry.copy(alloc) {
+        Ok(own) => Ok(tokens_around(alloc, own, inner, lasts)),
+        Err(no) => {
+            drop(inner);
+            Err(no)
+        }
+    }
 }
 
 // Proof keys around a relying party that has an empty history.
@@ -83,19 +121,19 @@ pub(crate) fn serve_op_alone<R: Threads + Wait + Sync, D: Door, L: Link, C: Cloc
     serve_op(rt, alloc, registry, core, desks)
 }
 
-/// Serves the provider of this registry with proof keys.
+/// Serves the provider of this registry with proof keys and refresh tokens.
 pub(crate) fn serve_op_plus<R: Threads + Wait + Sync, D: Door, L: Link, C: Clock, W: Draw>(
     rt: &R,
     alloc: Global,
     registry: &Registry,
     desks: &mut Vec<Desk<D, L, C, W>>,
-) -> Result<Summary<PkceCore<OpCore>>, NoMemory>
+) -> Result<Summary<RefreshCore<PkceCore<OpCore>>>, NoMemory>
     requires few { length desks.old.items ≤ 64 }
     requires desks { All (λ desk. (desk.turns ≤ 2 ^ 56) × ((D.state desk.door).given < 2 ^ 63)) desks.old.items }
     ensures summary { IfOk result (ServesOpPlus ⟦<Desk<D, L, C, W> as Tells>⟧.telling desks.old.items desks.new.items registry.now) }
     ensures memory { OnErr result (desks.new.items ≡ desks.old.items) }
 {
-    let core = op_with_keys(alloc, registry.copy(alloc)?)?;
+    let core = op_with_tokens(alloc, registry)?;
     serve_op(rt, alloc, registry, core, desks)
 }
 

@@ -49,7 +49,7 @@ pub fn run_op<R: Threads + Wait + Sync, D: Door, L: Link, C: Clock, W: Draw>(
     })
 }
 
-/// Serves the provider of this registry with proof keys, as [`serve_op`](crate::serve_op), and returns how that ended.
+/// Serves the provider of this registry with proof keys and refresh tokens, as [`serve_op`](crate::serve_op), and returns how that ended.
 ///
 /// # Errors
 ///
