@@ -1,0 +1,6 @@
+pub mod Inside
+pub mod Questioning
+pub mod Yes
+pub mod Providing
+pub mod SignOuts
+pub mod Samples
