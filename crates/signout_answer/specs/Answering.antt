@@ -46,9 +46,13 @@ ended_by asked told = None
 
 -- ---- a request to end a session
 
+-- the bytes of the texts that a question holds because of a request
+abbrev pub wish_held : EndWish → ℕ
+wish_held wish = text_bytes wish.back + text_bytes wish.state
+
 -- a server whose history lasts keeps little of one request
 abbrev pub is_small : EndSetup → EndWish → Bool
-is_small c wish = not c.registry.lasting || nat_le (text_bytes wish.back + text_bytes wish.state) most_held
+is_small c wish = not c.registry.lasting || nat_le (wish_held wish) most_held
 
 abbrev pub question_doing : Bool → Word → Doing
 question_doing true w = Own (Sure w)

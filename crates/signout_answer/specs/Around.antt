@@ -89,7 +89,10 @@ notices_inside notices other = None
 
 -- ---- weights
 
+abbrev pub form_weight : List ℕ → ℕ
+form_weight form = empty_weight + length form
+
 abbrev pub end_weight : {A : Type 0} → (A → ℕ) → EndAsk A → ℕ
 end_weight weighs (Through inner) = weighs inner
-end_weight weighs (Start form session) = empty_weight + length form
+end_weight weighs (Start form session) = form_weight form
 end_weight weighs (Confirm word agree session inner) = weighs inner
