@@ -1,8 +1,7 @@
 -- The table of questions after one more pair, and when a question has room.
-use Rattle.std.proofs.Common.{◌≡◌, ◌≤◌, ℕ, Bool, true, false, not, ◌&&◌, ◌||◌, nat_lt, cond, List, [], ◌∷◌, length, filter_map, Option, Some, None, is_some, option_and_then, unwrap_or, IfSome, Result, Ok, Err, refl, ap, sym, ◌∙◌, subst}
-use Rattle.std.specs.Str.{bytes_eq}
+use Rattle.std.proofs.Common.{◌≡◌, ◌≤◌, ℕ, Bool, true, false, not, ◌&&◌, ◌||◌, nat_lt, cond, List, ◌∷◌, length, filter_map, Option, Some, None, is_some, option_and_then, IfSome, Result, Ok, Err, refl, ap, sym, ◌∙◌, subst}
 use Rattle.std.proofs.lemmas.Bool.{and_parts}
-use Rattle.sso_base.specs.Words.{Word, is_word, fresh_word}
+use Rattle.sso_base.specs.Words.{Word, fresh_word}
 use Rattle.sso_base.specs.Rows.{put, row_of, if_lives, live_rows}
 use Rattle.sso_base.proofs.RowLaws.{rows_distinct}
 use Rattle.held_rows.specs.Held.{most_rows, is_full, MayAddRow}
@@ -16,7 +15,6 @@ use Rattle.end_request.specs.declared.wish.EndNo.{EndNo}
 use Rattle.end_request.specs.Ending.{end_read}
 use Rattle.signout_answer.specs.declared.asks.EndAsk.{EndAsk}
 use Rattle.signout_answer.specs.declared.asks.EndAsk.TheVariants as ask
-use Rattle.signout_answer.specs.declared.asks.EndReply.{EndReply}
 use Rattle.signout_answer.specs.declared.asks.EndSetup.{EndSetup}
 use Rattle.signout_answer.specs.declared.parts.OwnReply.{OwnReply}
 use Rattle.signout_answer.specs.declared.parts.OwnReply.TheVariants as own
@@ -25,9 +23,9 @@ use Rattle.signout_answer.specs.declared.parts.EndParts.TheVariants as parts
 use Rattle.signout_answer.specs.declared.parts.Doing.{Doing}
 use Rattle.signout_answer.specs.declared.parts.Doing.TheVariants as does
 use Rattle.signout_answer.specs.declared.questions.QuestionRow.{QuestionRow}
-use Rattle.signout_answer.specs.Questions.{question_life, question_name, question_begun, held_in, unless_ended}
+use Rattle.signout_answer.specs.Questions.{question_life, question_name, question_begun, unless_ended}
 use Rattle.signout_answer.specs.Around.{Outer, ask_around, reply_around, own_reply}
-use Rattle.signout_answer.specs.Answering.{question_of, question_by, ended_by, is_small, question_doing, start_doing, question_made, question_kept, questions, held_questions, held_question, has_room, doing}
+use Rattle.signout_answer.specs.Answering.{question_of, question_by, ended_by, is_small, question_doing, start_doing, question_made, question_kept, questions, held_questions, has_room, doing}
 use Rattle.signout_answer.proofs.Questioning.{some_same, unless_same, question_same, question_names, question_begins}
 use Rattle.rp_signout.specs.Keeps.{HoldQuestions, rows_left, own_ended, own_made, parts_ended}
 
@@ -53,11 +51,11 @@ own_makes R c (ask.Start form session) own.Full at = refl
 
 pub parts_end : {A R : Type 0} (p : EndParts) (asked : A) (r : R) → parts_ended p ≡ ended_by (ask_around p asked) (reply_around p r)
 parts_end parts.Through asked r = refl
-parts_end (parts.Gone word session back) asked r = refl
+parts_end (parts.Gone word agree session back) asked r = refl
 
 pub parts_make_none : {A R : Type 0} (c : EndSetup) (p : EndParts) (asked : A) (r : R) (at : ℕ) → ◌≡◌ {A = Option QuestionRow} None (question_by c (ask_around p asked) (reply_around p r) at)
 parts_make_none c parts.Through asked r at = refl
-parts_make_none c (parts.Gone word session back) asked r at = refl
+parts_make_none c (parts.Gone word agree session back) asked r at = refl
 
 -- ---- the rows that an ended question leaves
 

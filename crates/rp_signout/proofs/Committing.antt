@@ -1,10 +1,9 @@
 -- What is kept after one more entry.
-use Rattle.std.proofs.Common.{◌≡◌, ◌≤◌, ◌<◌, ℕ, suc, ◌+◌, Bool, nat_lt, cond, List, [], ◌∷◌, ◌++◌, length, reverse, Option, Some, None, refl, ap, sym, ◌∙◌, subst, arith}
+use Rattle.std.proofs.Common.{◌≡◌, ◌≤◌, ◌<◌, ℕ, suc, ◌+◌, nat_lt, cond, List, [], ◌∷◌, ◌++◌, length, reverse, Option, None, refl, ap, sym, ◌∙◌, subst, arith}
 use Rattle.sso_base.specs.Words.{Word}
 use Rattle.sso_base.specs.Rows.{put, live_rows}
 use Rattle.sso_base.specs.Legal.{last_moment, IsEntry}
 use Rattle.sso_base.specs.Journal.{history_weight, extended}
-use Rattle.sso_base.specs.declared.history.Entry.{Entry}
 use Rattle.sso_base.specs.declared.history.Pair.{Pair}
 use Rattle.sso_base.proofs.Histories.{past_more}
 use Rattle.op_exchange.specs.declared.ask.OpAsk.{OpAsk}
@@ -14,7 +13,6 @@ use Rattle.core_stack.proofs.Merging.{count_passes, count_own, merged_passes, me
 use Rattle.core_stack.proofs.Passing.{inner_reversed, inner_last, inner_lighter}
 use Rattle.core_stack.proofs.Stepping.{weight_after, legal_own, legal_passed}
 use Rattle.signout_answer.specs.declared.asks.EndAsk.{EndAsk}
-use Rattle.signout_answer.specs.declared.asks.EndReply.{EndReply}
 use Rattle.signout_answer.specs.declared.parts.OwnReply.{OwnReply}
 use Rattle.signout_answer.specs.declared.parts.EndParts.{EndParts}
 use Rattle.signout_answer.specs.declared.parts.EndParts.TheVariants as parts
@@ -23,9 +21,9 @@ use Rattle.signout_answer.specs.declared.parts.Doing.TheVariants as does
 use Rattle.signout_answer.specs.declared.questions.QuestionRow.{QuestionRow}
 use Rattle.signout_answer.specs.Questions.{question_life, question_name, question_begun}
 use Rattle.signout_answer.specs.Around.{Outer, IsEndAsk, passed, inner_history, ask_around, reply_around, around, own_reply, own_pair, merged_history, end_weight}
-use Rattle.signout_answer.specs.Answering.{question_by, ended_by, IsReply, doing, IsEndReply, SignoutSetup, IsLegalSignout}
+use Rattle.signout_answer.specs.Answering.{question_by, IsReply, doing, IsEndReply, SignoutSetup, IsLegalSignout}
 use Rattle.signout_answer.proofs.Inside.{own_is_not_passed, around_is_passed, passed_moment, passed_weight, around_weighs}
-use Rattle.rp_signout.specs.Keeps.{KeptEntry, HoldQuestions, Keeps, rows_left, own_ended, own_made, parts_ended, parts_doing, IsPassed}
+use Rattle.rp_signout.specs.Keeps.{KeptEntry, HoldQuestions, Keeps, rows_left, own_ended, own_made, parts_ended, parts_doing}
 use Rattle.rp_signout.proofs.Looking.{inner_same, not_ahead, held_now}
 use Rattle.rp_signout.proofs.Asking.{own_ends, own_makes, parts_end, parts_make_none, holds_more}
 
@@ -49,7 +47,7 @@ none_heavy most w none = omega (arith, none)
 -- the parts of an entry that was passed on say its reply, up to that of the inner core
 parts_reply : {R : Type 0} (p : EndParts) (r : R) → IsReply (parts_doing p) (reply_around p r)
 parts_reply parts.Through r = (r, refl)
-parts_reply (parts.Gone word session back) r = (r, refl)
+parts_reply (parts.Gone word agree session back) r = (r, refl)
 
 -- ---- a core with an empty history
 
@@ -82,12 +80,6 @@ module _ {A R S : Type 0} (plain : A → Option OpAsk) (IsAsk : A → Type 0) (w
 module _ {A R S : Type 0} (plain : A → Option OpAsk) (IsAsk : A → Type 0) (weighs : A → ℕ) (most : S → ℕ) (IsLegalInner : S → List (Pair A R) → Type 0)
     (s : SignoutSetup S) (inner : List (Pair A R)) (ks : List (KeptEntry A)) (weight last limit : ℕ) (rows : List QuestionRow)
     (keeps : Keeps plain IsAsk weighs most IsLegalInner s inner ks weight last limit rows) (H : List (Outer A R)) (is : merged_history ks inner ≡ H) where
-  abbrev most_out : SignoutSetup S → ℕ
-  most_out t = most t.inner
-
-  abbrev LegalIn : SignoutSetup S → List (Pair A R) → Type 0
-  LegalIn t l = IsLegalInner t.inner l
-
   legal_now : IsLegalSignout plain IsAsk weighs most IsLegalInner s H
   legal_now = let L : List (Outer A R) → Type 0 = λ l. IsLegalSignout plain IsAsk weighs most IsLegalInner s l in subst L is keeps.legal
 
@@ -154,7 +146,7 @@ module _ {A R S : Type 0} (plain : A → Option OpAsk) (IsAsk : A → Type 0) (w
       subst K (sym weight_grown) (subst T (sym last_is) (subst N (sym limit_is)
       (keeps_more p inner ks' w rows' (ap C grown ∙ count_own ks o ∙ keeps.count) (own_history o ks' grown) w_is
        (holds_more s.own (reverse H) p last rows rows' (ahead at order) table_now (rows_are ∙ ap U (own_makes R s.own o.entry.ask o.reply at) ∙ ap V (own_ends R o.entry.ask o.reply)))
-       (legal_own (IsEndAsk IsAsk) (IsEndReply s.own plain) passed (end_weight weighs) most_out LegalIn s H p w legal_now (own_is_not_passed o) values order (subst D (sym done) refl) w_is room))))
+       (legal_own (IsEndAsk IsAsk) (IsEndReply s.own plain) passed (end_weight weighs) (λ (t : SignoutSetup S). most t.inner) (λ (t : SignoutSetup S). IsLegalInner t.inner) s H p w legal_now (own_is_not_passed o) values order (subst D (sym done) refl) w_is room))))
 
   -- ---- that it passed on
 
@@ -202,7 +194,7 @@ module _ {A R S : Type 0} (plain : A → Option OpAsk) (IsAsk : A → Type 0) (w
     passed_legal inner' w order inner_grown done values w_is room legal =
         let D : Doing → Type 0 = λ d. IsReply {R = R} d (reply_around p reply) in
         let I : List (Pair A R) → Type 0 = λ l. IsLegalInner s.inner l in
-        legal_passed (IsEndAsk IsAsk) (IsEndReply s.own plain) passed (end_weight weighs) most_out LegalIn s H (around p taken) taken inner w legal_now (around_is_passed p taken)
+        legal_passed (IsEndAsk IsAsk) (IsEndReply s.own plain) passed (end_weight weighs) (λ (t : SignoutSetup S). most t.inner) (λ (t : SignoutSetup S). IsLegalInner t.inner) s H (around p taken) taken inner w legal_now (around_is_passed p taken)
         (sym (inner_same ks inner H keeps.count is)) values order (subst D (sym done) (parts_reply p reply)) w_is room (subst I (inner_taken inner' order inner_grown) legal)
 
     pub passed_keeps : (ks' : List (KeptEntry A)) (inner' : List (Pair A R)) (weight' last' limit' w : ℕ) (rows' : List QuestionRow)

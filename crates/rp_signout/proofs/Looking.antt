@@ -17,7 +17,7 @@ use Rattle.signout_answer.specs.declared.asks.EndAsk.TheVariants.{Confirm}
 use Rattle.signout_answer.specs.declared.parts.Doing.{Doing}
 use Rattle.signout_answer.specs.declared.asks.EndSetup.{EndSetup}
 use Rattle.signout_answer.specs.declared.questions.QuestionRow.{QuestionRow}
-use Rattle.signout_answer.specs.Questions.{question_life, question_name, question_begun, held_in}
+use Rattle.signout_answer.specs.Questions.{question_life, question_name, question_begun}
 use Rattle.signout_answer.specs.Around.{Outer, passed, inner_history, around, own_pair, merged_history}
 use Rattle.signout_answer.specs.Answering.{is_sign_out, if_answered, question_in, confirm_doing, question_made, question_kept, questions, has_room, asked_question, doing, SignoutSetup}
 use Rattle.signout_answer.proofs.Inside.{own_is_not_passed, around_is_passed}
@@ -80,17 +80,3 @@ module _ {A R S : Type 0} (plain : A → Option OpAsk) (IsAsk : A → Type 0) (w
       let G : Bool → Doing = λ b. confirm_doing (question_in (questions s.own (reverse H)) at (Some w) session b) agree in
       let N : Option Word → Doing = λ o. confirm_doing (asked_question s.own plain (reverse H) at o session a) agree in
       answered_same s.own (reverse H) last rows held_now at (not_ahead at order) w distinct session signs agree ∙ ap G signs_are ∙ ap N (sym named_is)
-
--- ---- the decision about the answer to a question
-
-pub confirm_decided : {A R : Type 0} (c : EndSetup) (plain : A → Option OpAsk) (past : List (Outer A R)) (e : Entry (EndAsk A)) (word : Option Word) (agree : Bool) (session : Option Word) (inner : A)
-    → e.ask ≡ Confirm word agree session inner → (d : Decision) → IsConfirmed (confirm_doing (asked_question c plain past e.at word session inner) agree) agree d → IsDecided c plain past e d
-confirm_decided {A} {R} c plain past e word agree session inner asked (Own answer) is =
-    let D : EndAsk A → Doing = λ a. doing c plain past e.at e.fresh a in
-    let M : EndAsk A → Option QuestionRow = λ a. own_made c a answer.own e.at in
-    (ap D asked ∙ is.0, is.1 ∙ sym (ap M asked))
-confirm_decided {A} {R} c plain past e word agree session inner asked (Pass back) is =
-    let D : EndAsk A → Doing = λ a. doing c plain past e.at e.fresh a in
-    let P : EndAsk A → Doing = λ a. passing back a in
-    let I : EndAsk A → Type 0 = λ a. IsPassable a in
-    (ap D asked ∙ is.0 ∙ sym (ap P asked), subst I (sym asked) is.1)

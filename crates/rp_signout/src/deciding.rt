@@ -1,10 +1,12 @@
 // How a request is answered.
 
-ghost use Rattle.std.specs.Prelude.{◌≡◌, ◌≤◌, ◌&&◌, nat_le, reverse, Some, None, IfOk};
+ghost use Rattle.std.specs.Prelude.{◌≡◌, ◌≤◌, ◌&&◌, nat_le, reverse, true, Some, IfOk};
 ghost use Rattle.std.specs.Option.{option_copied};
 ghost use Rattle.sso_base.specs.Legal.{last_moment};
 ghost use Rattle.sso_base.specs.Weights.{told_weight, most_held};
 ghost use Rattle.held_rows.specs.Held.{AnyRow, IsHeld};
+ghost use Rattle.end_request.specs.Ending.{end_read};
+ghost use Rattle.signout_answer.specs.declared.parts.Doing.TheVariants as does;
 ghost use Rattle.signout_answer.specs.Questions.{question_name, question_begun};
 ghost use Rattle.signout_answer.specs.Answering as spec;
 ghost use Rattle.rp_signout.specs.Keeps as keeping;
@@ -16,7 +18,7 @@ use core_stack::Provides;
 use end_request::{EndWish, location, read_end};
 use held_rows::Held;
 use op_exchange::OpAsk;
-use signout_answer::{EndAsk, EndSetup, OwnReply, QuestionRow};
+use signout_answer::{Doing, EndAsk, EndSetup, OwnReply, QuestionRow};
 use sso_base::{Entry, MOST_HELD, Moment, NoMemory, Word, text_bytes};
 use std::alloc::Global;
 
@@ -74,34 +76,18 @@ fn is_answered(session: &Option<Word>, signs: bool, question: &QuestionRow) -> b
     signs && is_same_word(&question.session, session)
 }
 
-// The decision about an answer to this question.
-fn confirmed(
-    alloc: Global,
-    question: &QuestionRow,
-    agree: bool,
-) -> Result<Decision, NoMemory>
-    ensures { IfOk result (λ d. keeping.IsConfirmed (spec.confirm_doing (Some question.now) agree) agree d) }
+// How an answer to this question is answered.
+fn confirmed(alloc: Global, question: &QuestionRow, agree: bool) -> Result<Doing, NoMemory>
+    ensures { IfOk result (λ d. d ≡ spec.confirm_doing (Some question.now) agree) }
 {
     if agree {
-        Ok(Decision::Pass(location(alloc, &question.wish)?))
+        Ok(Doing::Go(location(alloc, &question.wish)?))
     } else {
-        Ok(Decision::Own(Answer {
-            own: OwnReply::Kept,
-            made: None,
-        }))
+        Ok(Doing::Own(OwnReply::Kept))
     }
 }
 
-fn stale() -> Decision
-    ensures { result ≡ Decision.Own (record { own = OwnReply.Stale; made = None }) }
-{
-    Decision::Own(Answer {
-        own: OwnReply::Stale,
-        made: None,
-    })
-}
-
-// The decision about an answer with the word, among these questions.
+// How an answer with the word is answered, among these questions.
 fn confirmed_in(
     alloc: Global,
     questions: &Held<QuestionRow>,
@@ -110,16 +96,15 @@ fn confirmed_in(
     agree: bool,
     session: &Option<Word>,
     signs: bool,
-) -> Result<Decision, NoMemory>
-    ensures decision { IfOk result (λ d. keeping.IsConfirmed
-        (spec.confirm_doing (spec.question_in questions.now.rows at (Some word) session.now signs) agree) agree d) }
+) -> Result<Doing, NoMemory>
+    ensures doing { IfOk result (λ d. d ≡ spec.confirm_doing (spec.question_in questions.now.rows at (Some word) session.now signs) agree) }
     ensures held { IsHeld question_name question_begun AnyRow questions.now.rows }
 {
     match questions.living(&word.bytes(), at) {
         Some(question) if is_answered(session, signs, question) => {
             confirmed(alloc, question, agree)
         }
-        _ => Ok(stale()),
+        _ => Ok(Doing::Own(OwnReply::Stale)),
     }
 }
 
@@ -132,7 +117,7 @@ impl<P: Provides> SignoutCore<P> {
         has_room(&self.questions, at, word)
     }
 
-    // The answer to a request to end a session, and the question that it makes. `word` is that of a question.
+    // The reply to a request to end a session, and the question that it makes. `word` is that of a question.
     fn start(
         &self,
         alloc: Global,
@@ -142,7 +127,10 @@ impl<P: Provides> SignoutCore<P> {
         session: Option<Word>,
     ) -> Result<Answer, NoMemory>
         requires { last_moment (reverse self.now.history) ≤ at }
-        ensures { IfOk result (λ a. keeping.IsStarted self.now.setup (reverse self.now.history) at word form.now session a) }
+        ensures own { IfOk result (λ a. spec.start_doing self.now.setup (spec.has_room self.now.setup (reverse self.now.history) at word) word
+            (end_read self.now.setup.registry self.now.setup.returns form.now) ≡ does.Own a.own) }
+        ensures made { IfOk result (λ a. a.made ≡ keeping.started_made session at
+            (end_read self.now.setup.registry self.now.setup.returns form.now) a.own) }
     {
         let room = self.has_room(at, word);
         let read = read_end(alloc, &self.setup.registry, &self.setup.returns, form)?;
@@ -171,7 +159,7 @@ impl<P: Provides> SignoutCore<P> {
         }
     }
 
-    // The decision about the answer to a question.
+    // How the answer to a question is answered.
     fn confirm(
         &self,
         alloc: Global,
@@ -180,13 +168,13 @@ impl<P: Provides> SignoutCore<P> {
         agree: bool,
         session: &Option<Word>,
         inner: &P::Ask,
-    ) -> Result<Decision, NoMemory>
+    ) -> Result<Doing, NoMemory>
         requires { last_moment (reverse self.now.history) ≤ at }
-        ensures { IfOk result (λ d. keeping.IsConfirmed (spec.confirm_doing
-            (spec.asked_question self.now.setup P.plain_ask (reverse self.now.history) at word session.now inner.now) agree) agree d) }
+        ensures { IfOk result (λ d. d ≡ spec.confirm_doing
+            (spec.asked_question self.now.setup P.plain_ask (reverse self.now.history) at word session.now inner.now) agree) }
     {
         let Some(word) = word else {
-            return Ok(stale());
+            return Ok(Doing::Own(OwnReply::Stale));
         };
         let signs = is_sign_out(session, P::plain(inner));
         confirmed_in(alloc, &self.questions, at, word, agree, session, signs)
@@ -199,23 +187,28 @@ impl<P: Provides> SignoutCore<P> {
         entry: &Entry<EndAsk<P::Ask>>,
     ) -> Result<Decision, NoMemory>
         requires { last_moment (reverse self.now.history) ≤ entry.now.at }
-        ensures { IfOk result (λ d. keeping.IsDecided self.now.setup P.plain_ask (reverse self.now.history) entry.now d) }
+        ensures done { IfOk result (λ d. spec.doing self.now.setup P.plain_ask (reverse self.now.history) entry.now.at entry.now.fresh entry.now.ask
+            ≡ keeping.done_by d entry.now.ask) }
+        ensures made { IfOk result (λ d. keeping.made_in d ≡ keeping.made_by self.now.setup entry.now d) }
+        ensures passable { IfOk result (λ d. keeping.may_pass d entry.now.ask ≡ true) }
     {
         match &entry.ask {
             EndAsk::Through(_) => Ok(Decision::Pass(None)),
-            EndAsk::Start { form, session } => Ok(Decision::Own(self.start(
-                alloc,
-                entry.at,
-                entry.fresh[0],
-                form.as_bytes(),
-                *session,
-            )?)),
+            EndAsk::Start { form, session } => {
+                let word = entry.fresh[0];
+                let answer = self.start(alloc, entry.at, word, form.as_bytes(), *session)?;
+                Ok(Decision::Own(answer))
+            }
             EndAsk::Confirm {
                 word,
                 agree,
                 session,
                 inner,
-            } => self.confirm(alloc, entry.at, *word, *agree, session, inner),
+            } => match self.confirm(alloc, entry.at, *word, *agree, session, inner)? {
+                Doing::Own(own) => Ok(Decision::Own(Answer { own, made: None })),
+                Doing::Pass => unreachable!(),
+                Doing::Go(back) => Ok(Decision::Pass(back)),
+            },
         }
     }
 }

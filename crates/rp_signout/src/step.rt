@@ -1,9 +1,9 @@
 // One step. All memory is reserved before the first change, and the step of the inner core is the last call that can fail.
 
-ghost use Rattle.std.specs.Prelude.{◌≡◌, ℕ, ◌<◌, ◌≤◌, ◌+◌, ◌++◌, [], ◌∷◌, length, reverse, Err, IfOk, OnOk, OnErr};
+ghost use Rattle.std.specs.Prelude.{◌≡◌, ℕ, ◌<◌, ◌≤◌, ◌+◌, ◌++◌, [], ◌∷◌, length, reverse, true, Err, IfOk, OnOk, OnErr};
 ghost use Rattle.sso_base.specs.Legal.{last_moment, IsEntry};
 ghost use Rattle.sso_base.specs.Weights.{told_weight};
-ghost use Rattle.sso_base.specs.Journal.{history_weight, entry_of, extended};
+ghost use Rattle.sso_base.specs.Journal.{history_weight, entry_of};
 ghost use Rattle.signout_answer.specs.declared.parts.Doing.TheVariants as does;
 ghost use Rattle.signout_answer.specs.Around as around;
 ghost use Rattle.signout_answer.specs.Answering as spec;
@@ -209,7 +209,7 @@ struct Split<A: Drop> {
 
 // The request of the inner core, and the parts that it does not have, with the location where the browser goes after a sign-out.
 fn split<A: Drop>(ask: EndAsk<A>, back: Option<Text>) -> Split<A>
-    requires { keeping.IsPassable ask }
+    requires { keeping.is_passable ask ≡ true }
     ensures ask { ask ≡ around.ask_around result.parts result.inner }
     ensures doing { keeping.passing back ask ≡ keeping.parts_doing result.parts }
 {
@@ -221,13 +221,14 @@ fn split<A: Drop>(ask: EndAsk<A>, back: Option<Text>) -> Split<A>
         EndAsk::Start { .. } => unreachable!(),
         EndAsk::Confirm {
             word,
+            agree,
             session,
             inner,
-            ..
         } => Split {
             inner,
             parts: EndParts::Gone {
                 word,
+                agree,
                 session,
                 back,
             },
@@ -375,7 +376,7 @@ impl<P: Provides> SignoutCore<P> {
         weight: u64,
     ) -> Result<EndReply<P::Reply>, CoreNo>
         requires done { spec.doing self.old.setup P.plain_ask (reverse self.old.history) entry.at entry.fresh entry.ask ≡ keeping.passing back entry.ask }
-        requires passable { keeping.IsPassable entry.ask }
+        requires passable { keeping.is_passable entry.ask ≡ true }
         requires order { last_moment (reverse self.old.history) ≤ entry.at }
         requires values { IsEntry (around.IsEndAsk P.IsAsk) entry }
         requires weight { weight ≡ around.end_weight P.weighs entry.ask }

@@ -40,7 +40,7 @@ module _ {A R : Type 0} where
 
   pub around_is_passed : (p : EndParts) (q : Pair A R) → passed (around p q) ≡ Some q
   around_is_passed parts.Through q = refl
-  around_is_passed (parts.Gone word session back) q = refl
+  around_is_passed (parts.Gone word agree session back) q = refl
 
   -- ---- the moment and the weight
 
@@ -72,7 +72,7 @@ module _ {A R : Type 0} where
 -- a request that is passed on weighs what the inner core's request weighs
 pub around_weighs : {A : Type 0} (weighs : A → ℕ) (p : EndParts) (asked : A) → end_weight weighs (ask_around p asked) ≡ weighs asked
 around_weighs weighs parts.Through asked = refl
-around_weighs weighs (parts.Gone word session back) asked = refl
+around_weighs weighs (parts.Gone word agree session back) asked = refl
 
 form_weighs : (n : ℕ) → 1024 ≤ 1024 + n
 form_weighs n = omega arith

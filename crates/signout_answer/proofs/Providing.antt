@@ -49,6 +49,10 @@ module _ {R : Type 0} (f : R → Option OpReply) where
   confirm_shows_none (Some row) false told is = shown_alike told reply.Kept is refl
   confirm_shows_none (Some row) true told is = shown_alike told (reply.Gone (location row.wish) is.0) is.1 refl
 
+-- equal setups have equal setups inside
+pub same_inside : {S : Type 0} {s t : SignoutSetup S} → s ≡ t → s.inner ≡ t.inner
+same_inside {S} same = ap (λ (u : SignoutSetup S). u.inner) same
+
 -- a reply that the provider gave is the provider's reply in the reply
 pub end_given_told : {R : Type 0} (given told : R → Option OpReply) → ((x : R) (r : OpReply) → given x ≡ Some r → told x ≡ Some r)
     → (t : EndReply R) (r : OpReply) → reply_inside given t ≡ Some r → reply_inside told t ≡ Some r
@@ -58,11 +62,11 @@ end_given_told given told inner t r same = absurd (cc)
 module _ {A R : Type 0} (c : EndSetup) (plain : A → Option OpAsk) where
   -- ---- by the request and the reply of one pair
 
-  module _ (given : R → Option OpReply) (provided : List (Pair A R) → List OpPair) (IsLegal : List (Pair A R) → Type 0) (h : List (Outer A R))
+  module _ (given : R → Option OpReply) (notices : R → Option (List Message)) (provided : List (Pair A R) → List OpPair) (IsLegal : List (Pair A R) → Type 0) (h : List (Outer A R))
       (adds : (q : Pair A R) → IsLegal (inner_history h ++ q ∷ [])
           → AddsGiven q.entry.at q.entry.fresh (plain q.entry.ask) (given q.reply) (provided (inner_history h)) (provided (inner_history h ++ q ∷ [])))
       (signs_out : (q : Pair A R) (w : Option Word) → IsLegal (inner_history h ++ q ∷ []) → plain q.entry.ask ≡ Some (SignOut w)
-          → (sent : List Message) × (given q.reply ≡ Some (SignedOut sent))) where
+          → (sent : List Message) × (given q.reply ≡ Some (SignedOut sent)) × (notices q.reply ≡ Some sent)) where
     abbrev after : Outer A R → List OpPair
     after p = provided (inner_history (h ++ p ∷ []))
 
@@ -169,13 +173,14 @@ module _ {A R S : Type 0} (plain : A → Option OpAsk) (given : R → Option OpR
   last_inside legal q is =
       legal_inside (IsEndAsk IsAsk) (IsEndReply s.own plain) passed (end_weight weighs) (λ (t : SignoutSetup S). most t.inner) (λ (t : SignoutSetup S). IsLegalInner t.inner) s h p q is legal
 
-  pub end_adds : (provided : List (Pair A R) → List OpPair)
+  pub end_adds : (notices : R → Option (List Message)) (provided : List (Pair A R) → List OpPair)
       → ((q : Pair A R) → IsLegalInner s.inner (inner_history h ++ q ∷ [])
           → AddsGiven q.entry.at q.entry.fresh (plain q.entry.ask) (given q.reply) (provided (inner_history h)) (provided (inner_history h ++ q ∷ [])))
-      → ((q : Pair A R) (w : Option Word) → IsLegalInner s.inner (inner_history h ++ q ∷ []) → plain q.entry.ask ≡ Some (SignOut w) → (sent : List Message) × (given q.reply ≡ Some (SignedOut sent)))
+      → ((q : Pair A R) (w : Option Word) → IsLegalInner s.inner (inner_history h ++ q ∷ []) → plain q.entry.ask ≡ Some (SignOut w)
+          → (sent : List Message) × (given q.reply ≡ Some (SignedOut sent)) × (notices q.reply ≡ Some sent))
       → Legal → AddsGiven p.entry.at p.entry.fresh (plain_inside plain p.entry.ask) (reply_inside given p.reply) (provided (inner_history h)) (provided (inner_history (h ++ p ∷ [])))
-  end_adds provided adds signs_out legal =
-      adds_by s.own plain given provided (λ l. IsLegalInner s.inner l) h adds signs_out p.entry.at p.entry.fresh p.entry.ask p.reply (last_answered legal) (λ q is. last_inside legal q is)
+  end_adds notices provided adds signs_out legal =
+      adds_by s.own plain given notices provided (λ l. IsLegalInner s.inner l) h adds signs_out p.entry.at p.entry.fresh p.entry.ask p.reply (last_answered legal) (λ q is. last_inside legal q is)
 
   -- the pair inside of a pair that was passed through
   inside_is : (a : A) (x : R) → p.entry.ask ≡ Through a → p.reply ≡ reply.Through x → passed p ≡ Some (pair_inside p.entry.at p.entry.fresh a x)

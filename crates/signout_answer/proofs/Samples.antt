@@ -122,7 +122,7 @@ one_is_passed_on : inner_history (answer_of (reply.Gone None (op_told.SignedOut 
     ≡ (record { entry = record { at = 1000; fresh = words 5; ask = op_ask.SignOut (Some (word 9)) }; reply = op_told.SignedOut [] }) ∷ []
 one_is_passed_on = refl
 
-kept_apart : around (parts.Gone (Some (word 6)) (Some (word 9)) None)
+kept_apart : around (parts.Gone (Some (word 6)) true (Some (word 9)) None)
     (record { entry = record { at = 1000; fresh = words 5; ask = op_ask.SignOut (Some (word 9)) }; reply = op_told.SignedOut [] })
     ≡ answer_of (reply.Gone None (op_told.SignedOut []))
 kept_apart = refl

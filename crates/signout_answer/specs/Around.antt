@@ -1,5 +1,5 @@
 -- Histories of the core, and the pairs of the inner core in them. The inner core's requests and replies are A and R.
-use Rattle.std.specs.Prelude.{ℕ, ◌+◌, true, List, length, filter_map, Option, Some, None, IfSome}
+use Rattle.std.specs.Prelude.{ℕ, ◌+◌, List, length, filter_map, Option, Some, None, IfSome}
 use Rattle.sso_base.specs.Words.{Word, IsWord}
 use Rattle.sso_base.specs.Weights.{empty_weight}
 use Rattle.sso_base.specs.declared.history.Pair.{Pair}
@@ -46,11 +46,11 @@ inner_history h = filter_map passed h
 
 abbrev pub ask_around : {A : Type 0} → EndParts → A → EndAsk A
 ask_around parts.Through inner = Through inner
-ask_around (parts.Gone word session back) inner = Confirm word true session inner
+ask_around (parts.Gone word agree session back) inner = Confirm word agree session inner
 
 abbrev pub reply_around : {R : Type 0} → EndParts → R → EndReply R
 reply_around parts.Through r = reply.Through r
-reply_around (parts.Gone word session back) r = reply.Gone back r
+reply_around (parts.Gone word agree session back) r = reply.Gone back r
 
 abbrev pub around : {A R : Type 0} → EndParts → Pair A R → Outer A R
 around p q =

@@ -26,6 +26,7 @@ pub enum EndParts {
     /// It was a `yes` to the question with this word.
     Gone {
         word: Option<Word>,
+        agree: bool,
         session: Option<Word>,
         back: Option<Text>,
     },
