@@ -5,26 +5,22 @@ use Rattle.sso_base.specs.Rows.{row_of, if_lives, live_rows}
 use Rattle.sso_base.specs.Stands.{IsDistinct}
 use Rattle.sso_base.specs.Legal.{last_moment}
 use Rattle.sso_base.specs.declared.history.Pair.{Pair}
-use Rattle.sso_base.specs.declared.history.Entry.{Entry}
 use Rattle.sso_base.proofs.RowLaws.{rows_distinct}
 use Rattle.held_rows.specs.Held.{most_rows}
 use Rattle.held_rows.proofs.Found.{same_later, found_in_both}
 use Rattle.op_exchange.specs.declared.ask.OpAsk.{OpAsk}
 use Rattle.core_stack.specs.Kept.{passed_count}
 use Rattle.core_stack.proofs.Merging.{inner_of_merged}
-use Rattle.signout_answer.specs.declared.asks.EndAsk.{EndAsk}
-use Rattle.signout_answer.specs.declared.asks.EndAsk.TheVariants.{Confirm}
 use Rattle.signout_answer.specs.declared.parts.Doing.{Doing}
 use Rattle.signout_answer.specs.declared.asks.EndSetup.{EndSetup}
 use Rattle.signout_answer.specs.declared.questions.QuestionRow.{QuestionRow}
 use Rattle.signout_answer.specs.Questions.{question_life, question_name, question_begun}
 use Rattle.signout_answer.specs.Around.{Outer, passed, inner_history, around, own_pair, merged_history}
-use Rattle.signout_answer.specs.Answering.{is_sign_out, if_answered, question_in, confirm_doing, question_made, question_kept, questions, has_room, asked_question, doing, SignoutSetup}
+use Rattle.signout_answer.specs.Answering.{is_sign_out, if_answered, question_in, confirm_doing, question_made, question_kept, questions, has_room}
+use Rattle.signout_answer.specs.Answering.{asked_question, SignoutSetup}
 use Rattle.signout_answer.proofs.Inside.{own_is_not_passed, around_is_passed}
 use Rattle.signout_answer.proofs.Questioning.{question_names}
-use Rattle.rp_signout.specs.declared.decision.Decision.{Decision}
-use Rattle.rp_signout.specs.declared.decision.Decision.TheVariants.{Own, Pass}
-use Rattle.rp_signout.specs.Keeps.{KeptEntry, HoldQuestions, Keeps, room_in, own_made, passing, IsPassable, IsConfirmed, IsDecided}
+use Rattle.rp_signout.specs.Keeps.{KeptEntry, HoldQuestions, Keeps, room_in}
 
 low_through : (last end at : ℕ) → last ≡ end → end ≤ at → last ≤ at
 low_through last end at same low = omega (arith, same, low)

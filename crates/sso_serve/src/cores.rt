@@ -1,20 +1,25 @@
-// The servers of four cores: the provider and a relying party, alone and with proof keys.
+// The servers of four cores: the provider, alone and with proof keys and questions before a sign-out, and a relying party, alone and with
+// proof keys.
 
 ghost use Rattle.std.specs.Prelude.{◌≡◌, ◌^◌, ◌≤◌, ◌<◌, [], length, IfOk, OnErr};
 ghost use Rattle.std.specs.List.{All};
 ghost use Rattle.rp_accept.specs.Serving.{setup_of};
 ghost use Rattle.rp_login.specs.Tables.{no_tables};
+ghost use Rattle.sso_serve.specs.Cores.{end_setup};
 ghost use Rattle.sso_serve.specs.Servers.{ServesOp, ServesOpPlus, ServesRp, ServesRpPlus};
 
 use crate::op::serve_op;
 use crate::rp::serve_rp;
 use client_registry::{Provider, Registry};
+use end_request::Returns;
 use op_core::OpCore;
 use pkce_check::PkceCore;
 use pkce_party::PkceParty;
 use rp_core::RpCore;
+use rp_signout::SignoutCore;
 use server_desk::{Clock, Desk, Door, Draw, Link};
 use serving::{Summary, Tells};
+use signout_answer::EndSetup;
 use sso_base::NoMemory;
 use std::alloc::Global;
 use std::sync::Wait;
@@ -40,6 +45,41 @@ fn op_with_keys(alloc: Global, registry: Registry) -> Result<PkceCore<OpCore>, N
     let lasts = registry.lasting();
     let inner = OpCore::new(alloc, registry)?;
     Ok(keys_around(alloc, inner, lasts))
+}
+
+// Questions before a sign-out around a provider with proof keys that has an empty history.
+fn asks_around(
+    alloc: Global,
+    setup: EndSetup,
+    inner: PkceCore<OpCore>,
+) -> SignoutCore<PkceCore<OpCore>>
+    requires empty { inner.history ≡ [] }
+    requires registry { inner.inner.registry ≡ setup.registry }
+    ensures history { result.history ≡ [] }
+    ensures setup { result.setup ≡ setup }
+    ensures inner { result.inner ≡ inner }
+{
+    SignoutCore::new(alloc, setup, inner)
+}
+
+// The provider of a registry with proof keys, and with questions before a sign-out around both, with an empty history. Browsers may be
+// sent to these URIs.
+fn op_with_asks(
+    alloc: Global,
+    registry: &Registry,
+    returns: Returns,
+) -> Result<SignoutCore<PkceCore<OpCore>>, NoMemory>
+    ensures history { IfOk result (λ c. c.history ≡ []) }
+    ensures setup { IfOk result (λ c. c.setup ≡ end_setup registry.now returns) }
+    ensures registry { IfOk result (λ c. c.inner.inner.registry ≡ registry.now) }
+{
+    let own = registry.copy(alloc)?;
+    let setup = EndSetup {
+        registry: own,
+        returns,
+    };
+    let inner = op_with_keys(alloc, registry.copy(alloc)?)?;
+    Ok(asks_around(alloc, setup, inner))
 }
 
 // Proof keys around a relying party that has an empty history.
@@ -83,19 +123,21 @@ pub(crate) fn serve_op_alone<R: Threads + Wait + Sync, D: Door, L: Link, C: Cloc
     serve_op(rt, alloc, registry, core, desks)
 }
 
-/// Serves the provider of this registry with proof keys.
+/// Serves the provider of this registry with proof keys, and with questions before a sign-out. Browsers may be sent to these URIs.
 pub(crate) fn serve_op_plus<R: Threads + Wait + Sync, D: Door, L: Link, C: Clock, W: Draw>(
     rt: &R,
     alloc: Global,
     registry: &Registry,
+    returns: Returns,
     desks: &mut Vec<Desk<D, L, C, W>>,
-) -> Result<Summary<PkceCore<OpCore>>, NoMemory>
+) -> Result<Summary<SignoutCore<PkceCore<OpCore>>>, NoMemory>
     requires few { length desks.old.items ≤ 64 }
     requires desks { All (λ desk. (desk.turns ≤ 2 ^ 56) × ((D.state desk.door).given < 2 ^ 63)) desks.old.items }
-    ensures summary { IfOk result (ServesOpPlus ⟦<Desk<D, L, C, W> as Tells>⟧.telling desks.old.items desks.new.items registry.now) }
+    ensures summary { IfOk result
+        (ServesOpPlus ⟦<Desk<D, L, C, W> as Tells>⟧.telling desks.old.items desks.new.items (end_setup registry.now returns)) }
     ensures memory { OnErr result (desks.new.items ≡ desks.old.items) }
 {
-    let core = op_with_keys(alloc, registry.copy(alloc)?)?;
+    let core = op_with_asks(alloc, registry, returns)?;
     serve_op(rt, alloc, registry, core, desks)
 }
 

@@ -8,7 +8,7 @@
 //! |---|---|
 //! | `op_role`, `rp_role` | [`OpRole`] and [`RpRole`], the roles |
 //! | `op`, `rp` | [`serve_op`] and [`serve_rp`], the servers |
-//! | `cores` | the servers of the provider and of a relying party, alone and with proof keys (RFC 7636) |
+//! | `cores` | the servers of the provider and of a relying party, alone and with proof keys (RFC 7636); those of the provider also with questions before a sign-out (RP-Initiated Logout 1.0) |
 //! | `ran` | [`run_op`], [`run_rp`], [`run_op_plus`] and [`run_rp_plus`], the same without the core, and [`Ran`], their result |
 #![tactic(auto)]
 
