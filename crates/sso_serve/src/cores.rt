@@ -62,9 +62,13 @@ fn asks_around(
     SignoutCore::new(alloc, setup, inner)
 }
 
-// The provider of a registry with proof keys, and with questions before a sign-out around both, with an empty history. Browsers may be
-// sent to these URIs.
-fn op_with_asks(
+/// The provider of a registry with proof keys, and with questions before a sign-out around both, with an empty history. Browsers may be
+/// sent to these URIs.
+///
+/// # Errors
+///
+/// `NoMemory` if memory ran out.
+pub fn op_plus_core(
     alloc: Global,
     registry: &Registry,
     returns: Returns,
@@ -137,7 +141,7 @@ pub(crate) fn serve_op_plus<R: Threads + Wait + Sync, D: Door, L: Link, C: Clock
         (ServesOpPlus ⟦<Desk<D, L, C, W> as Tells>⟧.telling desks.old.items desks.new.items (end_setup registry.now returns)) }
     ensures memory { OnErr result (desks.new.items ≡ desks.old.items) }
 {
-    let core = op_with_asks(alloc, registry, returns)?;
+    let core = op_plus_core(alloc, registry, returns)?;
     serve_op(rt, alloc, registry, core, desks)
 }
 

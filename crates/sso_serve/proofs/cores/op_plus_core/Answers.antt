@@ -1,7 +1,7 @@
 use Rattle.std.proofs.Common.{ap, sym, ◌∙◌}
 use Rattle.client_registry.specs.Configuration.{Configuration}
 use Rattle.sso_serve.specs.Cores.{Keyed, keyed_registry, end_setup}
-use Rattle.sso_serve.proofs.cores.op_with_asks.Goals as goal
+use Rattle.sso_serve.proofs.cores.op_plus_core.Goals as goal
 
 pub asks_around-requires-clause-registry : goal.asks_around-requires-clause-registry
 asks_around-requires-clause-registry g c κs within = c.in_ok-inner.ensures.registry ∙ c.in_ok-copy.ensures ∙ sym c.in_ok-own.ensures
