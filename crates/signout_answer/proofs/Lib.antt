@@ -1,5 +1,6 @@
 pub mod Inside
 pub mod Questioning
+pub mod Refusals
 pub mod Yes
 pub mod Providing
 pub mod SignOuts

@@ -1,5 +1,6 @@
 -- The core is a core that the provider is in: what its steps add to the provider's history.
-use Rattle.std.proofs.Common.{◌≡◌, ℕ, Bool, true, false, ◌&&◌, List, [], ◌∷◌, ◌++◌, reverse, Option, Some, None, Result, Ok, Err, refl, ap, sym, ◌∙◌, subst, inl, inr}
+use Rattle.std.proofs.Common.{◌≡◌, ℕ, Bool, true, false, ◌&&◌, List, [], ◌∷◌, ◌++◌, reverse, Option, Some, None, Result, Ok, Err, refl, ap, sym, ◌∙◌, subst}
+use Rattle.std.proofs.Common.{inl, inr}
 use Rattle.sso_base.specs.Words.{Word, Text, fresh_word}
 use Rattle.sso_base.specs.declared.history.Pair.{Pair}
 use Rattle.sso_base.specs.declared.message.Message.{Message}
@@ -24,7 +25,8 @@ use Rattle.signout_answer.specs.declared.asks.EndSetup.{EndSetup}
 use Rattle.signout_answer.specs.declared.questions.QuestionRow.{QuestionRow}
 use Rattle.signout_answer.specs.Questions.{held_in}
 use Rattle.signout_answer.specs.Around.{Outer, IsEndAsk, pair_inside, passed_by, passed, inner_history, plain_inside, reply_inside, notices_inside, end_weight}
-use Rattle.signout_answer.specs.Answering.{is_small, question_doing, start_doing, confirm_doing, IsReply, questions, has_room, asked_question, doing, IsEndReply, SignoutSetup, IsLegalSignout}
+use Rattle.signout_answer.specs.Answering.{is_small, question_doing, start_doing, confirm_doing, IsReply, questions, has_room, asked_question, doing}
+use Rattle.signout_answer.specs.Answering.{IsEndReply, SignoutSetup, IsLegalSignout}
 use Rattle.signout_answer.proofs.Questioning.{answered_is, sign_out_is}
 
 abbrev pair_of : {A R : Type 0} → ℕ → List Word → EndAsk A → EndReply R → Outer A R

@@ -16,7 +16,8 @@ use Rattle.signout_answer.specs.declared.asks.EndSetup.{EndSetup}
 use Rattle.signout_answer.specs.declared.questions.QuestionRow.{QuestionRow}
 use Rattle.signout_answer.specs.Questions.{held_in}
 use Rattle.signout_answer.specs.Around.{Outer, IsEndAsk}
-use Rattle.signout_answer.specs.Answering.{is_small, question_doing, start_doing, is_sign_out, question_in, confirm_doing, IsReply, questions, has_room, doing, IsEndReply}
+use Rattle.signout_answer.specs.Answering.{is_small, question_doing, start_doing, is_sign_out, question_in, confirm_doing, IsReply, questions, has_room}
+use Rattle.signout_answer.specs.Answering.{doing, IsEndReply}
 use Rattle.signout_answer.specs.Laws.{WasAsked, SaidYes, WasAllowed}
 use Rattle.signout_answer.proofs.Questioning.{false_true, held_is, answered_is, sign_out_is, asked_before}
 

@@ -1,5 +1,5 @@
 -- What the replies of a legal history mean (RP-Initiated Logout 1.0, 2, 3 and 6).
-use Rattle.std.specs.Prelude.{◌≡◌, ℕ, true, List, [], ◌∷◌, ◌++◌, reverse, Option, Some}
+use Rattle.std.specs.Prelude.{◌≡◌, ℕ, true, List, [], ◌∷◌, ◌++◌, reverse, Option, Some, Bool, false}
 use Rattle.sso_base.specs.Words.{Word, Text}
 use Rattle.sso_base.specs.declared.history.Entry.{Entry}
 use Rattle.sso_base.specs.declared.message.Message.{Message}
@@ -15,7 +15,16 @@ use Rattle.end_request.specs.Ending.{IsRegisteredReturn}
 use Rattle.signout_answer.specs.declared.asks.EndAsk.TheVariants.{Start, Confirm}
 use Rattle.signout_answer.specs.declared.asks.EndReply.TheVariants as reply
 use Rattle.signout_answer.specs.declared.asks.EndSetup.{EndSetup}
+use Rattle.signout_answer.specs.declared.parts.OwnReply.{OwnReply}
+use Rattle.signout_answer.specs.declared.parts.OwnReply.TheVariants as own
 use Rattle.signout_answer.specs.Around.{Outer}
+
+-- a reply without the core inside that answers no question and makes none
+abbrev pub is_refusal : OwnReply → Bool
+is_refusal (own.Wrong why) = true
+is_refusal own.Stale = true
+is_refusal own.Full = true
+is_refusal told = false
 
 module _ {A R : Type 0} where
   -- a request with this form and this session was answered by the question with this word

@@ -1,6 +1,6 @@
 // Where browsers are sent, when sessions end, and which messages are sent.
 
-ghost use Rattle.std.specs.Prelude.{◌≡◌, ◌↔◌, List, [], ◌∷◌, ◌++◌, reverse, Option, Some};
+ghost use Rattle.std.specs.Prelude.{◌≡◌, ◌↔◌, true, List, [], ◌∷◌, ◌++◌, reverse, Option, Some};
 ghost use Rattle.sso_base.specs.Words.{Word, Text};
 ghost use Rattle.sso_base.specs.Rows.{row_of};
 ghost use Rattle.sso_base.specs.Stands.{Stands};
@@ -35,6 +35,15 @@ pub fn questions_end_sessions_only_after_yes<P: Provides>()
         → p.reply ≡ reply.Gone back r → laws.SaidYes s.own P.plain_ask before p back }
     ensures otherwise { (h : List (Outer P.Ask P.Reply)) (own : Pair (EndAsk P.Ask) OwnReply)
         → P.provided (inner_history (h ++ own_pair own ∷ [])) ≡ P.provided (inner_history h) }
+{}
+
+/// A request that is refused, an answer to no question, and a request for which there is no room change nothing: the questions stay as
+/// they are, and so does the history of the core inside.
+pub fn refused_requests_change_nothing<P: Provides>()
+    ensures questions { (c : EndSetup) (past : List (Outer P.Ask P.Reply)) (own : Pair (EndAsk P.Ask) OwnReply)
+        → laws.is_refusal own.reply ≡ true → spec.questions c (own_pair own ∷ past) ≡ spec.questions c past }
+    ensures inside { (h : List (Outer P.Ask P.Reply)) (own : Pair (EndAsk P.Ask) OwnReply)
+        → inner_history (h ++ own_pair own ∷ []) ≡ inner_history h }
 {}
 
 /// The messages of a sign-out after a question are those of the provider's own sign-out of the presented session, which its history gets:

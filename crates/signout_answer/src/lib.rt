@@ -9,7 +9,7 @@
 //! | `asks` | [`EndAsk`] and [`EndReply`], requests and replies; [`EndSetup`] |
 //! | `parts` | [`OwnReply`], [`EndParts`] and [`Doing`], the parts of these that the core inside does not have |
 //! | `questions` | [`QuestionRow`], a question that waits for the user |
-//! | `law` | where browsers are sent, when sessions end, and which messages are sent |
+//! | `law` | where browsers are sent, when sessions end, which messages are sent, and what changes nothing |
 //!
 //! The definitions are in `specs/`: questions in `Questions`, the inner core's part of a history in `Around`, the replies and legal
 //! histories in `Answering`.
@@ -23,7 +23,7 @@ mod questions;
 pub use asks::{EndAsk, EndReply, EndSetup};
 pub use law::{
     locations_are_registered, messages_are_those_of_a_sign_out,
-    questions_end_sessions_only_after_yes, questions_stand,
+    questions_end_sessions_only_after_yes, questions_stand, refused_requests_change_nothing,
 };
 pub use parts::{Doing, EndParts, OwnReply};
 pub use questions::QuestionRow;
