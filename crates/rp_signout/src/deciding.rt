@@ -11,14 +11,14 @@ ghost use Rattle.signout_answer.specs.Questions.{question_name, question_begun};
 ghost use Rattle.signout_answer.specs.Answering as spec;
 ghost use Rattle.rp_signout.specs.Keeps as keeping;
 
-use crate::decision::{Answer, Decision};
+use crate::decision::{Answer, Confirmed, Decision};
 use crate::signout_core::SignoutCore;
-use crate::table::has_room;
+use crate::table::{has_room, living_question};
 use core_stack::Provides;
 use end_request::{EndWish, location, read_end};
 use held_rows::Held;
 use op_exchange::OpAsk;
-use signout_answer::{Doing, EndAsk, EndSetup, OwnReply, QuestionRow};
+use signout_answer::{EndAsk, EndSetup, OwnReply, QuestionRow};
 use sso_base::{Entry, MOST_HELD, Moment, NoMemory, Word, text_bytes};
 use std::alloc::Global;
 
@@ -77,13 +77,13 @@ fn is_answered(session: &Option<Word>, signs: bool, question: &QuestionRow) -> b
 }
 
 // How an answer to this question is answered.
-fn confirmed(alloc: Global, question: &QuestionRow, agree: bool) -> Result<Doing, NoMemory>
-    ensures { IfOk result (λ d. d ≡ spec.confirm_doing (Some question.now) agree) }
+fn confirmed(alloc: Global, question: &QuestionRow, agree: bool) -> Result<Confirmed, NoMemory>
+    ensures { IfOk result (λ d. keeping.confirmed_doing d ≡ spec.confirm_doing (Some question.now) agree) }
 {
     if agree {
-        Ok(Doing::Go(location(alloc, &question.wish)?))
+        Ok(Confirmed::Go(location(alloc, &question.wish)?))
     } else {
-        Ok(Doing::Own(OwnReply::Kept))
+        Ok(Confirmed::Own(OwnReply::Kept))
     }
 }
 
@@ -96,15 +96,16 @@ fn confirmed_in(
     agree: bool,
     session: &Option<Word>,
     signs: bool,
-) -> Result<Doing, NoMemory>
-    ensures doing { IfOk result (λ d. d ≡ spec.confirm_doing (spec.question_in questions.now.rows at (Some word) session.now signs) agree) }
+) -> Result<Confirmed, NoMemory>
+    ensures doing { IfOk result (λ d. keeping.confirmed_doing d
+        ≡ spec.confirm_doing (spec.question_in questions.now.rows at (Some word) session.now signs) agree) }
     ensures held { IsHeld question_name question_begun AnyRow questions.now.rows }
 {
-    match questions.living(&word.bytes(), at) {
+    match living_question(questions, word, at) {
         Some(question) if is_answered(session, signs, question) => {
             confirmed(alloc, question, agree)
         }
-        _ => Ok(Doing::Own(OwnReply::Stale)),
+        _ => Ok(Confirmed::Own(OwnReply::Stale)),
     }
 }
 
@@ -168,13 +169,13 @@ impl<P: Provides> SignoutCore<P> {
         agree: bool,
         session: &Option<Word>,
         inner: &P::Ask,
-    ) -> Result<Doing, NoMemory>
+    ) -> Result<Confirmed, NoMemory>
         requires { last_moment (reverse self.now.history) ≤ at }
-        ensures { IfOk result (λ d. d ≡ spec.confirm_doing
+        ensures { IfOk result (λ d. keeping.confirmed_doing d ≡ spec.confirm_doing
             (spec.asked_question self.now.setup P.plain_ask (reverse self.now.history) at word session.now inner.now) agree) }
     {
         let Some(word) = word else {
-            return Ok(Doing::Own(OwnReply::Stale));
+            return Ok(Confirmed::Own(OwnReply::Stale));
         };
         let signs = is_sign_out(session, P::plain(inner));
         confirmed_in(alloc, &self.questions, at, word, agree, session, signs)
@@ -205,9 +206,8 @@ impl<P: Provides> SignoutCore<P> {
                 session,
                 inner,
             } => match self.confirm(alloc, entry.at, *word, *agree, session, inner)? {
-                Doing::Own(own) => Ok(Decision::Own(Answer { own, made: None })),
-                Doing::Pass => unreachable!(),
-                Doing::Go(back) => Ok(Decision::Pass(back)),
+                Confirmed::Own(own) => Ok(Decision::Own(Answer { own, made: None })),
+                Confirmed::Go(back) => Ok(Decision::Pass(back)),
             },
         }
     }

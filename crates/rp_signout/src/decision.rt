@@ -10,6 +10,15 @@ pub(crate) struct Answer {
     pub made: Option<QuestionRow>,
 }
 
+/// A decision about an answer to a question.
+#[derive(Drop)]
+pub(crate) enum Confirmed {
+    /// The reply without the inner core.
+    Own(OwnReply),
+    /// The user is signed out. The browser goes to this location, if there is one.
+    Go(Option<Text>),
+}
+
 /// A decision about a request.
 #[derive(Drop)]
 pub(crate) enum Decision {

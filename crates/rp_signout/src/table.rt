@@ -1,7 +1,8 @@
 // The table of questions.
 
-ghost use Rattle.std.specs.Prelude.{◌≡◌, ◌<◌, length, true, IfSome};
-ghost use Rattle.sso_base.specs.Rows.{put, live_rows};
+ghost use Rattle.std.specs.Prelude.{◌≡◌, ◌<◌, length, true, option_and_then, IfSome};
+ghost use Rattle.std.specs.Option.{option_copied};
+ghost use Rattle.sso_base.specs.Rows.{put, row_of, if_lives, live_rows};
 ghost use Rattle.held_rows.specs.Held.{AnyRow, IsHeld, MayAddRow};
 ghost use Rattle.signout_answer.specs.Questions.{question_life, question_name, question_begun};
 ghost use Rattle.rp_signout.specs.Keeps as spec;
@@ -10,12 +11,24 @@ use held_rows::Held;
 use signout_answer::QuestionRow;
 use sso_base::{Moment, Word};
 
+/// The question with this word, if it waits at the moment; `None` if and only if none does.
+pub(crate) fn living_question<'a>(
+    questions: &'a Held<QuestionRow>,
+    word: Word,
+    at: Moment,
+) -> Option<&'a QuestionRow>
+    ensures row { option_copied result ≡ option_and_then (if_lives question_life question_begun at) (row_of question_name word questions.now.rows) }
+    ensures held { IsHeld question_name question_begun AnyRow questions.now.rows }
+{
+    questions.living(&word.bytes(), at)
+}
+
 /// Whether there is room for a question with this word: fewer than 65,536 questions wait, and none of them has it.
 pub(crate) fn has_room(questions: &Held<QuestionRow>, at: Moment, word: Word) -> bool
     ensures room { result ≡ spec.room_in questions.now.rows at word }
     ensures held { IsHeld question_name question_begun AnyRow questions.now.rows }
 {
-    questions.has_room(at) && questions.living(&word.bytes(), at).is_none()
+    questions.has_room(at) && living_question(questions, word, at).is_none()
 }
 
 // Removes the questions that no longer wait, and the one that ended.
