@@ -28,7 +28,9 @@ pub(crate) fn has_room(questions: &Held<QuestionRow>, at: Moment, word: Word) ->
     ensures room { result ≡ spec.room_in questions.now.rows at word }
     ensures held { IsHeld question_name question_begun AnyRow questions.now.rows }
 {
-    questions.has_room(at) && living_question(questions, word, at).is_none()
+    // (looked up first: this tells also that the table is held as it should be)
+    let waits = living_question(questions, word, at).is_some();
+    questions.has_room(at) && !waits
 }
 
 // Removes the questions that no longer wait, and the one that ended.
