@@ -16,9 +16,11 @@ use Rattle.signout_answer.specs.declared.asks.EndAsk.TheVariants as ask
 use Rattle.signout_answer.specs.declared.asks.EndReply.TheVariants as reply
 use Rattle.signout_answer.specs.declared.parts.OwnReply.TheVariants as own
 use Rattle.signout_answer.specs.declared.parts.EndParts.TheVariants as parts
+use Rattle.signout_answer.specs.declared.parts.Doing.TheVariants as does
 use Rattle.signout_answer.specs.declared.questions.QuestionRow.{QuestionRow}
+use Rattle.rp_signout.specs.declared.decision.Confirmed.TheVariants as decided
 use Rattle.rp_signout.specs.declared.routes.Route.TheVariants.{Start, Confirm}
-use Rattle.rp_signout.specs.Keeps.{rows_left, room_in, own_ended, parts_ended, parts_back, is_passable}
+use Rattle.rp_signout.specs.Keeps.{rows_left, room_in, own_ended, parts_ended, parts_back, is_passable, confirmed_doing}
 use Rattle.rp_signout.specs.Pages.{gone_shown, end_http}
 use Rattle.rp_signout.specs.Prepared.{get_route, post_route, route_asked, confirm_asked}
 
@@ -117,3 +119,11 @@ back_is_kept = refl
 
 starts_are_not_passed_on : is_passable {A = OpAsk} (ask.Start [] None) ≡ false
 starts_are_not_passed_on = refl
+
+-- ---- decisions about an answer to a question
+
+yes_goes_on : confirmed_doing (decided.Go (Some (codes "http://a.b"))) ≡ does.Go (Some (codes "http://a.b"))
+yes_goes_on = refl
+
+no_is_answered : confirmed_doing (decided.Own own.Kept) ≡ does.Own own.Kept
+no_is_answered = refl

@@ -18,6 +18,7 @@ use Rattle.signout_answer.specs.declared.parts.Doing.TheVariants as does
 use Rattle.signout_answer.specs.declared.questions.QuestionRow.{QuestionRow}
 use Rattle.signout_answer.specs.Questions.{held_in, unless_ended}
 use Rattle.signout_answer.specs.Around.{Outer, inner_history, around, plain_inside, reply_inside, notices_inside, end_weight}
+use Rattle.signout_answer.specs.Laws.{is_refusal}
 use Rattle.signout_answer.specs.Answering.{ended_by, is_small, start_doing, is_same_word, is_sign_out, question_in, confirm_doing, IsReply, doing}
 
 abbrev site : EndSetup
@@ -138,3 +139,11 @@ messages_are_sent = refl
 
 form_is_weighed : end_weight ask_weight (Start (codes "state=x") None) ≡ 1024 + 7
 form_is_weighed = refl
+
+-- ---- replies that change nothing
+
+wrong_changes_nothing : is_refusal (own.Wrong no.Hint) ≡ true
+wrong_changes_nothing = refl
+
+kept_ends_a_question : is_refusal own.Kept ≡ false
+kept_ends_a_question = refl

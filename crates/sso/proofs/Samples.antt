@@ -429,7 +429,7 @@ no_party_refused =
 
 -- with proof keys
 small_returns : returns_read small ≡ Ok []
-unfolding returns_read document_in toml_on_literals
+unfolding returns_read document_in toml_on_literals is_utf8 chars
 small_returns = refl
 
 served-the_provider_plus : op_plus_asked small ≡ Ok (end_setup configuration [])
