@@ -67,20 +67,19 @@ fn confirm<P: Provides>(
 ) -> Result<EndAsk<P::Ask>, NoMemory>
     ensures { IfOk result (λ a. a ≡ spec.confirm_asked P.from_op request.now fields.now) }
 {
-    let session = request.second;
-    let inner = sign_out::<P>(alloc, session)?;
+    let inner = sign_out::<P>(alloc, request.second)?;
     if repeats_in_confirm(fields) {
         return Ok(EndAsk::Confirm {
             word: None,
             agree: false,
-            session,
+            session: request.second,
             inner,
         });
     }
     Ok(EndAsk::Confirm {
         word: Word::read(field(fields, WORD_FIELD).as_bytes()),
         agree: field(fields, AGREE_FIELD) == AGREE_VALUE,
-        session,
+        session: request.second,
         inner,
     })
 }

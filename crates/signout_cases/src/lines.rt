@@ -10,7 +10,7 @@ use pkce_answer::PkceReply;
 use pkce_check::PkceCore;
 use signout_answer::EndReply;
 use sso_base::{Messages, NoMemory, Text};
-use std::alloc::Global;
+use std::alloc::{AllocError, Global};
 
 fn after(alloc: Global, before: &str, reply: &OpReply) -> Result<String, NoMemory> {
     let line = op_line(alloc, reply)?;
@@ -35,11 +35,9 @@ fn refusal(why: &EndNo) -> (&str, &str) {
 }
 
 // Adds where the messages go.
-fn push_targets(line: &mut String, messages: Option<&Messages>) -> Result<(), NoMemory> {
-    if let Some(messages) = messages {
-        for place in 0..messages.count() {
-            push_part(line, " to ", messages.at(place).to.as_str())?;
-        }
+fn push_targets(line: &mut String, messages: &Messages) -> Result<(), AllocError> {
+    for place in 0..messages.count() {
+        push_part(line, " to ", messages.at(place).to.as_str())?;
     }
     Ok(())
 }
@@ -53,7 +51,9 @@ fn gone_line(
     let back = told_text(alloc, back)?;
     let told = inner_line(alloc, inner)?;
     let mut line = ["gone ", back.as_str(), ", ", told.as_str()].concat(alloc)?;
-    push_targets(&mut line, <PkceCore<OpCore> as Provides>::messages(inner))?;
+    if let Some(messages) = <PkceCore<OpCore> as Provides>::messages(inner) {
+        push_targets(&mut line, messages)?;
+    }
     Ok(line)
 }
 

@@ -35,16 +35,16 @@ fn begun(
 
 fn provider_of(
     alloc: Global,
-    registry: &Registry,
+    registry: Registry,
     returns: Returns,
 ) -> Result<Option<Provider>, NoMemory> {
-    let core = op_plus_core(alloc, registry, returns);
-    begun(registry.copy(alloc)?, core)
+    let core = op_plus_core(alloc, &registry, returns);
+    begun(registry, core)
 }
 
 fn provider_sending(
     alloc: Global,
-    registry: &Registry,
+    registry: Registry,
     file: &str,
 ) -> Result<Option<Provider>, NoMemory> {
     match read_returns(alloc, file.as_bytes()) {
@@ -56,20 +56,29 @@ fn provider_sending(
 
 fn provider_read(alloc: Global, file: &str) -> Result<Option<Provider>, NoMemory> {
     match read_registry(alloc, file.as_bytes()) {
-        Ok(registry) => provider_sending(alloc, &registry, file),
+        Ok(registry) => provider_sending(alloc, registry, file),
         Err(RegNo::NoMemory) => Err(NoMemory),
         Err(_) => Ok(None),
     }
 }
 
-fn copied(alloc: Global, messages: Option<&Messages>) -> Result<Vec<Message>, NoMemory> {
+fn copied(alloc: Global, messages: &Messages) -> Result<Vec<Message>, NoMemory> {
     let mut copied = Vec::new(alloc);
-    if let Some(messages) = messages {
-        for place in 0..messages.count() {
-            copied.push(messages.at(place).copy(alloc)?)?;
-        }
+    for place in 0..messages.count() {
+        copied.push(messages.at(place).copy(alloc)?)?;
     }
     Ok(copied)
+}
+
+// The messages to clients in a reply.
+fn messages_in(
+    alloc: Global,
+    reply: &EndReply<PkceReply<OpReply>>,
+) -> Result<Vec<Message>, NoMemory> {
+    match <SignoutCore<PkceCore<OpCore>> as Provides>::messages(reply) {
+        Some(messages) => copied(alloc, messages),
+        None => Ok(Vec::new(alloc)),
+    }
 }
 
 impl Provider {
@@ -90,10 +99,7 @@ impl Provider {
         call: &str,
         reply: &EndReply<PkceReply<OpReply>>,
     ) -> Result<String, NoMemory> {
-        let messages = copied(
-            alloc,
-            <SignoutCore<PkceCore<OpCore>> as Provides>::messages(reply),
-        )?;
+        let messages = messages_in(alloc, reply)?;
         let http =
             <SignoutCore<PkceCore<OpCore>> as Provides>::http(alloc, &self.registry, reply)?;
         run.keep(http, messages);

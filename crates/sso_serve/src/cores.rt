@@ -62,6 +62,46 @@ fn asks_around(
     SignoutCore::new(alloc, setup, inner)
 }
 
+// The provider of a registry with proof keys, as `op_with_keys`.
+fn keyed(alloc: Global, registry: &Registry) -> Result<PkceCore<OpCore>, NoMemory>
+    ensures history { IfOk result (λ c. c.history ≡ []) }
+    ensures registry { IfOk result (λ c. c.inner.registry ≡ registry.now) }
+{
+    op_with_keys(alloc, registry.copy(alloc)?)
+}
+
+// The setup of the questions, with a copy of the registry.
+fn setup_with(alloc: Global, registry: &Registry, returns: Returns) -> Result<EndSetup, NoMemory>
+    ensures { IfOk result (λ e. e ≡ end_setup registry.now returns) }
+{
+    match registry.copy(alloc) {
+        Ok(own) => Ok(EndSetup {
+            registry: own,
+            returns,
+        }),
+        Err(no) => {
+            // dropped by a call: at an early return the prover would walk through all of its parts
+            drop(returns);
+            Err(no)
+        }
+    }
+}
+
+// The provider of a registry with proof keys, and with these questions before a sign-out around both.
+fn op_around(alloc: Global, setup: EndSetup) -> Result<SignoutCore<PkceCore<OpCore>>, NoMemory>
+    ensures history { IfOk result (λ c. c.history ≡ []) }
+    ensures setup { IfOk result (λ c. c.setup ≡ setup) }
+    ensures registry { IfOk result (λ c. c.inner.inner.registry ≡ setup.registry) }
+{
+    match keyed(alloc, &setup.registry) {
+        Ok(inner) => Ok(asks_around(alloc, setup, inner)),
+        Err(no) => {
+            drop(setup);
+            Err(no)
+        }
+    }
+}
+
 /// The provider of a registry with proof keys, and with questions before a sign-out around both, with an empty history. Browsers may be
 /// sent to these URIs.
 ///
@@ -77,13 +117,8 @@ pub fn op_plus_core(
     ensures setup { IfOk result (λ c. c.setup ≡ end_setup registry.now returns) }
     ensures registry { IfOk result (λ c. c.inner.inner.registry ≡ registry.now) }
 {
-    let own = registry.copy(alloc)?;
-    let setup = EndSetup {
-        registry: own,
-        returns,
-    };
-    let inner = op_with_keys(alloc, registry.copy(alloc)?)?;
-    Ok(asks_around(alloc, setup, inner))
+    let setup = setup_with(alloc, registry, returns)?;
+    op_around(alloc, setup)
 }
 
 // Proof keys around a relying party that has an empty history.
