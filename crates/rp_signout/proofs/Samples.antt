@@ -18,7 +18,7 @@ use Rattle.signout_answer.specs.declared.parts.OwnReply.TheVariants as own
 use Rattle.signout_answer.specs.declared.parts.EndParts.TheVariants as parts
 use Rattle.signout_answer.specs.declared.parts.Doing.TheVariants as does
 use Rattle.signout_answer.specs.declared.questions.QuestionRow.{QuestionRow}
-use Rattle.rp_signout.specs.declared.decision.Confirmed.TheVariants as decided
+use Rattle.rp_signout.specs.declared.decision.Verdict.TheVariants as decided
 use Rattle.rp_signout.specs.declared.routes.Route.TheVariants.{Start, Confirm}
 use Rattle.rp_signout.specs.Keeps.{rows_left, room_in, own_ended, parts_ended, parts_back, is_passable, confirmed_doing}
 use Rattle.rp_signout.specs.Pages.{gone_shown, end_http}

@@ -28,8 +28,8 @@ use Rattle.signout_answer.specs.declared.questions.QuestionRow.{QuestionRow}
 use Rattle.signout_answer.specs.Questions.{question_life, question_name, question_begun}
 use Rattle.signout_answer.specs.Around.{Outer, reply_around, merged_history, end_weight}
 use Rattle.signout_answer.specs.Answering.{question_of, questions, SignoutSetup, IsLegalSignout}
-use Rattle.rp_signout.specs.declared.decision.Confirmed.{Confirmed}
-use Rattle.rp_signout.specs.declared.decision.Confirmed.TheVariants as decided
+use Rattle.rp_signout.specs.declared.decision.Verdict.{Verdict}
+use Rattle.rp_signout.specs.declared.decision.Verdict.TheVariants as decided
 use Rattle.rp_signout.specs.declared.decision.Decision.{Decision}
 use Rattle.rp_signout.specs.declared.decision.Decision.TheVariants.{Own, Pass}
 
@@ -121,7 +121,7 @@ IsPassed {A} {R} p told before after at fresh inner = (r : R) × (told ≡ reply
 -- ---- decisions
 
 -- how an answer to a question is answered by a decision about it
-abbrev pub confirmed_doing : Confirmed → Doing
+abbrev pub confirmed_doing : Verdict → Doing
 confirmed_doing (decided.Own told) = does.Own told
 confirmed_doing (decided.Go back) = does.Go back
 

@@ -11,7 +11,7 @@ ghost use Rattle.signout_answer.specs.Questions.{question_name, question_begun};
 ghost use Rattle.signout_answer.specs.Answering as spec;
 ghost use Rattle.rp_signout.specs.Keeps as keeping;
 
-use crate::decision::{Answer, Confirmed, Decision};
+use crate::decision::{Answer, Decision, Verdict};
 use crate::signout_core::SignoutCore;
 use crate::table::{has_room, living_question};
 use core_stack::Provides;
@@ -77,13 +77,13 @@ fn is_answered(session: &Option<Word>, signs: bool, question: &QuestionRow) -> b
 }
 
 // How an answer to this question is answered.
-fn confirmed(alloc: Global, question: &QuestionRow, agree: bool) -> Result<Confirmed, NoMemory>
+fn confirmed(alloc: Global, question: &QuestionRow, agree: bool) -> Result<Verdict, NoMemory>
     ensures { IfOk result (λ d. keeping.confirmed_doing d ≡ spec.confirm_doing (Some question.now) agree) }
 {
     if agree {
-        Ok(Confirmed::Go(location(alloc, &question.wish)?))
+        Ok(Verdict::Go(location(alloc, &question.wish)?))
     } else {
-        Ok(Confirmed::Own(OwnReply::Kept))
+        Ok(Verdict::Own(OwnReply::Kept))
     }
 }
 
@@ -96,7 +96,7 @@ fn confirmed_in(
     agree: bool,
     session: &Option<Word>,
     signs: bool,
-) -> Result<Confirmed, NoMemory>
+) -> Result<Verdict, NoMemory>
     ensures doing { IfOk result (λ d. keeping.confirmed_doing d
         ≡ spec.confirm_doing (spec.question_in questions.now.rows at (Some word) session.now signs) agree) }
     ensures held { IsHeld question_name question_begun AnyRow questions.now.rows }
@@ -105,7 +105,7 @@ fn confirmed_in(
         Some(question) if is_answered(session, signs, question) => {
             confirmed(alloc, question, agree)
         }
-        _ => Ok(Confirmed::Own(OwnReply::Stale)),
+        _ => Ok(Verdict::Own(OwnReply::Stale)),
     }
 }
 
@@ -169,13 +169,13 @@ impl<P: Provides> SignoutCore<P> {
         agree: bool,
         session: &Option<Word>,
         inner: &P::Ask,
-    ) -> Result<Confirmed, NoMemory>
+    ) -> Result<Verdict, NoMemory>
         requires { last_moment (reverse self.now.history) ≤ at }
         ensures { IfOk result (λ d. keeping.confirmed_doing d ≡ spec.confirm_doing
             (spec.asked_question self.now.setup P.plain_ask (reverse self.now.history) at word session.now inner.now) agree) }
     {
         let Some(word) = word else {
-            return Ok(Confirmed::Own(OwnReply::Stale));
+            return Ok(Verdict::Own(OwnReply::Stale));
         };
         let signs = is_sign_out(session, P::plain(inner));
         confirmed_in(alloc, &self.questions, at, word, agree, session, signs)
@@ -206,8 +206,8 @@ impl<P: Provides> SignoutCore<P> {
                 session,
                 inner,
             } => match self.confirm(alloc, entry.at, *word, *agree, session, inner)? {
-                Confirmed::Own(own) => Ok(Decision::Own(Answer { own, made: None })),
-                Confirmed::Go(back) => Ok(Decision::Pass(back)),
+                Verdict::Own(own) => Ok(Decision::Own(Answer { own, made: None })),
+                Verdict::Go(back) => Ok(Decision::Pass(back)),
             },
         }
     }

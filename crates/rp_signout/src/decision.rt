@@ -12,7 +12,7 @@ pub(crate) struct Answer {
 
 /// A decision about an answer to a question.
 #[derive(Drop)]
-pub(crate) enum Confirmed {
+pub(crate) enum Verdict {
     /// The reply without the inner core.
     Own(OwnReply),
     /// The user is signed out. The browser goes to this location, if there is one.

@@ -202,19 +202,19 @@ fn own_ended<A: Drop>(ask: &EndAsk<A>, own: &OwnReply) -> Option<Word>
 
 // A request in its parts.
 #[derive(Drop)]
-struct Split<A: Drop> {
+struct Parted<A: Drop> {
     inner: A,
     parts: EndParts,
 }
 
 // The request of the inner core, and the parts that it does not have, with the location where the browser goes after a sign-out.
-fn split<A: Drop>(ask: EndAsk<A>, back: Option<Text>) -> Split<A>
+fn split<A: Drop>(ask: EndAsk<A>, back: Option<Text>) -> Parted<A>
     requires { keeping.is_passable ask ≡ true }
     ensures ask { ask ≡ around.ask_around result.parts result.inner }
     ensures doing { keeping.passing back ask ≡ keeping.parts_doing result.parts }
 {
     match ask {
-        EndAsk::Through(inner) => Split {
+        EndAsk::Through(inner) => Parted {
             inner,
             parts: EndParts::Through,
         },
@@ -224,7 +224,7 @@ fn split<A: Drop>(ask: EndAsk<A>, back: Option<Text>) -> Split<A>
             agree,
             session,
             inner,
-        } => Split {
+        } => Parted {
             inner,
             parts: EndParts::Gone {
                 word,
@@ -391,7 +391,7 @@ impl<P: Provides> SignoutCore<P> {
     {
         let Entry { at, fresh, ask } = entry;
         let split = split(ask, back);
-        let Split { inner: asked, parts } = split;
+        let Parted { inner: asked, parts } = split;
         let told = match pass_on(
             &mut self.inner,
             &mut self.kept,
