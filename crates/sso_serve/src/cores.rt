@@ -63,7 +63,7 @@ fn asks_around(
 }
 
 // The provider of a registry with proof keys, as `op_with_keys`.
-fn keyed(alloc: Global, registry: &Registry) -> Result<PkceCore<OpCore>, NoMemory>
+fn op_inside(alloc: Global, registry: &Registry) -> Result<PkceCore<OpCore>, NoMemory>
     ensures history { IfOk result (λ c. c.history ≡ []) }
     ensures registry { IfOk result (λ c. c.inner.registry ≡ registry.now) }
 {
@@ -93,7 +93,7 @@ fn op_around(alloc: Global, setup: EndSetup) -> Result<SignoutCore<PkceCore<OpCo
     ensures setup { IfOk result (λ c. c.setup ≡ setup) }
     ensures registry { IfOk result (λ c. c.inner.inner.registry ≡ setup.registry) }
 {
-    match keyed(alloc, &setup.registry) {
+    match op_inside(alloc, &setup.registry) {
         Ok(inner) => Ok(asks_around(alloc, setup, inner)),
         Err(no) => {
             drop(setup);
