@@ -1,5 +1,6 @@
 pub mod Held
 pub mod Both
+pub mod Numbers
 pub mod Merging
 pub mod Passing
 pub mod Stepping

@@ -1,5 +1,5 @@
--- Rows of turns and codes by equal parts.
-use Rattle.std.proofs.Common.{◌≡◌, ℕ, Bool, List, Option, ap, ◌∙◌}
+-- Parts of equal options, and rows of turns and codes by equal parts.
+use Rattle.std.proofs.Common.{◌≡◌, ℕ, Bool, List, Option, Some, unwrap_or, ap, ◌∙◌}
 use Rattle.sso_base.specs.Words.{Word}
 use Rattle.sso_base.specs.Rows.{put, live_rows}
 use Rattle.oidc_words.specs.Lives.{turn_life, code_life}
@@ -8,6 +8,9 @@ use Rattle.core_stack.specs.declared.marks.TurnMark.{TurnMark}
 use Rattle.core_stack.specs.declared.marks.CodeMark.{CodeMark}
 use Rattle.core_stack.specs.Rows.{turn_mark_name, turn_mark_begun, code_mark_name, code_mark_begun}
 use Rattle.core_stack.specs.Marks.{turn_row, turn_ended, turns_left, code_row}
+
+pub some_same : {X : Type 0} (x y : X) → ◌≡◌ {A = Option X} (Some x) (Some y) → x ≡ y
+some_same x y h = ap (λ o. unwrap_or o x) h
 
 pub turn_row_same : {M : Type 0} (o g : Option OpReply) (b wish : Bool) (m mark : M) (at : ℕ) → o ≡ g → b ≡ wish → m ≡ mark → turn_row o b m at ≡ turn_row g wish mark at
 turn_row_same {M} o g b wish m mark at one two three =

@@ -13,6 +13,7 @@ use Rattle.token_endpoint.specs.declared.no.GrantNo.TheVariants as no
 use Rattle.op_exchange.specs.declared.ask.OpAsk.{OpAsk}
 use Rattle.op_exchange.specs.declared.reply.OpReply.{OpReply}
 use Rattle.op_answer.specs.Past.{OpPair}
+use Rattle.core_stack.proofs.Same.{some_same}
 use Rattle.refresh_answer.specs.declared.asks.RefreshGrant.{RefreshGrant}
 use Rattle.refresh_answer.specs.declared.asks.RefreshAsk.{RefreshAsk}
 use Rattle.refresh_answer.specs.declared.asks.RefreshAsk.TheVariants as ask
@@ -28,7 +29,7 @@ use Rattle.refresh_answer.specs.Families.{row_presented, family_at, is_replay, i
 use Rattle.refresh_answer.specs.Answering.{rotated, refreshed_by, IsReply, own_reply}
 use Rattle.refresh_answer.specs.Laws.{IsByItsClient}
 use Rattle.refresh_answer.proofs.Answered.{IsAnswered}
-use Rattle.refresh_answer.proofs.Families.{some_same, some_none, other_number}
+use Rattle.refresh_answer.proofs.Families.{some_none, other_number}
 use Rattle.refresh_answer.proofs.Steps.{own_is, refreshed_is, info_never}
 use Rattle.refresh_answer.proofs.Once.{answered_before, none_begun}
 

@@ -13,6 +13,7 @@ use Rattle.oidc_words.specs.declared.scopes.Scopes.{Scopes}
 use Rattle.op_exchange.specs.declared.ask.OpAsk.{OpAsk}
 use Rattle.op_exchange.specs.declared.reply.OpReply.{OpReply}
 use Rattle.op_answer.specs.Past.{OpPair}
+use Rattle.core_stack.proofs.Same.{some_same}
 use Rattle.refresh_answer.specs.declared.asks.RefreshAsk.{RefreshAsk}
 use Rattle.refresh_answer.specs.declared.asks.OwnReply.TheVariants as own
 use Rattle.refresh_answer.specs.declared.asks.RefreshReply.{RefreshReply}
@@ -24,7 +25,7 @@ use Rattle.refresh_answer.specs.Around.{Outer}
 use Rattle.refresh_answer.specs.Families.{living, held_tokens, row_presented, tokens, families, family_at, begins, begun_by, ends, token_made, token_retired}
 use Rattle.refresh_answer.specs.Laws.{IsCurrentIn}
 use Rattle.refresh_answer.proofs.Answered.{IsAnswered}
-use Rattle.refresh_answer.proofs.Families.{some_same, some_none, true_false, one_below, one_more, AreNumbered, numbered_appended, numbered_filter, found_before, found_appended, if_lives_parts, living_before, held_found, room_is_new, put_here, put_other, put_found}
+use Rattle.refresh_answer.proofs.Families.{some_none, true_false, one_below, one_more, AreNumbered, numbered_appended, numbered_filter, found_before, found_appended, if_lives_parts, living_before, held_found, room_is_new, put_here, put_other, put_found}
 use Rattle.refresh_answer.proofs.Steps.{Rotates, Replied, reply_rotates, first_parts, presented_row, begun_place, begins_room, retired_is, made_family}
 
 low_both : (a b c : ℕ) → a ≤ b → b ≤ c → a ≤ c

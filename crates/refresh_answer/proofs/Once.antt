@@ -13,6 +13,7 @@ use Rattle.op_exchange.specs.declared.ask.OpAsk.TheVariants as op_ask
 use Rattle.op_exchange.specs.declared.reply.OpReply.{OpReply}
 use Rattle.userinfo.specs.declared.header.Bearer.TheVariants as bearer
 use Rattle.op_answer.specs.Past.{OpPair}
+use Rattle.core_stack.proofs.Same.{some_same}
 use Rattle.refresh_answer.specs.declared.asks.RefreshGrant.{RefreshGrant}
 use Rattle.refresh_answer.specs.declared.asks.RefreshAsk.{RefreshAsk}
 use Rattle.refresh_answer.specs.declared.asks.RefreshAsk.TheVariants as ask
@@ -29,7 +30,7 @@ use Rattle.refresh_answer.specs.Families.{access_family, living, row_presented, 
 use Rattle.refresh_answer.specs.Answering.{IsReply, own_reply, info_reply, family_info}
 use Rattle.refresh_answer.specs.Laws.{HasNewWords, IsRefreshed, IsInfo, IsTokenOf, IsAccessOf, IsReuse}
 use Rattle.refresh_answer.proofs.Answered.{IsAnswered}
-use Rattle.refresh_answer.proofs.Families.{some_same, some_none, true_false, found_below, none_filtered, gone, found_appended, if_lives_parts, put_here, put_other, put_found, put_stays}
+use Rattle.refresh_answer.proofs.Families.{some_none, true_false, found_below, none_filtered, gone, found_appended, if_lives_parts, put_here, put_other, put_found, put_stays}
 use Rattle.refresh_answer.proofs.Steps.{Replied, own_is, reply_rotates, presented_row, begun_place, retired_is, made_drawn, access_drawn}
 use Rattle.refresh_answer.proofs.Current.{numbered}
 

@@ -20,6 +20,7 @@ use Rattle.core_stack.specs.Stacked.{AreAnswered, IsStack}
 use Rattle.core_stack.proofs.Passing.{beginning_is_legal}
 use Rattle.core_stack.proofs.Stacking.{legal_inside}
 use Rattle.core_stack.proofs.OnePair.{ShowsSame, one_adds}
+use Rattle.core_stack.proofs.Same.{some_same}
 use Rattle.refresh_answer.specs.declared.asks.RefreshGrant.{RefreshGrant}
 use Rattle.refresh_answer.specs.declared.asks.RefreshAsk.{RefreshAsk}
 use Rattle.refresh_answer.specs.declared.asks.RefreshAsk.TheVariants as ask
@@ -31,7 +32,7 @@ use Rattle.refresh_answer.specs.declared.rows.FamilyRow.{FamilyRow}
 use Rattle.refresh_answer.specs.Around.{Outer, pair_inside, asked_inside, passed_by, passed, inner_history, reply_around, around, own_pair, outer_plain, outer_told, outer_given, outer_notices, grant_bytes, outer_weight, IsRefreshAsk}
 use Rattle.refresh_answer.specs.Families.{begins}
 use Rattle.refresh_answer.specs.Answering.{with_first, IsReply, info_reply, own_reply, IsRefreshReply, Setup, IsLegalRefresh}
-use Rattle.refresh_answer.proofs.Families.{some_same, some_none, true_false}
+use Rattle.refresh_answer.proofs.Families.{some_none, true_false}
 
 -- ---- one pair
 

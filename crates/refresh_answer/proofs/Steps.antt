@@ -16,6 +16,7 @@ use Rattle.op_exchange.specs.declared.ask.OpAsk.TheVariants as op_ask
 use Rattle.op_exchange.specs.declared.reply.OpReply.{OpReply}
 use Rattle.op_exchange.specs.declared.reply.OpReply.TheVariants as op_reply
 use Rattle.op_answer.specs.Past.{OpPair}
+use Rattle.core_stack.proofs.Same.{some_same}
 use Rattle.refresh_answer.specs.declared.asks.RefreshGrant.{RefreshGrant}
 use Rattle.refresh_answer.specs.declared.asks.RefreshAsk.{RefreshAsk}
 use Rattle.refresh_answer.specs.declared.asks.RefreshAsk.TheVariants as ask
@@ -30,7 +31,7 @@ use Rattle.refresh_answer.specs.Rows.{token_name, new_token, old_token}
 use Rattle.refresh_answer.specs.Around.{Outer}
 use Rattle.refresh_answer.specs.Families.{access_family, living, held_tokens, has_room, row_presented, presented, tokens, families, begins, begun_by, if_true, family_for, token_made, token_retired, access_made}
 use Rattle.refresh_answer.specs.Answering.{IsReply, with_first, own_reply, refreshed, refreshed_by, rotated, info_reply, family_info}
-use Rattle.refresh_answer.proofs.Families.{some_same, some_none}
+use Rattle.refresh_answer.proofs.Families.{some_none}
 
 -- ---- replies
 

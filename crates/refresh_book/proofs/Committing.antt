@@ -1,5 +1,5 @@
 -- What is kept after one more entry.
-use Rattle.std.proofs.Common.{◌≡◌, ◌≤◌, ◌<◌, ℕ, suc, ◌+◌, Bool, true, false, not, nat_lt, cond, List, [], ◌∷◌, ◌++◌, length, reverse, Option, Some, None, option_map, option_and_then, Ok, Err, IfSome, refl, ap, sym, ◌∙◌, subst, arith}
+use Rattle.std.proofs.Common.{◌≡◌, ◌≤◌, ◌<◌, ℕ, suc, ◌+◌, Bool, true, false, not, List, [], ◌∷◌, ◌++◌, length, reverse, Option, Some, None, option_map, option_and_then, Ok, Err, IfSome, refl, ap, sym, ◌∙◌, subst, arith}
 use Rattle.std.specs.List.{list_all}
 use Rattle.sso_base.specs.Words.{Word, fresh_word}
 use Rattle.sso_base.specs.Rows.{put, lives, if_lives, live_rows}
@@ -24,6 +24,7 @@ use Rattle.core_stack.specs.Rows.{turn_mark_name, turn_mark_begun, code_mark_nam
 use Rattle.core_stack.specs.Marks.{is_wish, turn_row, named_in, turn_ended, turns_left, code_row, answer_mark}
 use Rattle.core_stack.specs.Stacked.{IsStack}
 use Rattle.core_stack.specs.Holding.{HoldMarks}
+use Rattle.core_stack.proofs.Numbers.{low_twice, one_longer, later_moment, none_heavy}
 use Rattle.core_stack.proofs.Merging.{count_passes, count_own, merged_passes, merged_own}
 use Rattle.core_stack.proofs.Passing.{inner_reversed, inner_last, inner_lighter}
 use Rattle.core_stack.proofs.Stepping.{weight_after, legal_own, legal_passed}
@@ -57,24 +58,10 @@ use Rattle.refresh_book.proofs.Renewed.{reply_renewed}
 use Rattle.refresh_book.proofs.Passed.{none_at}
 use Rattle.refresh_book.proofs.Looking.{inner_same, not_ahead, book_now, legal_now}
 
-low_twice : (a b c : ℕ) → a ≤ b → b ≤ c → a ≤ c
-low_twice a b c l m = omega (arith, l, m)
-
-one_longer : {X : Type 0} (l : List X) (x : X) → length (l ++ x ∷ []) ≡ suc (length l)
-one_longer [] x = refl
-one_longer (y ∷ l) x = ap suc (one_longer l x)
-
 no_room : (most all inner of_all of_inner w : ℕ) → inner ≤ all → of_inner ≡ of_all → all + of_all ≤ most → w ≡ inner → most < w + of_inner → ⊥
 no_room most all inner of_all of_inner w low alike room same full = omega (arith, low, alike, room, same, full)
 
--- the moment of an entry that is not before the last one is its own
-later_moment : (n at : ℕ) → n ≤ at → cond (nat_lt at n) n at ≡ at
-later_moment n at low = grind (arith, low)
-
 -- ---- a core with an empty history
-
-none_heavy : (most w : ℕ) → w ≡ 0 → w ≤ most
-none_heavy most w none = omega (arith, none)
 
 module _ {A R S : Type 0} (plain : A → Option OpAsk) (given : R → Option OpReply) (provided : List (Pair A R) → List OpPair) (IsAsk : A → Type 0) (weighs : A → ℕ) (most : S → ℕ)
     (IsLegalInner : S → List (Pair A R) → Type 0) where

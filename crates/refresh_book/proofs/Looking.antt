@@ -24,6 +24,7 @@ use Rattle.core_stack.specs.Kept.{passed_count}
 use Rattle.core_stack.specs.Rows.{turn_mark_name, turn_mark_begun, code_mark_name, code_mark_begun}
 use Rattle.core_stack.specs.Marks.{mark_in_turn, mark_in_code, marked_turn}
 use Rattle.core_stack.specs.Stacked.{AreAnswered, IsStack}
+use Rattle.core_stack.proofs.Numbers.{low_twice, low_through}
 use Rattle.core_stack.proofs.Added.{one_at_most}
 use Rattle.core_stack.proofs.Merging.{inner_of_merged}
 use Rattle.core_stack.proofs.Holding.{turn_is_found, code_is_found}
@@ -40,14 +41,8 @@ use Rattle.refresh_rows.specs.Booked.{Booked}
 use Rattle.refresh_book.specs.Keeps.{KeptEntry, bearer_in, IsBookAt, Keeps}
 use Rattle.refresh_book.proofs.Booking.{living_found, living_earlier, accesses_distinct}
 
-low_through : (last end at : ℕ) → last ≡ end → end ≤ at → last ≤ at
-low_through last end at same low = omega (arith, same, low)
-
 low_is : (a b : ℕ) → a ≡ b → a ≤ b
 low_is a b same = omega (arith, same)
-
-pub low_twice : (a b c : ℕ) → a ≤ b → b ≤ c → a ≤ c
-low_twice a b c l m = omega (arith, l, m)
 
 pub inner_same : {A R : Type 0} (ks : List (KeptEntry A)) (inner : List (Pair A R)) (H : List (Outer A R)) → passed_count ks ≡ length inner → merged_history ks inner ≡ H → inner ≡ inner_history H
 inner_same {A} {R} ks inner H count is =

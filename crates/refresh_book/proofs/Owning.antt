@@ -16,10 +16,11 @@ use Rattle.op_answer.specs.Past.{OpPair, OpPast}
 use Rattle.op_answer.specs.Codes.{held_code, codes_issued}
 use Rattle.op_answer.specs.Legal.{IsLegalOp, IsLegalHistory}
 use Rattle.op_answer.proofs.OwnRows.{codes_are_own}
+use Rattle.core_stack.proofs.Same.{some_same}
 use Rattle.refresh_answer.specs.declared.rows.FamilyRow.{FamilyRow}
 use Rattle.refresh_answer.specs.declared.rows.AccessRow.{AccessRow}
 use Rattle.refresh_answer.specs.Families.{family_at, living_in, appended}
-use Rattle.refresh_answer.proofs.Families.{some_none, some_same, if_lives_parts}
+use Rattle.refresh_answer.proofs.Families.{some_none, if_lives_parts}
 use Rattle.refresh_book.specs.Keeps.{is_own_family, is_own_code}
 
 pub client_low : (c : Configuration) (f : FamilyRow) → is_own_family c f ≡ true → f.client < length c.clients

@@ -20,6 +20,7 @@ use Rattle.claim_set.specs.Reading.{claims_text}
 use Rattle.userinfo.specs.Held.{info_members}
 use Rattle.userinfo.specs.declared.header.Bearer.{Bearer}
 use Rattle.userinfo.specs.declared.header.Bearer.TheVariants as bearers
+use Rattle.core_stack.proofs.Same.{some_same}
 use Rattle.refresh_answer.specs.declared.asks.RefreshAsk.{RefreshAsk}
 use Rattle.refresh_answer.specs.declared.asks.RefreshAsk.TheVariants as ask
 use Rattle.refresh_answer.specs.declared.asks.OwnReply.{OwnReply}
@@ -33,7 +34,7 @@ use Rattle.refresh_answer.specs.Rows.{family_life, family_begun, token_name, acc
 use Rattle.refresh_answer.specs.Around.{Outer, reply_around, outer_plain}
 use Rattle.refresh_answer.specs.Families.{family_at, is_replay, is_code_replay, token_code, if_true, family_for, begun_by, appended, living_in, held_in, has_room, families, tokens, accesses, code_offline, code_presented, access_family, ends, begins, row_presented, token_made, token_retired, access_made}
 use Rattle.refresh_answer.specs.Answering.{with_first, family_info, info_reply}
-use Rattle.refresh_answer.proofs.Families.{some_same, some_none, true_false, other_number, AreNumbered, numbered_filter, found_append, one_more, put_found}
+use Rattle.refresh_answer.proofs.Families.{some_none, true_false, other_number, AreNumbered, numbered_filter, found_append, one_more, put_found}
 use Rattle.refresh_answer.proofs.Steps.{presented_row}
 use Rattle.refresh_answer.proofs.Current.{numbered, places}
 use Rattle.refresh_rows.specs.Booked.{Booked}

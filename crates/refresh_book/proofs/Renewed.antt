@@ -16,6 +16,7 @@ use Rattle.oidc_words.specs.declared.scopes.Scopes.{Scopes}
 use Rattle.op_exchange.specs.declared.ask.OpAsk.{OpAsk}
 use Rattle.op_exchange.specs.declared.reply.OpReply.{OpReply}
 use Rattle.op_answer.specs.Past.{OpPair}
+use Rattle.core_stack.proofs.Same.{some_same}
 use Rattle.refresh_answer.specs.declared.asks.RefreshGrant.{RefreshGrant}
 use Rattle.refresh_answer.specs.declared.asks.RefreshAsk.{RefreshAsk}
 use Rattle.refresh_answer.specs.declared.asks.RefreshAsk.TheVariants as ask
@@ -29,7 +30,7 @@ use Rattle.refresh_answer.specs.Rows.{token_name, access_name, new_token, old_to
 use Rattle.refresh_answer.specs.Around.{Outer}
 use Rattle.refresh_answer.specs.Families.{family_at, is_replay, is_code_replay, has_room, held_in, living_in, families, tokens, row_presented, ends, code_presented, token_made, token_retired, access_made}
 use Rattle.refresh_answer.specs.Answering.{rotated, refreshed_by, refreshed, refresh_reply}
-use Rattle.refresh_answer.proofs.Families.{some_same, some_none, true_false, other_number, numbered_filter}
+use Rattle.refresh_answer.proofs.Families.{some_none, true_false, other_number, numbered_filter}
 use Rattle.refresh_answer.proofs.Current.{numbered}
 use Rattle.refresh_rows.specs.Booked.{Booked, is_of_place}
 use Rattle.refresh_rows.proofs.Keys.{number_same}

@@ -13,12 +13,13 @@ use Rattle.held_rows.specs.Held.{none_after}
 use Rattle.held_rows.proofs.Found.{found_good}
 use Rattle.held_rows.proofs.HeldLaws.{filter_short}
 use Rattle.held_rows.proofs.Kept.{all_filtered, all_put, without_none, none_after_later}
+use Rattle.core_stack.proofs.Same.{some_same}
 use Rattle.refresh_answer.specs.declared.rows.FamilyRow.{FamilyRow}
 use Rattle.refresh_answer.specs.declared.rows.RefreshRow.{RefreshRow}
 use Rattle.refresh_answer.specs.declared.rows.AccessRow.{AccessRow}
 use Rattle.refresh_answer.specs.Rows.{family_begun, access_name, access_begun, token_name, most_tokens}
 use Rattle.refresh_answer.specs.Families.{has_room}
-use Rattle.refresh_answer.proofs.Families.{some_none, some_same, room_is_new}
+use Rattle.refresh_answer.proofs.Families.{some_none, room_is_new}
 use Rattle.refresh_rows.specs.declared.token_row.TokenRow.{TokenRow}
 use Rattle.refresh_rows.specs.TokenRows.{held_name, held_since, held_token, refresh_row, refresh_rows, is_of, tokens_of, accesses_of}
 use Rattle.refresh_rows.specs.Booked.{Fewer, family_of_family, family_of_token, family_of_access, IsBook}

@@ -10,11 +10,12 @@ use Rattle.sso_base.proofs.RowLaws.{bool_cases, bytes_same}
 use Rattle.held_rows.proofs.HeldLaws.{some_has, shorter}
 use Rattle.held_rows.proofs.Hits.{both_filtered}
 use Rattle.held_rows.proofs.Kept.{without_none}
+use Rattle.core_stack.proofs.Same.{some_same}
 use Rattle.refresh_answer.specs.Places.{place_bytes}
 use Rattle.refresh_answer.specs.Rows.{family_name}
 use Rattle.refresh_answer.specs.Families.{family_at}
 use Rattle.refresh_answer.specs.declared.rows.FamilyRow.{FamilyRow}
-use Rattle.refresh_answer.proofs.Families.{some_same, true_false, other_number}
+use Rattle.refresh_answer.proofs.Families.{true_false, other_number}
 use Rattle.refresh_rows.specs.TokenRows.{is_of}
 use Rattle.refresh_rows.proofs.Keys.{ArePlaces, place_same, number_same}
 use Rattle.refresh_rows.proofs.Lists.{filter_same, all_weaker}

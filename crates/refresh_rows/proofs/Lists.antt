@@ -9,7 +9,8 @@ use Rattle.sso_base.specs.Stands.{IsDistinct}
 use Rattle.sso_base.proofs.RowLaws.{bool_cases, bytes_same}
 use Rattle.held_rows.proofs.Hits.{both_filtered}
 use Rattle.held_rows.proofs.Kept.{without_none}
-use Rattle.refresh_answer.proofs.Families.{some_same, some_none}
+use Rattle.core_stack.proofs.Same.{some_same}
+use Rattle.refresh_answer.proofs.Families.{some_none}
 use Rattle.refresh_rows.specs.Booked.{Fewer}
 
 -- ---- filters

@@ -5,7 +5,8 @@ use Rattle.sso_base.specs.declared.history.Pair.{Pair}
 use Rattle.std.proofs.lemmas.List.{reverse-reverse}
 use Rattle.op_answer.specs.Codes.{held_code}
 use Rattle.refresh_answer.specs.Around.{inner_history}
-use Rattle.refresh_book.proofs.Looking.{inner_same, low_twice, legal_now, provider_low}
+use Rattle.core_stack.proofs.Numbers.{low_twice}
+use Rattle.refresh_book.proofs.Looking.{inner_same, legal_now, provider_low}
 use Rattle.refresh_book.proofs.Owning.{code_is_own}
 use Rattle.refresh_book.proofs.finding.RefreshCore.code_of.Goals as goal
 
