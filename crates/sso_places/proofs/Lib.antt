@@ -10,3 +10,4 @@ pub mod Places
 mod Samples
 pub mod SmallSite
 pub mod Story
+pub mod Unshared
