@@ -15,6 +15,7 @@ pub mod Needed
 pub mod NewsRequest
 pub mod NoLogout
 pub mod OtherCookie
+pub mod OwnTokens
 pub mod Redeeming
 pub mod Responding
 pub mod Sessions

@@ -10,7 +10,8 @@ ghost use Rattle.honest_worlds.specs.Whole.{IsWholeLogin};
 /// request if the party wants them, and the session.
 ///
 /// So the sign-on theorem is not empty: the worlds of these logins keep all its premises together, and each ends with a session
-/// that the sign-on machine and the party hold.
+/// that the sign-on machine and the party hold. Nor are the laws of authorization: no access token is shared in these worlds, and
+/// in those with UserInfo the provider answers claims to the party's server.
 pub fn whole_logins_are_honest()
     ensures code { IsWholeLogin (codes "code") false 7 }
     ensures code_with_info { IsWholeLogin (codes "code") true 9 }
