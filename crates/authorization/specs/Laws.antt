@@ -91,6 +91,11 @@ SecretCookiesAreNeeded =
     ¬ ((s : Site) (world : World) → IsSite s → IsLegalWorld s world → HasDistinctWords world → IsUnforged s world → IsJoined world
     → HasDistinctHashes world → IsUnshared world → EachInfo (ClientGetsClaims s) world)
 
+abbrev pub UnforgedTokensAreNeeded : Type 0
+UnforgedTokensAreNeeded =
+    ¬ ((s : Site) (world : World) → IsSite s → IsLegalWorld s world → HasDistinctWords world → IsUnleaked world → IsJoined world
+    → HasDistinctHashes world → IsUnshared world → EachInfo (ClientGetsClaims s) world)
+
 abbrev pub SecretAccessTokensAreNeeded : Type 0
 SecretAccessTokensAreNeeded =
     ¬ ((s : Site) (world : World) → IsSite s → IsLegalWorld s world → HasDistinctWords world → IsUnleaked world → IsUnforged s world

@@ -55,7 +55,8 @@ pub fn claims_reach_the_client()
 {}
 
 /// Neither premise on what browsers keep secret can be left out: without it the claims reach somebody else, even under all other
-/// premises. The registry is one that was read, each request is real, and each reply is the answer of its core.
+/// premises. The registry is one that was read, each request is real, and each reply is the answer of its core. (That no token is
+/// forged is needed too: `unforged_tokens_are_needed` of `honest_worlds`.)
 ///
 /// - A browser posts the consent page with the cookies of the one that signed in, and gets the code.
 /// - A browser asks UserInfo with the access token that the provider gave the shop's server.

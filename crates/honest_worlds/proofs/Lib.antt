@@ -5,6 +5,7 @@ pub mod ClaimValues
 pub mod EarlyLogout
 pub mod Exchanging
 pub mod FirstPlaces
+pub mod ForgedBeside
 pub mod Growing
 pub mod Informing
 pub mod LateCode

@@ -119,7 +119,7 @@ module _ (wants : Wants) (access : Word) (request : WorldAsk) (e : Entry RpAsk) 
   informing = informs_there wants access request e earlier
 
   -- the server of the party takes the access token
-  taken : access_shown asking ≡ access ∷ [] → list_any (takes (informs wants access request e earlier) access) (asking ∷ earlier) ≡ true
+  pub taken : access_shown asking ≡ access ∷ [] → list_any (takes (informs wants access request e earlier) access) (asking ∷ earlier) ≡ true
   taken shown =
       let S : List Word → Bool = λ ws. is_among ws access in
       any_some (takes (informs wants access request e earlier) access) (asking ∷ earlier) asking (inl refl)

@@ -159,7 +159,7 @@ by_id_token = by_front true false id_token_enters refl (codes "id_token token") 
 
 -- ---- no code: UserInfo is asked for at once, with the access token of the answer
 
-abbrev asking : Wants
+abbrev pub asking : Wants
 asking = fronted true true
 
 front_fetches : rp_answer (setup asking) (past_begin asking) (callback_entry asking) ≡ fetch (word 16)

@@ -1,6 +1,7 @@
 //! Laws of worlds, as contracts of functions that do nothing.
 
 ghost use Rattle.std.specs.Prelude.{◌≡◌, true, false, codes};
+ghost use Rattle.authorization.specs.Laws.{UnforgedTokensAreNeeded};
 ghost use Rattle.honest_places.specs.Conditions.{Condition, free_rows};
 ghost use Rattle.honest_worlds.specs.Needed.{FailsWithout};
 ghost use Rattle.honest_worlds.specs.Whole.{IsWholeLogin};
@@ -40,4 +41,11 @@ pub fn whole_logins_are_honest()
 ///   of the login. The party refuses the login.
 pub fn no_condition_can_be_left_out()
     ensures { (k : Condition) → (k ≡ free_rows → ⊥) → FailsWithout k }
+{}
+
+/// The law `claims_reach_the_client` of `authorization` needs that no token is forged. Without it there is a world that keeps all
+/// other premises, and the claims go to the server of another client. A browser brings this client an access token that is not for
+/// it, beside an ID Token that somebody sealed under this client's secret, with the half hash of the access token.
+pub fn unforged_tokens_are_needed()
+    ensures { UnforgedTokensAreNeeded }
 {}
