@@ -3,7 +3,8 @@
 //!
 //! | Module | What it has | Its definitions, in `specs/` |
 //! |---|---|---|
-//! | `law` | that whole logins are honest and end with a session, that no condition can be left out, and a premise of authorization | `Whole`, `Session`, `Needed` |
+//! | `law` | that whole logins are honest and end with a session, and that no condition can be left out | `Whole`, `Session`, `Needed` |
+//! | | that a law of authorization needs unforged tokens | |
 #![tactic(auto)]
 
 mod law;

@@ -1,6 +1,6 @@
 -- When a place shares no access token: it shows none and gives none, or it gives the first one, or it shows one that it may show. With
 -- these the premise is shown place by place, though the words in it stay closed.
-use Rattle.std.proofs.Common.{◌≡◌, not, ◌&&◌, ◌||◌, Bool, true, false, List, [], ◌∷◌, Option, Some, None, ◌⊎◌, inl, inr, refl, ap, ◌∙◌}
+use Rattle.std.proofs.Common.{◌≡◌, not, ◌&&◌, ◌||◌, Bool, true, false, List, [], ◌∷◌, Option, Some, None, ◌⊎◌, inl, inr, refl, sym, ap, ◌∙◌}
 use Rattle.std.specs.List.{list_any, AllByRecursion}
 use Rattle.std.proofs.lemmas.Bool.{and_from}
 use Rattle.sso_base.specs.Words.{Word, Text}
@@ -38,7 +38,7 @@ right : (among may : Bool) → (among ≡ false) ⊎ (may ≡ true) → ((among 
 right false may h = refl
 right true true h = refl
 right true false (inl h) = h
-right true false (inr h) = h
+right true false (inr h) = sym h
 
 pub shows_one : (world : World) (x giver : Place) (w : Word) → access_shown x ≡ w ∷ [] → IsShownRightly world x w giver → shows_wrongly world x giver ≡ false
 shows_one world x giver w one rightly =
