@@ -158,7 +158,7 @@ module _ (s : Site) (world : World) (legal : IsLegalWorld s world) (distinct : H
 
 -- ---- the same of a token response
 
-meant_by : (c : Configuration) (past : OpPast) (p : OpPair) (registry : IsRegistry c) (legal : IsLegalOp c (p ∷ past)) (access : Word) (key id : Text) (x : IdClaims) (grant : Grant) (asked : OpAsk) → asked ≡ op_ask.Token (Ok grant)
+pub meant_by : (c : Configuration) (past : OpPast) (p : OpPair) (registry : IsRegistry c) (legal : IsLegalOp c (p ∷ past)) (access : Word) (key id : Text) (x : IdClaims) (grant : Grant) (asked : OpAsk) → asked ≡ op_ask.Token (Ok grant)
     → TokensCause c past p.entry asked access id → id_read key id ≡ Ok x → (grant.client < length c.clients) × (x.aud ≡ client_id c grant.client ∷ [])
 unfolding id_claims
 meant_by c past p registry legal access key id x grant (op_ask.Token (Ok g)) is cause read =

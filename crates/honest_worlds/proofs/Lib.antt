@@ -16,6 +16,7 @@ pub mod Needed
 pub mod NewsRequest
 pub mod NoLogout
 pub mod OtherCookie
+pub mod OwnClaims
 pub mod OwnTokens
 pub mod Redeeming
 pub mod Responding
