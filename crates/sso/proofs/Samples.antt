@@ -28,7 +28,7 @@ use Rattle.jws_compact.specs.Names.{jws_name}
 use Rattle.sso_places.specs.declared.types.Broken.TheVariants.{Leaked}
 use Rattle.sso_places.specs.Agreement.{SignsOn}
 use Rattle.sso_places.specs.Site.{own_site}
-use Rattle.sso_places.specs.World.{Place, Party, World}
+use Rattle.sso_places.specs.World.{Place, Provider as AtProvider, Party, World}
 use Rattle.trace_lines.specs.declared.no.TraceNo.TheVariants as no
 use Rattle.trace_lines.specs.Trace.{Told, trace_told}
 use Rattle.storm_texts.specs.Config.{config_text}
@@ -234,8 +234,8 @@ nothing_accepted : trace_told configuration header ≡ Ok nothing_told
 unfolding trace_told decode_pairs
 nothing_accepted = refl
 
--- a world of no place has none in it
-no_place : (later earlier : World) (x : Place) → [] ≡ later ++ x ∷ earlier → ⊥
+-- a world of no place has none in it, and a history of no pair has none
+no_place : {A : Type 0} (later earlier : List A) (x : A) → [] ≡ later ++ x ∷ earlier → ⊥
 no_place [] earlier x is = absurd (cc)
 no_place (y ∷ later) earlier x is = absurd (cc)
 
@@ -268,6 +268,20 @@ nothing_plays_well =
       succeeds = λ later before v last earlier is may honest. absurd (no_login later before v (last ∷ earlier) is honest);
       met = λ is. (nothing_signs_well, nothing_is_bound);
       until = λ broken later before ends is. (let never : end.Met ≡ end.Broken broken = ends in absurd (cc));
+      gives =
+          record {
+            answers = λ later earlier p answer given is told. absurd (no_place later earlier p is);
+            tokens = λ later earlier p access id is told. absurd (no_place later earlier p is);
+            infos = λ later earlier p claims is told. absurd (no_place later earlier p is);
+          };
+      reaches = λ unleaked.
+          record {
+            answers = λ later earlier from request p answer given is told. absurd (no_place later earlier (AtProvider from request p) is);
+            tokens = λ later earlier from request p access id is told. absurd (no_place later earlier (AtProvider from request p) is);
+          };
+      informs = λ unleaked unshared later earlier from request p claims is told. absurd (no_place later earlier (AtProvider from request p) is);
+      clients = λ unforged unleaked hashes unshared later earlier from request p claims is told. absurd (no_place later earlier (AtProvider from request p) is);
+      tested = λ met none later earlier from request p claims is told. absurd (no_place later earlier (AtProvider from request p) is);
     }
 
 replayed : Replays (Some (with small header)) words 0 (Some []) (Some (codes "premises met\n"))
