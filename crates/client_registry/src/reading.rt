@@ -14,7 +14,8 @@ ghost use Rattle.client_registry.specs.Registered.{IsRegistry, AllHoldClaims};
 use crate::records::{Client, Party, User};
 use crate::registry::Registry;
 use crate::rows::{
-    clients_of, lasting_of, parties_of, provider_of, url_in, users_of, without_slash,
+    clients_of, full_pages_of, lasting_of, parties_of, provider_of, provider_title, url_in,
+    users_of, without_slash,
 };
 use crate::rules::judge_records;
 use crate::subjects::{Subjects, subjects_of};
@@ -142,6 +143,8 @@ fn registry_of(
         parties: rows.parties,
         subjects,
         lasting: lasting_of(version, provider),
+        full_pages: full_pages_of(version, provider),
+        title: provider_title(alloc, version, provider, url.host.as_str())?,
     })
 }
 
