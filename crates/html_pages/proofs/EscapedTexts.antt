@@ -10,10 +10,10 @@ use Rattle.html_pages.specs.Escaping.{spelled, escaped, read_after, text_read, i
 -- a byte as it is written, by what it is
 abbrev as_written : Bool → Bool → Bool → Bool → ℕ → Text
 as_written amp less greater quote b =
-    if amp then codes "&amp;" else
-    (if less then codes "&lt;" else
-    (if greater then codes "&gt;" else
-    (if quote then codes "&quot;" else b ∷ [])))
+    if amp then codes "&amp;"
+    else (if less then codes "&lt;"
+    else (if greater then codes "&gt;"
+    else (if quote then codes "&quot;" else b ∷ [])))
 
 -- ---- characters that an escaped text has not
 

@@ -8,10 +8,10 @@ use Rattle.sso_base.specs.Words.{Text}
 -- a byte of a text: `&`, `<`, `>` and `"` are written as references, and any other byte as it is
 abbrev pub spelled : ℕ → Text
 spelled b =
-    if b == 38 then codes "&amp;" else
-    (if b == 60 then codes "&lt;" else
-    (if b == 62 then codes "&gt;" else
-    (if b == 34 then codes "&quot;" else b ∷ [])))
+    if b == 38 then codes "&amp;"
+    else (if b == 60 then codes "&lt;"
+    else (if b == 62 then codes "&gt;"
+    else (if b == 34 then codes "&quot;" else b ∷ [])))
 
 abbrev pub escaped : Text → Text
 escaped [] = []
@@ -27,17 +27,17 @@ begins (b ∷ s) (c ∷ t) = b == c && begins s t
 -- the character of the reference of which this is the text after `&`, and the length of that text; `&` itself if there is none
 abbrev pub referred : Text → ℕ
 referred t =
-    if begins (codes "amp;") t then 38 else
-    (if begins (codes "lt;") t then 60 else
-    (if begins (codes "gt;") t then 62 else
-    (if begins (codes "quot;") t then 34 else 38)))
+    if begins (codes "amp;") t then 38
+    else (if begins (codes "lt;") t then 60
+    else (if begins (codes "gt;") t then 62
+    else (if begins (codes "quot;") t then 34 else 38)))
 
 abbrev pub reference_length : Text → ℕ
 reference_length t =
-    if begins (codes "amp;") t then 4 else
-    (if begins (codes "lt;") t then 3 else
-    (if begins (codes "gt;") t then 3 else
-    (if begins (codes "quot;") t then 5 else 0)))
+    if begins (codes "amp;") t then 4
+    else (if begins (codes "lt;") t then 3
+    else (if begins (codes "gt;") t then 3
+    else (if begins (codes "quot;") t then 5 else 0)))
 
 -- the text that is read after this number of bytes
 abbrev pub read_after : ℕ → Text → Text

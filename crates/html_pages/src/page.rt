@@ -19,7 +19,8 @@ const STYLE: &str = "*{box-sizing:border-box}\
      p,ul,label,button{margin:1rem 0 0}\
      ul{padding-left:1.25rem}\
      label{display:block;font-weight:600}\
-     input,button,.go{display:block;width:100%;padding:.6rem .7rem;border:1px solid #767f8a;border-radius:.5rem;background:#fff;color:inherit;font:inherit}\
+     input,button,.go{display:block;width:100%;padding:.6rem .7rem;border:1px solid #767f8a;\
+     border-radius:.5rem;background:#fff;color:inherit;font:inherit}\
      button,.go{border-color:#0b57d0;background:#0b57d0;color:#fff;font-weight:600;text-align:center;text-decoration:none}\
      .quiet{background:none;color:#0b57d0}\
      .link{display:inline;width:auto;margin:0;padding:0;border:0;text-decoration:underline}\
