@@ -86,7 +86,7 @@ full_consent_page site prefix turn application scopes = document (codes "Do you 
 -- ---- after a sign-out
 
 abbrev pub signed_out_content : Text
-signed_out_content = codes "<p>Applications that sign out together with this site are told. You can close this page.</p>\n"
+signed_out_content = codes "<p>Applications that sign out together with this site are notified. You can close this page.</p>\n"
 
 abbrev pub full_signed_out_page : Text → Text
 full_signed_out_page site = document (codes "You are signed out") site signed_out_content

@@ -155,7 +155,7 @@ fn full_signed_out_page(alloc: Global, site: &Text) -> Result<Blob, NoMemory>
 {
     let mut page = Page::begin(alloc, "You are signed out", site.as_str())?;
     page.push(
-        "<p>Applications that sign out together with this site are told. You can close this page.</p>\n",
+        "<p>Applications that sign out together with this site are notified. You can close this page.</p>\n",
     )?;
     page.end()
 }
