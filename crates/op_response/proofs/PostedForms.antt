@@ -150,10 +150,10 @@ items_post_nothing s rest =
 
 asked_posts_nothing : (application : Text) (s : Scopes) (rest : Text) → posted (asked_for application s ++ rest) ≡ posted rest
 asked_posts_nothing application s rest =
-    let end : Text = codes "</ul>\n" ++ rest in
+    let list_end : Text = codes "</ul>\n" ++ rest in
     ap posted (five (codes "<p><b>") (escaped application) (codes "</b> asks for:</p>\n<ul>\n") (scope_items s) (codes "</ul>\n") rest)
-    ∙ posted_over (escaped application) (codes "</b> asks for:</p>\n<ul>\n" ++ (scope_items s ++ end)) (inert application).less
-    ∙ items_post_nothing s end
+    ∙ posted_over (escaped application) (codes "</b> asks for:</p>\n<ul>\n" ++ (scope_items s ++ list_end)) (inert application).less
+    ∙ items_post_nothing s list_end
 
 other_posts : (prefix : Text) → IsInert prefix → posted (other_form prefix ++ closing) ≡ other_posted true prefix
 unfolding other_button
@@ -183,9 +183,9 @@ plain_consent : (prefix turn client : Text) (s : Scopes) → IsInert prefix → 
 unfolding consent_text
 plain_consent prefix turn client s p h k =
     let after : Text = turn_then turn plain_buttons in
-    let begin : Text = codes "</p><form method=\"post\" action=\"" ++ (prefix ++ (consent_path ++ (codes "\">" ++ after))) in
-    posted_over client (codes ": " ++ (scope_text s ++ begin)) k.less
-    ∙ posted_over (scope_text s) begin (unmarked_inert (scope_text s) (are_plain s)).less
+    let from_form : Text = codes "</p><form method=\"post\" action=\"" ++ (prefix ++ (consent_path ++ (codes "\">" ++ after))) in
+    posted_over client (codes ": " ++ (scope_text s ++ from_form)) k.less
+    ∙ posted_over (scope_text s) from_form (unmarked_inert (scope_text s) (are_plain s)).less
     ∙ ap (λ text. posted (codes "<form method=\"post\" action=\"" ++ text)) (sym (append_assoc prefix consent_path (codes "\">" ++ after)))
     ∙ form_at (prefix ++ consent_path) after (both_inert prefix consent_path p consent_path_inert)
     ∙ ap (λ controls. form_posted (prefix ++ consent_path) ∷ controls) (hidden_at turn_field turn plain_buttons turn_field_inert h)
