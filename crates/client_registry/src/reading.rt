@@ -133,6 +133,7 @@ fn registry_of(
     ensures { IfOk result (λ r. r ≡ configuration_of (view root.now)) }
 {
     let url = url_in(alloc, provider, "issuer")?;
+    let title = provider_title(alloc, version, provider, url.host.as_str())?;
     Ok(Registry {
         provider: provider_of(alloc, text_or(provider, "issuer", ""))?,
         prefix: Text::new(alloc, without_slash(url.path.as_str()))?,
@@ -144,7 +145,7 @@ fn registry_of(
         subjects,
         lasting: lasting_of(version, provider),
         full_pages: full_pages_of(version, provider),
-        title: provider_title(alloc, version, provider, url.host.as_str())?,
+        title,
     })
 }
 

@@ -6,7 +6,7 @@ use Rattle.http_reply.proofs.Characters.{both_false}
 use Rattle.html_pages.specs.Escaping.{escaped, is_quote, is_less, is_greater, IsInert}
 use Rattle.html_pages.specs.Documents.{style, head_text, top_text, closing, document}
 use Rattle.html_pages.specs.Forms.{form, hidden}
-use Rattle.html_pages.specs.Posting.{Control, attributes_in, tag_text, posted, form_posted, hidden_posted}
+use Rattle.html_pages.specs.Posting.{Control, control_of, attributes_in, tag_text, posted, form_posted, hidden_posted}
 use Rattle.html_pages.proofs.EscapedTexts.{inert}
 
 -- ---- lists
@@ -48,7 +48,7 @@ quote_over (b ∷ x) rest h =
 pub form_at : (x rest : Text) → IsInert x → posted (codes "<form method=\"post\" action=\"" ++ (x ++ (codes "\">" ++ rest))) ≡ form_posted x ∷ posted rest
 form_at x rest h =
     let after : Text = codes "\">" ++ rest in
-    let control : List Text → Control = λ pieces. record { element = codes "form"; attributes = attributes_in (codes "form method=" ∷ codes "post" ∷ codes " action=" ∷ pieces) } in
+    let control : List Text → Control = λ pieces. control_of (codes "form") (attributes_in (codes "form method=" ∷ codes "post" ∷ codes " action=" ∷ pieces)) in
     ap (λ t. control (slice_split is_quote t) ∷ posted (x ++ after)) (tag_over x after h.greater)
     ∙ ap (λ pieces. control pieces ∷ posted (x ++ after)) (quote_over x [] h.quote)
     ∙ ap (λ controls. form_posted x ∷ controls) (posted_over x after h.less)
@@ -58,7 +58,7 @@ pub hidden_at : (name value rest : Text) → IsInert name → IsInert value
 hidden_at name value rest n v =
     let last : Text = codes "\">" ++ rest in
     let more : Text = codes "\" value=\"" ++ (value ++ last) in
-    let control : List Text → Control = λ pieces. record { element = codes "input"; attributes = attributes_in (codes "input type=" ∷ codes "hidden" ∷ codes " name=" ∷ pieces) } in
+    let control : List Text → Control = λ pieces. control_of (codes "input") (attributes_in (codes "input type=" ∷ codes "hidden" ∷ codes " name=" ∷ pieces)) in
     ap (λ t. control (slice_split is_quote t) ∷ posted (name ++ more)) (tag_over name more n.greater)
     ∙ ap (λ t. control (slice_split is_quote (name ++ (codes "\" value=\"" ++ t))) ∷ posted (name ++ more)) (tag_over value last v.greater)
     ∙ ap (λ pieces. control pieces ∷ posted (name ++ more)) (quote_over name (codes " value=\"" ++ (value ++ 34 ∷ [])) n.quote)

@@ -4,7 +4,7 @@ use Rattle.sso_base.specs.declared.http.Kind.TheVariants.{Html}
 use Rattle.html_pages.specs.Escaping.{escaped, text_read, IsInert}
 use Rattle.html_pages.specs.Documents.{shown}
 use Rattle.html_pages.specs.Forms.{form, hidden, alert, small_line}
-use Rattle.html_pages.specs.Posting.{first_word, last_word, posted, form_posted, hidden_posted}
+use Rattle.html_pages.specs.Posting.{control_of, first_word, last_word, posted, form_posted, hidden_posted}
 
 -- ---- texts
 
@@ -41,10 +41,10 @@ a_form_is_read : posted (codes "<p class=\"a\">Hello</p><form method=\"post\" ac
 a_form_is_read = refl
 
 a_form_that_posts_elsewhere : posted (codes "<form method=\"post\" action=\"/log\"><button formaction=\"/x\">Go</button></form>")
-    ≡ form_posted (codes "/log") ∷ record { element = codes "button"; attributes = (codes "formaction=", codes "/x") ∷ [] } ∷ []
+    ≡ form_posted (codes "/log") ∷ control_of (codes "button") ((codes "formaction=", codes "/x") ∷ []) ∷ []
 a_form_that_posts_elsewhere = refl
 
-a_field_is_read : posted (codes "<input id=\"a\" name=\"b\" autocomplete=\"c\" required>") ≡ record { element = codes "input"; attributes = (codes "name=", codes "b") ∷ [] } ∷ []
+a_field_is_read : posted (codes "<input id=\"a\" name=\"b\" autocomplete=\"c\" required>") ≡ control_of (codes "input") ((codes "name=", codes "b") ∷ []) ∷ []
 a_field_is_read = refl
 
 written_field_is_read : posted (hidden (codes "turn") (codes "W")) ≡ hidden_posted (codes "turn") (codes "W") ∷ []

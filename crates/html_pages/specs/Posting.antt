@@ -10,9 +10,13 @@ use Rattle.html_pages.specs.Escaping.{is_quote, is_less, is_greater}
 abbrev pub Attribute : Type 0
 Attribute = Text × Text
 
+-- a form or a control: the name of its element, and its attributes
 pub record Control : Type 0 where
   pub element : Text
   pub attributes : List Attribute
+
+abbrev pub control_of : Text → List Attribute → Control
+control_of element attributes = record { element = element; attributes = attributes }
 
 -- ---- a tag
 
@@ -45,7 +49,7 @@ posting_elements = codes "form" ∷ codes "input" ∷ codes "button" ∷ codes "
 abbrev pub control_onto : Text → List Control → List Control
 control_onto tag controls =
     if has_text (first_word tag) posting_elements
-    then record { element = first_word tag; attributes = attributes_in (slice_split is_quote tag) } ∷ controls
+    then control_of (first_word tag) (attributes_in (slice_split is_quote tag)) ∷ controls
     else controls
 
 -- ---- a page
@@ -63,8 +67,8 @@ posted (b ∷ t) = if is_less b then control_onto (tag_text t) (posted t) else p
 -- ---- forms and hidden fields, as they are read
 
 abbrev pub form_posted : Text → Control
-form_posted action = record { element = codes "form"; attributes = (codes "method=", codes "post") ∷ (codes "action=", action) ∷ [] }
+form_posted action = control_of (codes "form") ((codes "method=", codes "post") ∷ (codes "action=", action) ∷ [])
 
 abbrev pub hidden_posted : Text → Text → Control
 hidden_posted name value =
-    record { element = codes "input"; attributes = (codes "type=", codes "hidden") ∷ (codes "name=", name) ∷ (codes "value=", value) ∷ [] }
+    control_of (codes "input") ((codes "type=", codes "hidden") ∷ (codes "name=", name) ∷ (codes "value=", value) ∷ [])

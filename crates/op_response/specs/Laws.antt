@@ -17,7 +17,7 @@ use Rattle.op_exchange.specs.declared.reply.OpReply.{OpReply}
 use Rattle.op_exchange.specs.declared.reply.OpReply.TheVariants as reply
 use Rattle.op_exchange.specs.Fields.{turn_field, user_field, password_field, agree_field, agree_value}
 use Rattle.html_pages.specs.Escaping.{IsInert}
-use Rattle.html_pages.specs.Posting.{Control, posted, form_posted, hidden_posted}
+use Rattle.html_pages.specs.Posting.{Control, control_of, posted, form_posted, hidden_posted}
 use Rattle.op_response.specs.FullPages.{asked_for}
 use Rattle.op_response.specs.Telling.{http_of, application_title}
 use Rattle.op_response.specs.Lines.{line_of}
@@ -37,22 +37,22 @@ abbrev pub login_posted : Text → Text → List Control
 login_posted prefix turn =
     form_posted (prefix ++ login_path)
     ∷ hidden_posted turn_field turn
-    ∷ record { element = codes "input"; attributes = (codes "name=", user_field) ∷ [] }
-    ∷ record { element = codes "input"; attributes = (codes "type=", codes "password") ∷ (codes "name=", password_field) ∷ [] }
-    ∷ record { element = codes "button"; attributes = [] } ∷ []
+    ∷ control_of (codes "input") ((codes "name=", user_field) ∷ [])
+    ∷ control_of (codes "input") ((codes "type=", codes "password") ∷ (codes "name=", password_field) ∷ [])
+    ∷ control_of (codes "button") [] ∷ []
 
 -- the form of a consent page
 abbrev pub consent_posted : Text → Text → List Control
 consent_posted prefix turn =
     form_posted (prefix ++ consent_path)
     ∷ hidden_posted turn_field turn
-    ∷ record { element = codes "button"; attributes = (codes "name=", agree_field) ∷ (codes "value=", agree_value) ∷ [] }
-    ∷ record { element = codes "button"; attributes = (codes "name=", agree_field) ∷ (codes "value=", codes "no") ∷ [] } ∷ []
+    ∷ control_of (codes "button") ((codes "name=", agree_field) ∷ (codes "value=", agree_value) ∷ [])
+    ∷ control_of (codes "button") ((codes "name=", agree_field) ∷ (codes "value=", codes "no") ∷ []) ∷ []
 
 -- a full consent page also has a form that ends the session
 abbrev pub other_posted : Bool → Text → List Control
 other_posted false prefix = []
-other_posted true prefix = form_posted (prefix ++ signout_path) ∷ record { element = codes "button"; attributes = [] } ∷ []
+other_posted true prefix = form_posted (prefix ++ signout_path) ∷ control_of (codes "button") [] ∷ []
 
 abbrev pub LoginPagesPostTheirForm : Type 0
 LoginPagesPostTheirForm =

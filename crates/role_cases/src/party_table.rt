@@ -54,8 +54,8 @@ fn begin_elsewhere(alloc: Global, roles: &mut Roles, name: &str) -> Result<Strin
 }
 
 /// The answer to a call: `party|NAME`, `party|NAME|elsewhere`, `party|NAME|full pages` and `provider` begin a role. With `two
-/// secrets` or `old seals` at the end, clients have two secrets. A call after `provider` goes to the provider, and every other call to the relying party, as often
-/// as `times|COUNT` before it says.
+/// secrets` or `old seals` at the end, clients have two secrets. A call after `provider` goes to the provider, and every other
+/// call to the relying party, as often as `times|COUNT` before it says.
 pub fn answer(alloc: Global, roles: &mut Roles, fields: &[&str]) -> Result<String, NoMemory> {
     match fields {
         ["party", name] => begin_party(alloc, roles, name),

@@ -15,7 +15,7 @@ use Rattle.oidc_words.specs.Paths.{leave_path}
 use Rattle.html_pages.specs.Escaping.{escaped}
 use Rattle.html_pages.specs.Documents.{closing, body_shown}
 use Rattle.html_pages.specs.Forms.{form, alert, small_line}
-use Rattle.html_pages.specs.Posting.{posted, form_posted}
+use Rattle.html_pages.specs.Posting.{control_of, posted, form_posted}
 use Rattle.html_pages.proofs.EscapedTexts.{inert}
 use Rattle.html_pages.proofs.PostedTags.{five, posted_over, form_read, document_posts_its_content}
 use Rattle.html_pages.proofs.Slices.{in_second, in_document}
@@ -159,7 +159,7 @@ fetches_are_alike c n v w m k = refl
 
 -- ---- the front page
 
-user_posts : (t sub : Text) → posted (full_user_page t sub) ≡ form_posted leave_path ∷ record { element = codes "button"; attributes = [] } ∷ []
+user_posts : (t sub : Text) → posted (full_user_page t sub) ≡ form_posted leave_path ∷ control_of (codes "button") [] ∷ []
 unfolding leave_button
 user_posts t sub =
     let after : Text = leave_button ++ closing in
@@ -168,11 +168,11 @@ user_posts t sub =
     ∙ posted_over (escaped sub) (codes "</b>.</p>\n" ++ (form leave_path ++ after)) (inert sub).less
     ∙ form_read leave_path after (record { quote = refl; less = refl; greater = refl })
 
-user_by : (is_full : Bool) (t sub : Text) → is_full ≡ true → posted (body_shown (user_page is_full t sub) (codes "user " ++ sub)) ≡ form_posted leave_path ∷ record { element = codes "button"; attributes = [] } ∷ []
+user_by : (is_full : Bool) (t sub : Text) → is_full ≡ true → posted (body_shown (user_page is_full t sub) (codes "user " ++ sub)) ≡ form_posted leave_path ∷ control_of (codes "button") [] ∷ []
 user_by true t sub e = user_posts t sub
 user_by false t sub e = absurd (true≢false (sym e))
 
-pub front_page_leaves : (c : Configuration) (n : ℕ) (sub : Text) → c.full_pages ≡ true → posted (http_of c n (reply.User sub)).body ≡ form_posted leave_path ∷ record { element = codes "button"; attributes = [] } ∷ []
+pub front_page_leaves : (c : Configuration) (n : ℕ) (sub : Text) → c.full_pages ≡ true → posted (http_of c n (reply.User sub)).body ≡ form_posted leave_path ∷ control_of (codes "button") [] ∷ []
 unfolding http_of
 front_page_leaves c n sub e = user_by c.full_pages (party_title c n) sub e
 

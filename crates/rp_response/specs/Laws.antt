@@ -11,7 +11,7 @@ use Rattle.rp_exchange.specs.declared.no.RpNo.{RpNo}
 use Rattle.rp_exchange.specs.declared.reply.RpReply.{RpReply}
 use Rattle.rp_exchange.specs.declared.reply.RpReply.TheVariants as reply
 use Rattle.html_pages.specs.Escaping.{escaped}
-use Rattle.html_pages.specs.Posting.{posted, form_posted}
+use Rattle.html_pages.specs.Posting.{control_of, posted, form_posted}
 use Rattle.rp_response.specs.Cookies.{browser_cookie, session_cookie}
 use Rattle.rp_response.specs.Lines.{line_of}
 use Rattle.rp_response.specs.FullPages.{is_of_logout}
@@ -58,4 +58,4 @@ FullErrorsShowTheirLines =
 abbrev pub FullFrontPagesLeave : Type 0
 FullFrontPagesLeave =
     (c : Configuration) (n : ℕ) (sub : Text) → c.full_pages ≡ true
-    → posted (http_of c n (reply.User sub)).body ≡ form_posted leave_path ∷ record { element = codes "button"; attributes = [] } ∷ []
+    → posted (http_of c n (reply.User sub)).body ≡ form_posted leave_path ∷ control_of (codes "button") [] ∷ []
