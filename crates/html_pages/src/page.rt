@@ -90,7 +90,10 @@ impl Page {
             b'<' => self.push("&lt;"),
             b'>' => self.push("&gt;"),
             b'"' => self.push("&quot;"),
-            _ => Ok(self.bytes.push(byte)?),
+            _ => {
+                self.bytes.push(byte)?;
+                Ok(())
+            }
         }
     }
 
