@@ -10,6 +10,6 @@ pub mod Same
 pub mod Added
 pub mod Marked
 pub mod Rooms
-pub mod Holding
+pub mod MarksHeld
 pub mod Samples
 mod RelySamples

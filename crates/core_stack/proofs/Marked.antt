@@ -106,8 +106,17 @@ module _ {A R M : Type 0} (plain : A → Option OpAsk) (given : R → Option OpR
   asked_later p past w m wish a =
       let push : List (Pair A R) → List (Pair A R) = λ l. p ∷ l in
       record {
-        later = p ∷ a.later; maker = a.maker; earlier = a.earlier; parts = ap push a.parts; browser = a.browser; presented = a.presented;
-        asked = a.asked; page = a.page; answered = a.answered; turn_is = a.turn_is; mark_is = a.mark_is;
+        later = p ∷ a.later;
+        maker = a.maker;
+        earlier = a.earlier;
+        parts = ap push a.parts;
+        browser = a.browser;
+        presented = a.presented;
+        asked = a.asked;
+        page = a.page;
+        answered = a.answered;
+        turn_is = a.turn_is;
+        mark_is = a.mark_is;
       }
 
   turn_later : (past : List (Pair A R)) (p : Pair A R) (x : TurnMark M) (y : TurnRow) → IsOfTurn plain given mark past x y → IsOfTurn plain given mark (p ∷ past) x y
@@ -121,16 +130,40 @@ module _ {A R M : Type 0} (plain : A → Option OpAsk) (given : R → Option OpR
 
   started : (past : List (Pair A R)) (p : Pair A R) (request : OpAsk) (r : OpReply) → plain p.entry.ask ≡ Some request → given p.reply ≡ Some r
       → BothIf (IsOfTurn plain given mark (p ∷ past)) (turn_row (Some r) (is_wish (Some request)) (mark p.entry.ask) p.entry.at) (turn_started p.entry.at request r)
-  started past p (ask.Authorize (verdict.Grant wish) b session) (told.LoginPage w browser again) asks gave =
-      (refl, refl, record {
-        later = []; maker = p; earlier = past; parts = refl; browser = b; presented = session;
-        asked = asks; page = told.LoginPage w browser again; answered = gave; turn_is = refl; mark_is = refl;
-      })
-  started past p (ask.Authorize (verdict.Grant wish) b session) (told.ConsentPage w browser given' client scopes) asks gave =
-      (refl, refl, record {
-        later = []; maker = p; earlier = past; parts = refl; browser = b; presented = session;
-        asked = asks; page = told.ConsentPage w browser given' client scopes; answered = gave; turn_is = refl; mark_is = refl;
-      })
+  started past p (ask.Authorize (verdict.Grant wish) b session) (told.LoginPage w browser again) asks gave = (
+    refl,
+    refl,
+    record {
+      later = [];
+      maker = p;
+      earlier = past;
+      parts = refl;
+      browser = b;
+      presented = session;
+      asked = asks;
+      page = told.LoginPage w browser again;
+      answered = gave;
+      turn_is = refl;
+      mark_is = refl;
+    },
+  )
+  started past p (ask.Authorize (verdict.Grant wish) b session) (told.ConsentPage w browser given' client scopes) asks gave = (
+    refl,
+    refl,
+    record {
+      later = [];
+      maker = p;
+      earlier = past;
+      parts = refl;
+      browser = b;
+      presented = session;
+      asked = asks;
+      page = told.ConsentPage w browser given' client scopes;
+      answered = gave;
+      turn_is = refl;
+      mark_is = refl;
+    },
+  )
   started past p request r asks gave = tt
 
   -- a turn is left by both or ended by both, where the provider gave the reply
@@ -143,11 +176,11 @@ module _ {A R M : Type 0} (plain : A → Option OpAsk) (given : R → Option OpR
       let Q : Option OpAsk → Type 0 = λ a. BothIf (IsOfTurn plain given mark (p ∷ past)) (cond (is_word (turn_ended (Some r) (named_in a)) x.turn) None (Some x)) right in
       subst G (sym gave) (subst Q (sym asks)
       (left_both (IsOfTurn plain given mark (p ∷ past)) (turn_named request) (ends_turn r) x.turn y.word x y (turn_taken request r y) is.0
-       (turn_later past p x y is) (turn_later past p x (turn_taken request r y) (taken_asked past request r x y is))))
+      (turn_later past p x y is) (turn_later past p x (turn_taken request r y) (taken_asked past request r x y is))))
 
   pub turn_starts : (past : List (Pair A R)) (p : Pair A R) (before : OpPast) (request : OpAsk) (r : OpReply) → plain p.entry.ask ≡ Some request → given p.reply ≡ Some r
       → BothIf (IsOfTurn plain given mark (p ∷ past)) (turn_made plain given mark (marked_turns plain given mark past) past p)
-        (turns_of.turn_made (turns before) before (provider_pair p.entry.at p.entry.fresh request r))
+      (turns_of.turn_made (turns before) before (provider_pair p.entry.at p.entry.fresh request r))
   turn_starts past p before request r asks gave =
       let right : Option TurnRow = turn_started p.entry.at request r in
       let G : Option OpReply → Type 0 = λ g. BothIf (IsOfTurn plain given mark (p ∷ past)) (turn_row g (is_wish (plain p.entry.ask)) (mark p.entry.ask) p.entry.at) right in
@@ -165,7 +198,7 @@ module _ {A R M : Type 0} (plain : A → Option OpAsk) (given : R → Option OpR
       (filter_map (turn_kept plain given past p) (marked_turns plain given mark past)) (filter_map (turns_of.turn_kept before q) (turns before))
       (turn_starts past p before request r asks gave)
       (both_kept (IsOfTurn plain given mark past) (IsOfTurn plain given mark (p ∷ past)) (turn_kept plain given past p) (turns_of.turn_kept before q)
-       (λ x y is. turn_left past p before request r x y asks gave is) (marked_turns plain given mark past) (turns before) both)
+      (λ x y is. turn_left past p before request r x y asks gave is) (marked_turns plain given mark past) (turns before) both)
 
   -- after a pair that begins and ends no turn
   turn_hidden : (past : List (Pair A R)) (p : Pair A R) (before : OpPast) (q : OpPair) (x : TurnMark M) (y : TurnRow) → given p.reply ≡ None → is_shown q.reply ≡ false
@@ -177,7 +210,7 @@ module _ {A R M : Type 0} (plain : A → Option OpAsk) (given : R → Option OpR
       let E : Bool → Type 0 = λ b. BothIf (IsOfTurn plain given mark (p ∷ past)) (Some x) (cond (not (is_word (turn_named q.entry.ask) y.word)) (Some y) (cond b None (Some taken))) in
       subst G (sym gave) (subst E (sym (hidden_ends q.reply hidden))
       (one_of_two (IsOfTurn plain given mark (p ∷ past)) (is_word (turn_named q.entry.ask) y.word) x y taken
-       (turn_later past p x y is) (turn_later past p x taken (taken_asked past q.entry.ask q.reply x y is))))
+      (turn_later past p x y is) (turn_later past p x taken (taken_asked past q.entry.ask q.reply x y is))))
 
   turns_hidden : (past : List (Pair A R)) (p : Pair A R) (before : OpPast) (q : OpPair) → given p.reply ≡ None → is_shown q.reply ≡ false
       → Both (IsOfTurn plain given mark past) (marked_turns plain given mark past) (turns before)
@@ -190,7 +223,7 @@ module _ {A R M : Type 0} (plain : A → Option OpAsk) (given : R → Option OpR
       (filter_map (turn_kept plain given past p) (marked_turns plain given mark past)) (filter_map (turns_of.turn_kept before q) (turns before))
       (subst G (sym gave) (subst N (sym (started_hidden q.entry.at q.entry.ask q.reply hidden)) tt))
       (both_kept (IsOfTurn plain given mark past) (IsOfTurn plain given mark (p ∷ past)) (turn_kept plain given past p) (turns_of.turn_kept before q)
-       (λ x y is. turn_hidden past p before q x y gave hidden is) (marked_turns plain given mark past) (turns before) both)
+      (λ x y is. turn_hidden past p before q x y gave hidden is) (marked_turns plain given mark past) (turns before) both)
 
   -- a pair to which the provider gave no reply leaves all rows
   pub turns_stay : (past : List (Pair A R)) (p : Pair A R) → given p.reply ≡ None → marked_turns plain given mark (p ∷ past) ≡ marked_turns plain given mark past
@@ -251,14 +284,33 @@ module _ {A R M : Type 0} (plain : A → Option OpAsk) (given : R → Option OpR
   code_asked_later p past w m wish (inl a) =
       let push : List (Pair A R) → List (Pair A R) = λ l. p ∷ l in
       inl (record {
-        later = p ∷ a.later; maker = a.maker; earlier = a.earlier; parts = ap push a.parts; browser = a.browser; presented = a.presented;
-        asked = a.asked; response = a.response; answered = a.answered; code_is = a.code_is; mark_is = a.mark_is;
+        later = p ∷ a.later;
+        maker = a.maker;
+        earlier = a.earlier;
+        parts = ap push a.parts;
+        browser = a.browser;
+        presented = a.presented;
+        asked = a.asked;
+        response = a.response;
+        answered = a.answered;
+        code_is = a.code_is;
+        mark_is = a.mark_is;
       })
   code_asked_later p past w m wish (inr a) =
       let push : List (Pair A R) → List (Pair A R) = λ l. p ∷ l in
       inr (record {
-        later = p ∷ a.later; form = a.form; earlier = a.earlier; parts = ap push a.parts; request = a.request; asked = a.asked;
-        response = a.response; answered = a.answered; code_is = a.code_is; turn = a.turn; named = a.named; begun = a.begun;
+        later = p ∷ a.later;
+        form = a.form;
+        earlier = a.earlier;
+        parts = ap push a.parts;
+        request = a.request;
+        asked = a.asked;
+        response = a.response;
+        answered = a.answered;
+        code_is = a.code_is;
+        turn = a.turn;
+        named = a.named;
+        begun = a.begun;
       })
 
   code_later : (past : List (Pair A R)) (p : Pair A R) (x : CodeMark M) (y : CodeRow) → IsOfCode plain given mark past x y → IsOfCode plain given mark (p ∷ past) x y
@@ -305,13 +357,22 @@ module _ {A R M : Type 0} (plain : A → Option OpAsk) (given : R → Option OpR
       → Both (IsOfTurn plain given mark past) (marked_turns plain given mark past) (turns before)
       → AnsweredCause c before (record { at = p.entry.at; fresh = p.entry.fresh; ask = request }) request answer session
       → BothIf (IsOfCode plain given mark (p ∷ past)) (option_map (λ (w : Word). code_mark w (answer_mark plain given mark none past p.entry.at (mark p.entry.ask) (Some request)) p.entry.at) answer.code)
-        (code_made_by (length before) p.entry.at answer.code (wish_found before p.entry.at request) (session_found before (record { at = p.entry.at; fresh = p.entry.fresh; ask = request }) request))
+      (code_made_by (length before) p.entry.at answer.code (wish_found before p.entry.at request) (session_found before (record { at = p.entry.at; fresh = p.entry.fresh; ask = request }) request))
   answer_both c past p before (ask.Authorize (verdict.Grant wish) browser presented) answer session asks gave both cause =
       let N : Option SessionRow → Type 0 = λ s. BothIf (IsOfCode plain given mark (p ∷ past)) (option_map (λ (w : Word). code_mark w (mark p.entry.ask) p.entry.at) answer.code)
       (code_made_by (length before) p.entry.at answer.code (Some wish) s) in
       subst N (sym cause.live) (code_both plain given mark past p (length before) (mark p.entry.ask) answer.code wish cause.session (λ w is. inl (record {
-        later = []; maker = p; earlier = past; parts = refl; browser = browser; presented = presented;
-        asked = asks; response = told.Answered answer session; answered = gave; code_is = is; mark_is = refl;
+        later = [];
+        maker = p;
+        earlier = past;
+        parts = refl;
+        browser = browser;
+        presented = presented;
+        asked = asks;
+        response = told.Answered answer session;
+        answered = gave;
+        code_is = is;
+        mark_is = refl;
       })))
   answer_both c past p before (ask.Login turn (Some user) browser presented) answer session asks gave both cause =
       let m : M = mark_in_turn none (marked_turn plain given mark past p.entry.at turn) in
@@ -319,20 +380,38 @@ module _ {A R M : Type 0} (plain : A → Option OpAsk) (given : R → Option OpR
       let W : Option TurnRow → Type 0 = λ o. BothIf (IsOfCode plain given mark (p ∷ past)) (option_map (λ (w : Word). code_mark w m p.entry.at) answer.code)
       (code_made_by (length before) p.entry.at answer.code (option_map (λ (row : TurnRow). row.wish) o) (Some after)) in
       subst W (sym cause.own.live) (code_both plain given mark past p (length before) m answer.code cause.row.wish after (λ w is. inr (record {
-        later = []; form = p; earlier = past; parts = refl; request = ask.Login turn (Some user) browser presented; asked = asks;
-        response = told.Answered answer session; answered = gave; code_is = is; turn = cause.row.word; named = live_named before p.entry.at turn cause.row cause.own.live;
+        later = [];
+        form = p;
+        earlier = past;
+        parts = refl;
+        request = ask.Login turn (Some user) browser presented;
+        asked = asks;
+        response = told.Answered answer session;
+        answered = gave;
+        code_is = is;
+        turn = cause.row.word;
+        named = live_named before p.entry.at turn cause.row cause.own.live;
         begun = form_asked past before p.entry.at turn cause.row both cause.own.live;
       })))
   answer_both c past p before (ask.Consent turn true browser presented) answer session asks gave both cause =
       let m : M = mark_in_turn none (marked_turn plain given mark past p.entry.at turn) in
       let W : Option TurnRow → Type 0 = λ o. BothIf (IsOfCode plain given mark (p ∷ past)) (option_map (λ (w : Word). code_mark w m p.entry.at) answer.code)
       (code_made_by (length before) p.entry.at answer.code (option_map (λ (row : TurnRow). row.wish) o)
-       (option_and_then (λ (row : TurnRow). live_session before p.entry.at row.session) o)) in
+      (option_and_then (λ (row : TurnRow). live_session before p.entry.at row.session) o)) in
       let N : Option SessionRow → Type 0 = λ s. BothIf (IsOfCode plain given mark (p ∷ past)) (option_map (λ (w : Word). code_mark w m p.entry.at) answer.code)
       (code_made_by (length before) p.entry.at answer.code (Some cause.row.wish) s) in
       subst W (sym cause.own.own.live) (subst N (sym cause.own.live) (code_both plain given mark past p (length before) m answer.code cause.row.wish cause.session (λ w is. inr (record {
-        later = []; form = p; earlier = past; parts = refl; request = ask.Consent turn true browser presented; asked = asks;
-        response = told.Answered answer session; answered = gave; code_is = is; turn = cause.row.word; named = live_named before p.entry.at turn cause.row cause.own.own.live;
+        later = [];
+        form = p;
+        earlier = past;
+        parts = refl;
+        request = ask.Consent turn true browser presented;
+        asked = asks;
+        response = told.Answered answer session;
+        answered = gave;
+        code_is = is;
+        turn = cause.row.word;
+        named = live_named before p.entry.at turn cause.row cause.own.own.live;
         begun = form_asked past before p.entry.at turn cause.row both cause.own.own.live;
       }))))
   answer_both c past p before other answer session asks gave both cause = absurd cause
@@ -342,7 +421,7 @@ module _ {A R M : Type 0} (plain : A → Option OpAsk) (given : R → Option OpR
       → plain p.entry.ask ≡ Some request → given p.reply ≡ Some r → Both (IsOfTurn plain given mark past) (marked_turns plain given mark past) (turns before)
       → op_answer c before (record { at = p.entry.at; fresh = p.entry.fresh; ask = request }) ≡ r
       → BothIf (IsOfCode plain given mark (p ∷ past)) (code_row (Some r) (answer_mark plain given mark none past p.entry.at (mark p.entry.ask) (Some request)) p.entry.at)
-        (code_made_by (length before) p.entry.at (code_in r) (wish_found before p.entry.at request) (session_found before (record { at = p.entry.at; fresh = p.entry.fresh; ask = request }) request))
+      (code_made_by (length before) p.entry.at (code_in r) (wish_found before p.entry.at request) (session_found before (record { at = p.entry.at; fresh = p.entry.fresh; ask = request }) request))
   reply_both c past p before request (told.Answered answer session) asks gave both led =
       let e : Entry OpAsk = record { at = p.entry.at; fresh = p.entry.fresh; ask = request } in
       answer_both c past p before request answer session asks gave both (answers_have_a_cause c before e answer session led)
@@ -352,7 +431,7 @@ module _ {A R M : Type 0} (plain : A → Option OpAsk) (given : R → Option OpR
       → plain p.entry.ask ≡ Some request → given p.reply ≡ Some r → Both (IsOfTurn plain given mark past) (marked_turns plain given mark past) (turns before)
       → op_answer c before (record { at = p.entry.at; fresh = p.entry.fresh; ask = request }) ≡ r
       → BothIf (IsOfCode plain given mark (p ∷ past)) (code_made plain given mark none (marked_codes plain given mark none past) past p)
-        (codes_of.code_made (codes_issued before) before (provider_pair p.entry.at p.entry.fresh request r))
+      (codes_of.code_made (codes_issued before) before (provider_pair p.entry.at p.entry.fresh request r))
   code_starts c past p before request r asks gave both led =
       let e : Entry OpAsk = record { at = p.entry.at; fresh = p.entry.fresh; ask = request } in
       let right : Option CodeRow = codes_of.code_made (codes_issued before) before (provider_pair p.entry.at p.entry.fresh request r) in
@@ -374,7 +453,7 @@ module _ {A R M : Type 0} (plain : A → Option OpAsk) (given : R → Option OpR
       (filter_map (code_kept past p) (marked_codes plain given mark none past)) (filter_map (codes_of.code_kept before q) (codes_issued before))
       (code_starts c past p before request r asks gave both led)
       (both_kept (IsOfCode plain given mark past) (IsOfCode plain given mark (p ∷ past)) (code_kept past p) (codes_of.code_kept before q)
-       (λ x y is. code_left plain given mark past p before q x y is) (marked_codes plain given mark none past) (codes_issued before) codes)
+      (λ x y is. code_left plain given mark past p before q x y is) (marked_codes plain given mark none past) (codes_issued before) codes)
 
   -- after a pair that makes none
   codes_hidden : (past : List (Pair A R)) (p : Pair A R) (before : OpPast) (q : OpPair) → given p.reply ≡ None → is_shown q.reply ≡ false
@@ -392,7 +471,7 @@ module _ {A R M : Type 0} (plain : A → Option OpAsk) (given : R → Option OpR
       (filter_map (code_kept past p) (marked_codes plain given mark none past)) (filter_map (codes_of.code_kept before q) (codes_issued before))
       (subst G (sym gave) (subst N (sym unmade) tt))
       (both_kept (IsOfCode plain given mark past) (IsOfCode plain given mark (p ∷ past)) (code_kept past p) (codes_of.code_kept before q)
-       (λ x y is. code_left plain given mark past p before q x y is) (marked_codes plain given mark none past) (codes_issued before) codes)
+      (λ x y is. code_left plain given mark past p before q x y is) (marked_codes plain given mark none past) (codes_issued before) codes)
 
   -- a pair to which the provider gave no reply leaves all rows
   pub codes_stay : (past : List (Pair A R)) (p : Pair A R) → given p.reply ≡ None → marked_codes plain given mark none (p ∷ past) ≡ marked_codes plain given mark none past
@@ -456,7 +535,7 @@ module _ {A R M : Type 0} (plain : A → Option OpAsk) (given : R → Option OpR
       let here : IsLegal (reverse past ++ p ∷ []) = subst L back legal in
       subst T (sym back)
       (turns_more plain given mark past p (provided (reverse past)) (provided (reverse past ++ p ∷ [])) (stack.adds (reverse past) p here)
-       (turns_same past (stack.beginnings (reverse past) (p ∷ []) here)))
+      (turns_same past (stack.beginnings (reverse past) (p ∷ []) here)))
 
   pub codes_same : (none : M) (past : List (Pair A R)) → IsLegal (reverse past)
       → Both (IsOfCode plain given mark past) (marked_codes plain given mark none past) (codes_issued (reverse (provided (reverse past))))
@@ -471,7 +550,7 @@ module _ {A R M : Type 0} (plain : A → Option OpAsk) (given : R → Option OpR
       let before : IsLegal (reverse past) = stack.beginnings (reverse past) (p ∷ []) here in
       subst T (sym back)
       (codes_more plain given mark none c past p (provided (reverse past)) (provided (reverse past ++ p ∷ [])) (stack.adds (reverse past) p here) (stack.provider (reverse past ++ p ∷ []) here)
-       (turns_same past before) (codes_same none past before))
+      (turns_same past before) (codes_same none past before))
 
   -- the same over a history, oldest pair first
   pub turns_at : (h : List (Pair A R)) → IsLegal h → Both (IsOfTurn plain given mark (reverse h)) (marked_turns plain given mark (reverse h)) (turns (reverse (provided h)))

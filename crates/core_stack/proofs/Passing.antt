@@ -99,10 +99,10 @@ module _ {A R B T : Type 0} (passed : Pair B T → Option (Pair A R)) where
         let L : Option (Pair A R) → Type 0 = λ o. history_weight inside (cons_option o (inside_of h)) ≤ history_weight weighs (p ∷ h) in
         elim (option_cases (passed p)) [
           | inl none ↦ subst L (sym none)
-            (same_low (history_weight inside (inside_of h)) (history_weight weighs (p ∷ h)) (history_weight weighs h) (weighs p.entry.ask) (sum_by-cons of_outer p h) (inner_lighter h))
+              (same_low (history_weight inside (inside_of h)) (history_weight weighs (p ∷ h)) (history_weight weighs h) (weighs p.entry.ask) (sum_by-cons of_outer p h) (inner_lighter h))
           | inr some ↦ subst L (sym some.1)
-            (more_low (history_weight inside (some.0 ∷ inside_of h)) (history_weight inside (inside_of h)) (history_weight weighs (p ∷ h)) (history_weight weighs h) (inside some.0.entry.ask) (weighs p.entry.ask)
-             (sum_by-cons of_inner some.0 (inside_of h)) (sum_by-cons of_outer p h) (weights p some.0 some.1) (inner_lighter h))
+              (more_low (history_weight inside (some.0 ∷ inside_of h)) (history_weight inside (inside_of h)) (history_weight weighs (p ∷ h)) (history_weight weighs h) (inside some.0.entry.ask) (weighs p.entry.ask)
+              (sum_by-cons of_inner some.0 (inside_of h)) (sum_by-cons of_outer p h) (weights p some.0 some.1) (inner_lighter h))
         ]
 
 -- ---- beginnings

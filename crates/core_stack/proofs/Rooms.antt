@@ -48,8 +48,8 @@ module _ {A R M : Type 0} (plain : A → Option OpAsk) (given : R → Option OpR
       let N : Word → Bool = λ w. is_full most_rows turn_mark_name w (live_rows turn_life turn_mark_begun at (marked_turns plain given mark past)) in
       ap N found.2.0
       ∙ both_full (IsOfTurn plain given mark past) turn_mark_name turn_name (λ x y is. is.0) most_rows found.0.word
-        (live_rows turn_life turn_mark_begun at (marked_turns plain given mark past)) (live_turns before at)
-        (both_live_rows (IsOfTurn plain given mark past) turn_life turn_mark_begun turn_begun (λ x y is. is.1) at (marked_turns plain given mark past) (turns before) both)
+      (live_rows turn_life turn_mark_begun at (marked_turns plain given mark past)) (live_turns before at)
+      (both_live_rows (IsOfTurn plain given mark past) turn_life turn_mark_begun turn_begun (λ x y is. is.1) at (marked_turns plain given mark past) (turns before) both)
       ∙ sym lacks.1 ∙ room
 
 module _ {A R M : Type 0} (plain : A → Option OpAsk) (given : R → Option OpReply) (mark : A → M) (none : M) where
@@ -72,8 +72,8 @@ module _ {A R M : Type 0} (plain : A → Option OpAsk) (given : R → Option OpR
       let N : Word → Bool = λ w. is_full most_rows code_mark_name w (live_rows code_life code_mark_begun at (marked_codes plain given mark none past)) in
       ap N found.2.0
       ∙ both_full (IsOfCode plain given mark past) code_mark_name code_name (λ x y is. is.0) most_rows found.0.word
-        (live_rows code_life code_mark_begun at (marked_codes plain given mark none past)) (held_codes before at)
-        (both_live_rows (IsOfCode plain given mark past) code_life code_mark_begun code_begun (λ x y is. is.1) at (marked_codes plain given mark none past) (codes_issued before) codes)
+      (live_rows code_life code_mark_begun at (marked_codes plain given mark none past)) (held_codes before at)
+      (both_live_rows (IsOfCode plain given mark past) code_life code_mark_begun code_begun (λ x y is. is.1) at (marked_codes plain given mark none past) (codes_issued before) codes)
       ∙ sym (ap L word) ∙ room
 
 -- ---- over the legal histories of a core

@@ -72,8 +72,17 @@ code_is_over = refl
 turn_was_asked : TurnAsked plain given seven past_login (word 6) 7 wish
 turn_was_asked =
     record {
-      later = []; maker = pair_of authorize_entry login_page; earlier = []; parts = refl; browser = None; presented = None;
-      asked = refl; page = login_page; answered = refl; turn_is = refl; mark_is = refl;
+      later = [];
+      maker = pair_of authorize_entry login_page;
+      earlier = [];
+      parts = refl;
+      browser = None;
+      presented = None;
+      asked = refl;
+      page = login_page;
+      answered = refl;
+      turn_is = refl;
+      mark_is = refl;
     }
 
 not_with_another_mark : TurnAsked plain given seven past_login (word 6) 8 wish → ⊥
@@ -82,12 +91,29 @@ not_with_another_mark h = let k : ◌≡◌ {A = ℕ} 7 8 = h.mark_is in absurd 
 code_was_asked : CodeAtForm plain given seven past_code (word 15) 7 wish
 code_was_asked =
     record {
-      later = []; form = pair_of consent_entry code_answer; earlier = past_consent; parts = refl;
-      request = ask.Consent (Some (word 6)) true (Some (word 5)) (Some (word 9)); asked = refl; response = code_answer; answered = refl;
-      code_is = refl; turn = word 6; named = refl;
+      later = [];
+      form = pair_of consent_entry code_answer;
+      earlier = past_consent;
+      parts = refl;
+      request = ask.Consent (Some (word 6)) true (Some (word 5)) (Some (word 9));
+      asked = refl;
+      response = code_answer;
+      answered = refl;
+      code_is = refl;
+      turn = word 6;
+      named = refl;
       begun = record {
-        later = pair_of login_entry consent_page ∷ []; maker = pair_of authorize_entry login_page; earlier = []; parts = refl;
-        browser = None; presented = None; asked = refl; page = login_page; answered = refl; turn_is = refl; mark_is = refl;
+        later = pair_of login_entry consent_page ∷ [];
+        maker = pair_of authorize_entry login_page;
+        earlier = [];
+        parts = refl;
+        browser = None;
+        presented = None;
+        asked = refl;
+        page = login_page;
+        answered = refl;
+        turn_is = refl;
+        mark_is = refl;
       };
     }
 

@@ -58,5 +58,5 @@ stack_of plain given outer_plain outer_given passed is_around provided IsAsk IsR
       beginnings = λ front rest legal. beginning_is_legal IsAsk IsReply passed weighs most IsLegalInner beginnings s front rest legal;
       provider = λ h legal. stack.provider (filter_map passed h) legal.inner;
       adds = λ h p legal. outer_adds plain given outer_plain outer_given passed is_around provided h p
-      (λ q is. stack.adds (filter_map passed h) q (legal_inside IsAsk IsReply passed weighs most IsLegalInner s h p q is legal));
+          (λ q is. stack.adds (filter_map passed h) q (legal_inside IsAsk IsReply passed weighs most IsLegalInner s h p q is legal));
     }

@@ -29,7 +29,7 @@ pub fn steps_add_only_what_they_say<P: Provides>()
     ensures { (s : P.Setup) (h : List (Pair P.Ask P.Reply)) (p : Pair P.Ask P.Reply) (q : OpPair) → P.is_legal s (h ++ p ∷ [])
         → P.provided (h ++ p ∷ []) ≡ P.provided h ++ q ∷ [] → is_shown q.reply ≡ true
         → (a : OpAsk) × (r : OpReply) × (P.plain_ask p.entry.ask ≡ Some a) × (P.op_reply p.reply ≡ Some r)
-            × (q ≡ provider_pair p.entry.at p.entry.fresh a r) }
+        × (q ≡ provider_pair p.entry.at p.entry.fresh a r) }
 {}
 
 /// A sign-out is one of the provider: the step adds it, with the messages of the step's reply.
@@ -37,5 +37,5 @@ pub fn sign_outs_are_added<P: Provides>()
     ensures { (s : P.Setup) (h : List (Pair P.Ask P.Reply)) (p : Pair P.Ask P.Reply) (w : Option Word) → P.is_legal s (h ++ p ∷ [])
         → P.plain_ask p.entry.ask ≡ Some (op_ask.SignOut w)
         → (sent : List Message) × (P.op_reply p.reply ≡ Some (op_told.SignedOut sent)) × (P.notices p.reply ≡ Some sent)
-            × (P.provided (h ++ p ∷ []) ≡ P.provided h ++ provider_pair p.entry.at p.entry.fresh (op_ask.SignOut w) (op_told.SignedOut sent) ∷ []) }
+        × (P.provided (h ++ p ∷ []) ≡ P.provided h ++ provider_pair p.entry.at p.entry.fresh (op_ask.SignOut w) (op_told.SignedOut sent) ∷ []) }
 {}

@@ -11,7 +11,8 @@ use sso_base::{Ask, Entry, HttpReply, Messages, Moment, NoMemory, Word};
 use std::alloc::Global;
 
 impl Provides for OpCore {
-    ghost use Rattle.std.specs.Prelude.{Some, refl};
+    ghost use Rattle.std.specs.Prelude.{◌≡◌, Some, refl};
+    ghost use Rattle.sso_base.specs.Legal.{IsEntry};
     ghost use Rattle.op_exchange.specs.Values.{IsOpAsk};
     ghost use Rattle.op_request.specs.Prepared.{prepared as op_prepared};
     ghost use Rattle.op_response.specs.Telling as telling;
@@ -73,7 +74,10 @@ impl Provides for OpCore {
         op_http(alloc, registry, reply)
     }
 
-    fn known(entry: Entry<OpAsk>) -> Entry<OpAsk> {
+    fn known(entry: Entry<OpAsk>) -> Entry<OpAsk>
+        ensures same { result ≡ entry }
+        ensures values { IsEntry IsOpAsk result }
+    {
         know_op_entry(&entry);
         entry
     }

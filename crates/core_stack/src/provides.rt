@@ -86,11 +86,7 @@ pub trait Provides: Core {
         ensures { option_copied result ≡ held_code (reverse (provided (Self.history self.now))) at (Some word) };
 
     /// A reply as it is sent.
-    fn http(
-        alloc: Global,
-        registry: &Registry,
-        reply: &Self::Reply,
-    ) -> Result<HttpReply, NoMemory>
+    fn http(alloc: Global, registry: &Registry, reply: &Self::Reply) -> Result<HttpReply, NoMemory>
         ensures { IfOk result (λ h. h ≡ http_of registry.now reply.now) };
 
     /// The same entry, of which it is known that it holds values of its types. A lemma for the proofs.

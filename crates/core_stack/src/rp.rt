@@ -56,11 +56,7 @@ impl Relies for RpCore {
         prepare_tokens(alloc, registry, party, pending, response)
     }
 
-    fn prepare_info(
-        alloc: Global,
-        pending: Word,
-        response: &Answered,
-    ) -> Result<RpAsk, NoMemory> {
+    fn prepare_info(alloc: Global, pending: Word, response: &Answered) -> Result<RpAsk, NoMemory> {
         prepare_info(alloc, pending, response)
     }
 

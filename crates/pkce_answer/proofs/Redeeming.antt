@@ -97,12 +97,12 @@ module _ {A R S : Type 0} (plain : A → Option OpAsk) (given : R → Option OpR
   held_mark : (h : List (Outer A R)) (at : ℕ) (w : Option Word) (code : CodeRow) → IsLegalPkce plain given IsAsk weighs most IsLegalInner s h
       → held_code (reverse (provided (inner_history h))) at w ≡ Some code
       → (x : CodeMark (Option Digest)) × (marked_code (outer_plain plain) (outer_given given) asked_mark None (reverse h) at w ≡ Some x)
-        × IsOfCode (outer_plain plain) (outer_given given) asked_mark (reverse h) x code
+      × IsOfCode (outer_plain plain) (outer_given given) asked_mark (reverse h) x code
   held_mark h at w code legal held =
       let before : OpPast = reverse (provided (inner_history h)) in
       first_of_both (IsOfCode (outer_plain plain) (outer_given given) asked_mark (reverse h)) (marked_code (outer_plain plain) (outer_given given) asked_mark None (reverse h) at w) (held_code before at w) code
       (code_found (outer_plain plain) (outer_given given) asked_mark None (reverse h) before at w
-       (codes_at (outer_plain plain) (outer_given given) asked_mark (λ l. provided (inner_history l)) (IsLegalPkce plain given IsAsk weighs most IsLegalInner s) c outer_stack None h legal))
+      (codes_at (outer_plain plain) (outer_given given) asked_mark (λ l. provided (inner_history l)) (IsLegalPkce plain given IsAsk weighs most IsLegalInner s) c outer_stack None h legal))
       held
 
   pub was_asked : (h : List (Outer A R)) (at : ℕ) (w : Word) (code : CodeRow) → IsLegalPkce plain given IsAsk weighs most IsLegalInner s h

@@ -183,7 +183,7 @@ module _ {A R : Type 0} (plain : A → Option OpAsk) (given : R → Option OpRep
     -- a sign-out is passed on
     pub outer_signs_out : (notices : R → Option (List Message)) (w : Option Word) → IsLegalPkce plain given IsAsk weighs most IsLegalInner s (h ++ p ∷ []) → outer_plain plain p.entry.ask ≡ Some (ask.SignOut w)
         → ((q : Pair A R) → IsLegalInner s (inner_history h ++ q ∷ []) → plain q.entry.ask ≡ Some (ask.SignOut w)
-            → (sent : List Message) × (given q.reply ≡ Some (SignedOut sent)) × (notices q.reply ≡ Some sent))
+        → (sent : List Message) × (given q.reply ≡ Some (SignedOut sent)) × (notices q.reply ≡ Some sent))
         → (sent : List Message) × (outer_given given p.reply ≡ Some (SignedOut sent)) × (outer_notices notices p.reply ≡ Some sent)
     outer_signs_out notices w legal asked inner =
         let B : Option OpAsk → Type 0 = λ o. IsReply (refusal_by plain given (reverse h) p.entry.at p.entry.ask.challenge p.entry.ask.verifier o) p.reply in

@@ -61,7 +61,7 @@ pub fn challenges_stand<P: Provides>()
     ensures turns { (past : List (Outer P.Ask P.Reply)) (w : Word) (row : TurnMark (Option Digest))
         → (row_of turn_mark_name w (marks.marked_turns (outer_plain P.plain_ask) (outer_given P.given_reply) asked_mark past) ≡ Some row)
         ↔ Stands turn_mark_name (marks.turn_made (outer_plain P.plain_ask) (outer_given P.given_reply) asked_mark)
-            (marks.turn_kept (outer_plain P.plain_ask) (outer_given P.given_reply)) past w row }
+        (marks.turn_kept (outer_plain P.plain_ask) (outer_given P.given_reply)) past w row }
     ensures codes { (past : List (Outer P.Ask P.Reply)) (w : Word) (row : CodeMark (Option Digest))
         → (row_of code_mark_name w (marks.marked_codes (outer_plain P.plain_ask) (outer_given P.given_reply) asked_mark None past) ≡ Some row)
         ↔ Stands code_mark_name (marks.code_made (outer_plain P.plain_ask) (outer_given P.given_reply) asked_mark None) marks.code_kept past w row }

@@ -17,4 +17,7 @@ mod asks;
 mod law;
 
 pub use asks::{Challenge, PkceAsk, PkceParts, PkceReply, Verifier};
-pub use law::{challenges_stand, codes_answer_one_request, codes_keep_their_challenge, codes_need_their_verifier};
+pub use law::{
+    challenges_stand, codes_answer_one_request, codes_keep_their_challenge,
+    codes_need_their_verifier,
+};

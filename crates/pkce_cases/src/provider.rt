@@ -81,12 +81,7 @@ impl Provider {
     }
 
     /// The answer to a request: its line, after `own` if the provider was not asked.
-    pub fn ask(
-        &mut self,
-        alloc: Global,
-        at: Moment,
-        fields: &[&str],
-    ) -> Result<String, NoMemory> {
+    pub fn ask(&mut self, alloc: Global, at: Moment, fields: &[&str]) -> Result<String, NoMemory> {
         let request = request(alloc, fields)?;
         let asked = <PkceCore<OpCore> as Provides>::prepare(alloc, &self.registry, &request)?;
         let words = self.run.words();

@@ -23,7 +23,7 @@ use Rattle.core_stack.specs.Holding.{HoldMarks}
 use Rattle.core_stack.proofs.Merging.{count_passes, count_own, merged_passes, merged_own}
 use Rattle.core_stack.proofs.Passing.{inner_reversed, inner_last, inner_lighter}
 use Rattle.core_stack.proofs.Stepping.{weight_after, legal_own, legal_passed}
-use Rattle.core_stack.proofs.Holding.{holds_own, holds_passed, turn_may, code_may, may_through}
+use Rattle.core_stack.proofs.MarksHeld.{holds_own, holds_passed, turn_may, code_may, may_through}
 use Rattle.pkce_answer.specs.declared.asks.PkceAsk.{PkceAsk}
 use Rattle.pkce_answer.specs.declared.asks.PkceParts.{PkceParts}
 use Rattle.pkce_answer.specs.declared.asks.PkceReply.TheVariants.{Through, Own}
@@ -146,8 +146,8 @@ module _ {A R S : Type 0} (plain : A → Option OpAsk) (given : R → Option OpR
       let N : ℕ → Type 0 = λ n. Keeps plain given IsAsk weighs most IsLegalInner s inner ks' (weight + w) p.entry.at n turns codes in
       subst K (sym weight_grown) (subst T (sym last_is) (subst N (sym limit_is)
       (keeps_more p inner ks' w turns codes (ap passed_count grown ∙ count_own ks own ∙ keeps.count) (own_history own ks' grown) w_is
-       (holds_own (outer_plain plain) (outer_given given) asked_mark None (reverse H) p last turns codes refl (not_ahead plain given IsAsk weighs most IsLegalInner s inner ks weight last limit turns codes keeps H is own.entry.at order) marks_now)
-       (legal_own (IsPkceAsk IsAsk) (IsPkceReply plain given) passed (outer_weight weighs) most IsLegalInner s H p w legal_now refl values order (subst Q (sym refused) refl) w_is room))))
+      (holds_own (outer_plain plain) (outer_given given) asked_mark None (reverse H) p last turns codes refl (not_ahead plain given IsAsk weighs most IsLegalInner s inner ks weight last limit turns codes keeps H is own.entry.at order) marks_now)
+      (legal_own (IsPkceAsk IsAsk) (IsPkceReply plain given) passed (outer_weight weighs) most IsLegalInner s H p w legal_now refl values order (subst Q (sym refused) refl) w_is room))))
 
   -- ---- that it passed on
 
@@ -158,7 +158,7 @@ module _ {A R S : Type 0} (plain : A → Option OpAsk) (given : R → Option OpR
       let J : List (Pair A R) → Type 0 = λ l. last_moment (reverse l) ≤ at in
       subst J (sym (inner_same ks inner H keeps.count is))
       (subst I (sym (inner_reversed passed H))
-       (low_twice (last_moment (inner_history (reverse H))) (last_moment (reverse H)) at (inner_last passed (IsPkceAsk IsAsk) (IsPkceReply plain given) passed_moment (reverse H) legal_now.answered) order))
+      (low_twice (last_moment (inner_history (reverse H))) (last_moment (reverse H)) at (inner_last passed (IsPkceAsk IsAsk) (IsPkceReply plain given) passed_moment (reverse H) legal_now.answered) order))
 
   -- the inner core has room
   pub inner_has_room : (asked : PkceAsk A) → history_weight (outer_weight weighs) H + outer_weight weighs asked ≤ most s → (v : ℕ) → v ≡ history_weight weighs inner → most s < v + weighs asked.inner → ⊥
@@ -210,11 +210,11 @@ module _ {A R S : Type 0} (plain : A → Option OpAsk) (given : R → Option OpR
         let N : ℕ → Type 0 = λ n. Keeps plain given IsAsk weighs most IsLegalInner s inner' ks' (weight + w) at n turns' codes' in
         subst K (sym weight_grown) (subst T (sym last_is) (subst N (sym limit_is)
         (keeps_more p inner' ks' w turns' codes'
-         (ap C grown ∙ count_passes ks parts ∙ ap suc keeps.count ∙ sym (ap L (inner_taken inner' order inner_grown) ∙ one_longer inner taken))
-         (passed_history ks' inner' order grown inner_grown) w_is
-         (holds_passed (outer_plain plain) (outer_given given) asked_mark None (reverse H) p last turns turns' codes codes'
-          (not_ahead plain given IsAsk weighs most IsLegalInner s inner ks weight last limit turns codes keeps H is at order) marks_now turns_are codes_are)
-         legal)))
+        (ap C grown ∙ count_passes ks parts ∙ ap suc keeps.count ∙ sym (ap L (inner_taken inner' order inner_grown) ∙ one_longer inner taken))
+        (passed_history ks' inner' order grown inner_grown) w_is
+        (holds_passed (outer_plain plain) (outer_given given) asked_mark None (reverse H) p last turns turns' codes codes'
+        (not_ahead plain given IsAsk weighs most IsLegalInner s inner ks weight last limit turns codes keeps H is at order) marks_now turns_are codes_are)
+        legal)))
 
     -- ---- its rows have room
 
@@ -226,8 +226,8 @@ module _ {A R S : Type 0} (plain : A → Option OpAsk) (given : R → Option OpR
       turn_fits began left order legal began_is left_is =
           may_through turn_mark_name turn_mark_begun began (turns_left (turn_ended (given reply) (named_in (plain asked))) (live_rows turn_life turn_mark_begun at turns)) left left_is
           (turn_may (outer_plain plain) (outer_given given) asked_mark (λ l. provided (inner_history l)) (IsLegalPkce plain given IsAsk weighs most IsLegalInner s) c
-           (outer_stack plain given IsAsk weighs most IsLegalInner beginnings provided s c stack) None H (around parts taken) last turns codes began legal
-           (not_ahead plain given IsAsk weighs most IsLegalInner s inner ks weight last limit turns codes keeps H is at order) marks_now began_is)
+          (outer_stack plain given IsAsk weighs most IsLegalInner beginnings provided s c stack) None H (around parts taken) last turns codes began legal
+          (not_ahead plain given IsAsk weighs most IsLegalInner s inner ks weight last limit turns codes keeps H is at order) marks_now began_is)
 
       pub code_fits : (made : Option (CodeMark (Option Digest))) (left : List (CodeMark (Option Digest))) → last_moment (reverse H) ≤ at
           → IsLegalPkce plain given IsAsk weighs most IsLegalInner s (H ++ around parts taken ∷ [])
@@ -236,8 +236,8 @@ module _ {A R S : Type 0} (plain : A → Option OpAsk) (given : R → Option OpR
       code_fits made left order legal made_is left_is =
           may_through code_mark_name code_mark_begun made (live_rows code_life code_mark_begun at codes) left left_is
           (code_may (outer_plain plain) (outer_given given) asked_mark (λ l. provided (inner_history l)) (IsLegalPkce plain given IsAsk weighs most IsLegalInner s) c
-           (outer_stack plain given IsAsk weighs most IsLegalInner beginnings provided s c stack) None H (around parts taken) last turns codes made legal
-           (not_ahead plain given IsAsk weighs most IsLegalInner s inner ks weight last limit turns codes keeps H is at order) marks_now made_is)
+          (outer_stack plain given IsAsk weighs most IsLegalInner beginnings provided s c stack) None H (around parts taken) last turns codes made legal
+          (not_ahead plain given IsAsk weighs most IsLegalInner s inner ks weight last limit turns codes keeps H is at order) marks_now made_is)
 
 -- ---- what the calls of a step say, in one
 

@@ -14,7 +14,7 @@ use Rattle.core_stack.specs.Kept.{passed_count}
 use Rattle.core_stack.specs.Rows.{turn_mark_name, turn_mark_begun, code_mark_name, code_mark_begun}
 use Rattle.core_stack.specs.Marks.{mark_in_turn, mark_in_code, marked_turn}
 use Rattle.core_stack.proofs.Merging.{inner_of_merged}
-use Rattle.core_stack.proofs.Holding.{turn_is_found, code_is_found}
+use Rattle.core_stack.proofs.MarksHeld.{turn_is_found, code_is_found}
 use Rattle.pkce_answer.specs.Challenges.{Digest, asked_mark}
 use Rattle.pkce_answer.specs.Around.{Outer, passed, inner_history, around, own_pair, merged_history, outer_plain, outer_given}
 use Rattle.pkce_answer.specs.Answering.{code_challenge}

@@ -18,11 +18,7 @@ use sso_base::{Ask, Entry, HttpReply, Messages, Moment, NoMemory, Word};
 use std::alloc::Global;
 
 // The challenge of a request.
-fn challenge_asked(
-    alloc: Global,
-    request: &Ask,
-    ask: Option<&OpAsk>,
-) -> Result<Challenge, NoMemory>
+fn challenge_asked(alloc: Global, request: &Ask, ask: Option<&OpAsk>) -> Result<Challenge, NoMemory>
     ensures { IfOk result (λ c. c ≡ spec.challenge_asked request.now (option_copied ask.entry)) }
 {
     match ask {
@@ -32,11 +28,7 @@ fn challenge_asked(
 }
 
 // The verifier of a request.
-fn verifier_asked(
-    alloc: Global,
-    request: &Ask,
-    ask: Option<&OpAsk>,
-) -> Result<Verifier, NoMemory>
+fn verifier_asked(alloc: Global, request: &Ask, ask: Option<&OpAsk>) -> Result<Verifier, NoMemory>
     ensures { IfOk result (λ v. v ≡ spec.verifier_asked request.now (option_copied ask.entry)) }
 {
     match ask {
@@ -63,6 +55,7 @@ fn asked_around<P: Provides>(
 }
 
 impl<P: Provides> Provides for PkceCore<P> {
+    ghost use Rattle.sso_base.specs.Legal.{IsEntry};
     ghost use Rattle.core_stack.proofs.Stacking.{outer_adds, legal_inside};
     ghost use Rattle.pkce_answer.specs.Challenges.{IsPkceAsk};
     ghost use Rattle.pkce_answer.specs.Around.{passed, inner_history, outer_plain, outer_told, outer_given, outer_notices, outer_weight};
@@ -146,7 +139,10 @@ impl<P: Provides> Provides for PkceCore<P> {
         }
     }
 
-    fn known(entry: Entry<PkceAsk<P::Ask>>) -> Entry<PkceAsk<P::Ask>> {
+    fn known(entry: Entry<PkceAsk<P::Ask>>) -> Entry<PkceAsk<P::Ask>>
+        ensures same { result ≡ entry }
+        ensures values { IsEntry (IsPkceAsk P.IsAsk) result }
+    {
         known::<P>(entry)
     }
 
@@ -159,7 +155,7 @@ impl<P: Provides> Provides for PkceCore<P> {
     ghost adds_what_it_gives = { λ s h p legal. outer_adds P.plain_ask P.given_reply (outer_plain P.plain_ask) (outer_given P.given_reply) passed
         (pkce_is_around P.plain_ask P.given_reply) P.provided h p
         (λ q is. P.adds_what_it_gives s (inner_history h) q
-            (legal_inside (IsPkceAsk P.IsAsk) (IsPkceReply P.plain_ask P.given_reply) passed (outer_weight P.weighs) P.most P.is_legal s h p q is legal)) };
+        (legal_inside (IsPkceAsk P.IsAsk) (IsPkceReply P.plain_ask P.given_reply) passed (outer_weight P.weighs) P.most P.is_legal s h p q is legal)) };
 
     ghost given_is_told = { λ t r same. outer_given_told P.given_reply P.op_reply P.given_is_told t r same };
 

@@ -72,10 +72,12 @@ impl<P: Provides> PkceCore<P> {
         ensures { IfOk result (λ r. r ≡ spec.pkce_answer P.plain_ask P.given_reply (reverse self.now.history) at ask.now) }
     {
         match P::plain(&ask.inner) {
-            Some(OpAsk::Authorize {
-                verdict: Verdict::Grant(wish),
-                ..
-            }) => wish_refusal(alloc, wish, &ask.challenge),
+            Some(
+                OpAsk::Authorize {
+                    verdict: Verdict::Grant(wish),
+                    ..
+                },
+            ) => wish_refusal(alloc, wish, &ask.challenge),
             Some(OpAsk::Token { grant: Ok(grant) }) => {
                 let code = Word::read(grant.code.as_str().as_bytes());
                 Ok(token_refusal(self.code_challenge(at, code), &ask.verifier))

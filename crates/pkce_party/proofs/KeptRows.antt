@@ -1,5 +1,5 @@
 -- What a pair keeps of the verifiers, and what it makes.
-use Rattle.std.proofs.Common.{◌≡◌, ℕ, Bool, true, false, ◌&&◌, cond, List, filter_map, Option, Some, None, refl, sym, ap}
+use Rattle.std.proofs.Common.{◌≡◌, ℕ, Bool, true, false, ◌&&◌, cond, List, filter_map, Option, Some, None, refl, sym, ◌∙◌, ap}
 use Rattle.sso_base.specs.Words.{Word, is_word, fresh_word}
 use Rattle.sso_base.specs.Stands.{KeepsNames}
 use Rattle.rp_exchange.specs.declared.ask.RpAsk.{RpAsk}
@@ -34,10 +34,16 @@ verifier_begun_kept past p row after h = ap verifier_begun (verifier_same past p
 abbrev pub drawn_row : ℕ → List Word → VerifierRow
 drawn_row at fresh = record { state = fresh_word fresh 1; word = fresh_word fresh 3; begun = at }
 
+-- a request that draws no row begins none
+pub none_begun : (told : RpReply) → if_begun told None ≡ None
+none_begun (reply.Ask to browser) = refl
+none_begun told = refl
+
 drawn_begun : (at : ℕ) (fresh : List Word) (asked : RpAsk) (told : RpReply) (row : VerifierRow) → if_begun told (row_drawn at fresh asked) ≡ Some row
     → verifier_begun row ≡ at
 drawn_begun at fresh (ask.Begin presented) (reply.Ask to browser) row h = ap verifier_begun (sym (some_same (drawn_row at fresh) row h))
-drawn_begun at fresh asked told row h = cc
+drawn_begun at fresh (ask.Begin presented) told row h = cc
+drawn_begun at fresh asked told row h = (let k : None ≡ Some row = sym (none_begun told) ∙ h in cc)
 
 pub verifier_made_begun : (held : List VerifierRow) (past : RpPast) (p : RpPair) (row : VerifierRow) → verifier_made held past p ≡ Some row
     → verifier_begun row ≡ p.entry.at

@@ -5,6 +5,7 @@ mod Living
 mod Noted
 mod Pairing
 mod Taking
+mod Timing
 pub mod Requesting
 mod Sent
 mod Samples

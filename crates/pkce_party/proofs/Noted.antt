@@ -30,7 +30,7 @@ use Rattle.pkce_party.specs.declared.rows.VerifierRow.{VerifierRow}
 use Rattle.pkce_party.specs.Verifiers.{verifier_name, verifier_begun, row_drawn, if_begun, verifier_made, verifier_kept, verifiers, live_verifiers}
 use Rattle.pkce_party.specs.Keeping.{later, known_of, Steps, KeepsVerifiers}
 use Rattle.pkce_party.specs.Noting.{ended_rows, rows_left, pushed, noted, MayAddVerifier}
-use Rattle.pkce_party.proofs.KeptRows.{verifier_names, verifier_begun_kept, drawn_row, verifier_made_begun, left_as_kept}
+use Rattle.pkce_party.proofs.KeptRows.{verifier_names, verifier_begun_kept, drawn_row, none_begun, verifier_made_begun, left_as_kept}
 use Rattle.pkce_party.proofs.Together.{as_full}
 
 not_full : (which : RpTable) (full : Bool) → if_full which full ≡ None → full ≡ false
@@ -55,7 +55,8 @@ module _ (s : PartySetup) (past : RpPast) (e : Entry RpAsk) where
       ∙ as_full past e.at (fresh_word e.fresh 1)
       ∙ not_full table.Logins (is_full most_rows login_name (fresh_word e.fresh 1) (live_logins past e.at))
       (own_replies_stand s past e (reply.Ask to browser) refl (sym answered)).room
-  fits asked told row answered h = cc
+  fits (ask.Begin presented) told row answered h = cc
+  fits asked told row answered h = (let k : None ≡ Some row = sym (none_begun told) ∙ h in cc)
 
   module _ (told : RpReply) (answered : told ≡ rp_answer s past e) (order : last_moment past ≤ e.at) (rows : List VerifierRow)
       (keeps : KeepsVerifiers past rows) where

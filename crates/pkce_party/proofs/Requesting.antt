@@ -161,8 +161,15 @@ sends s history later earlier p verifier legal among has =
     let given = wanted_one (party_of s).types.code (verifier_for held (rp_answer s past p.entry)) verifier
     (sym (ap (λ (r : PartyReply). r.verifier) is) ∙ has) in
     let by = verifies held (rp_answer s past p.entry) verifier given.given_is in
-    record { code = given.on; pending = by.pending; message = by.message; answer_is = by.told_is; word = by.word; held_is = by.held_is;
-    verifier_is = by.verifier_is }
+    record {
+      code = given.on;
+      pending = by.pending;
+      message = by.message;
+      answer_is = by.told_is;
+      word = by.word;
+      held_is = by.held_is;
+      verifier_is = by.verifier_is;
+    }
 
 pub only_with_a_verifier : (s : PartySetup) (history : List PartyPair) (later earlier : PartyPast) (p : PartyPair) (verifier : Text) → IsLegalParty s history
     → IsAmong history later p earlier
@@ -281,8 +288,13 @@ made_as : (maker : RpPair) (by : ℕ) (login : LoginRow) (row : VerifierRow) (as
     → login_started by maker.entry.at maker.entry.fresh asked told ≡ Some login → if_begun told (row_drawn maker.entry.at maker.entry.fresh asked) ≡ Some row
     → MadeAs maker login row
 made_as maker by login row (ask.Begin presented) (reply.Ask to browser) asks tells login_is row_is =
-    let made : LoginRow = record { state = fresh_word maker.entry.fresh 1; nonce = fresh_word maker.entry.fresh 2; browser = browser; begun = maker.entry.at;
-    by = by } in
+    let made : LoginRow = record {
+      state = fresh_word maker.entry.fresh 1;
+      nonce = fresh_word maker.entry.fresh 2;
+      browser = browser;
+      begun = maker.entry.at;
+      by = by;
+    } in
     let drawn : VerifierRow = record { state = fresh_word maker.entry.fresh 1; word = fresh_word maker.entry.fresh 3; begun = maker.entry.at } in
     let same : made ≡ login = some_same made login login_is in
     record {

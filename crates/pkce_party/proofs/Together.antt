@@ -19,6 +19,7 @@ use Rattle.rp_answer.specs.Logins.{login_started, login_made, login_kept, logins
 use Rattle.rp_answer.proofs.KeptNames.{some_same}
 use Rattle.pkce_party.specs.declared.rows.VerifierRow.{VerifierRow}
 use Rattle.pkce_party.specs.Verifiers.{verifier_name, verifier_begun, row_drawn, if_begun, verifier_made, verifier_kept, verifiers, live_verifiers}
+use Rattle.pkce_party.proofs.KeptRows.{none_begun}
 
 -- one pair of the past made the login and drew the verifier, which have one state and one moment
 pub record MadeOnce (past : RpPast) (login : LoginRow) (row : VerifierRow) : Type 0 where
@@ -162,7 +163,10 @@ made_by past p (ask.Begin presented) (reply.Ask to browser) asks tells =
       same_state = refl;
       same_begun = refl;
     }
-made_by past p asked told asks tells = tt
+made_by past p (ask.Begin presented) told asks tells = tt
+made_by past p asked told asks tells =
+    let M : Option VerifierRow → Type 0 = λ o. BothMade (p ∷ past) None o in
+    subst M (sym (none_begun told)) tt
 
 pub together : (past : RpPast) → AllMade past (logins past) (verifiers past)
 together [] = tt

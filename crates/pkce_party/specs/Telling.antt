@@ -27,7 +27,7 @@ party_http c n reply = challenged reply.challenge (http_of c n reply.inner)
 -- ---- the verifier, in a body
 
 abbrev pub verifier_added : Text → List ℕ → List ℕ
-verifier_added verifier body = body ++ codes "&code_verifier=" ++ verifier
+verifier_added verifier body = body ++ (codes "&code_verifier=" ++ verifier)
 
 abbrev pub verified : Option Text → Message → Message
 verified None message = message

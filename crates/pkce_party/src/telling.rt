@@ -92,11 +92,7 @@ fn body_with(alloc: Global, body: &Blob, verifier: &KeyText) -> Result<Blob, NoM
     form_with(alloc, body.as_bytes(), &parameter)
 }
 
-fn body_if(
-    alloc: Global,
-    body: &Option<Blob>,
-    verifier: &KeyText,
-) -> Result<Option<Blob>, NoMemory>
+fn body_if(alloc: Global, body: &Option<Blob>, verifier: &KeyText) -> Result<Option<Blob>, NoMemory>
     ensures { IfOk result (λ o. o ≡ option_map (spec.verifier_added verifier.now) body.now) }
 {
     match body {

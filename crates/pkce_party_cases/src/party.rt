@@ -171,7 +171,10 @@ impl RelyingParty {
             return told(alloc, "no party");
         }
         let messages = messages_in(alloc, reply)?;
-        run.keep(party_http(alloc, &self.registry, self.party, reply)?, messages);
+        run.keep(
+            party_http(alloc, &self.registry, self.party, reply)?,
+            messages,
+        );
         let line = rp_line(alloc, &reply.inner)?;
         run.told(alloc, call, line.as_str())
     }

@@ -14,7 +14,7 @@ use std::thread::{Threads, join, sleep};
 use std::time::{Clock, Duration};
 
 // An address of this machine at which nobody listens.
-fn free_place<N: Net<Listener = TcpListener>>(
+fn free_place<N: Net<Listener = TcpListener, Stream = TcpStream>>(
     net: &N,
     alloc: Global,
 ) -> Result<Option<Text>, NoMemory> {

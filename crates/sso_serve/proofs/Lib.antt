@@ -1,3 +1,4 @@
 pub mod Samples
+pub mod OpSends
 pub mod Sends
 pub mod Serving

@@ -3,4 +3,4 @@ use Rattle.sso_base.specs.Journal.{most_of}
 use Rattle.sso_serve.proofs.cores.keys_around.Goals as goal
 
 pub new-requires-clause-most : goal.new-requires-clause-most
-new-requires-clause-most g c κs within = ap most_of (sym c.requires.lasts)
+new-requires-clause-most c = ap most_of (sym c.requires.lasts)

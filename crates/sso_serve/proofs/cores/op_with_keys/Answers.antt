@@ -3,9 +3,9 @@ use Rattle.op_core.specs.Providing.{Providing}
 use Rattle.sso_serve.proofs.cores.op_with_keys.Goals as goal
 
 pub keys_around-requires-clause-lasts : goal.keys_around-requires-clause-lasts
-keys_around-requires-clause-lasts g c κs within =
+keys_around-requires-clause-lasts c =
     c.lasting-lasts.ensures ∙ sym (ap (λ (p : Providing). p.registry.lasting) c.in_ok-inner.ensures)
 
 pub returns-clause-registry : goal.returns-clause-registry
-returns-clause-registry g c =
+returns-clause-registry c =
     ap (λ (p : Providing). p.registry) c.keys_around.ensures.inner ∙ ap (λ (p : Providing). p.registry) c.in_ok-inner.ensures

@@ -1,6 +1,19 @@
 use Rattle.sso_serve.specs.Cores.{end_setup}
 use Rattle.sso_serve.proofs.Serving.{setups_same, op_plus_served}
+use Rattle.sso_serve.proofs.OpSends.{sends, shares}
 use Rattle.sso_serve.proofs.cores.serve_op_plus.Goals as goal
+
+pub serve_op-requires-send-P : goal.serve_op-requires-send-P
+serve_op-requires-send-P g c κs within = search sends depth 60 fits 20000
+
+pub serve_op-requires-sync-P : goal.serve_op-requires-sync-P
+serve_op-requires-sync-P g c κs within = search shares depth 60 fits 20000
+
+pub serve_op-requires-send-P-Ask : goal.serve_op-requires-send-P-Ask
+serve_op-requires-send-P-Ask g c κs within = search sends depth 60 fits 20000
+
+pub serve_op-requires-send-P-Reply : goal.serve_op-requires-send-P-Reply
+serve_op-requires-send-P-Reply g c κs within = search sends depth 60 fits 20000
 
 pub serve_op-requires-clause-registry : goal.serve_op-requires-clause-registry
 serve_op-requires-clause-registry g c κs within = c.in_ok-core.ensures.registry

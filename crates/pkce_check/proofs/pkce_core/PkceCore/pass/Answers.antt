@@ -76,9 +76,9 @@ note-requires-clause-turn g c =
     changes.begun
     (turns_left changes.ended (live_rows turn_life turn_mark_begun c.args.entry.at c.pass_on.new.turns.rows))
     c.requires.order legal (c.changes_of-changes.ensures.begun ∙ (turn_row_same (option_copied c.given.result) (g.P.Provides.given_reply c.in-Ok.reply) pending.wish (is_wish (g.P.Provides.plain_ask asked.inner)) pending.sent (sent parts.challenge) c.args.entry.at
-     c.given.ensures c.pending-pending.ensures.wish c.pending-pending.ensures.sent))
+    c.given.ensures c.pending-pending.ensures.wish c.pending-pending.ensures.sent))
     (ap E c.changes_of-changes.ensures.ended ∙ (left_same (option_copied c.given.result) (g.P.Provides.given_reply c.in-Ok.reply) pending.turn (named_in (g.P.Provides.plain_ask asked.inner)) c.args.entry.at c.pass_on.new.turns.rows inside.turns.rows
-     c.given.ensures c.pending-pending.ensures.turn c.pass_on.ensures.turns))
+    c.given.ensures c.pending-pending.ensures.turn c.pass_on.ensures.turns))
 
 pub note-requires-clause-code : goal.note-requires-clause-code
 note-requires-clause-code g c =
@@ -106,7 +106,7 @@ note-requires-clause-code g c =
     })
     changes.made (live_rows code_life code_mark_begun c.args.entry.at c.pass_on.new.codes.rows)
     c.requires.order legal (c.changes_of-changes.ensures.made ∙ (code_row_same (option_copied c.given.result) (g.P.Provides.given_reply c.in-Ok.reply) pending.answer (answer_mark (outer_plain g.P.Provides.plain_ask) (outer_given g.P.Provides.given_reply) asked_mark None (reverse c.args.self.now.history) c.args.entry.at (sent parts.challenge) (g.P.Provides.plain_ask asked.inner)) c.args.entry.at
-     c.given.ensures c.pending-pending.ensures.answer)) (live_codes_same c.args.entry.at c.pass_on.new.codes.rows inside.codes.rows c.pass_on.ensures.codes)
+    c.given.ensures c.pending-pending.ensures.answer)) (live_codes_same c.args.entry.at c.pass_on.new.codes.rows inside.codes.rows c.pass_on.ensures.codes)
 
 pub invariant_of-self-2 : goal.invariant_of-self-2
 invariant_of-self-2 g c =
@@ -137,19 +137,19 @@ invariant_of-self-2 g c =
     c.note.new.turns.rows c.note.new.codes.rows c.requires.order (c.note.ensures.kept ∙ ap K c.pass_on.ensures.kept) c.in-Ok.ensures.history (c.note.ensures.weight ∙ ap W c.pass_on.ensures.weight)
     c.note.ensures.last (c.note.ensures.most ∙ c.pass_on.ensures.most) c.requires.weight legal
     (c.note.ensures.turns
-     ∙ put_turn_same changes.begun (turn_row (g.P.Provides.given_reply c.in-Ok.reply) (is_wish (g.P.Provides.plain_ask asked.inner)) (sent parts.challenge) c.args.entry.at)
-     (turns_left changes.ended (live_rows turn_life turn_mark_begun c.args.entry.at c.pass_on.new.turns.rows))
-     (turns_left (turn_ended (g.P.Provides.given_reply c.in-Ok.reply) (named_in (g.P.Provides.plain_ask asked.inner))) (live_rows turn_life turn_mark_begun c.args.entry.at inside.turns.rows))
-     (c.changes_of-changes.ensures.begun ∙ (turn_row_same (option_copied c.given.result) (g.P.Provides.given_reply c.in-Ok.reply) pending.wish (is_wish (g.P.Provides.plain_ask asked.inner)) pending.sent (sent parts.challenge) c.args.entry.at
-     c.given.ensures c.pending-pending.ensures.wish c.pending-pending.ensures.sent))
-     (ap E c.changes_of-changes.ensures.ended ∙ (left_same (option_copied c.given.result) (g.P.Provides.given_reply c.in-Ok.reply) pending.turn (named_in (g.P.Provides.plain_ask asked.inner)) c.args.entry.at c.pass_on.new.turns.rows inside.turns.rows
-     c.given.ensures c.pending-pending.ensures.turn c.pass_on.ensures.turns)))
+    ∙ put_turn_same changes.begun (turn_row (g.P.Provides.given_reply c.in-Ok.reply) (is_wish (g.P.Provides.plain_ask asked.inner)) (sent parts.challenge) c.args.entry.at)
+    (turns_left changes.ended (live_rows turn_life turn_mark_begun c.args.entry.at c.pass_on.new.turns.rows))
+    (turns_left (turn_ended (g.P.Provides.given_reply c.in-Ok.reply) (named_in (g.P.Provides.plain_ask asked.inner))) (live_rows turn_life turn_mark_begun c.args.entry.at inside.turns.rows))
+    (c.changes_of-changes.ensures.begun ∙ (turn_row_same (option_copied c.given.result) (g.P.Provides.given_reply c.in-Ok.reply) pending.wish (is_wish (g.P.Provides.plain_ask asked.inner)) pending.sent (sent parts.challenge) c.args.entry.at
+    c.given.ensures c.pending-pending.ensures.wish c.pending-pending.ensures.sent))
+    (ap E c.changes_of-changes.ensures.ended ∙ (left_same (option_copied c.given.result) (g.P.Provides.given_reply c.in-Ok.reply) pending.turn (named_in (g.P.Provides.plain_ask asked.inner)) c.args.entry.at c.pass_on.new.turns.rows inside.turns.rows
+    c.given.ensures c.pending-pending.ensures.turn c.pass_on.ensures.turns)))
     (c.note.ensures.codes
-     ∙ put_code_same changes.made (code_row (g.P.Provides.given_reply c.in-Ok.reply) (answer_mark (outer_plain g.P.Provides.plain_ask) (outer_given g.P.Provides.given_reply) asked_mark None (reverse c.args.self.now.history) c.args.entry.at (sent parts.challenge) (g.P.Provides.plain_ask asked.inner)) c.args.entry.at)
-     (live_rows code_life code_mark_begun c.args.entry.at c.pass_on.new.codes.rows) (live_rows code_life code_mark_begun c.args.entry.at inside.codes.rows)
-     (c.changes_of-changes.ensures.made ∙ (code_row_same (option_copied c.given.result) (g.P.Provides.given_reply c.in-Ok.reply) pending.answer (answer_mark (outer_plain g.P.Provides.plain_ask) (outer_given g.P.Provides.given_reply) asked_mark None (reverse c.args.self.now.history) c.args.entry.at (sent parts.challenge) (g.P.Provides.plain_ask asked.inner)) c.args.entry.at
-     c.given.ensures c.pending-pending.ensures.answer))
-     (live_codes_same c.args.entry.at c.pass_on.new.codes.rows inside.codes.rows c.pass_on.ensures.codes)))
+    ∙ put_code_same changes.made (code_row (g.P.Provides.given_reply c.in-Ok.reply) (answer_mark (outer_plain g.P.Provides.plain_ask) (outer_given g.P.Provides.given_reply) asked_mark None (reverse c.args.self.now.history) c.args.entry.at (sent parts.challenge) (g.P.Provides.plain_ask asked.inner)) c.args.entry.at)
+    (live_rows code_life code_mark_begun c.args.entry.at c.pass_on.new.codes.rows) (live_rows code_life code_mark_begun c.args.entry.at inside.codes.rows)
+    (c.changes_of-changes.ensures.made ∙ (code_row_same (option_copied c.given.result) (g.P.Provides.given_reply c.in-Ok.reply) pending.answer (answer_mark (outer_plain g.P.Provides.plain_ask) (outer_given g.P.Provides.given_reply) asked_mark None (reverse c.args.self.now.history) c.args.entry.at (sent parts.challenge) (g.P.Provides.plain_ask asked.inner)) c.args.entry.at
+    c.given.ensures c.pending-pending.ensures.answer))
+    (live_codes_same c.args.entry.at c.pass_on.new.codes.rows inside.codes.rows c.pass_on.ensures.codes)))
 
 pub returns-clause-history : goal.returns-clause-history
 returns-clause-history g c =

@@ -114,10 +114,10 @@ module _ {A R M : Type 0} (plain : A → Option OpAsk) (given : R → Option OpR
       record {
         turns_live = rows_carried turn_mark_name turn_life turn_mark_begun last at (turn_kept plain given past p) began turns turns' order (λ r s h. ap B (turn_same plain given past p r s h)) (marked_turns plain given mark past) holds.turns_live follow_turns;
         turns_begun = begun_carried turn_mark_name turn_life turn_mark_begun last at (turn_kept plain given past p) began turns turns' order (λ r s h. ap B (turn_same plain given past p r s h))
-        (λ r h. turn_row_begun (given p.reply) (is_wish (plain p.entry.ask)) (mark p.entry.ask) at r h) holds.turns_begun follow_turns;
+            (λ r h. turn_row_begun (given p.reply) (is_wish (plain p.entry.ask)) (mark p.entry.ask) at r h) holds.turns_begun follow_turns;
         codes_live = rows_carried code_mark_name code_life code_mark_begun last at (code_kept past p) made codes codes' order (λ r s h. ap I (code_same past p r s h)) (marked_codes plain given mark none past) holds.codes_live follow_codes;
         codes_begun = begun_carried code_mark_name code_life code_mark_begun last at (code_kept past p) made codes codes' order (λ r s h. ap I (code_same past p r s h))
-        (λ r h. code_row_begun (given p.reply) (answer_mark plain given mark none past at (mark p.entry.ask) (plain p.entry.ask)) at r h) holds.codes_begun follow_codes;
+            (λ r h. code_row_begun (given p.reply) (answer_mark plain given mark none past at (mark p.entry.ask) (plain p.entry.ask)) at r h) holds.codes_begun follow_codes;
       }
 
   -- ---- what is found in them
@@ -156,12 +156,12 @@ module _ {A R M : Type 0} (plain : A → Option OpAsk) (given : R → Option OpR
       let N : TurnMark M → Word = λ row. row.turn in
       let B : TurnMark M → ℕ = λ row. row.begun in
       if_row (MayAddRow turn_mark_name turn_mark_begun true (turns_left (turn_ended (given p.reply) (named_in (plain p.entry.ask))) live)) began (λ row there.
-       (let made : turn_made plain given mark (marked_turns plain given mark (reverse h)) (reverse h) p ≡ Some row = sym is ∙ there in
-        let F : List (TurnMark M) → Type 0 = λ rows. MayAddRow turn_mark_name turn_mark_begun true rows row in
-        subst F (sym (left_is_kept plain given past p live))
-        (may_add_reserved turn_mark_name turn_life turn_mark_begun (turn_kept plain given past p) last at order turns (λ r s k. ap N (turn_same plain given past p r s k)) (λ r s k. ap B (turn_same plain given past p r s k))
-         holds.turns_begun (marked_turns plain given mark past) holds.turns_live row (turn_row_begun (given p.reply) (is_wish (plain p.entry.ask)) (mark p.entry.ask) at row made)
-         (turn_has_room plain given mark provided IsLegal c stack h p row legal made))))
+      (let made : turn_made plain given mark (marked_turns plain given mark (reverse h)) (reverse h) p ≡ Some row = sym is ∙ there in
+      let F : List (TurnMark M) → Type 0 = λ rows. MayAddRow turn_mark_name turn_mark_begun true rows row in
+      subst F (sym (left_is_kept plain given past p live))
+      (may_add_reserved turn_mark_name turn_life turn_mark_begun (turn_kept plain given past p) last at order turns (λ r s k. ap N (turn_same plain given past p r s k)) (λ r s k. ap B (turn_same plain given past p r s k))
+      holds.turns_begun (marked_turns plain given mark past) holds.turns_live row (turn_row_begun (given p.reply) (is_wish (plain p.entry.ask)) (mark p.entry.ask) at row made)
+      (turn_has_room plain given mark provided IsLegal c stack h p row legal made))))
 
   pub code_may : (none : M) (h : List (Pair A R)) (p : Pair A R) (last : ℕ) (turns : List (TurnMark M)) (codes : List (CodeMark M)) (made : Option (CodeMark M)) → IsLegal (h ++ p ∷ []) → last ≤ p.entry.at
       → HoldMarks plain given mark none (reverse h) last turns codes → made ≡ code_made plain given mark none (marked_codes plain given mark none (reverse h)) (reverse h) p
@@ -173,12 +173,12 @@ module _ {A R M : Type 0} (plain : A → Option OpAsk) (given : R → Option OpR
       let N : CodeMark M → Word = λ row. row.code in
       let I : CodeMark M → ℕ = λ row. row.issued in
       if_row (MayAddRow code_mark_name code_mark_begun true live) made (λ row there.
-       (let makes : code_made plain given mark none (marked_codes plain given mark none (reverse h)) (reverse h) p ≡ Some row = sym is ∙ there in
-        let F : List (CodeMark M) → Type 0 = λ rows. MayAddRow code_mark_name code_mark_begun true rows row in
-        subst F (all_kept (code_kept past p) live (λ row. refl))
-        (may_add_reserved code_mark_name code_life code_mark_begun (code_kept past p) last at order codes (λ r s k. ap N (code_same past p r s k)) (λ r s k. ap I (code_same past p r s k))
-         holds.codes_begun (marked_codes plain given mark none past) holds.codes_live row (code_row_begun (given p.reply) (answer_mark plain given mark none past at (mark p.entry.ask) (plain p.entry.ask)) at row makes)
-         (code_has_room plain given mark provided IsLegal c stack none h p row legal makes))))
+      (let makes : code_made plain given mark none (marked_codes plain given mark none (reverse h)) (reverse h) p ≡ Some row = sym is ∙ there in
+      let F : List (CodeMark M) → Type 0 = λ rows. MayAddRow code_mark_name code_mark_begun true rows row in
+      subst F (all_kept (code_kept past p) live (λ row. refl))
+      (may_add_reserved code_mark_name code_life code_mark_begun (code_kept past p) last at order codes (λ r s k. ap N (code_same past p r s k)) (λ r s k. ap I (code_same past p r s k))
+      holds.codes_begun (marked_codes plain given mark none past) holds.codes_live row (code_row_begun (given p.reply) (answer_mark plain given mark none past at (mark p.entry.ask) (plain p.entry.ask)) at row makes)
+      (code_has_room plain given mark provided IsLegal c stack none h p row legal makes))))
 
 -- the same rows, by another name
 pub may_through : {R : Type 0} (name : R → Word) (begun : R → ℕ) (row : Option R) (xs ys : List R) → ys ≡ xs → IfSome row (MayAddRow name begun true xs) → IfSome row (MayAddRow name begun true ys)
