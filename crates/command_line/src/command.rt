@@ -39,7 +39,7 @@ pub enum Command {
         /// The name of the file with the provider's discovery document, if one is given.
         discovery: Option<Text>,
     },
-    /// `op-plus CONFIG`: serves the provider with proof keys (RFC 7636).
+    /// `op-plus CONFIG`: serves the provider with proof keys (RFC 7636) and refresh tokens (RFC 6749, 6).
     OpPlus {
         /// The name of the configuration's file.
         config: Text,

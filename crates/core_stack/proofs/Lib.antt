@@ -1,9 +1,12 @@
 pub mod Held
 pub mod Both
+pub mod Numbers
 pub mod Merging
 pub mod Passing
 pub mod Stepping
 pub mod Stacking
+pub mod OnePair
+pub mod Same
 pub mod Added
 pub mod Marked
 pub mod Rooms

@@ -11,6 +11,7 @@ pub mod Ascents
 pub mod Counts
 pub mod Ends
 pub mod Finding
+pub mod Looking
 pub mod FreeSlots
 pub mod Hits
 pub mod Indexing

@@ -1,10 +1,10 @@
 -- The rows of one table: their invariant, how they change, and when there is room for one more. A word or a text names a row.
-use Rattle.std.specs.Prelude.{◌≡◌, ◌<◌, ◌≤◌, ℕ, Bool, true, not, ◌||◌, nat_le, nat_lt, List, [], ◌∷◌, map, length, Option, Some, None, option_map, is_some, ◌⊎◌}
-use Rattle.std.specs.Prelude.{if◌then◌else◌}
+use Rattle.std.specs.Prelude.{◌≡◌, ◌<◌, ◌≤◌, ℕ, Bool, true, false, not, ◌||◌, nat_le, nat_lt, List, [], ◌∷◌, map, length, Option, Some, None, option_map}
+use Rattle.std.specs.Prelude.{is_some, ◌⊎◌, if◌then◌else◌}
 use Rattle.std.specs.Str.{bytes_eq}
 use Rattle.std.specs.List.{list_all, AllByRecursion}
 use Rattle.sso_base.specs.Words.{Word}
-use Rattle.sso_base.specs.Rows.{put, row_of, live_rows}
+use Rattle.sso_base.specs.Rows.{put, row_of, lives, live_rows}
 use Rattle.sso_base.specs.Stands.{IsDistinct}
 use Rattle.held_rows.specs.declared.row.By.{By}
 use Rattle.held_rows.specs.declared.row.By.TheVariants.{Name, Group, OtherGroup}
@@ -79,3 +79,13 @@ pub record MayAddRow {R : Type 0} (name : R → Word) (begun : R → ℕ) (reser
   pub few : length rows < most_rows
   pub unnamed : row_of name (name row) rows ≡ None
   pub latest : none_after begun (begun row) rows ≡ true
+
+-- one of the rows, which passes a test
+pub record IsPassing {R : Type 0} (name : R → Word) (passes : R → Bool) (rows : List R) (row : R) : Type 0 where
+  pub there : row_of name (name row) rows ≡ Some row
+  pub yes : passes row ≡ true
+
+-- one of the rows, whose life has ended at the moment
+pub record IsOver {R : Type 0} (name : R → Word) (life : ℕ) (begun : R → ℕ) (at : ℕ) (rows : List R) (row : R) : Type 0 where
+  pub there : row_of name (name row) rows ≡ Some row
+  pub over : lives life (begun row) at ≡ false

@@ -1,7 +1,7 @@
 // The rows of one table.
 
-ghost use Rattle.std.specs.Prelude.{◌≡◌, ℕ, ◌<◌, ◌≤◌, true, false, not, List, [], ◌∷◌, ◌++◌, length, filter};
-ghost use Rattle.std.specs.Prelude.{None, Some, Option, option_and_then, IsSome, IfSome, OnOk};
+ghost use Rattle.std.specs.Prelude.{◌≡◌, ◌<◌, ◌≤◌, true, false, not, [], ◌∷◌, ◌++◌, length, filter};
+ghost use Rattle.std.specs.Prelude.{None, Some, Option, option_and_then, IsSome, IfSome, IfNone, OnOk};
 ghost use Rattle.std.specs.List.{list_any};
 ghost use Rattle.std.specs.Option.{option_copied};
 ghost use Rattle.sso_base.specs.Rows.{without, put, row_of, live_rows, if_lives};
@@ -144,6 +144,37 @@ impl<R: Row + Drop> Held<R> {
         ensures bound { length self.new.rows ≤ length self.old.rows }
     {
         self.stored.purge(at);
+    }
+
+    /// How many rows there are, those whose life has ended too.
+    pub fn len(&self) -> usize
+        ensures { result ≡ length self.now.rows }
+    {
+        self.stored.by_issue.len()
+    }
+
+    /// A row that passes the test; `None` if and only if no row does.
+    pub fn passing<T: Test<R>>(&self, test: &T) -> Option<&R>
+        ensures some { IfSome (option_copied result) (spec.IsPassing R.name (T.passes test.now) self.now.rows) }
+        ensures none { IfNone (option_copied result) (list_any (T.passes test.now) self.now.rows ≡ false) }
+        ensures held { spec.IsHeld R.name R.begun R.IsSound self.now.rows }
+    {
+        match self.stored.passing(test) {
+            Some(slot) => row_in(&self.stored.slots, slot),
+            None => None,
+        }
+    }
+
+    /// A row whose life has ended at the moment; `None` if and only if all rows live. It is the first row.
+    pub fn ended(&self, at: Moment) -> Option<&R>
+        ensures some { IfSome (option_copied result) (spec.IsOver R.name R.LIFE R.begun at self.now.rows) }
+        ensures none { IfNone (option_copied result) (live_rows R.LIFE R.begun at self.now.rows ≡ self.now.rows) }
+        ensures held { spec.IsHeld R.name R.begun R.IsSound self.now.rows }
+    {
+        match self.stored.ended(at) {
+            Some(slot) => row_in(&self.stored.slots, slot),
+            None => None,
+        }
     }
 
     /// Whether some row passes the test and lives at the moment.

@@ -120,7 +120,7 @@ module _ (wants : Wants) (access : Word) (request : WorldAsk) (e : Entry RpAsk) 
   unfolding carried info_message
   carries = refl
 
-  info_is_asked : IsWord access → op_prepared c informs ≡ op_ask.Info (Given access)
+  pub info_is_asked : IsWord access → op_prepared c informs ≡ op_ask.Info (Given access)
   info_is_asked is =
       provider_reads_it c 0 (carried c (reply.Party (fetch access)) 0) informs (op_ask.Info (Given access)) (info_request_read c (is_registry wants) endpoint (word 17) access refl is) carries
 

@@ -5,6 +5,7 @@ pub mod ClaimValues
 pub mod EarlyLogout
 pub mod Exchanging
 pub mod FirstPlaces
+pub mod ForgedBeside
 pub mod Growing
 pub mod Informing
 pub mod LateCode
@@ -15,6 +16,8 @@ pub mod Needed
 pub mod NewsRequest
 pub mod NoLogout
 pub mod OtherCookie
+pub mod OwnClaims
+pub mod OwnTokens
 pub mod Redeeming
 pub mod Responding
 pub mod Sessions

@@ -170,7 +170,7 @@ module _ (wants : Wants) where
   unforged : (p : _) → forges (own_site c) four (Party 0 1 (Http response) (pair_of callback_entry p)) ≡ false
   unforged p = unforged_if (own_site c) four wants.id text (token_there wants.id text _)
 
-  response_words : (fragment : Bool) → http_words (response_ask (codes "/cb") fragment (answer_form our_answer) jar) ≡ jar_words jar
+  pub response_words : (fragment : Bool) → http_words (response_ask (codes "/cb") fragment (answer_form our_answer) jar) ≡ jar_words jar
   response_words true = refl
   response_words false = refl
 

@@ -189,16 +189,16 @@ module _ (wants : Wants) where
   unfolding login_posted
   fills_in = refl
 
-  word_5 : IsWord (word 5)
+  pub word_5 : IsWord (word 5)
   word_5 = drawn_word (word 5) refl refl
 
-  word_6 : IsWord (word 6)
+  pub word_6 : IsWord (word 6)
   word_6 = drawn_word (word 6) refl refl
 
   word_9 : IsWord (word 9)
   word_9 = drawn_word (word 9) refl refl
 
-  login_is_asked : op_prepared c logs_in ≡ login_entry.ask
+  pub login_is_asked : op_prepared c logs_in ≡ login_entry.ask
   login_is_asked =
       let texts = IsUtf8-are_ascii visitor.id refl in
       provider_reads_it c 1 (login_posted c 1 (reply.Provider login_page) visitor.id visitor.password first_jar) logs_in _

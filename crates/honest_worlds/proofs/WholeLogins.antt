@@ -1,12 +1,12 @@
 -- Whole logins of the six response types. What is left to compute of each is what the party replies, that no half digests are alike,
 -- and its session. The code of the answer is `word 15`, its access token `word 16`; that of the token response is `word 21`.
-use Rattle.std.proofs.Common.{◌≡◌, ℕ, Bool, true, false, List, [], ◌∷◌, length, codes, Some, refl, sym, ap, ◌∙◌, arith}
+use Rattle.std.proofs.Common.{◌≡◌, ◌&&◌, ◌||◌, ℕ, Bool, true, false, List, [], ◌∷◌, length, codes, Some, inl, inr, refl, sym, ap, ◌∙◌, arith}
 use Rattle.std.specs.List.{list_any}
 use Rattle.std.specs.Str.{bytes_eq}
 use Rattle.sso_base.specs.Words.{Word, Text, word_text}
 use Rattle.sso_base.specs.declared.history.Entry.{Entry}
 use Rattle.sso_base.proofs.OnLiterals.{base64url_on_literals}
-use Rattle.sso_base.proofs.RowLaws.{bytes_true}
+use Rattle.sso_base.proofs.RowLaws.{bool_cases, bytes_true}
 use Rattle.hmac256.proofs.OnLiterals.{hmac_on_literals}
 use Rattle.oidc_words.specs.Types.{types_text}
 use Rattle.client_registry.specs.ClientSets.{no_clients}
@@ -25,18 +25,20 @@ use Rattle.sso_places.specs.Cookies.{no_jar}
 use Rattle.sso_places.specs.Premises.{HasDistinctWords, HasDistinctHashes}
 use Rattle.sso_places.specs.Reading.{machine_of}
 use Rattle.sso_places.specs.Site.{own_site, setup_at}
+use Rattle.sso_places.specs.Unshared.{IsUnshared}
 use Rattle.sso_places.specs.World.{Place, op_past, rp_past, drawn}
 use Rattle.sso_places.proofs.Clashes.{hashes_after}
 use Rattle.sso_places.proofs.SmallSite.{drawn_word, are_distinct}
 use Rattle.honest_places.specs.Outcome.{LetsIn, gives_password}
 use Rattle.honest_worlds.specs.Session.{HoldsSession}
-use Rattle.honest_worlds.specs.Whole.{IsWholeLogin}
+use Rattle.honest_worlds.specs.Whole.{answers_info, IsWholeLogin}
 use Rattle.honest_worlds.proofs.Alone.{KeepsAll}
 use Rattle.honest_worlds.proofs.AnyType.{Wants, with_code, without_code, types_of, registered, is_registry, visitor, may_log_in, code_is}
 use Rattle.honest_worlds.proofs.UpToAnswer.{past_begin, consents_there, three}
 use Rattle.honest_worlds.proofs.Responding.{request, callback_entry, four, responded, responding}
 use Rattle.honest_worlds.proofs.Exchanging.{pending_in_time, redeems_there, five, six, given_request, given_entry, given, giving}
 use Rattle.honest_worlds.proofs.Informing.{fetch, entered, info_entry, told_entry, access_in_time, told, NeedsInfo, asks_there, handed, informs_there, enters_there, entering}
+use Rattle.honest_worlds.proofs.OwnTokens.{shown_21, response_shows, response_unshared, given_unshared, front_info_unshared, code_info_unshared}
 use Rattle.honest_worlds.proofs.Sessions.{did, row_of, holds}
 
 -- ---- what is the same in all of them
@@ -47,9 +49,10 @@ module _ (wants : Wants) where
 
   -- a login that keeps all premises, lets alice in and ends with a session is whole
   abbrev whole : (last : Place) (earlier : List Place) → KeepsAll (registered wants) visitor last earlier → HasDistinctWords (last ∷ earlier) → HasDistinctHashes (last ∷ earlier)
+      → IsUnshared (last ∷ earlier) → list_any answers_info (last ∷ earlier) ≡ (wants.info && (wants.code || wants.token))
       → list_any gives_password (last ∷ earlier) ≡ true → LetsIn visitor last (codes "alice") → Session (last ∷ earlier) → (text : Text) → types_text (types_of wants) ≡ text
       → IsWholeLogin text wants.info (length (last ∷ earlier))
-  whole last earlier keeps distinct hashes password lets_in session text type_is =
+  whole last earlier keeps distinct hashes unshared informs password lets_in session text type_is =
       record {
         configuration = registered wants;
         visitor = visitor;
@@ -66,6 +69,8 @@ module _ (wants : Wants) where
         unforged = keeps.unforged;
         unleaked = keeps.unleaked;
         joined = keeps.joined;
+        unshared = unshared;
+        informs = informs;
         may = may_log_in wants;
         honest = keeps.honest;
         password = password;
@@ -84,10 +89,10 @@ module _ (wants : Wants) where
     abbrev up_to_claims : List Place
     up_to_claims = informs_there wants access asked e earlier ∷ asks_there wants access asked e earlier ∷ earlier
 
-    abbrev by_info : NeedsInfo wants access asked e earlier → HasDistinctWords (informed ∷ up_to_claims) → HasDistinctHashes earlier → list_any gives_password earlier ≡ true
-        → Session (informed ∷ up_to_claims) → (text : Text) → types_text (types_of wants) ≡ text → IsWholeLogin text wants.info (length (informed ∷ up_to_claims))
-    by_info needs distinct hashes password session text type_is =
-        whole informed up_to_claims (entering wants access asked e earlier needs) distinct hashes password (record { request = _; pair = _; word = word 34; place = refl; replied = refl }) session text type_is
+    abbrev by_info : NeedsInfo wants access asked e earlier → HasDistinctWords (informed ∷ up_to_claims) → HasDistinctHashes earlier → IsUnshared (informed ∷ up_to_claims)
+        → true ≡ (wants.info && (wants.code || wants.token)) → list_any gives_password earlier ≡ true → Session (informed ∷ up_to_claims) → (text : Text) → types_text (types_of wants) ≡ text → IsWholeLogin text wants.info (length (informed ∷ up_to_claims))
+    by_info needs distinct hashes unshared informs password session text type_is =
+        whole informed up_to_claims (entering wants access asked e earlier needs) distinct hashes unshared informs password (record { request = _; pair = _; word = word 34; place = refl; replied = refl }) session text type_is
 
 abbrev nonce : Text
 nonce = word_text (word 3)
@@ -130,10 +135,11 @@ front_session token info =
     let wants : Wants = fronted token info in
     holds wants (word 18) (request wants) (callback_entry wants) (four wants) [] (front_machine token info) (front_live token info) refl
 
-abbrev by_front : (token info : Bool) → EntersAtOnce token info → (text : Text) → types_text (types_of (fronted token info)) ≡ text → IsWholeLogin text info 5
-by_front token info is text type_is =
+abbrev by_front : (token info : Bool) → EntersAtOnce token info → false ≡ (info && token) → (text : Text) → types_text (types_of (fronted token info)) ≡ text → IsWholeLogin text info 5
+by_front token info is informs text type_is =
     let wants : Wants = fronted token info in
-    whole wants (enters_at_once token info) (four wants) (responding wants (entered (word 18)) is refl) (are_distinct (drawn (enters_at_once token info ∷ four wants)) refl) (front_hashes token info) refl
+    whole wants (enters_at_once token info) (four wants) (responding wants (entered (word 18)) is refl) (are_distinct (drawn (enters_at_once token info ∷ four wants)) refl) (front_hashes token info)
+    (response_unshared wants (entered (word 18)) (bool_cases token)) informs refl
     (record { request = request wants; pair = _; word = word 18; place = refl; replied = refl }) (front_session token info) text type_is
 
 -- where there is no access token, UserInfo is not asked for
@@ -142,18 +148,18 @@ unfolding rp_answer id_claims
 id_enters = rw nonce_is refl
 
 abbrev pub by_id : IsWholeLogin (codes "id_token") true 5
-by_id = by_front false true id_enters (codes "id_token") refl
+by_id = by_front false true id_enters refl (codes "id_token") refl
 
 pub id_token_enters : EntersAtOnce true false
 unfolding rp_answer id_claims
 id_token_enters = rw (nonce_is, half_is 16) refl
 
 abbrev pub by_id_token : IsWholeLogin (codes "id_token token") false 5
-by_id_token = by_front true false id_token_enters (codes "id_token token") refl
+by_id_token = by_front true false id_token_enters refl (codes "id_token token") refl
 
 -- ---- no code: UserInfo is asked for at once, with the access token of the answer
 
-abbrev asking : Wants
+abbrev pub asking : Wants
 asking = fronted true true
 
 front_fetches : rp_answer (setup asking) (past_begin asking) (callback_entry asking) ≡ fetch (word 16)
@@ -207,7 +213,9 @@ front_info_session =
 abbrev pub by_id_token_with_info : IsWholeLogin (codes "id_token token") true 7
 by_id_token_with_info =
     by_info asking (word 16) (request asking) (callback_entry asking) (four asking) front_needs
-    (are_distinct (drawn front_signed_on) refl) (front_hashes true true) refl front_info_session (codes "id_token token") refl
+    (are_distinct (drawn front_signed_on) refl) (front_hashes true true)
+    (front_info_unshared asking (request asking) (callback_entry asking) (response_unshared asking (fetch (word 16)) (inl refl)) (response_shows asking (fetch (word 16)) refl))
+    refl refl front_info_session (codes "id_token token") refl
 
 -- ---- a code, and no UserInfo: the tokens let her in
 
@@ -241,7 +249,8 @@ code_session = holds (with_code false false false) (word 26) (given_request fals
 abbrev pub by_code : IsWholeLogin (codes "code") false 7
 by_code =
     whole (with_code false false false) enters_with_tokens (six (with_code false false false)) (giving false false false (entered (word 26)) code_enters refl)
-    (are_distinct (drawn (enters_with_tokens ∷ six (with_code false false false))) refl) (code_hashes false false false) refl
+    (are_distinct (drawn (enters_with_tokens ∷ six (with_code false false false))) refl) (code_hashes false false false)
+    (given_unshared false false false (entered (word 26)) (inr refl)) refl refl
     (record { request = given_request false false false; pair = _; word = word 26; place = refl; replied = refl }) code_session (codes "code") refl
 
 -- ---- a code: UserInfo is asked for after the tokens
@@ -318,4 +327,6 @@ code_info_session id token =
 abbrev pub by_code_with_info : (id token : Bool) (text : Text) → types_text (types_of (wants id token)) ≡ text → IsWholeLogin text true 9
 by_code_with_info id token text type_is =
     by_info (wants id token) (word 21) (asked id token) (at id token) (before id token) (code_needs id token)
-    (are_distinct (drawn (code_signed_on id token)) refl) (code_hashes id token true) refl (code_info_session id token) text type_is
+    (are_distinct (drawn (code_signed_on id token)) refl) (code_hashes id token true)
+    (code_info_unshared (wants id token) (asked id token) (at id token) (given_unshared id token true (fetch (word 21)) (bool_cases token)) shown_21)
+    refl refl (code_info_session id token) text type_is

@@ -1,6 +1,7 @@
 //! Laws of worlds, as contracts of functions that do nothing.
 
 ghost use Rattle.std.specs.Prelude.{◌≡◌, true, false, codes};
+ghost use Rattle.authorization.specs.Laws.{UnforgedTokensAreNeeded};
 ghost use Rattle.honest_places.specs.Conditions.{Condition, free_rows};
 ghost use Rattle.honest_worlds.specs.Needed.{FailsWithout};
 ghost use Rattle.honest_worlds.specs.Whole.{IsWholeLogin};
@@ -10,7 +11,8 @@ ghost use Rattle.honest_worlds.specs.Whole.{IsWholeLogin};
 /// request if the party wants them, and the session.
 ///
 /// So the sign-on theorem is not empty: the worlds of these logins keep all its premises together, and each ends with a session
-/// that the sign-on machine and the party hold.
+/// that the sign-on machine and the party hold. Nor are the laws of authorization: no access token is shared in these worlds, and
+/// in those with UserInfo the provider answers claims to the party's server.
 pub fn whole_logins_are_honest()
     ensures code { IsWholeLogin (codes "code") false 7 }
     ensures code_with_info { IsWholeLogin (codes "code") true 9 }
@@ -39,4 +41,11 @@ pub fn whole_logins_are_honest()
 ///   of the login. The party refuses the login.
 pub fn no_condition_can_be_left_out()
     ensures { (k : Condition) → (k ≡ free_rows → ⊥) → FailsWithout k }
+{}
+
+/// The law `claims_reach_the_client` of `authorization` needs that no token is forged. Without it there is a world that keeps all
+/// other premises, and the claims go to the server of another client. A browser brings this client an access token that is not for
+/// it, beside an ID Token that somebody sealed under this client's secret, with the half hash of the access token.
+pub fn unforged_tokens_are_needed()
+    ensures { UnforgedTokensAreNeeded }
 {}

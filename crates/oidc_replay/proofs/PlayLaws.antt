@@ -9,9 +9,13 @@ use Rattle.client_registry.specs.Registered.{IsRegistry}
 use Rattle.sso_places.specs.declared.types.Broken.{Broken}
 use Rattle.sso_places.specs.FirstBroken.{first_broken, IsUnbroken}
 use Rattle.sso_places.specs.Premises.{HasDistinctWords, HasDistinctHashes, IsUnleaked, IsUnforged, IsJoined}
-use Rattle.sso_places.specs.Site.{Site, own_site}
-use Rattle.sso_places.specs.World.{World}
+use Rattle.sso_places.specs.Site.{Site, IsSite, own_site}
+use Rattle.sso_places.specs.World.{World, op_past}
 use Rattle.sso_places.proofs.FirstBroken.{none_broken}
+use Rattle.sso_places.proofs.Unshared.{none_shared}
+use Rattle.authorization.proofs.Giving.{gives_by_right}
+use Rattle.authorization.proofs.OwnServers.{claims_reach}
+use Rattle.authorization.proofs.Reaching.{reaches_its_own, infos_reach_their_own}
 use Rattle.running_world.specs.Running.{world_of}
 use Rattle.running_world.specs.Theorem.{TheoremHolds}
 use Rattle.trace_lines.specs.declared.line.Line.{Line}
@@ -134,6 +138,7 @@ plays_well c told play holds registry played lines read =
     let few : length told.lines < 2 ^ 60 = omega (arith, most) in
     let places : IsPlayed c told.seed W = (lines_played c told.seed told.lines).places in
     let was : WasPlayed c told.seed W = record { legal = theorem.legal; places = places; distinct = distinct c told.seed told.lines few } in
+    let site : IsSite s = record { registry = read; one_issuer = λ n. refl } in
     let well : IsUnforged s W → IsUnleaked W → SignsOnWell s W = signs_well c told.seed read W was in
     let bound : IsUnforged s W → IsUnleaked W → HasDistinctHashes W → IsWhollyBound s W = binds_wholly c told.seed read W was in
     record {
@@ -148,6 +153,13 @@ plays_well c told play holds registry played lines read =
           (well unbroken.unforged unbroken.unleaked, bound unbroken.unforged unbroken.unleaked unbroken.hashes));
       until = λ broken later before ends is.
           holds_until c told.seed read W was later before is broken (one_fails whole.ended (first_broken s W) broken ends);
+      gives = gives_by_right c (op_past W) theorem.legal.provider;
+      reaches = λ unleaked. reaches_its_own s W theorem.legal unleaked;
+      informs = λ unleaked unshared. infos_reach_their_own s W site theorem.legal unleaked unshared;
+      clients = λ unforged unleaked hashes unshared. claims_reach s W site theorem.legal was.distinct unleaked unforged hashes unshared;
+      tested = λ is none.
+          (let unbroken : IsUnbroken s W = none_broken s W (none_fails whole.ended (first_broken s W) is) in
+          claims_reach s W site theorem.legal was.distinct unbroken.unleaked unbroken.unforged unbroken.hashes (none_shared W none));
     }
 
 -- whatever the answer is

@@ -2,8 +2,11 @@
 -- machine at every prefix, the machine's live rows are the sessions of the parties, each of them is founded, and nothing was entered,
 -- redeemed or ended twice. If also no two half digests are the same, codes and all access tokens are bound. Each honest login succeeds.
 -- A play that ends with no premise that fails needs no premise. One that ends with a premise that fails needs none up to the place at
--- which it fails. That its words are distinct, its answers joined and its places in order of time is true for every play.
-use Rattle.std.specs.Prelude.{◌≡◌, ◌≤◌, ◌<◌, ℕ, ◌++◌, length, Option}
+-- which it fails. That its words are distinct, its answers joined and its places in order of time is true for every play. Whatever the
+-- provider gives in it is authorized. If no cookie leaks, its responses reach the browser that signed in and the client that showed its
+-- secret; and if no access token is shared, so do the claims of UserInfo. Where no premise fails and this test finds no shared access
+-- token, a server that gets claims is that of the client.
+use Rattle.std.specs.Prelude.{◌≡◌, ◌≤◌, ◌<◌, ℕ, ◌++◌, length, Option, None}
 use Rattle.sso_base.specs.Words.{Text}
 use Rattle.sso_model.specs.Founded.{HoldsOnlyFounded, OnceEach}
 use Rattle.client_registry.specs.Configuration.{Configuration}
@@ -15,7 +18,10 @@ use Rattle.sso_places.specs.Premises.{HasDistinctHashes, IsUnforged, IsUnleaked}
 use Rattle.sso_places.specs.Reading.{machine_of}
 use Rattle.sso_places.specs.SameBrowser.{IsAskedOnlyFrom, IsAnsweredOnlyTo}
 use Rattle.sso_places.specs.Site.{Site, own_site}
-use Rattle.sso_places.specs.World.{World}
+use Rattle.sso_places.specs.Unshared.{IsUnshared, first_shared}
+use Rattle.sso_places.specs.World.{World, op_past}
+use Rattle.authorization.specs.Laws.{GivesByRight, ReachesItsOwn, EachInfo}
+use Rattle.authorization.specs.Reached.{GetsClaims, ClientGetsClaims}
 use Rattle.trace_lines.specs.Trace.{Told}
 use Rattle.honest_places.specs.Outcome.{HonestLoginsSucceed}
 use Rattle.oidc_replay.specs.declared.replaying.ReplayEnd.TheVariants as end
@@ -59,3 +65,10 @@ pub record PlaysWell (c : Configuration) (told : Told) : Type 0 where
   pub met : end_of c told ≡ end.Met → SignsOnWell (own_site c) (world_played c told) × IsWhollyBound (own_site c) (world_played c told)
   pub until : (broken : Broken) (later before : World) → end_of c told ≡ end.Broken broken → world_played c told ≡ later ++ before
       → HoldsUntil (own_site c) broken before
+  -- authorization
+  pub gives : GivesByRight c (op_past (world_played c told))
+  pub reaches : IsUnleaked (world_played c told) → ReachesItsOwn (own_site c) (world_played c told)
+  pub informs : IsUnleaked (world_played c told) → IsUnshared (world_played c told) → EachInfo (GetsClaims (own_site c)) (world_played c told)
+  pub clients : IsUnforged (own_site c) (world_played c told) → IsUnleaked (world_played c told) → HasDistinctHashes (world_played c told)
+      → IsUnshared (world_played c told) → EachInfo (ClientGetsClaims (own_site c)) (world_played c told)
+  pub tested : end_of c told ≡ end.Met → first_shared (world_played c told) ≡ None → EachInfo (ClientGetsClaims (own_site c)) (world_played c told)

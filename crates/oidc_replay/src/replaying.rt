@@ -112,6 +112,10 @@ fn replay_all(alloc: Global, play: &mut Play, trace: &Trace) -> Result<Replayed,
 /// This is also true if half hashes clash or a history had no more room. If no half hashes clash, codes and all access tokens
 /// are bound. All this is true if the play ends as [`ReplayEnd::Met`]. If it ends as [`ReplayEnd::Broken`], it is true for the
 /// places before the one at which a premise fails. Honest logins succeed, however the play ends.
+///
+/// Each code, token and claim that the provider gives is authorized, however the play ends. If no cookie leaks, responses and tokens
+/// reach the browser that signed in and the client that showed its secret. If moreover no access token is shared, so do the claims
+/// of UserInfo.
 pub fn replay(alloc: Global, registry: Registry, trace: &Trace) -> Result<Replayed, NoMemory>
     requires { IsReadFor registry trace.now }
     ensures text { IfOk result (λ r. r.text ≡ text.text_of registry trace.now) }

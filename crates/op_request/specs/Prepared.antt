@@ -1,10 +1,11 @@
 -- The value of a request to the provider.
-use Rattle.std.specs.Prelude.{ℕ, Bool, true, false, List, Option, Some, None, option_and_then, Result, Ok, Err, if◌then◌else◌}
+use Rattle.std.specs.Prelude.{ℕ, Bool, true, false, List, Option, Some, None, option_map, option_and_then, unwrap_or, Result, Ok, Err, if◌then◌else◌}
 use Rattle.std.specs.Result.{result_ok}
 use Rattle.std.specs.Str.{bytes_eq}
 use Rattle.sso_base.specs.Words.{Text, word_of_text}
 use Rattle.sso_base.specs.declared.http.Ask.{Ask}
 use Rattle.hmac256.specs.Hmac.{proof_of}
+use Rattle.oidc_words.specs.Words.{has_word}
 use Rattle.client_registry.specs.declared.records.User.{User}
 use Rattle.client_registry.specs.declared.records.Client.{Client}
 use Rattle.client_registry.specs.Rules.{user_place}
@@ -52,6 +53,23 @@ judged_by c params client object = judgement c params false
 
 abbrev pub judged : Configuration → Params → Verdict
 judged c params = judged_by c params (client_named c params) params.request
+
+-- the merged parameters, if the request object is not rejected
+abbrev pub whole_by : Configuration → Params → Option Client → Option Text → Option Params
+whole_by c params (Some client) (Some object) = with_object c client params object
+whole_by c params client object = Some params
+
+abbrev pub has_scope : Text → Option Params → Bool
+has_scope word None = false
+has_scope word (Some params) = unwrap_or (option_map (has_word word) params.scope) false
+
+-- whether `scope` has a word, among the merged parameters of an authorization request
+abbrev pub scope_in : Configuration → Text → Result Params AskNo → Bool
+scope_in c word (Ok params) = has_scope word (whole_by c params (client_named c params) params.request)
+scope_in c word (Err why) = false
+
+unfoldable pub asks_for_scope : Configuration → Ask → Text → Bool
+asks_for_scope c request word = scope_in c word (request_read (form_of request.method request))
 
 -- the only error of a form is that a name occurs twice
 abbrev pub authorization_asked : Configuration → Ask → Result Params AskNo → OpAsk

@@ -4,6 +4,7 @@
 //! | Module | What it has |
 //! |---|---|
 //! | `prepare` | [`prepare_op`] reads a request |
+//! | `scopes` | [`asks_for_scope`], whether an authorization request has a word in its scope |
 //! | `routes` | the endpoint of a request |
 //! | `posted_forms` | the fields of the forms that the provider's own pages post |
 //! | `law` | laws about the values that requests produce, for the crates above |
@@ -13,6 +14,7 @@ mod law;
 mod posted_forms;
 mod prepare;
 mod routes;
+mod scopes;
 
 pub use law::{
     asks_have_the_cookies, forms_have_their_turn, logins_are_signed_by_passwords,
@@ -20,3 +22,4 @@ pub use law::{
     requests_are_told_by_method_and_path, wishes_are_granted_by_the_judgement,
 };
 pub use prepare::prepare_op;
+pub use scopes::asks_for_scope;

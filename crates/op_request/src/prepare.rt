@@ -22,7 +22,7 @@ use userinfo::read_bearer;
 
 // The client with the request's `client_id`.
 #[tactic(auto, using(auth_request::proofs::Numbers::below))]
-fn client_named<'a>(registry: &'a Registry, params: &Params) -> Option<&'a Client>
+pub(crate) fn client_named<'a>(registry: &'a Registry, params: &Params) -> Option<&'a Client>
     ensures { option_map (λ k. k.now) result ≡ spec.client_named registry.now params.now }
 {
     match &params.client_id {
@@ -35,7 +35,7 @@ fn client_named<'a>(registry: &'a Registry, params: &Params) -> Option<&'a Clien
 }
 
 // The merged parameters of a request and its request object; `None` if the object is rejected (OpenID Connect Core 1.0, 6.1).
-fn with_object(
+pub(crate) fn with_object(
     alloc: Global,
     registry: &Registry,
     client: &Client,

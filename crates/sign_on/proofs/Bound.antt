@@ -74,12 +74,12 @@ use Rattle.sign_on.proofs.Agreeing.{agrees}
 -- ---- words that were issued
 
 -- a word with this text was issued
-record IsIssued (world : World) (text : Text) : Type 0 where
-  word : Word
-  has : Has (issued world) word
-  is : word_text word ≡ text
+pub record IsIssued (world : World) (text : Text) : Type 0 where
+  pub word : Word
+  pub has : Has (issued world) word
+  pub is : word_text word ≡ text
 
-issued_in : (world : World) (y : Place) (w : Word) → Has world y → Has (issued_at y) w → Has (issued world) w
+pub issued_in : (world : World) (y : Place) (w : Word) → Has world y → Has (issued_at y) w → Has (issued world) w
 issued_in [] y w has has_w = absurd has
 issued_in (x ∷ world) y w (inl same) has_w =
     let H : Place → Type 0 = λ z. Has (issued_at z) w in
@@ -92,25 +92,25 @@ code_issued from request p w is =
     let H : Option Word → Type 0 = λ o. Has (words_in o ++ words_in (access_in p.reply)) w in
     subst H (sym is) (inl refl)
 
-access_issued : (from : ℕ) (request : Ask) (p : OpPair) (w : Word) → access_in p.reply ≡ Some w → Has (issued_at (Provider from request p)) w
+pub access_issued : (from : ℕ) (request : Ask) (p : OpPair) (w : Word) → access_in p.reply ≡ Some w → Has (issued_at (Provider from request p)) w
 access_issued from request p w is =
     let H : Option Word → Type 0 = λ o. Has (words_in o) w in
     has_append_right (words_in (code_in p.reply)) (words_in (access_in p.reply)) w (subst H (sym is) (inl refl))
 
 -- what has the half digest of an issued text is that text
-same_text : (world : World) (text : Text) (w : Word) → HasDistinctHashes world → IsIssued world text → Has (issued world) w → half_hash_of (word_text w) ≡ half_hash_of text → word_text w ≡ text
+pub same_text : (world : World) (text : Text) (w : Word) → HasDistinctHashes world → IsIssued world text → Has (issued world) w → half_hash_of (word_text w) ≡ half_hash_of text → word_text w ≡ text
 same_text world text w distinct v has hash =
     let digests : half_digest w ≡ half_digest v.word = hash ∙ ap (λ (t : Text). half_hash_of t) (sym v.is) in
     ap (λ (z : Word). word_text z) (distinct w v.word has v.has digests) ∙ v.is
 
 -- ---- places and what was before them
 
-record IsCut (world : World) (y : Place) : Type 0 where
-  after : World
-  before : World
-  parts : world ≡ after ++ y ∷ before
+pub record IsCut (world : World) (y : Place) : Type 0 where
+  pub after : World
+  pub before : World
+  pub parts : world ≡ after ++ y ∷ before
 
-cut : (world : World) (y : Place) → Has world y → IsCut world y
+pub cut : (world : World) (y : Place) → Has world y → IsCut world y
 cut [] y has = absurd has
 cut (x ∷ world) y (inl same) = record { after = []; before = world; parts = ap (λ (z : Place). z ∷ world) same }
 cut (x ∷ world) y (inr has) =
@@ -143,7 +143,7 @@ code_was_issued s world code legal r =
     let row : CodeRow = cause.code in
     let drawn : CodeDrawn past row = codes_are_drawn c past legal_y.provider.0 named.0 row named.2 in
     let name : row.word ≡ named.0 = (row_of-has code_name named.0 (codes_issued past) row named.2).1 in
-    let place : IsOpPlace t.before drawn.maker = op_pair_place t.before drawn.later drawn.maker drawn.earlier drawn.parts in
+    let place : IsOpPlace t.before drawn.maker drawn.earlier = op_pair_place t.before drawn.later drawn.maker drawn.earlier drawn.parts in
     let z : Place = Provider place.from place.request drawn.maker in
     let has_code : code_in drawn.maker.reply ≡ Some row.word = ap code_in drawn.replied ∙ drawn.code_is in
     record {
@@ -170,7 +170,7 @@ access_was_issued s world access legal r =
     let found : row_of access_name r.w (accesses past) ≡ Some row = lives_some access_life access_begun r.pair.entry.at (row_of access_name r.w (accesses past)) row cause.live in
     let drawn : AccessDrawn past row = accesses_are_drawn c past legal_y.provider.0 r.w row found in
     let name : row.word ≡ r.w = (row_of-has access_name r.w (accesses past) row found).1 in
-    let place : IsOpPlace t.before drawn.maker = op_pair_place t.before drawn.later drawn.maker drawn.earlier drawn.parts in
+    let place : IsOpPlace t.before drawn.maker drawn.earlier = op_pair_place t.before drawn.later drawn.maker drawn.earlier drawn.parts in
     let z : Place = Provider place.from place.request drawn.maker in
     record {
       word = row.word;
@@ -192,7 +192,7 @@ code_beside id code x (op.Answered answer given) hash is same = (is.0, hashed an
 code_beside id code x (op.Tokens access text) hash is same = (let never : None ≡ Some (half_hash_of code) = sym is.1 ∙ hash in absurd (cc))
 code_beside id code x reply hash is same = absurd is
 
-access_beside : (id access : Text) (x : IdClaims) (reply : OpReply) → x.at_hash ≡ Some (half_hash_of access) → IsIdOf id x reply
+pub access_beside : (id access : Text) (x : IdClaims) (reply : OpReply) → x.at_hash ≡ Some (half_hash_of access) → IsIdOf id x reply
     → ((w : Word) → access_in reply ≡ Some w → half_hash_of (word_text w) ≡ half_hash_of access → word_text w ≡ access) → HasAccessBeside id access reply
 access_beside id access x (op.Answered answer given) hash is same = (is.0, hashed answer.access access (sym is.2 ∙ hash) same)
 access_beside id access x (op.Tokens w text) hash is same = (is.0, same w refl (same_Some (half_hash_of (word_text w)) (half_hash_of access) (sym is.2 ∙ hash)))
@@ -229,7 +229,7 @@ was_replied s n y earlier id claims given site mine st checks read is =
     let wrote : Has (written s earlier) t = was_written s earlier y t st.clean checks (id_sealed_for c n id claims site.registry mine read) in
     all_has (IsTokenBound c earlier) (written s earlier) t st.kept.holds.bound wrote (opening (party_client c n) id) claims given read is
 
-callback_checks : (s : Site) (n from : ℕ) (request : WorldAsk) (p : RpPair) (heard : Heard) (read : Option (Result IdClaims IdNo)) (browser : Option Word) (id : Text) → p.entry.ask ≡ ask.Callback (Ok heard) read browser → heard.id ≡ Some id
+pub callback_checks : (s : Site) (n from : ℕ) (request : WorldAsk) (p : RpPair) (heard : Heard) (read : Option (Result IdClaims IdNo)) (browser : Option Word) (id : Text) → p.entry.ask ≡ ask.Callback (Ok heard) read browser → heard.id ≡ Some id
     → Has (checked s (Party n from request p)) (client_of_party s n, id)
 callback_checks s n from request p heard read browser id callback id_is =
     let client : ℕ = client_of_party s n in
@@ -237,7 +237,7 @@ callback_checks s n from request p heard read browser id callback id_is =
     let A : RpAsk → Type 0 = λ a. Has {A = TokenText} (rp_checked client request a) (client, id) in
     subst A (sym callback) (subst T (sym id_is) (inl refl))
 
-callback_reads : (s : Site) (n : ℕ) (request : WorldAsk) (asked : RpAsk) (heard : Heard) (read : Option (Result IdClaims IdNo)) (browser : Option Word) (id : Text) (claims : IdClaims)
+pub callback_reads : (s : Site) (n : ℕ) (request : WorldAsk) (asked : RpAsk) (heard : Heard) (read : Option (Result IdClaims IdNo)) (browser : Option Word) (id : Text) (claims : IdClaims)
     → asked ≡ ask.Callback (Ok heard) read browser → asked ≡ party_prepared s.configuration n request → heard.id ≡ Some id → read ≡ Some (Ok claims) → id_read_for (party_client s.configuration n) id ≡ Ok claims
 callback_reads s n request asked heard read browser id claims callback prepared id_is is =
     let c : Configuration = s.configuration in

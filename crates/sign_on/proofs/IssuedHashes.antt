@@ -80,18 +80,18 @@ issued_has_hash c wish who at access key x may value read =
 
 -- ---- what the provider issues for a code of its past
 
-wish_parts : (c : Configuration) (wish : Wish) → is_prepared_wish c wish ≡ true → (wish.client < length c.clients) × (is_short_nonce wish.nonce ≡ true)
+pub wish_parts : (c : Configuration) (wish : Wish) → is_prepared_wish c wish ≡ true → (wish.client < length c.clients) × (is_short_nonce wish.nonce ≡ true)
 wish_parts c wish h =
     let asked = and_parts (is_client c wish.client && is_short_nonce wish.nonce) wish.scopes.openid h in
     let parts = and_parts (is_client c wish.client) (is_short_nonce wish.nonce) asked.0 in
     (ltb-true wish.client (length c.clients) parts.0, parts.1)
 
-code_found : (c : Configuration) (past : OpPast) (at : ℕ) (o : Option Word) (row : CodeRow) → IsLegalOp c past → held_code past at o ≡ Some row → IsOwnCode c past row
+pub code_found : (c : Configuration) (past : OpPast) (at : ℕ) (o : Option Word) (row : CodeRow) → IsLegalOp c past → held_code past at o ≡ Some row → IsOwnCode c past row
 code_found c past at None row legal h = absurd (cc)
 code_found c past at (Some w) row legal h = codes_are_own c past legal w row (lives_some code_life code_begun at (row_of code_name w (codes_issued past)) row h)
 
 module _ (c : Configuration) (past : OpPast) (p : OpPair) (registry : IsRegistry c) (legal : IsLegalOp c (p ∷ past)) where
-  may_issue : (row : CodeRow) → IsOwnCode c past row → MayIssue c row.wish (code_authentication row) p.entry.at
+  pub may_issue : (row : CodeRow) → IsOwnCode c past row → MayIssue c row.wish (code_authentication row) p.entry.at
   may_issue row own =
       let wish = wish_parts c row.wish own.wish.prepared in
       let then : row.auth_time ≤ last_moment past = own.auth_time in

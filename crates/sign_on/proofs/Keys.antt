@@ -29,7 +29,8 @@ either secret o key t (inr is) h = or_last (is_sealed secret t) (is_sealed_old o
 sealed_under : (c : Configuration) (client : ℕ) (k : Client) (key t : Text) → client_at c client ≡ Some k → has_secret key k ≡ true → is_sealed key t ≡ true → is_sealed_for c (client, t) ≡ true
 sealed_under c client k key t there own h = ap (λ o. is_sealed_by o t) there ∙ either k.secret k.old_secret key t (one_of_two k.secret k.old_secret key own) h
 
-its_client : (c : Configuration) (n : ℕ) → IsRegistry c → n < length c.parties → client_at c (party_row c n).client ≡ Some (party_client c n)
+-- the client of a party is one of the registry
+pub its_client : (c : Configuration) (n : ℕ) → IsRegistry c → n < length c.parties → client_at c (party_row c n).client ≡ Some (party_client c n)
 its_client c n r low =
     let found = get_some c.clients (party_row c n).client (client_is_known c n r low) in
     let U : Option Client → Client = λ o. unwrap_or o no_client in

@@ -45,25 +45,48 @@ sessions_distinct past = rows_distinct session_name session_made session_kept se
 
 -- ---- the provider's pairs as places
 
-pub record IsOpPlace (world : World) (p : OpPair) : Type 0 where
+-- the place of a pair, with the worlds after and before it
+pub record IsOpPlace (world : World) (p : OpPair) (earlier : OpPast) : Type 0 where
   pub from : ℕ
   pub request : Ask
   pub has : Has world (Provider from request p)
+  pub after : World
+  pub before : World
+  pub parts : world ≡ after ++ Provider from request p ∷ before
+  pub past_is : op_past before ≡ earlier
 
-op_place_more : (x : Place) (world : World) (p : OpPair) → IsOpPlace world p → IsOpPlace (x ∷ world) p
-op_place_more x world p old = record { from = old.from; request = old.request; has = inr old.has }
+op_place_more : (x : Place) (world : World) (p : OpPair) (earlier : OpPast) → IsOpPlace world p earlier → IsOpPlace (x ∷ world) p earlier
+op_place_more x world p earlier old =
+    record {
+      from = old.from;
+      request = old.request;
+      has = inr old.has;
+      after = x ∷ old.after;
+      before = old.before;
+      parts = ap (λ (w : World). x ∷ w) old.parts;
+      past_is = old.past_is;
+    }
 
-pub op_pair_place : (world : World) (later : OpPast) (p : OpPair) (earlier : OpPast) → op_past world ≡ later ++ p ∷ earlier → IsOpPlace world p
+pub op_pair_place : (world : World) (later : OpPast) (p : OpPair) (earlier : OpPast) → op_past world ≡ later ++ p ∷ earlier → IsOpPlace world p earlier
 op_pair_place [] [] p earlier is = absurd (cc)
 op_pair_place [] (q ∷ later) p earlier is = absurd (cc)
 op_pair_place (Provider from request q ∷ world) [] p earlier is =
     let same : q ≡ p = cc in
-    record { from = from; request = request; has = inl (ap (λ (r : OpPair). Provider from request r) same) }
+    let past : op_past world ≡ earlier = cc in
+    record {
+      from = from;
+      request = request;
+      has = inl (ap (λ (r : OpPair). Provider from request r) same);
+      after = [];
+      before = world;
+      parts = ap (λ (r : OpPair). Provider from request r ∷ world) same;
+      past_is = past;
+    }
 op_pair_place (Provider from request q ∷ world) (r ∷ later) p earlier is =
     let rest : op_past world ≡ later ++ p ∷ earlier = cc in
-    op_place_more (Provider from request q) world p (op_pair_place world later p earlier rest)
-op_pair_place (Party n from request q ∷ world) later p earlier is = op_place_more (Party n from request q) world p (op_pair_place world later p earlier is)
-op_pair_place (Nothing ∷ world) later p earlier is = op_place_more Nothing world p (op_pair_place world later p earlier is)
+    op_place_more (Provider from request q) world p earlier (op_pair_place world later p earlier rest)
+op_pair_place (Party n from request q ∷ world) later p earlier is = op_place_more (Party n from request q) world p earlier (op_pair_place world later p earlier is)
+op_pair_place (Nothing ∷ world) later p earlier is = op_place_more Nothing world p earlier (op_pair_place world later p earlier is)
 
 -- ---- two sessions of one identifier are one
 
@@ -72,8 +95,8 @@ one_session s world a b legal distinct has_a has_b same =
     let past : OpPast = op_past world in
     let one : SessionDrawn past a = sessions_are_drawn s.configuration past legal.provider a.word a (has_found session_name (sessions past) a (sessions_distinct past) has_a) in
     let two : SessionDrawn past b = sessions_are_drawn s.configuration past legal.provider b.word b (has_found session_name (sessions past) b (sessions_distinct past) has_b) in
-    let at_one : IsOpPlace world one.maker = op_pair_place world one.later one.maker one.earlier one.parts in
-    let at_two : IsOpPlace world two.maker = op_pair_place world two.later two.maker two.earlier two.parts in
+    let at_one : IsOpPlace world one.maker one.earlier = op_pair_place world one.later one.maker one.earlier one.parts in
+    let at_two : IsOpPlace world two.maker two.earlier = op_pair_place world two.later two.maker two.earlier two.parts in
     let x : Place = Provider at_one.from at_one.request one.maker in
     let y : Place = Provider at_two.from at_two.request two.maker in
     let four_x : length one.maker.entry.fresh ≡ 4 = all_has IsWhole world x (whole_places s world legal) at_one.has in

@@ -1,5 +1,6 @@
 -- How a call ends, from what was answered and how that was written.
-use Rattle.std.proofs.Common.{◌≡◌, ℕ, Bool, true, false, nat_le, cond, List, length, codes, Option, Some, None, is_some, option_map, Result, Ok, Err, inl, inr, refl, ap, ◌∙◌, sym, subst}
+use Rattle.std.proofs.Common.{◌≡◌, ℕ, Bool, true, false, nat_le, cond, List, length, codes, Option, Some, None, is_some, option_map, Result, Ok, Err, inl}
+use Rattle.std.proofs.Common.{inr, refl, ap, ◌∙◌, sym, subst}
 use Rattle.sso_base.specs.Words.{Text}
 use Rattle.sso_base.specs.Outside.{Content, content_of, Takes}
 use Rattle.sso_base.proofs.RowLaws.{bool_cases}
@@ -15,6 +16,7 @@ use Rattle.client_registry.specs.Rules.{party_place}
 use Rattle.discovery_doc.specs.declared.no.DiscNo.{DiscNo}
 use Rattle.discovery_doc.specs.Reading.{discovery_read}
 use Rattle.rp_accept.specs.Serving.{setup_of}
+use Rattle.end_request.specs.Returning.{ReturnLists, returns_read}
 use Rattle.command_line.specs.declared.command.Command.{Command}
 use Rattle.command_line.specs.declared.command.Command.TheVariants.{Replay, Op, Rp, OpPlus, RpPlus, Storm, Token}
 use Rattle.command_line.specs.Commands.{command_of, is_command}
@@ -27,14 +29,18 @@ use Rattle.storm_texts.specs.Trace.{trace_text}
 use Rattle.oidc_replay.specs.declared.replaying.ReplayEnd.{ReplayEnd}
 use Rattle.oidc_replay.specs.declared.replaying.ReplayEnd.TheVariants as end
 use Rattle.oidc_replay.specs.End.{end_of}
-use Rattle.sso.specs.Answer.{Answer, registry_name, configuration_refusal, end_status, trace_answer, replay_answer, answer_to, storm_told, storm_over, storm_answer, without_feed, is_secret, token_refusal, verdict_answer, token_answer}
-use Rattle.sso.specs.Asked.{provider_asked, op_asked, metadata_refusal, metadata_name, provider_read, described, trusted, setup_asked, number_asked, party_asked, rp_asked, server_answer}
-use Rattle.sso.specs.Ends.{IsConfigOf, RunsProviderBy}
-use Rattle.sso.specs.Ends.{IsConfigurationNo, IsTokenNo, IsMetadataNo, status_of_both, status_of_asked, op_status, content_if, rp_status, status_for, IsStatus, IsStatusOf, is_serving}
-use Rattle.sso.specs.Outcomes.{IsContent, IsContentIf, Plays, FailsAtShelf, AnswersReplay, AnswersStorm, AnswersToken, ServedBy, ServedRp, ServedRpPlus, MayReplay, MayOpen, MayAnswer, IsWritten}
-use Rattle.sso.specs.Outcomes.{MayServe, MayServeOp, MayServeRp, MayServeOpPlus, MayServeRpPlus, usage_answer, shelf_answer}
+use Rattle.sso.specs.Answer.{Answer, registry_name, configuration_refusal, end_status, trace_answer, replay_answer, answer_to, storm_told, storm_over}
+use Rattle.sso.specs.Answer.{storm_answer, without_feed, is_secret, token_refusal, verdict_answer, token_answer}
+use Rattle.sso.specs.Asked.{provider_asked, op_asked, returns_asked, plus_asked, op_plus_asked, metadata_refusal, metadata_name, provider_read, described}
+use Rattle.sso.specs.Asked.{trusted, setup_asked, number_asked, party_asked, rp_asked, server_answer}
+use Rattle.sso.specs.Ends.{IsConfigOf, op_plus_status}
+use Rattle.sso.specs.Ends.{IsConfigurationNo, IsTokenNo, IsMetadataNo, status_of_both, status_of_asked, op_status, content_if, rp_status, status_for}
+use Rattle.sso.specs.Ends.{IsStatus, IsStatusOf, is_serving}
+use Rattle.sso.specs.Outcomes.{IsContent, IsContentIf, Plays, FailsAtShelf, AnswersReplay, AnswersStorm, AnswersToken, ServedBy, ServedOp, ServedOpPlus}
+use Rattle.sso.specs.Outcomes.{ServedRp, ServedRpPlus, MayReplay, MayOpen, MayAnswer, IsWritten}
+use Rattle.sso.specs.Outcomes.{MayServeOp, MayServeRp, MayServeOpPlus, MayServeRpPlus, usage_answer, shelf_answer}
 use Rattle.sso.specs.SignOn.{Replays, Storms}
-use Rattle.sso.specs.Statuses.{Call, Runs, FailsAtDoor, Ended}
+use Rattle.sso.specs.Statuses.{Call, Ended}
 use Rattle.sso.proofs.Endings.{runs_end, usage_ends, configuration_ends, trace_ends, shelf_ends, broken_ends, full_ends, sink_ends, door_ends, refusal_ends}
 
 module _ {D L C W S K : Type 0} (call : Call D L C W S K) where
@@ -284,23 +290,18 @@ module _ {D L C W S K : Type 0} (call : Call D L C W S K) where
         wrote = whole_as answer (configuration_refusal name) wrote is;
       }))
 
-  provider_by : {Core A R : Type 0} (command : Text → Command) (Serves : Configuration → Summary Core A R → Type 0)
-      → ((place : Text) (config : List ℕ) → IsContent call.contents place config → IsConfigOf call.contents (command place) config)
-      → (RunsProviderBy command Serves call.contents call.words false call.old call.new → Runs call)
-      → (RunsProviderBy command Serves call.contents call.words true call.old call.new → FailsAtDoor call)
-      → (config_at : Text) (answer : Answer) → command_of call.words ≡ Some (command config_at)
-      → (config : List ℕ) → IsContent call.contents config_at config
+  provider_by : (config_at : Text) (config : List ℕ) (answer : Answer) → command_of call.words ≡ Some (Op config_at)
+      → IsContent call.contents config_at config
       → (read : Result Configuration RegNo) → registry_read config ≡ read
-      → ServedBy (call.news ≡ call.olds) Serves (provider_asked read) answer → Whole answer → Ended call answer.status
-  provider_by command Serves of_command runs fails config_at answer words_are config there (Err why) read (is, idle) wrote =
-      configuration_no (command config_at) config (registry_name why) answer words_are (of_command config_at config there) idle
-      (inl (why, read, refl)) is wrote
-  provider_by command Serves of_command runs fails config_at answer words_are config there (Ok c) read (s, serves, is) wrote =
+      → ServedOp call.tells call.olds call.news (provider_asked read) answer → Whole answer → Ended call answer.status
+  provider_by config_at config answer words_are there (Err why) read (is, idle) wrote =
+      configuration_no (Op config_at) config (registry_name why) answer words_are there idle (inl (why, read, refl)) is wrote
+  provider_by config_at config answer words_are there (Ok c) read (s, serves, is) wrote =
       elim (bool_cases s.fault) [
         | inl failed ↦
             let so : answer ≡ server_answer true s.served s.entries = is ∙ ap (λ (b : Bool). server_answer b s.served s.entries) failed in
             ended_as answer (server_answer true s.served s.entries) so
-            (door_ends call (fails
+            (door_ends call (inl
             (record {
               config_at = config_at;
               words_are = words_are;
@@ -316,7 +317,7 @@ module _ {D L C W S K : Type 0} (call : Call D L C W S K) where
         | inr well ↦
             let so : answer ≡ server_answer false s.served s.entries = is ∙ ap (λ (b : Bool). server_answer b s.served s.entries) well in
             ended_as answer (server_answer false s.served s.entries) so
-            (runs_end call (runs
+            (runs_end call (inr (inr (inl
             (record {
               config_at = config_at;
               words_are = words_are;
@@ -328,34 +329,79 @@ module _ {D L C W S K : Type 0} (call : Call D L C W S K) where
               served = serves;
               ended = well;
               wrote = whole_as answer (server_answer false s.served s.entries) wrote so;
-            })))
+            })))))
       ]
-
-  provider_ends : {Core A R : Type 0} (command : Text → Command) (Serves : Configuration → Summary Core A R → Type 0)
-      → ((place : Text) (config : List ℕ) → IsContent call.contents place config → IsConfigOf call.contents (command place) config)
-      → (RunsProviderBy command Serves call.contents call.words false call.old call.new → Runs call)
-      → (RunsProviderBy command Serves call.contents call.words true call.old call.new → FailsAtDoor call)
-      → (config_at : Text) (answer : Answer) → command_of call.words ≡ Some (command config_at)
-      → MayServe (call.news ≡ call.olds) Serves op_asked call.contents call.shelf_before call.shelf_after config_at answer
-      → Whole answer → Ended call answer.status
-  unfolding op_asked
-  provider_ends command Serves of_command runs fails config_at answer words_are (inl failed) wrote =
-      shelf_failed (command config_at) answer words_are failed.1 failed.0 wrote
-  provider_ends command Serves of_command runs fails config_at answer words_are (inr a) wrote =
-      provider_by command Serves of_command runs fails config_at answer words_are a.config a.config_there (registry_read a.config) refl a.served wrote
 
   op_ends : (config_at : Text) (answer : Answer) → command_of call.words ≡ Some (Op config_at)
       → MayServeOp call.tells call.olds call.news call.contents call.shelf_before call.shelf_after config_at answer → Whole answer → Ended call answer.status
-  op_ends config_at answer words_are may wrote =
-      provider_ends (λ place. Op place) (ServesOp call.tells call.olds call.news) (λ place config there. there)
-      (λ runs. inr (inr (inl runs))) (λ fails. inl fails) config_at answer words_are may wrote
+  unfolding op_asked
+  op_ends config_at answer words_are (inl failed) wrote = shelf_failed (Op config_at) answer words_are failed.1 failed.0 wrote
+  op_ends config_at answer words_are (inr a) wrote =
+      provider_by config_at a.config answer words_are a.config_there (registry_read a.config) refl a.served wrote
+
+  -- the configuration is accepted
+  sending_by : (config_at : Text) (config : List ℕ) (answer : Answer) → command_of call.words ≡ Some (OpPlus config_at)
+      → IsContent call.contents config_at config → (c : Configuration) → registry_read config ≡ Ok c
+      → (sends : Result ReturnLists RegNo) → returns_read config ≡ sends
+      → ServedOpPlus call.tells call.olds call.news (returns_asked c sends) answer → Whole answer → Ended call answer.status
+  sending_by config_at config answer words_are there c read (Err why) refused (is, idle) wrote =
+      configuration_no (OpPlus config_at) config (registry_name why) answer words_are there idle (inr (c, read, (why, refused, refl))) is wrote
+  sending_by config_at config answer words_are there c read (Ok returns) sends (s, serves, is) wrote =
+      elim (bool_cases s.fault) [
+        | inl failed ↦
+            let so : answer ≡ server_answer true s.served s.entries = is ∙ ap (λ (b : Bool). server_answer b s.served s.entries) failed in
+            ended_as answer (server_answer true s.served s.entries) so
+            (door_ends call (inr (inr (inl
+            (record {
+              config_at = config_at;
+              words_are = words_are;
+              config = config;
+              there = there;
+              configuration = c;
+              read = read;
+              returns = returns;
+              sends = sends;
+              summary = s;
+              served = serves;
+              ended = failed;
+              wrote = whole_as answer (server_answer true s.served s.entries) wrote so;
+            })))))
+        | inr well ↦
+            let so : answer ≡ server_answer false s.served s.entries = is ∙ ap (λ (b : Bool). server_answer b s.served s.entries) well in
+            ended_as answer (server_answer false s.served s.entries) so
+            (runs_end call (inr (inr (inr (inr (inl
+            (record {
+              config_at = config_at;
+              words_are = words_are;
+              config = config;
+              there = there;
+              configuration = c;
+              read = read;
+              returns = returns;
+              sends = sends;
+              summary = s;
+              served = serves;
+              ended = well;
+              wrote = whole_as answer (server_answer false s.served s.entries) wrote so;
+            })))))))
+      ]
+
+  provider_plus_by : (config_at : Text) (config : List ℕ) (answer : Answer) → command_of call.words ≡ Some (OpPlus config_at)
+      → IsContent call.contents config_at config
+      → (read : Result Configuration RegNo) → registry_read config ≡ read
+      → ServedOpPlus call.tells call.olds call.news (plus_asked config read) answer → Whole answer → Ended call answer.status
+  provider_plus_by config_at config answer words_are there (Ok c) read served wrote =
+      sending_by config_at config answer words_are there c read (returns_read config) refl served wrote
+  provider_plus_by config_at config answer words_are there (Err why) read (is, idle) wrote =
+      configuration_no (OpPlus config_at) config (registry_name why) answer words_are there idle (inl (why, read, refl)) is wrote
 
   op_plus_ends : (config_at : Text) (answer : Answer) → command_of call.words ≡ Some (OpPlus config_at)
       → MayServeOpPlus call.tells call.olds call.news call.contents call.shelf_before call.shelf_after config_at answer → Whole answer
       → Ended call answer.status
-  op_plus_ends config_at answer words_are may wrote =
-      provider_ends (λ place. OpPlus place) (ServesOpPlus call.tells call.olds call.news) (λ place config there. there)
-      (λ runs. inr (inr (inr (inr (inl runs))))) (λ fails. inr (inr (inl fails))) config_at answer words_are may wrote
+  unfolding op_plus_asked
+  op_plus_ends config_at answer words_are (inl failed) wrote = shelf_failed (OpPlus config_at) answer words_are failed.1 failed.0 wrote
+  op_plus_ends config_at answer words_are (inr a) wrote =
+      provider_plus_by config_at a.config answer words_are a.config_there (registry_read a.config) refl a.served wrote
 
   -- ---- `rp`
 
@@ -677,9 +723,9 @@ module _ {D L C W S K : Type 0} (call : Call D L C W S K) where
       (served_told (ServesRp call.tells call.olds call.news) (rp_asked a.config party a.metadata) answer a.served))
   whole_told held is (Some (OpPlus config)) answer (inl failed) = failed_told (status_for held (Some (OpPlus config))) answer failed.0.0
   whole_told held is (Some (OpPlus config)) answer (inr a) =
-      let S : Option (List ℕ) → Type 0 = λ o. IsStatusOf (op_status o) answer.status in
+      let S : Option (List ℕ) → Type 0 = λ o. IsStatusOf (op_plus_status o) answer.status in
       subst S (sym (told_at held config a.config is a.config_there))
-      (served_told (ServesOpPlus call.tells call.olds call.news) (op_asked a.config) answer a.served)
+      (served_told (ServesOpPlus call.tells call.olds call.news) (op_plus_asked a.config) answer a.served)
   whole_told held is (Some (RpPlus config party)) answer (inl failed) = failed_told (status_for held (Some (RpPlus config party))) answer failed.0.0
   whole_told held is (Some (RpPlus config party)) answer (inr a) =
       let S : Option (List ℕ) → Type 0 = λ o. IsStatusOf (rp_status party o (Some None)) answer.status in

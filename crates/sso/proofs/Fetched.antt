@@ -1,5 +1,6 @@
 -- What is fetched of contents answers as the whole contents do.
-use Rattle.std.proofs.Common.{◌≡◌, ℕ, ◌<◌, ◌≤◌, ◌+◌, ◌-◌, nat_lt, nat_le, Bool, true, false, cond, List, length, take, drop, codes, Option, Some, None, option_map, Result, Ok, Err, inl, inr, arith, refl, ap, ◌∙◌, sym, subst}
+use Rattle.std.proofs.Common.{◌≡◌, ℕ, ◌<◌, ◌≤◌, ◌+◌, ◌-◌, nat_lt, nat_le, Bool, true, false, cond, List, length, take, drop, codes, Option, Some, None}
+use Rattle.std.proofs.Common.{option_map, Result, Ok, Err, inl, inr, arith, refl, ap, ◌∙◌, sym, subst}
 use Rattle.std.proofs.lemmas.List.{take_all, length-take-le}
 use Rattle.std.proofs.lemmas.Bool.{and_right}
 use Rattle.std.proofs.lemmas.Bool.Decides.{leb_tells}
@@ -20,12 +21,14 @@ use Rattle.rp_answer.specs.Setup.{PartySetup}
 use Rattle.std.proofs.lemmas.Grind.{common_steps}
 use Rattle.trace_lines.specs.declared.no.TraceNo.TheVariants as no
 use Rattle.trace_lines.specs.Trace.{trace_told, told_of, lines_of}
-use Rattle.sso.specs.Answer.{Answer, answer_to, trace_answer, replay_answer, without_feed, is_secret, token_refusal, verdict_answer, token_answer}
+use Rattle.sso.specs.Answer.{Answer, registry_name, configuration_refusal, answer_to, trace_answer, replay_answer, without_feed, is_secret}
+use Rattle.sso.specs.Answer.{token_refusal, verdict_answer, token_answer}
 use Rattle.server_desk.specs.declared.desk.Desk.{Desk}
 use Rattle.serving.specs.declared.summary.Summary.{Summary}
 use Rattle.serving.specs.Summaries.{Telling}
 use Rattle.sso_serve.specs.Servers.{ServesOp, ServesOpPlus, ServesRpPlus}
-use Rattle.sso.specs.Asked.{op_asked, provider_asked, metadata_refusal, provider_read, described, trusted, rp_asked, party_asked, number_asked, setup_asked}
+use Rattle.sso.specs.Asked.{op_asked, provider_asked, op_plus_asked, plus_asked, metadata_refusal, provider_read, described, trusted, rp_asked, party_asked}
+use Rattle.sso.specs.Asked.{number_asked, setup_asked}
 use Rattle.sso.specs.Outcomes.{IsContent, IsContentIf, IsFetched, IsFetchedIf, AnswersReplay, AnswersToken, ServedBy, AnswersServer, ServedOp}
 use Rattle.sso.specs.Outcomes.{ServedRp, ServedOpPlus, ServedRpPlus, AnswersRp, Plays}
 
@@ -214,6 +217,21 @@ op_cut : (config : List ℕ) → op_asked (take 1048577 config) ≡ op_asked con
 unfolding op_asked
 op_cut config = ap provider_asked (registry_cut config)
 
+too_long_plus : (config : List ℕ) → registry_read config ≡ Err reg.TooLong → op_plus_asked config ≡ Err (configuration_refusal (registry_name reg.TooLong))
+unfolding op_plus_asked
+too_long_plus config long = ap (λ (read : Result Configuration RegNo). plus_asked config read) long
+
+op_plus_cut : (config : List ℕ) → op_plus_asked (take 1048577 config) ≡ op_plus_asked config
+op_plus_cut config =
+    elim (leb_tells (length config) 1048577) [
+      | inl p ↦ ap op_plus_asked (take_all 1048577 config p.1)
+      | inr p ↦
+          let e : length (take 1048577 config) ≡ 1048577 = length-take-le 1048577 config (omega arith) in
+          too_long_plus (take 1048577 config)
+          (too_long_configuration (take 1048577 config) (is_longer 1048576 (length (take 1048577 config)) (omega arith)))
+          ∙ sym (too_long_plus config (too_long_configuration config (is_longer 1048576 (length config) (omega arith))))
+    ]
+
 from_fetch_if : (contents : Option (List Content)) (name : Option Text) (bytes : Option (List ℕ)) → IsFetchedIf contents name 65537 bytes
     → (content : Option (List ℕ)) × IsContentIf contents name content × (bytes ≡ front_of content)
 from_fetch_if contents (Some name) (Some bytes) fetched =
@@ -241,10 +259,10 @@ module _ {D L C W S K : Type 0} (t : Telling D L C W S K) (olds news : List (Des
       server_fetched (news ≡ olds) (ServesOp t olds news) op_asked op_cut contents config_at bytes config answer same config_from served
 
   pub op_plus_fetched : (contents : Option (List Content)) (config_at : Text) (bytes config : List ℕ) (answer : Answer)
-      → bytes ≡ config → IsFetched contents config_at 1048577 config → ServedOpPlus t olds news (op_asked bytes) answer
-      → AnswersServer (news ≡ olds) (ServesOpPlus t olds news) op_asked contents config_at answer
+      → bytes ≡ config → IsFetched contents config_at 1048577 config → ServedOpPlus t olds news (op_plus_asked bytes) answer
+      → AnswersServer (news ≡ olds) (ServesOpPlus t olds news) op_plus_asked contents config_at answer
   op_plus_fetched contents config_at bytes config answer same config_from served =
-      server_fetched (news ≡ olds) (ServesOpPlus t olds news) op_asked op_cut contents config_at bytes config answer same config_from served
+      server_fetched (news ≡ olds) (ServesOpPlus t olds news) op_plus_asked op_plus_cut contents config_at bytes config answer same config_from served
 
   pub rp_plus_fetched : (contents : Option (List Content)) (config_at party : Text) (bytes config : List ℕ) (answer : Answer)
       → bytes ≡ config → IsFetched contents config_at 1048577 config → ServedRpPlus t olds news (rp_asked bytes party None) answer

@@ -1,5 +1,6 @@
 -- How calls end, computed over the definitions on small contents: for each status a call that ends so, and one that does not.
-use Rattle.std.proofs.Common.{◌≡◌, ℕ, Bool, true, false, nat_le, List, [], ◌∷◌, ◌++◌, length, codes, Option, Some, None, Result, Ok, Err, inl, inr, refl, ap, sym, ◌∙◌, subst, arith}
+use Rattle.std.proofs.Common.{◌≡◌, ℕ, Bool, true, false, nat_le, List, [], ◌∷◌, ◌++◌, length, codes, Option, Some, None, Result, Ok, Err, inl, inr, refl, ap}
+use Rattle.std.proofs.Common.{sym, ◌∙◌, subst, arith}
 use Rattle.std.proofs.lemmas.Option.{same_Some}
 use Rattle.std.specs.Fmt.{digits}
 use Rattle.std.specs.Str.{is_utf8, chars}
@@ -27,7 +28,7 @@ use Rattle.jws_compact.specs.Names.{jws_name}
 use Rattle.sso_places.specs.declared.types.Broken.TheVariants.{Leaked}
 use Rattle.sso_places.specs.Agreement.{SignsOn}
 use Rattle.sso_places.specs.Site.{own_site}
-use Rattle.sso_places.specs.World.{Place, Party, World}
+use Rattle.sso_places.specs.World.{Place, Provider as AtProvider, Party, World}
 use Rattle.trace_lines.specs.declared.no.TraceNo.TheVariants as no
 use Rattle.trace_lines.specs.Trace.{Told, trace_told}
 use Rattle.storm_texts.specs.Config.{config_text}
@@ -41,6 +42,7 @@ use Rattle.oidc_replay.specs.Bound.{IsWhollyBound}
 use Rattle.honest_places.specs.Login.{Visitor, IsHonestBut, begun, waited, went_on}
 use Rattle.oidc_replay.specs.Theorem.{SignsOnWell, PlaysWell}
 use Rattle.discovery_doc.specs.Reading.{discovery_read}
+use Rattle.end_request.specs.Returning.{returns_read}
 use Rattle.op_exchange.specs.declared.ask.OpAsk.{OpAsk}
 use Rattle.op_exchange.specs.declared.reply.OpReply.{OpReply}
 use Rattle.op_core.specs.Providing.{Providing}
@@ -49,10 +51,13 @@ use Rattle.command_line.specs.declared.command.Command.TheVariants.{Replay, Rp, 
 use Rattle.command_line.specs.Commands.{command_of}
 use Rattle.serving.specs.declared.summary.Summary.{Summary}
 use Rattle.serving.specs.Summaries.{Telling}
+use Rattle.sso_serve.specs.Cores.{end_setup}
 use Rattle.sso_serve.specs.Servers.{OpPlusSummary, ServesOp, ServesOpPlus}
-use Rattle.sso.specs.Answer.{configuration_refusal, end_status, answer_to, replay_answer, registry_name, configuration_text, usage_text, trace_name, refused_text, without_feed, token_text, token_answer}
-use Rattle.sso.specs.Asked.{provider_asked, op_asked, metadata_refusal, described, party_asked, rp_asked, served_text}
-use Rattle.sso.specs.Ends.{IsConfigOf, IsTraceOf, asks_play, ShowsUsage, ReportsShelf, IsConfigurationNo, RefusesConfiguration, RefusesTrace, RefusesToken, OpensToken, IsTokenNo, op_status, rp_status, status_of_asked, status_for}
+use Rattle.sso.specs.Answer.{configuration_refusal, end_status, answer_to, replay_answer, registry_name, configuration_text, usage_text, trace_name}
+use Rattle.sso.specs.Answer.{refused_text, without_feed, token_text, token_answer}
+use Rattle.sso.specs.Asked.{provider_asked, op_asked, returns_asked, plus_asked, op_plus_asked, metadata_refusal, described, party_asked, rp_asked, served_text}
+use Rattle.sso.specs.Ends.{IsConfigOf, IsTraceOf, asks_play, ShowsUsage, ReportsShelf, IsConfigurationNo, RefusesConfiguration, RefusesTrace, RefusesToken}
+use Rattle.sso.specs.Ends.{OpensToken, IsTokenNo, op_status, rp_status, status_of_asked, status_for}
 use Rattle.sso.specs.Ends.{RunsProvider, RunsProviderPlus, RunsPartyPlus, is_serving}
 use Rattle.sso.specs.SignOn.{Replays, Storms}
 
@@ -71,6 +76,8 @@ configuration = record {
   parties = [];
   subjects = [];
   lasting = false;
+  full_pages = false;
+  title = codes "a.b";
 }
 
 small_read : registry_read small ≡ Ok configuration
@@ -229,8 +236,8 @@ nothing_accepted : trace_told configuration header ≡ Ok nothing_told
 unfolding trace_told decode_pairs
 nothing_accepted = refl
 
--- a world of no place has none in it
-no_place : (later earlier : World) (x : Place) → [] ≡ later ++ x ∷ earlier → ⊥
+-- a world of no place has none in it, and a history of no pair has none
+no_place : {A : Type 0} (later earlier : List A) (x : A) → [] ≡ later ++ x ∷ earlier → ⊥
 no_place [] earlier x is = absurd (cc)
 no_place (y ∷ later) earlier x is = absurd (cc)
 
@@ -263,6 +270,20 @@ nothing_plays_well =
       succeeds = λ later before v last earlier is may honest. absurd (no_login later before v (last ∷ earlier) is honest);
       met = λ is. (nothing_signs_well, nothing_is_bound);
       until = λ broken later before ends is. (let never : end.Met ≡ end.Broken broken = ends in absurd (cc));
+      gives =
+          record {
+            answers = λ later earlier p answer given is told. absurd (no_place later earlier p is);
+            tokens = λ later earlier p access id is told. absurd (no_place later earlier p is);
+            infos = λ later earlier p claims is told. absurd (no_place later earlier p is);
+          };
+      reaches = λ unleaked.
+          record {
+            answers = λ later earlier from request p answer given is told. absurd (no_place later earlier (AtProvider from request p) is);
+            tokens = λ later earlier from request p access id is told. absurd (no_place later earlier (AtProvider from request p) is);
+          };
+      informs = λ unleaked unshared later earlier from request p claims is told. absurd (no_place later earlier (AtProvider from request p) is);
+      clients = λ unforged unleaked hashes unshared later earlier from request p claims is told. absurd (no_place later earlier (AtProvider from request p) is);
+      tested = λ met none later earlier from request p claims is told. absurd (no_place later earlier (AtProvider from request p) is);
     }
 
 replayed : Replays (Some (with small header)) words 0 (Some []) (Some (codes "premises met\n"))
@@ -423,8 +444,20 @@ no_party_refused =
     record { command = Rp (codes "config") (codes "shop") None; words_are = refl; config = small; there = refl; name = codes "NoParty"; why = inr (configuration, small_read, (refl, refl)); wrote = refl }
 
 -- with proof keys
+small_returns : returns_read small ≡ Ok []
+unfolding returns_read document_in toml_on_literals is_utf8 chars
+small_returns = refl
+
+served-the_provider_plus : op_plus_asked small ≡ Ok (end_setup configuration [])
+unfolding op_plus_asked
+served-the_provider_plus = ap (plus_asked small) small_read ∙ ap (returns_asked configuration) small_returns
+
+-- a refusal of where browsers may be sent is one of the configuration, with its name
+not_served-returns : (c : Configuration) (id : Text) → returns_asked c (Err (reg.TooMany id)) ≡ Err (configuration_refusal (registry_name (reg.TooMany id)))
+not_served-returns c id = refl
+
 provider_plus-is_for_the_doors : status_for (with small header) (Some (OpPlus (codes "config"))) ≡ None
-provider_plus-is_for_the_doors = provider-is_for_the_doors
+provider_plus-is_for_the_doors = ap status_of_asked served-the_provider_plus
 
 no_party_plus-is_3 : status_for (with small header) (Some (RpPlus (codes "config") (codes "shop"))) ≡ Some 3
 no_party_plus-is_3 = no_party-is_3
@@ -480,7 +513,7 @@ module _ {D L C W S K : Type 0} (t : Telling D L C W S K) where
   abbrev nothing_plus : OpPlusSummary
   nothing_plus = record { served = 0; entries = 0; fault = false; closed = None }
 
-  nothing_plus_served : ServesOpPlus t [] [] configuration nothing_plus
+  nothing_plus_served : ServesOpPlus t [] [] (end_setup configuration []) nothing_plus
   nothing_plus_served =
       record { none = λ _. (refl, refl, refl, refl, refl); some = λ few. absurd (omega arith); failed = λ never. absurd (cc); well = λ _. tt }
 
@@ -494,6 +527,8 @@ module _ {D L C W S K : Type 0} (t : Telling D L C W S K) where
         there = refl;
         configuration = configuration;
         read = small_read;
+        returns = [];
+        sends = small_returns;
         summary = nothing_plus;
         served = nothing_plus_served;
         ended = refl;

@@ -5,6 +5,7 @@ use Rattle.std.specs.Result.{IfOk}
 use Rattle.std.specs.Prelude.{List}
 use Rattle.client_registry.specs.Configuration.{Configuration}
 use Rattle.rp_answer.specs.Setup.{PartySetup}
+use Rattle.signout_answer.specs.declared.asks.EndSetup.{EndSetup}
 use Rattle.server_desk.specs.declared.desk.Desk.{Desk}
 use Rattle.serving.specs.declared.summary.Summary.{Summary}
 use Rattle.serving.specs.Summaries.{Telling}
@@ -31,9 +32,9 @@ module _ {D L C W S K : Type 0} (t : Telling D L C W S K) (olds news : List (Des
       → IfOk result (λ answer. answer ≡ answer_of ran) → IfOk result (ServedRp t olds news (Ok p))
   rp_told p ran result ended told = server_told (news ≡ olds) (ServesRp t olds news) p ran result ended told
 
-  pub op_plus_told : {E : Type 0} (c : Configuration) (ran : Ran) (result : Result Answer E) → RanOpPlus t olds news c ran
-      → IfOk result (λ answer. answer ≡ answer_of ran) → IfOk result (ServedOpPlus t olds news (Ok c))
-  op_plus_told c ran result ended told = server_told (news ≡ olds) (ServesOpPlus t olds news) c ran result ended told
+  pub op_plus_told : {E : Type 0} (e : EndSetup) (ran : Ran) (result : Result Answer E) → RanOpPlus t olds news e ran
+      → IfOk result (λ answer. answer ≡ answer_of ran) → IfOk result (ServedOpPlus t olds news (Ok e))
+  op_plus_told e ran result ended told = server_told (news ≡ olds) (ServesOpPlus t olds news) e ran result ended told
 
   pub rp_plus_told : {E : Type 0} (p : PartySetup) (ran : Ran) (result : Result Answer E) → RanRpPlus t olds news p ran
       → IfOk result (λ answer. answer ≡ answer_of ran) → IfOk result (ServedRpPlus t olds news (Ok p))

@@ -1,5 +1,5 @@
--- What `op` and `rp` are to serve, or the outcome if that is refused: by the configuration, and for `rp` by the party's name
--- and the provider's metadata.
+-- What a command is to serve, or the outcome if that is refused: by the configuration, and for a party by its name and the provider's
+-- metadata.
 use Rattle.std.specs.Prelude.{ℕ, Bool, true, false, nat_le, List, [], ◌∷◌, ◌++◌, length, codes, Option, Some, None, Result, Ok, Err, if◌then◌else◌}
 use Rattle.std.specs.Fmt.{decimal}
 use Rattle.sso_base.specs.Words.{Text}
@@ -13,6 +13,9 @@ use Rattle.discovery_doc.specs.declared.no.DiscNo.TheVariants as disc
 use Rattle.discovery_doc.specs.Reading.{discovery_read}
 use Rattle.rp_accept.specs.Serving.{setup_of}
 use Rattle.rp_answer.specs.Setup.{PartySetup}
+use Rattle.end_request.specs.Returning.{ReturnLists, returns_read}
+use Rattle.signout_answer.specs.declared.asks.EndSetup.{EndSetup}
+use Rattle.sso_serve.specs.Cores.{end_setup}
 use Rattle.sso.specs.Answer.{Answer, registry_name, configuration_refusal}
 
 -- ---- `op`
@@ -24,6 +27,20 @@ provider_asked (Err why) = Err (configuration_refusal (registry_name why))
 -- the configuration whose provider is to be served
 unfoldable pub op_asked : List ℕ → Result Configuration Answer
 op_asked config = provider_asked (registry_read config)
+
+-- ---- `op-plus`
+
+abbrev pub returns_asked : Configuration → Result ReturnLists RegNo → Result EndSetup Answer
+returns_asked c (Ok returns) = Ok (end_setup c returns)
+returns_asked c (Err why) = Err (configuration_refusal (registry_name why))
+
+abbrev pub plus_asked : List ℕ → Result Configuration RegNo → Result EndSetup Answer
+plus_asked config (Ok c) = returns_asked c (returns_read config)
+plus_asked config (Err why) = Err (configuration_refusal (registry_name why))
+
+-- the configuration whose provider is to be served, and where browsers may be sent after a sign-out
+unfoldable pub op_plus_asked : List ℕ → Result EndSetup Answer
+op_plus_asked config = plus_asked config (registry_read config)
 
 -- ---- `rp`
 

@@ -16,6 +16,10 @@ use Rattle.client_registry.specs.Reading.{registry_read}
 use Rattle.client_registry.specs.Rules.{party_place}
 use Rattle.discovery_doc.specs.declared.no.DiscNo.{DiscNo}
 use Rattle.discovery_doc.specs.Reading.{discovery_read}
+use Rattle.end_request.specs.Returning.{ReturnLists, returns_read}
+use Rattle.op_exchange.specs.declared.ask.OpAsk.{OpAsk}
+use Rattle.op_exchange.specs.declared.reply.OpReply.{OpReply}
+use Rattle.op_core.specs.Providing.{Providing}
 use Rattle.rp_exchange.specs.declared.ask.RpAsk.{RpAsk}
 use Rattle.rp_exchange.specs.declared.reply.RpReply.{RpReply}
 use Rattle.rp_accept.specs.Serving.{setup_of}
@@ -26,14 +30,15 @@ use Rattle.command_line.specs.Commands.{command_of, is_command}
 use Rattle.server_desk.specs.declared.desk.Desk.{Desk}
 use Rattle.serving.specs.declared.summary.Summary.{Summary}
 use Rattle.serving.specs.Summaries.{Telling}
-use Rattle.sso_serve.specs.Servers.{RpPlusSummary, ServesOp, ServesRp, ServesOpPlus, ServesRpPlus}
+use Rattle.sso_serve.specs.Cores.{end_setup}
+use Rattle.sso_serve.specs.Servers.{OpPlusSummary, RpPlusSummary, ServesOp, ServesRp, ServesOpPlus, ServesRpPlus}
 use Rattle.trace_lines.specs.declared.no.TraceNo.{TraceNo}
 use Rattle.trace_lines.specs.Trace.{trace_told}
 use Rattle.storm_texts.specs.Config.{config_text}
 use Rattle.storm_texts.specs.Trace.{trace_text}
 use Rattle.sso.specs.Answer.{Answer, usage_text, shelf_text, registry_name, configuration_text, refused_text, answer_to, storm_answer, without_feed, is_secret}
 use Rattle.sso.specs.Answer.{token_text, token_answer}
-use Rattle.sso.specs.Asked.{metadata_name, metadata_text, trusted, op_asked, rp_asked, server_answer}
+use Rattle.sso.specs.Asked.{metadata_name, metadata_text, trusted, op_asked, op_plus_asked, rp_asked, server_answer}
 use Rattle.sso.specs.Outcomes.{IsContent, IsContentIf, MayAnswer}
 
 -- ---- no command, and no content
@@ -67,17 +72,19 @@ IsTraceOf contents (Replay config_at trace_at) trace = IsContent contents trace_
 IsTraceOf contents (Storm number count) trace = trace ≡ trace_text number count
 IsTraceOf contents command trace = ⊥
 
--- the configuration lacks the party that the command names; this is the name of that reason
-abbrev pub IsPartyNo : Command → Configuration → Text → Type 0
-IsPartyNo (Rp config_at party metadata_at) c name = (party_place party c.parties ≡ None) × (name ≡ codes "NoParty")
-IsPartyNo (RpPlus config_at party) c name = (party_place party c.parties ≡ None) × (name ≡ codes "NoParty")
-IsPartyNo command c name = ⊥
+-- the name of the reason for which a command rejects what reading accepts: the configuration lacks the party that the command names, or
+-- where browsers may be sent is rejected in it
+abbrev pub IsCommandNo : Command → List ℕ → Configuration → Text → Type 0
+IsCommandNo (Rp config_at party metadata_at) config c name = (party_place party c.parties ≡ None) × (name ≡ codes "NoParty")
+IsCommandNo (RpPlus config_at party) config c name = (party_place party c.parties ≡ None) × (name ≡ codes "NoParty")
+IsCommandNo (OpPlus config_at) config c name = (why : RegNo) × (returns_read config ≡ Err why) × (name ≡ registry_name why)
+IsCommandNo command config c name = ⊥
 
--- the name of the reason for which a command rejects a configuration: reading rejects it, or it lacks the party
+-- the name of the reason for which a command rejects a configuration: reading rejects it, or the command does
 abbrev pub IsConfigurationNo : Command → List ℕ → Text → Type 0
 IsConfigurationNo command config name =
     ((why : RegNo) × (registry_read config ≡ Err why) × (name ≡ registry_name why))
-    ⊎ ((c : Configuration) × (registry_read config ≡ Ok c) × IsPartyNo command c name)
+    ⊎ ((c : Configuration) × (registry_read config ≡ Ok c) × IsCommandNo command config c name)
 
 -- The configuration is rejected, and the reason was written.
 pub record RefusesConfiguration (contents : Option (List Content)) (words : List Text) (old new : Option (List ℕ)) : Type 0 where
@@ -169,31 +176,36 @@ pub record RefusesMetadata (contents : Option (List Content)) (words : List Text
 
 -- ---- servers: the desks served
 
--- The configuration is accepted, the desks served its provider, and the result was written: that a door failed, or how much was
--- served.
-pub record RunsProviderBy
-    {Core A R : Type 0} (command : Text → Command) (Serves : Configuration → Summary Core A R → Type 0)
-    (contents : Option (List Content)) (words : List Text) (failed : Bool) (old new : Option (List ℕ)) : Type 0 where
-  pub config_at : Text
-  pub words_are : command_of words ≡ Some (command config_at)
-  pub config : List ℕ
-  pub there : IsContent contents config_at config
-  pub configuration : Configuration
-  pub read : registry_read config ≡ Ok configuration
-  pub summary : Summary Core A R
-  pub served : Serves configuration summary
-  pub ended : summary.fault ≡ failed
-  pub wrote : Takes old new (server_answer failed summary.served summary.entries).text
-
 module _ {D L C W S K : Type 0} (t : Telling D L C W S K) (olds news : List (Desk D L C W)) where
   -- `op`
-  abbrev pub RunsProvider : Option (List Content) → List Text → Bool → Option (List ℕ) → Option (List ℕ) → Type 0
-  RunsProvider contents words failed old new = RunsProviderBy (λ config_at. Op config_at) (ServesOp t olds news) contents words failed old new
+  -- The configuration is accepted, the desks served its provider, and the result was written: that a door failed, or how much was
+  -- served.
+  pub record RunsProvider (contents : Option (List Content)) (words : List Text) (failed : Bool) (old new : Option (List ℕ)) : Type 0 where
+    pub config_at : Text
+    pub words_are : command_of words ≡ Some (Op config_at)
+    pub config : List ℕ
+    pub there : IsContent contents config_at config
+    pub configuration : Configuration
+    pub read : registry_read config ≡ Ok configuration
+    pub summary : Summary Providing OpAsk OpReply
+    pub served : ServesOp t olds news configuration summary
+    pub ended : summary.fault ≡ failed
+    pub wrote : Takes old new (server_answer failed summary.served summary.entries).text
 
-  -- `op-plus`
-  abbrev pub RunsProviderPlus : Option (List Content) → List Text → Bool → Option (List ℕ) → Option (List ℕ) → Type 0
-  RunsProviderPlus contents words failed old new =
-      RunsProviderBy (λ config_at. OpPlus config_at) (ServesOpPlus t olds news) contents words failed old new
+  -- `op-plus`: the same, and where browsers may be sent is accepted too
+  pub record RunsProviderPlus (contents : Option (List Content)) (words : List Text) (failed : Bool) (old new : Option (List ℕ)) : Type 0 where
+    pub config_at : Text
+    pub words_are : command_of words ≡ Some (OpPlus config_at)
+    pub config : List ℕ
+    pub there : IsContent contents config_at config
+    pub configuration : Configuration
+    pub read : registry_read config ≡ Ok configuration
+    pub returns : ReturnLists
+    pub sends : returns_read config ≡ Ok returns
+    pub summary : OpPlusSummary
+    pub served : ServesOpPlus t olds news (end_setup configuration returns) summary
+    pub ended : summary.fault ≡ failed
+    pub wrote : Takes old new (server_answer failed summary.served summary.entries).text
 
   -- `rp`
   -- The same for a party of the configuration, which trusts the configuration's provider, or the one of the metadata.
@@ -261,6 +273,10 @@ abbrev pub op_status : Option (List ℕ) → Option ℕ
 op_status None = Some 5
 op_status (Some config) = status_of_asked (op_asked config)
 
+abbrev pub op_plus_status : Option (List ℕ) → Option ℕ
+op_plus_status None = Some 5
+op_plus_status (Some config) = status_of_asked (op_plus_asked config)
+
 -- the content of a name, if one is given; the inner option is whether the content exists
 abbrev pub content_if : List Content → Option Text → Option (Option (List ℕ))
 content_if contents None = Some None
@@ -279,7 +295,7 @@ status_for contents (Some (Storm number count)) = Some (storm_answer number coun
 status_for contents (Some (Token secret token)) = Some (status_of_both token_answer (content_of contents secret) (content_of contents token))
 status_for contents (Some (Op config)) = op_status (content_of contents config)
 status_for contents (Some (Rp config party metadata)) = rp_status party (content_of contents config) (content_if contents metadata)
-status_for contents (Some (OpPlus config)) = op_status (content_of contents config)
+status_for contents (Some (OpPlus config)) = op_plus_status (content_of contents config)
 status_for contents (Some (RpPlus config party)) = rp_status party (content_of contents config) (Some None)
 
 -- The status is this one, unless memory ran out or the sink failed.

@@ -7,6 +7,7 @@ use Rattle.sso_base.specs.Outside.{Content, content_of, Fetches, Takes, TakesFro
 use Rattle.client_registry.specs.Configuration.{Configuration}
 use Rattle.client_registry.specs.Reading.{registry_read}
 use Rattle.rp_answer.specs.Setup.{PartySetup}
+use Rattle.signout_answer.specs.declared.asks.EndSetup.{EndSetup}
 use Rattle.command_line.specs.declared.command.Command.{Command}
 use Rattle.command_line.specs.declared.command.Command.TheVariants.{Replay, Op, Rp, OpPlus, RpPlus, Storm, Token}
 use Rattle.server_desk.specs.declared.desk.Desk.{Desk}
@@ -18,7 +19,7 @@ use Rattle.storm_texts.specs.Config.{config_text}
 use Rattle.storm_texts.specs.Trace.{trace_text}
 use Rattle.oidc_replay.specs.Theorem.{PlaysWell}
 use Rattle.sso.specs.Answer.{Answer, usage_text, shelf_text, answer_to, storm_answer, token_answer}
-use Rattle.sso.specs.Asked.{op_asked, rp_asked, server_answer}
+use Rattle.sso.specs.Asked.{op_asked, op_plus_asked, rp_asked, server_answer}
 
 -- this is the content with this name, if the shelf's contents are known
 abbrev pub IsContent : Option (List Content) → Text → List ℕ → Type 0
@@ -122,7 +123,7 @@ module _ {D L C W S K : Type 0} (t : Telling D L C W S K) (olds news : List (Des
   abbrev pub ServedRp : Result PartySetup Answer → Answer → Type 0
   ServedRp asked answer = ServedBy (news ≡ olds) (ServesRp t olds news) asked answer
 
-  abbrev pub ServedOpPlus : Result Configuration Answer → Answer → Type 0
+  abbrev pub ServedOpPlus : Result EndSetup Answer → Answer → Type 0
   ServedOpPlus asked answer = ServedBy (news ≡ olds) (ServesOpPlus t olds news) asked answer
 
   abbrev pub ServedRpPlus : Result PartySetup Answer → Answer → Type 0
@@ -135,7 +136,7 @@ module _ {D L C W S K : Type 0} (t : Telling D L C W S K) (olds news : List (Des
 
   abbrev pub MayServeOpPlus : Option (List Content) → ℕ → ℕ → Text → Answer → Type 0
   MayServeOpPlus contents before after config_at answer =
-      MayServe (news ≡ olds) (ServesOpPlus t olds news) op_asked contents before after config_at answer
+      MayServe (news ≡ olds) (ServesOpPlus t olds news) op_plus_asked contents before after config_at answer
 
   -- The outcome is the one for a configuration with this name, and for the metadata with this name, if one is given.
   pub record AnswersRp (contents : Option (List Content)) (config_at name : Text) (metadata_at : Option Text) (answer : Answer) : Type 0 where

@@ -175,7 +175,7 @@ fn rp_words<R: Threads + Wait + Sync, H: Shelf, D: Door, L: Link, C: Clock, W: D
     }
 }
 
-/// Serves the provider of the configuration with this name with proof keys.
+/// Serves the provider of the configuration with this name with proof keys, refresh tokens and questions before a sign-out.
 fn op_plus_words<R: Threads + Wait + Sync, H: Shelf, D: Door, L: Link, C: Clock, W: Draw>(
     rt: &R,
     alloc: Global,

@@ -1,10 +1,14 @@
-//! The outcomes of serving the provider of a configuration, or one of its parties, alone or with proof keys (RFC 7636).
+//! The outcomes of serving the provider of a configuration, or one of its parties, alone or with proof keys (RFC 7636). With proof keys
+//! the provider also gives refresh tokens (RFC 6749, 6), and asks the user before a relying party's request ends a session (RP-Initiated
+//! Logout 1.0).
 
 ghost use Rattle.std.specs.Prelude.{◌≡◌, ◌^◌, ◌≤◌, ◌<◌, false, length, None, Ok, IfOk, codes};
 ghost use Rattle.std.specs.List.{All};
+ghost use Rattle.end_request.specs.Returning.{returns_read};
 ghost use Rattle.rp_accept.specs.Serving.{setup_of};
+ghost use Rattle.sso_serve.specs.Cores.{end_setup};
 ghost use Rattle.sso.specs.Asked as spec;
-ghost use Rattle.sso.specs.Asked.{metadata_refusal, server_answer, op_asked, rp_asked, name_asked};
+ghost use Rattle.sso.specs.Asked.{metadata_refusal, server_answer, op_asked, returns_asked, op_plus_asked, rp_asked, name_asked};
 ghost use Rattle.sso.specs.Outcomes.{ServedOp, ServedRp, ServedOpPlus, ServedRpPlus};
 
 use crate::configuration::{refuse_party, refuse_registry};
@@ -12,6 +16,7 @@ use crate::outcome::Outcome;
 use crate::refusal::{Refusal, refused};
 use client_registry::{Provider, RegNo, Registry, read_registry};
 use discovery_doc::{DiscNo, read_discovery};
+use end_request::{Returns, read_returns};
 use server_desk::{Clock, Desk, Door, Draw, Link};
 use serving::Tells;
 use sso_base::{Blob, NoMemory, Text};
@@ -84,23 +89,46 @@ pub fn answer_op<R: Threads + Wait + Sync, D: Door, L: Link, C: Clock, W: Draw>(
     }
 }
 
-/// Serves the provider of a registry with proof keys.
+/// Serves the provider of a registry with proof keys, refresh tokens and questions before a sign-out. Browsers may be sent to these URIs.
 fn serve_provider_plus<R: Threads + Wait + Sync, D: Door, L: Link, C: Clock, W: Draw>(
     rt: &R,
     alloc: Global,
+    registry: &Registry,
+    returns: Returns,
+    desks: &mut Vec<Desk<D, L, C, W>>,
+) -> Result<Outcome, NoMemory>
+    requires few { length desks.old.items ≤ 64 }
+    requires desks { All (λ desk. (desk.turns ≤ 2 ^ 56) × ((D.state desk.door).given < 2 ^ 63)) desks.old.items }
+    ensures { IfOk result
+        (ServedOpPlus ⟦<Desk<D, L, C, W> as Tells>⟧.telling desks.old.items desks.new.items (Ok (end_setup registry.now returns))) }
+{
+    let ran = run_op_plus(rt, alloc, registry, returns, desks)?;
+    answer_server(alloc, ran.fault, ran.served, ran.entries)
+}
+
+/// The same for the configuration of the registry, which says where browsers may be sent.
+fn serve_sending<R: Threads + Wait + Sync, D: Door, L: Link, C: Clock, W: Draw>(
+    rt: &R,
+    alloc: Global,
+    config: &[u8],
     registry: &Registry,
     desks: &mut Vec<Desk<D, L, C, W>>,
 ) -> Result<Outcome, NoMemory>
     requires few { length desks.old.items ≤ 64 }
     requires desks { All (λ desk. (desk.turns ≤ 2 ^ 56) × ((D.state desk.door).given < 2 ^ 63)) desks.old.items }
-    ensures { IfOk result (ServedOpPlus ⟦<Desk<D, L, C, W> as Tells>⟧.telling desks.old.items desks.new.items (Ok registry.now)) }
+    ensures { IfOk result
+        (ServedOpPlus ⟦<Desk<D, L, C, W> as Tells>⟧.telling desks.old.items desks.new.items (returns_asked registry.now (returns_read config.now))) }
 {
-    let ran = run_op_plus(rt, alloc, registry, desks)?;
-    answer_server(alloc, ran.fault, ran.served, ran.entries)
+    match read_returns(alloc, config) {
+        Ok(returns) => serve_provider_plus(rt, alloc, registry, returns, desks),
+        Err(RegNo::NoMemory) => Err(NoMemory),
+        Err(why) => refuse_registry(alloc, why),
+    }
 }
 
-/// Serves the provider of a configuration with proof keys. Returns how that ended, or why the configuration is rejected.
-#[tactic(auto, unfolding(crate::specs::Asked::op_asked))]
+/// Serves the provider of a configuration with proof keys, refresh tokens and questions before a sign-out. Returns how that ended, or why
+/// the configuration is rejected.
+#[tactic(auto, unfolding(crate::specs::Asked::op_plus_asked))]
 pub fn answer_op_plus<R: Threads + Wait + Sync, D: Door, L: Link, C: Clock, W: Draw>(
     rt: &R,
     alloc: Global,
@@ -109,10 +137,10 @@ pub fn answer_op_plus<R: Threads + Wait + Sync, D: Door, L: Link, C: Clock, W: D
 ) -> Result<Outcome, NoMemory>
     requires few { length desks.old.items ≤ 64 }
     requires desks { All (λ desk. (desk.turns ≤ 2 ^ 56) × ((D.state desk.door).given < 2 ^ 63)) desks.old.items }
-    ensures { IfOk result (ServedOpPlus ⟦<Desk<D, L, C, W> as Tells>⟧.telling desks.old.items desks.new.items (op_asked config.now)) }
+    ensures { IfOk result (ServedOpPlus ⟦<Desk<D, L, C, W> as Tells>⟧.telling desks.old.items desks.new.items (op_plus_asked config.now)) }
 {
     match read_registry(alloc, config) {
-        Ok(registry) => serve_provider_plus(rt, alloc, &registry, desks),
+        Ok(registry) => serve_sending(rt, alloc, config, &registry, desks),
         Err(RegNo::NoMemory) => Err(NoMemory),
         Err(why) => refuse_registry(alloc, why),
     }

@@ -83,7 +83,7 @@ fn run<R: Threads + Wait + Sync, H: Shelf, K: Sink, D: Door, L: Link, C: Clock, 
 /// | | `op`, `rp`, `op-plus`, `rp-plus`: each desk served its turns or has a closed door | `served` and the connections, `entries` and those of the history |
 /// | 1 | out of memory | none |
 /// | 2 | the words are not a command | the usage |
-/// | 3 | CONFIG is rejected, or has no party NAME | `configuration`, the refusal's name and its values, or `configuration NoParty` |
+/// | 3 | CONFIG is rejected, by `op-plus` also for URIs, or has no party NAME | `configuration`, the refusal's name and values, or `configuration NoParty` |
 /// | 4 | TRACE is not an accepted trace | `trace`, the refusal's name and the number of its line |
 /// | 5 | the shelf's fault count rose | `shelf` |
 /// | 6 | the sink's fault count rose | a prefix of one of these texts |

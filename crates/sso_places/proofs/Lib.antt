@@ -8,5 +8,7 @@ pub mod Numbers
 pub mod Objects
 pub mod Places
 mod Samples
+pub mod Sharing
 pub mod SmallSite
 pub mod Story
+pub mod Unshared

@@ -12,6 +12,7 @@ pub mod SameBrowser
 pub mod Site
 pub mod Told
 pub mod Tokens
+pub mod Unshared
 pub mod World
 pub mod Written
 pub mod Laws

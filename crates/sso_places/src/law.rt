@@ -4,6 +4,7 @@ ghost use Rattle.std.specs.Prelude.{◌≡◌, ◌↔◌, ℕ, Some, None};
 ghost use Rattle.sso_places.specs.declared.types.Broken.TheVariants.{Forged, Leaked, HashClash};
 ghost use Rattle.sso_places.specs.FirstBroken.{first_broken, IsUnbroken, IsFirstForged, IsFirstLeaked, IsFirstClash};
 ghost use Rattle.sso_places.specs.Site.{Site};
+ghost use Rattle.sso_places.specs.Unshared.{IsUnshared, first_shared, IsFirstShared};
 ghost use Rattle.sso_places.specs.World.{World};
 ghost use Rattle.sso_places.specs.Laws.{MessagesCarryTheWrittenTokens, LoginsCarryTheWrittenObjects, MergesAreLegal};
 
@@ -15,6 +16,14 @@ pub fn first_broken_is_exact()
     ensures forged { (s : Site) (world : World) (number : ℕ) → (first_broken s world ≡ Some (Forged number)) ↔ IsFirstForged s world number }
     ensures leaked { (s : Site) (world : World) (number : ℕ) → (first_broken s world ≡ Some (Leaked number)) ↔ IsFirstLeaked s world number }
     ensures clash { (s : Site) (world : World) (other number : ℕ) → (first_broken s world ≡ Some (HashClash other number)) ↔ IsFirstClash s world other number }
+{}
+
+/// `first_shared` is `None` if and only if no access token is shared. Otherwise it is the number of the first place at which this
+/// premise fails: a place that shows an access token which it may not show, or one that gives an access token which an earlier
+/// place might not show.
+pub fn first_shared_is_exact()
+    ensures none { (world : World) → (first_shared world ≡ None) ↔ IsUnshared world }
+    ensures first { (world : World) (number : ℕ) → (first_shared world ≡ Some number) ↔ IsFirstShared world number }
 {}
 
 /// The messages of a sign-out carry, one by one and in order, the logout tokens that are written. Each message goes to the

@@ -1,4 +1,4 @@
--- A provider with proof keys may go to other threads, and threads may share it. It is too large for one search, so each part is searched
+-- The provider of `op-plus` may go to other threads, and threads may share it. It is too large for one search, so each part is searched
 -- for by itself.
 use Rattle.std.proofs.Crossing.{crosses}
 use denote.RattleType.{RattleType}
@@ -18,7 +18,18 @@ use Rattle.op_core.specs.contracts.state.OpCore as provider
 use Rattle.core_stack.specs.declared.provides.Provides as provides
 use Rattle.core_stack.specs.contracts.kept_journal.KeptJournal as kept
 use Rattle.pkce_answer.proofs.asks.PkceReply.TheSendSync as keyed_replies
+use Rattle.pkce_answer.proofs.asks.PkceAsk.TheSendSync as keyed_asks
 use Rattle.pkce_check.specs.contracts.pkce_core.PkceCore as keyed
+use Rattle.refresh_answer.proofs.asks.RefreshAsk.TheSendSync as refresh_asks
+use Rattle.refresh_answer.proofs.asks.RefreshReply.TheSendSync as refresh_replies
+use Rattle.refresh_answer.proofs.asks.OwnReply.TheSendSync as refreshed_replies
+use Rattle.refresh_rows.proofs.book.Book.TheSendSync as book
+use Rattle.refresh_book.specs.contracts.refresh_core.RefreshCore as refreshed
+use Rattle.signout_answer.proofs.asks.EndSetup.TheSendSync as end_setup
+use Rattle.signout_answer.proofs.asks.EndAsk.TheSendSync as end_asks
+use Rattle.signout_answer.proofs.asks.EndReply.TheSendSync as end_replies
+use Rattle.signout_answer.proofs.parts.OwnReply.TheSendSync as ended_replies
+use Rattle.rp_signout.specs.contracts.signout_core.SignoutCore as asked
 
 pub ruleset parts = (chain.crosses, crosses, sendable)
 
@@ -37,6 +48,15 @@ pub keyed_is_sent : (P A R : RattleType) (g : provides.Ghosts P.Denot A.Denot R.
     → IsSend P → IsSend A → IsSend (keyed.the_row P A R g h)
 keyed_is_sent P A R g h p a = search (kept_is_sent, held.the_send, replies.the_send, parts) depth 60 fits 20000
 
+pub refreshed_is_sent : (P A R : RattleType) (g : provides.Ghosts P.Denot A.Denot R.Denot) (h : core.Ghosts P.Denot A.Denot R.Denot)
+    → IsSend P → IsSend A → IsSend (refreshed.the_row P A R g h)
+refreshed_is_sent P A R g h p a =
+    search (registry.the_send, kept_is_sent, held.the_send, book.the_send, refresh_asks.the_send, refreshed_replies.the_send, parts) depth 60 fits 20000
+
+pub asked_is_sent : (P A R : RattleType) (g : provides.Ghosts P.Denot A.Denot R.Denot) (h : core.Ghosts P.Denot A.Denot R.Denot)
+    → IsSend P → IsSend A → IsSend (asked.the_row P A R g h)
+asked_is_sent P A R g h p a = search (end_setup.the_send, kept_is_sent, held.the_send, end_asks.the_send, ended_replies.the_send, parts) depth 60 fits 20000
+
 -- ---- threads share them
 
 pub journal_is_shared : (g : weighed.Ghosts op_ask.the_row.Denot) → IsSync (journal.the_row op_ask.the_row op_reply.the_row g)
@@ -52,6 +72,17 @@ pub keyed_is_shared : (P A R : RattleType) (g : provides.Ghosts P.Denot A.Denot 
     → IsSync P → IsSync A → IsSync (keyed.the_row P A R g h)
 keyed_is_shared P A R g h p a = search (kept_is_shared, held.the_sync, replies.the_sync, parts) depth 60 fits 20000
 
-pub ruleset sends = (keyed_is_sent, provider_is_sent, asks.the_send, replies.the_send, keyed_replies.the_send, parts)
+pub refreshed_is_shared : (P A R : RattleType) (g : provides.Ghosts P.Denot A.Denot R.Denot) (h : core.Ghosts P.Denot A.Denot R.Denot)
+    → IsSync P → IsSync A → IsSync (refreshed.the_row P A R g h)
+refreshed_is_shared P A R g h p a =
+    search (registry.the_sync, kept_is_shared, held.the_sync, book.the_sync, refresh_asks.the_sync, refreshed_replies.the_sync, parts) depth 60 fits 20000
 
-pub ruleset shares = (keyed_is_shared, provider_is_shared, asks.the_sync, parts)
+pub asked_is_shared : (P A R : RattleType) (g : provides.Ghosts P.Denot A.Denot R.Denot) (h : core.Ghosts P.Denot A.Denot R.Denot)
+    → IsSync P → IsSync A → IsSync (asked.the_row P A R g h)
+asked_is_shared P A R g h p a = search (end_setup.the_sync, kept_is_shared, held.the_sync, end_asks.the_sync, ended_replies.the_sync, parts) depth 60 fits 20000
+
+pub ruleset sends = (asked_is_sent, refreshed_is_sent, keyed_is_sent, provider_is_sent, end_asks.the_send, refresh_asks.the_send,
+  keyed_asks.the_send, asks.the_send, end_replies.the_send, refresh_replies.the_send, keyed_replies.the_send, replies.the_send, parts)
+
+pub ruleset shares = (asked_is_shared, refreshed_is_shared, keyed_is_shared, provider_is_shared, end_asks.the_sync, refresh_asks.the_sync,
+  keyed_asks.the_sync, asks.the_sync, parts)

@@ -1,5 +1,5 @@
 -- The roles and their servers, computed over the definitions on small cases.
-use Rattle.std.proofs.Common.{◌≡◌, ℕ, Bool, true, false, [], ◌∷◌, Option, Some, None, refl, arith}
+use Rattle.std.proofs.Common.{◌≡◌, ℕ, Bool, true, false, List, [], ◌∷◌, Option, Some, None, Result, refl, arith}
 use Rattle.sso_base.specs.Words.{Word, Text}
 use Rattle.sso_base.specs.Journal.{lasting_weight}
 use Rattle.sso_base.specs.declared.message.Message.{Message}
@@ -20,6 +20,14 @@ use Rattle.rp_request.specs.Prepared.{tokens_prepared, info_prepared}
 use Rattle.pkce_answer.specs.declared.asks.PkceAsk.{PkceAsk}
 use Rattle.pkce_answer.specs.declared.asks.PkceReply.TheVariants.{Through, Own}
 use Rattle.pkce_party.specs.Telling.{verified}
+use Rattle.token_endpoint.specs.declared.no.GrantNo.{GrantNo}
+use Rattle.refresh_answer.specs.declared.asks.RefreshGrant.{RefreshGrant}
+use Rattle.refresh_answer.specs.declared.asks.RefreshAsk.TheVariants as token_ask
+use Rattle.refresh_answer.specs.declared.asks.OwnReply.{OwnReply}
+use Rattle.refresh_answer.specs.declared.asks.RefreshReply.TheVariants as tokens
+use Rattle.signout_answer.specs.declared.asks.EndAsk.TheVariants as end_ask
+use Rattle.signout_answer.specs.declared.asks.EndReply.TheVariants as end
+use Rattle.signout_answer.specs.declared.asks.EndSetup.{EndSetup}
 use Rattle.serving.specs.declared.summary.Summary.{Summary}
 use Rattle.serving.specs.Summaries.{Telling}
 use Rattle.sso_serve.specs.Roles.{is_small_if}
@@ -34,12 +42,24 @@ told-to_the_clients_of_the_session c message = refl
 told-to_nobody : (c : Configuration) → (op_manner c).notices op.NotHere ≡ []
 told-to_nobody c = refl
 
--- also through the core that checks proof keys, and its own refusals are told to nobody
-told-through : (c : Configuration) (message : Message) → (op_plus_manner c).notices (Through (op.SignedOut (message ∷ []))) ≡ message ∷ []
+-- also through the cores around it, and their own replies are told to nobody
+told-through : (c : Configuration) (message : Message)
+    → (op_plus_manner c).notices (end.Through (tokens.Through (Through (op.SignedOut (message ∷ []))))) ≡ message ∷ []
 told-through c message = refl
 
-told-to_nobody_by_a_refusal : (c : Configuration) (reply : OpReply) → (op_plus_manner c).notices (Own reply) ≡ []
+told-to_nobody_by_a_refusal : (c : Configuration) (reply : OpReply) → (op_plus_manner c).notices (end.Through (tokens.Through (Own reply))) ≡ []
 told-to_nobody_by_a_refusal c reply = refl
+
+told-to_nobody_by_a_refresh : (c : Configuration) (reply : OwnReply) → (op_plus_manner c).notices (end.Through (tokens.Own reply)) ≡ []
+told-to_nobody_by_a_refresh c reply = refl
+
+-- and after the user agreed to a sign-out
+told-after_a_yes : (c : Configuration) (back : Option Text) (message : Message)
+    → (op_plus_manner c).notices (end.Gone back (tokens.Through (Through (op.SignedOut (message ∷ []))))) ≡ message ∷ []
+told-after_a_yes c back message = refl
+
+told-to_nobody_by_a_question : (c : Configuration) (w : Word) → (op_plus_manner c).notices (end.Sure w) ≡ []
+told-to_nobody_by_a_question c w = refl
 
 asked-nobody_by_the_provider : (c : Configuration) (reply : OpReply) → (op_manner c).question reply ≡ None
 asked-nobody_by_the_provider c reply = refl
@@ -77,8 +97,16 @@ taken-in_a_lasting_history : (c : Configuration) (asked : OpAsk) → (op_manner 
 taken-in_a_lasting_history c asked = refl
 
 taken-by_the_request_inside : (c : Configuration) (asked : PkceAsk OpAsk)
-    → (op_plus_manner (record c { lasting = true })).takes asked ≡ is_small asked.inner
+    → (op_plus_manner (record c { lasting = true })).takes (end_ask.Through (token_ask.Through asked false)) ≡ is_small asked.inner
 taken-by_the_request_inside c asked = refl
+
+taken-to_be_refreshed : (c : Configuration) (grant : Result RefreshGrant GrantNo)
+    → (op_plus_manner (record c { lasting = true })).takes (end_ask.Through (token_ask.Refresh grant)) ≡ true
+taken-to_be_refreshed c grant = refl
+
+taken-to_end_a_session : (c : Configuration) (form : List ℕ) (session : Option Word)
+    → (op_plus_manner (record c { lasting = true })).takes (end_ask.Start form session) ≡ true
+taken-to_end_a_session c form session = refl
 
 taken-without_a_request_of_the_provider : is_small_if None ≡ true
 taken-without_a_request_of_the_provider = refl
@@ -108,12 +136,12 @@ module _ {D L C W S K : Type 0} (t : Telling D L C W S K) where
   not_served-a_connection : (c : Configuration) → ServesOp t [] [] c (op_summary 1) → ⊥
   not_served-a_connection c serves = (let never : ◌≡◌ {A = ℕ} 1 0 = (serves.none refl).0 in cc)
 
-  served-nothing_with_keys : (c : Configuration) → ServesOpPlus t [] [] c (op_plus_summary 0)
-  served-nothing_with_keys c =
+  served-nothing_with_keys : (e : EndSetup) → ServesOpPlus t [] [] e (op_plus_summary 0)
+  served-nothing_with_keys e =
       record { none = λ _. (refl, refl, refl, refl, refl); some = λ few. absurd (omega arith); failed = λ never. absurd (cc); well = λ _. tt }
 
-  not_served-a_connection_with_keys : (c : Configuration) → ServesOpPlus t [] [] c (op_plus_summary 1) → ⊥
-  not_served-a_connection_with_keys c serves = (let never : ◌≡◌ {A = ℕ} 1 0 = (serves.none refl).0 in cc)
+  not_served-a_connection_with_keys : (e : EndSetup) → ServesOpPlus t [] [] e (op_plus_summary 1) → ⊥
+  not_served-a_connection_with_keys e serves = (let never : ◌≡◌ {A = ℕ} 1 0 = (serves.none refl).0 in cc)
 
   served-nothing_of_a_party : (p : PartySetup) → ServesRp t [] [] p (rp_summary false)
   served-nothing_of_a_party p =

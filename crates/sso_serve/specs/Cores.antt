@@ -1,6 +1,11 @@
--- The cores that are served: the provider and a relying party, alone and with proof keys (RFC 7636).
+-- The cores that are served: the provider and a relying party, alone and with what other crates add to them: proof keys (RFC 7636) to
+-- both, and refresh tokens (RFC 6749, 6) and questions before a sign-out (RP-Initiated Logout 1.0) to the provider.
 use Rattle.std.specs.Prelude.{ℕ, List, Option, Some}
 use Rattle.sso_base.specs.Journal.{most_of}
+use Rattle.sso_base.specs.declared.history.Pair.{Pair}
+use Rattle.sso_base.specs.declared.http.Ask.{Ask}
+use Rattle.sso_base.specs.declared.http.HttpReply.{HttpReply}
+use Rattle.sso_base.specs.declared.message.Message.{Message}
 use Rattle.client_registry.specs.Configuration.{Configuration}
 use Rattle.op_exchange.specs.declared.ask.OpAsk.{OpAsk}
 use Rattle.op_exchange.specs.declared.reply.OpReply.{OpReply}
@@ -23,10 +28,27 @@ use Rattle.core_stack.specs.OpStack.{op_notices}
 use Rattle.core_stack.specs.Relied.{sending_in}
 use Rattle.pkce_answer.specs.declared.asks.PkceAsk.{PkceAsk}
 use Rattle.pkce_answer.specs.declared.asks.PkceReply.{PkceReply}
-use Rattle.pkce_answer.specs.Around.{Outer, outer_plain, outer_notices, outer_weight}
+use Rattle.pkce_answer.specs.Challenges.{IsPkceAsk}
+use Rattle.pkce_answer.specs.Around as keys
 use Rattle.pkce_answer.specs.Answering.{IsLegalPkce}
 use Rattle.pkce_check.specs.Keeps.{Checking}
-use Rattle.pkce_check.specs.Prepared.{asked_around, alone, outer_http}
+use Rattle.pkce_check.specs.Prepared as key_read
+use Rattle.refresh_answer.specs.declared.asks.RefreshAsk.{RefreshAsk}
+use Rattle.refresh_answer.specs.declared.asks.RefreshReply.{RefreshReply}
+use Rattle.refresh_answer.specs.Around as tokens
+use Rattle.refresh_answer.specs.Answering.{Setup, IsLegalRefresh}
+use Rattle.refresh_book.specs.Keeps.{Refreshing}
+use Rattle.refresh_book.specs.Prepared as token_read
+use Rattle.end_request.specs.Returning.{ReturnLists}
+use Rattle.signout_answer.specs.declared.asks.EndAsk.{EndAsk}
+use Rattle.signout_answer.specs.declared.asks.EndReply.{EndReply}
+use Rattle.signout_answer.specs.declared.asks.EndSetup.{EndSetup}
+use Rattle.signout_answer.specs.Around.{Outer, plain_inside, notices_inside, end_weight}
+use Rattle.signout_answer.specs.Answering.{SignoutSetup, IsLegalSignout}
+use Rattle.rp_signout.specs.Keeps.{Signing}
+use Rattle.rp_signout.specs.Pages.{end_http}
+use Rattle.rp_signout.specs.Prepared.{end_asked, route_asked}
+use Rattle.rp_signout.specs.Prepared as signs
 use Rattle.pkce_party.specs.declared.reply.PartyReply.{PartyReply}
 use Rattle.pkce_party.specs.Adding.{PartyPair}
 use Rattle.pkce_party.specs.Inside.{reply_inside}
@@ -58,20 +80,136 @@ op_history p = p.history
 
 -- ---- the provider with proof keys around it
 
-abbrev pub op_plus_manner : Configuration → Manner (PkceAsk OpAsk) (PkceReply OpReply)
+abbrev pub Keyed : Type 0
+Keyed = Checking Providing OpAsk OpReply
+
+abbrev pub KeyedAsk : Type 0
+KeyedAsk = PkceAsk OpAsk
+
+abbrev pub KeyedReply : Type 0
+KeyedReply = PkceReply OpReply
+
+abbrev pub keyed_plain : KeyedAsk → Option OpAsk
+keyed_plain asked = keys.outer_plain op_plain asked
+
+abbrev pub keyed_given : KeyedReply → Option OpReply
+keyed_given reply = keys.outer_given op_given reply
+
+abbrev pub keyed_told : KeyedReply → Option OpReply
+keyed_told reply = keys.outer_told op_given reply
+
+abbrev pub keyed_provided : List (Pair KeyedAsk KeyedReply) → List OpPair
+keyed_provided h = keys.inner_history h
+
+abbrev pub keyed_notices : KeyedReply → Option (List Message)
+keyed_notices reply = keys.outer_notices op_notices reply
+
+abbrev pub keyed_prepared : Configuration → Ask → KeyedAsk
+keyed_prepared c request = key_read.asked_around op_plain request (op_request.prepared c request)
+
+abbrev pub keyed_asked : OpAsk → KeyedAsk
+keyed_asked asked = key_read.alone asked
+
+abbrev pub keyed_http : Configuration → KeyedReply → HttpReply
+keyed_http c reply = key_read.outer_http op_telling.http_of c reply
+
+abbrev pub keyed_weight : KeyedAsk → ℕ
+keyed_weight asked = keys.outer_weight op_weight.ask_weight asked
+
+abbrev pub keyed_registry : Keyed → Configuration
+keyed_registry p = p.inner.registry
+
+abbrev pub IsKeyedAsk : KeyedAsk → Type 0
+IsKeyedAsk asked = IsPkceAsk IsOpAsk asked
+
+abbrev pub IsLegalKeyed : Configuration → List (Pair KeyedAsk KeyedReply) → Type 0
+IsLegalKeyed c h = IsLegalPkce op_plain op_given IsOpAsk op_weight.ask_weight op_most op.IsLegalHistory c h
+
+-- ---- the last one with refresh tokens around it
+
+abbrev pub Refreshed : Type 0
+Refreshed = Refreshing Keyed KeyedAsk KeyedReply
+
+abbrev pub RefreshedAsk : Type 0
+RefreshedAsk = RefreshAsk KeyedAsk
+
+abbrev pub RefreshedReply : Type 0
+RefreshedReply = RefreshReply KeyedReply
+
+abbrev pub refreshed_plain : RefreshedAsk → Option OpAsk
+refreshed_plain asked = tokens.outer_plain keyed_plain asked
+
+abbrev pub refreshed_notices : RefreshedReply → Option (List Message)
+refreshed_notices reply = tokens.outer_notices keyed_notices reply
+
+abbrev pub refreshed_prepared : Configuration → Ask → RefreshedAsk
+refreshed_prepared c request = token_read.asked_around keyed_plain c request (keyed_prepared c request)
+
+abbrev pub refreshed_asked : OpAsk → RefreshedAsk
+refreshed_asked asked = token_read.alone (keyed_asked asked)
+
+abbrev pub refreshed_http : Configuration → RefreshedReply → HttpReply
+refreshed_http c reply = token_read.outer_http keyed_http keyed_told c reply
+
+abbrev pub refreshed_weight : RefreshedAsk → ℕ
+refreshed_weight asked = tokens.outer_weight keyed_weight asked
+
+-- the registry of the provider, and the setup, which also has the registry beside it
+abbrev pub refreshed_registry : Refreshed → Configuration
+refreshed_registry p = keyed_registry p.inner
+
+abbrev pub refreshed_setup : Refreshed → Setup Configuration
+refreshed_setup p = record { inner = refreshed_registry p; registry = p.registry }
+
+-- both have the same configuration
+abbrev pub alike : Configuration → Setup Configuration
+alike c = record { inner = c; registry = c }
+
+abbrev pub refreshed_most : Setup Configuration → ℕ
+refreshed_most s = op_most s.inner
+
+abbrev pub IsRefreshedAsk : RefreshedAsk → Type 0
+IsRefreshedAsk asked = tokens.IsRefreshAsk IsKeyedAsk asked
+
+abbrev pub IsLegalRefreshed : Setup Configuration → List (Pair RefreshedAsk RefreshedReply) → Type 0
+IsLegalRefreshed s h = IsLegalRefresh keyed_plain keyed_given keyed_provided IsKeyedAsk keyed_weight op_most IsLegalKeyed s h
+
+-- ---- the provider of `op-plus`: the last one, with questions before a sign-out around it
+
+abbrev pub OpPlus : Type 0
+OpPlus = Signing Refreshed RefreshedAsk RefreshedReply
+
+abbrev pub OpPlusAsk : Type 0
+OpPlusAsk = EndAsk RefreshedAsk
+
+abbrev pub OpPlusReply : Type 0
+OpPlusReply = EndReply RefreshedReply
+
+-- the setup of the questions, for a configuration and the URIs to which browsers may be sent
+abbrev pub end_setup : Configuration → ReturnLists → EndSetup
+end_setup c returns = record { registry = c; returns = returns }
+
+-- the setup of the provider, with that of the core inside
+abbrev pub op_plus_around : EndSetup → Setup Configuration → SignoutSetup (Setup Configuration)
+op_plus_around e s = record { own = e; inner = s }
+
+abbrev pub op_plus_manner : Configuration → Manner OpPlusAsk OpPlusReply
 op_plus_manner c =
-    provider_manner (outer_plain op_plain) (outer_notices op_notices)
-    (λ d request. asked_around op_plain request (op_request.prepared d request)) (λ asked. alone asked)
-    (outer_http op_telling.http_of) (outer_weight op_weight.ask_weight) c
+    provider_manner (plain_inside refreshed_plain) (notices_inside refreshed_notices)
+    (λ d request. end_asked refreshed_prepared refreshed_asked d request (route_asked d.prefix request)) (λ asked. signs.alone (refreshed_asked asked))
+    (end_http refreshed_http) (end_weight refreshed_weight) c
 
-abbrev pub op_plus_registry : Checking Providing OpAsk OpReply → Configuration
-op_plus_registry p = p.inner.registry
+abbrev pub op_plus_most : SignoutSetup (Setup Configuration) → ℕ
+op_plus_most s = refreshed_most s.inner
 
-abbrev pub op_plus_history : Checking Providing OpAsk OpReply → List (Outer OpAsk OpReply)
+abbrev pub op_plus_setup : OpPlus → SignoutSetup (Setup Configuration)
+op_plus_setup p = op_plus_around p.setup (refreshed_setup p.inner)
+
+abbrev pub op_plus_history : OpPlus → List (Outer RefreshedAsk RefreshedReply)
 op_plus_history p = p.history
 
-abbrev pub IsLegalOpPlus : Configuration → List (Outer OpAsk OpReply) → Type 0
-IsLegalOpPlus c h = IsLegalPkce op_plain op_given IsOpAsk op_weight.ask_weight op_most op.IsLegalHistory c h
+abbrev pub IsLegalOpPlus : SignoutSetup (Setup Configuration) → List (Outer RefreshedAsk RefreshedReply) → Type 0
+IsLegalOpPlus s h = IsLegalSignout refreshed_plain IsRefreshedAsk refreshed_weight refreshed_most IsLegalRefreshed s h
 
 -- ---- the relying party with a number, alone
 

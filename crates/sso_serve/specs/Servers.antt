@@ -10,21 +10,21 @@ use Rattle.rp_exchange.specs.declared.reply.RpReply.{RpReply}
 use Rattle.rp_answer.specs.Legal as rp
 use Rattle.rp_answer.specs.Setup.{PartySetup, party_of}
 use Rattle.rp_core.specs.Relying.{Relying}
-use Rattle.pkce_answer.specs.declared.asks.PkceAsk.{PkceAsk}
-use Rattle.pkce_answer.specs.declared.asks.PkceReply.{PkceReply}
-use Rattle.pkce_check.specs.Keeps.{Checking}
+use Rattle.signout_answer.specs.declared.asks.EndSetup.{EndSetup}
 use Rattle.pkce_party.specs.declared.reply.PartyReply.{PartyReply}
 use Rattle.pkce_party.specs.Adding.{IsLegalParty}
 use Rattle.server_desk.specs.declared.desk.Desk.{Desk}
 use Rattle.serving.specs.declared.summary.Summary.{Summary}
 use Rattle.serving.specs.Summaries.{Telling, Summarises}
 use Rattle.sso_serve.specs.declared.ran.Ran.{Ran}
-use Rattle.sso_serve.specs.Cores.{op_manner, op_most, op_registry, op_history, op_plus_manner, op_plus_registry, op_plus_history, IsLegalOpPlus}
+use Rattle.sso_serve.specs.Cores.{op_manner, op_most, op_registry, op_history}
+use Rattle.sso_serve.specs.Cores.{OpPlus, OpPlusAsk, OpPlusReply}
+use Rattle.sso_serve.specs.Cores.{alike, op_plus_around, op_plus_manner, op_plus_most, op_plus_setup, op_plus_history, IsLegalOpPlus}
 use Rattle.sso_serve.specs.Cores.{rp_manner, rp_most, rp_setup, rp_history, rp_plus_manner, rp_plus_history}
 
--- the provider with proof keys, and a relying party with proof keys, in a summary
+-- the provider of `op-plus`, and a relying party with proof keys, in a summary
 abbrev pub OpPlusSummary : Type 0
-OpPlusSummary = Summary (Checking Providing OpAsk OpReply) (PkceAsk OpAsk) (PkceReply OpReply)
+OpPlusSummary = Summary OpPlus OpPlusAsk OpPlusReply
 
 abbrev pub RpPlusSummary : Type 0
 RpPlusSummary = Summary Relying RpAsk PartyReply
@@ -38,9 +38,11 @@ module _ {D L C W S K : Type 0} (t : Telling D L C W S K) (olds news : List (Des
   abbrev pub ServesOp : Configuration → Summary Providing OpAsk OpReply → Type 0
   ServesOp c s = Summarises t (op_manner c) op_most op_registry op_history op.IsLegalHistory c c.listen olds news s
 
-  -- the same with proof keys
-  abbrev pub ServesOpPlus : Configuration → OpPlusSummary → Type 0
-  ServesOpPlus c s = Summarises t (op_plus_manner c) op_most op_plus_registry op_plus_history IsLegalOpPlus c c.listen olds news s
+  -- the same with proof keys, refresh tokens and questions before a sign-out
+  abbrev pub ServesOpPlus : EndSetup → OpPlusSummary → Type 0
+  ServesOpPlus e s =
+      Summarises t (op_plus_manner e.registry) op_plus_most op_plus_setup op_plus_history IsLegalOpPlus
+      (op_plus_around e (alike e.registry)) e.registry.listen olds news s
 
   -- the relying party of a setup was served, at its `listen` address
   abbrev pub ServesRp : PartySetup → Summary Relying RpAsk RpReply → Type 0
@@ -55,8 +57,8 @@ module _ {D L C W S K : Type 0} (t : Telling D L C W S K) (olds news : List (Des
   abbrev pub RanOp : Configuration → Ran → Type 0
   RanOp c ran = (s : Summary Providing OpAsk OpReply) × ServesOp c s × (ran ≡ ran_of s)
 
-  abbrev pub RanOpPlus : Configuration → Ran → Type 0
-  RanOpPlus c ran = (s : OpPlusSummary) × ServesOpPlus c s × (ran ≡ ran_of s)
+  abbrev pub RanOpPlus : EndSetup → Ran → Type 0
+  RanOpPlus e ran = (s : OpPlusSummary) × ServesOpPlus e s × (ran ≡ ran_of s)
 
   abbrev pub RanRp : PartySetup → Ran → Type 0
   RanRp p ran = (s : Summary Relying RpAsk RpReply) × ServesRp p s × (ran ≡ ran_of s)

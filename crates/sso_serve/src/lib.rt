@@ -8,7 +8,7 @@
 //! |---|---|
 //! | `op_role`, `rp_role` | [`OpRole`] and [`RpRole`], the roles |
 //! | `op`, `rp` | [`serve_op`] and [`serve_rp`], the servers |
-//! | `cores` | the servers of the provider and of a relying party, alone and with proof keys (RFC 7636) |
+//! | `cores` | the servers of the provider and of a relying party, alone and with all that other crates add to them, as in [`op_plus_core`] |
 //! | `ran` | [`run_op`], [`run_rp`], [`run_op_plus`] and [`run_rp_plus`], the same without the core, and [`Ran`], their result |
 #![tactic(auto)]
 
@@ -19,6 +19,7 @@ mod ran;
 mod rp;
 mod rp_role;
 
+pub use cores::op_plus_core;
 pub use op::serve_op;
 pub use op_role::OpRole;
 pub use ran::{Ran, run_op, run_op_plus, run_rp, run_rp_plus};

@@ -3,10 +3,12 @@
 ghost use Rattle.std.specs.Prelude.{◌≡◌, ◌^◌, ◌≤◌, ◌<◌, length, IfOk, OnErr};
 ghost use Rattle.std.specs.List.{All};
 ghost use Rattle.rp_accept.specs.Serving.{setup_of};
+ghost use Rattle.sso_serve.specs.Cores.{end_setup};
 ghost use Rattle.sso_serve.specs.Servers.{RanOp, RanOpPlus, RanRp, RanRpPlus};
 
 use crate::cores::{serve_op_alone, serve_op_plus, serve_rp_alone, serve_rp_plus};
 use client_registry::{Provider, Registry};
+use end_request::Returns;
 use server_desk::{Clock, Desk, Door, Draw, Link};
 use serving::Tells;
 use sso_base::NoMemory;
@@ -49,7 +51,8 @@ pub fn run_op<R: Threads + Wait + Sync, D: Door, L: Link, C: Clock, W: Draw>(
     })
 }
 
-/// Serves the provider of this registry with proof keys, as [`serve_op`](crate::serve_op), and returns how that ended.
+/// Serves the provider of this registry with proof keys, refresh tokens and questions before a sign-out, as [`serve_op`](crate::serve_op),
+/// and returns how that ended. Browsers may be sent to these URIs.
 ///
 /// # Errors
 ///
@@ -58,14 +61,16 @@ pub fn run_op_plus<R: Threads + Wait + Sync, D: Door, L: Link, C: Clock, W: Draw
     rt: &R,
     alloc: Global,
     registry: &Registry,
+    returns: Returns,
     desks: &mut Vec<Desk<D, L, C, W>>,
 ) -> Result<Ran, NoMemory>
     requires few { length desks.old.items ≤ 64 }
     requires desks { All (λ desk. (desk.turns ≤ 2 ^ 56) × ((D.state desk.door).given < 2 ^ 63)) desks.old.items }
-    ensures ran { IfOk result (RanOpPlus ⟦<Desk<D, L, C, W> as Tells>⟧.telling desks.old.items desks.new.items registry.now) }
+    ensures ran { IfOk result
+        (RanOpPlus ⟦<Desk<D, L, C, W> as Tells>⟧.telling desks.old.items desks.new.items (end_setup registry.now returns)) }
     ensures memory { OnErr result (desks.new.items ≡ desks.old.items) }
 {
-    let summary = serve_op_plus(rt, alloc, registry, desks)?;
+    let summary = serve_op_plus(rt, alloc, registry, returns, desks)?;
     Ok(Ran {
         fault: summary.fault,
         served: summary.served,

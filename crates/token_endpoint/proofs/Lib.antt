@@ -12,3 +12,4 @@ pub mod Responses
 pub mod Fitting
 pub mod OnLiterals
 mod Samples
+pub mod OfClients

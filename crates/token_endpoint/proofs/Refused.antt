@@ -99,7 +99,7 @@ module _ (c : Configuration) (auth : Option (List ℕ)) (ps : List Pair) (e : Gr
   no_client : StandOnce ps → IdsDiffer c → is_none (client_shown c (basic_header auth) ps) ≡ true → CauseIn c auth ps WrongClient
   no_client once apart h = λ n a. absurd (cc (ap is_none (passes c auth ps n once apart a).shown, h))
 
-  client_caused : IdsDiffer c → first_refusal (client_refusals c (basic_header auth) ps) ≡ Err e → CauseIn c auth ps e
+  pub client_caused : IdsDiffer c → first_refusal (client_refusals c (basic_header auth) ps) ≡ Err e → CauseIn c auth ps e
   client_caused apart h =
       let left : ℕ → List (Bool × GrantNo) = λ n. drop n (client_refusals c (basic_header auth) ps) in
       ⊎_elim (λ at. repeated at.0 at.1) (λ once.

@@ -47,6 +47,13 @@ pub record Authenticates (c : Configuration) (auth : Option (List ℕ)) (ps : Li
   pub own : has_secret secret client ≡ true
   pub shows : Shows auth ps (credentials client.id secret)
 
+-- a request of this client, for any grant: no parameter occurs twice, and the client shows a secret of its own
+pub record IsOfClient (c : Configuration) (auth body : Option (List ℕ)) (n : ℕ) : Type 0 where
+  pub form : List ℕ
+  pub there : body ≡ Some form
+  pub once : StandOnce (form_pairs form)
+  pub client : Authenticates c auth (form_pairs form) n
+
 -- ---- granted requests
 
 -- the request is one of this client for a code: no parameter occurs twice, the client shows a secret of its own, and the grant

@@ -41,6 +41,11 @@ code_read ps client = and_then (first_refusal (code_refusals ps)) (λ _. Ok (gra
 abbrev pub grant_refusals : Configuration → Option (List ℕ) → List Pair → List (Bool × GrantNo)
 grant_refusals c auth ps = client_refusals c (basic_header auth) ps ++ code_refusals ps
 
+-- the number of the client that a request authenticates, or the first error that applies to its client
+unfoldable pub client_asked : Configuration → Option (List ℕ) → Option (List ℕ) → Result ℕ GrantNo
+client_asked c auth None = Err BadForm
+client_asked c auth (Some form) = client_read c auth (form_pairs form)
+
 -- the contents of a token request, or the first error that applies
 unfoldable pub grant_read : Configuration → Option (List ℕ) → Option (List ℕ) → Result Grant GrantNo
 grant_read c auth None = Err BadForm

@@ -22,7 +22,7 @@ fn is_there(parameters: &[Pair], name: &str) -> bool
 }
 
 /// Whether a parameter is there, and is another text.
-pub(crate) fn is_other(text: &str, given: Option<&Text>) -> bool
+pub fn is_other(text: &str, given: Option<&Text>) -> bool
     ensures { result ≡ texts.is_other text.now (option_map (λ t. t.now) given.entry) }
 {
     match given {
@@ -106,10 +106,10 @@ fn client_shown(
     }
 }
 
-/// The number of the client that a request authenticates. The refusals are [`GrantNo::Twice`], [`GrantNo::TwoAuths`],
-/// [`GrantNo::NoAuth`] and [`GrantNo::WrongClient`], the first that fits.
+/// The number of the client that a request with these parameters authenticates. The refusals are [`GrantNo::Twice`],
+/// [`GrantNo::TwoAuths`], [`GrantNo::NoAuth`] and [`GrantNo::WrongClient`], the first that fits.
 #[tactic(auto, unfolding(crate::specs::Authentication::client_read))]
-pub(crate) fn read_client(
+pub(crate) fn client_by(
     alloc: Global,
     registry: &Registry,
     auth: Option<&[u8]>,

@@ -13,9 +13,9 @@ pub enum TokenError {
     InvalidRequest,
     /// `invalid_client`: the client is not authenticated.
     InvalidClient,
-    /// `invalid_grant`: the code is not valid for the client and its redirect URI.
+    /// `invalid_grant`: the code is not valid for the client and its redirect URI, or the refresh token is not valid for the client.
     InvalidGrant,
-    /// `unsupported_grant_type`: the grant type is not `authorization_code`.
+    /// `unsupported_grant_type`: the grant type is not one that is supported.
     UnsupportedGrantType,
 }
 

@@ -6,7 +6,7 @@ ghost use Rattle.std.specs.Option.{option_copied};
 ghost use Rattle.token_endpoint.specs.Request.{code_read, grant_read};
 ghost use Rattle.token_endpoint.specs.Granted.{IsGrant, Cause};
 
-use crate::authentication::{is_other, read_client};
+use crate::authentication::{client_by, is_other};
 use crate::no::GrantNo;
 use client_registry::Registry;
 use request_params::{Pair, read_pairs, value_of};
@@ -65,7 +65,7 @@ fn granted(
         return Err(GrantNo::BadForm);
     };
     let parameters = read_pairs(alloc, form)?;
-    let client = read_client(alloc, registry, auth, &parameters)?;
+    let client = client_by(alloc, registry, auth, &parameters)?;
     read_code(alloc, &parameters, client)
 }
 

@@ -1,9 +1,9 @@
 // Laws about token requests and responses, for the crates above.
 
-ghost use Rattle.std.specs.Prelude.{◌≡◌, ◌≢◌, ◌++◌, ℕ, List, true, false, codes, Option, Some, None, Ok, Err, IsOk};
+ghost use Rattle.std.specs.Prelude.{◌≡◌, ◌≢◌, ◌++◌, ℕ, List, [], true, false, codes, Option, Some, None, unwrap_or, Ok, Err, IsOk};
 ghost use Rattle.std.specs.Str.{IsUtf8};
 ghost use Rattle.serde_json.specs.Data.{Members};
-ghost use Rattle.sso_base.specs.Refusals.{first_refusal};
+ghost use Rattle.sso_base.specs.Refusals.{first_refusal, and_then};
 ghost use Rattle.sso_base.specs.declared.message.Answered.{Answered};
 ghost use Rattle.claim_set.specs.declared.no.ClaimNo.{ClaimNo};
 ghost use Rattle.claim_set.specs.Reading.{Reads, claims_read};
@@ -18,7 +18,8 @@ ghost use Rattle.token_endpoint.specs.declared.no.GrantNo.TheVariants as no;
 ghost use Rattle.token_endpoint.specs.declared.no.TokensNo.TheVariants as tokens_no;
 ghost use Rattle.token_endpoint.specs.declared.reading.Tokens.{Tokens};
 ghost use Rattle.token_endpoint.specs.Basic.{is_basic_scheme, basic_header, basic_read, IsBasic};
-ghost use Rattle.token_endpoint.specs.Request.{grant_read};
+ghost use Rattle.request_params.specs.Form.{form_pairs};
+ghost use Rattle.token_endpoint.specs.Request.{client_asked, code_read, grant_read};
 ghost use Rattle.token_endpoint.specs.Granted.{IsGrant, Cause};
 ghost use Rattle.token_endpoint.specs.Errors.{error_code, error_text};
 ghost use Rattle.token_endpoint.specs.Answer.{tokens_read, HasTokens, token_refusals};
@@ -33,6 +34,12 @@ pub fn headers_are_read_literally()
     ensures other { (s h : List ℕ) → IsScheme s h → is_basic_scheme s ≡ false → basic_header (Some h) ≡ None }
     ensures shows { (h : List ℕ) (k : Credentials) → basic_header (Some h) ≡ Some h → basic_read h ≡ Some k → IsBasic h k }
     ensures read { (h : List ℕ) (k : Credentials) → IsBasic h k → (basic_header (Some h) ≡ Some h) × (basic_read h ≡ Some k) }
+{}
+
+/// A token request for a code is read for the client that it authenticates: the errors of the client come first.
+pub fn requests_are_read_for_their_client()
+    ensures { (c : Configuration) (auth body : Option (List ℕ))
+        → grant_read c auth body ≡ and_then (client_asked c auth body) (code_read (form_pairs (unwrap_or body []))) }
 {}
 
 /// A request is accepted if and only if it is a client's request for a code, and the result is its contents, in UTF-8.

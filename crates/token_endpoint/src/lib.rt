@@ -9,6 +9,7 @@
 //! | `parameters` | the parameters of a request's body, and their names and values |
 //! | `basic` | the `Authorization` header of a client, read and written |
 //! | `authentication` | which client a request authenticates |
+//! | `client` | [`read_client`] reads which client a request authenticates, whatever it requests |
 //! | `granting` | [`read_grant`] reads a token request, as a [`Grant`] |
 //! | `asking` | [`print_grant`] writes a token request |
 //! | `error` | [`TokenError`], the error codes of the endpoint, and the code for each rejected request |
@@ -22,6 +23,7 @@ mod answering;
 mod asking;
 mod authentication;
 mod basic;
+mod client;
 mod error;
 mod granting;
 mod law;
@@ -31,14 +33,16 @@ mod reading;
 
 pub use answering::{print_token_error, print_tokens};
 pub use asking::print_grant;
+pub use authentication::is_other;
+pub use client::read_client;
 pub use error::{TokenError, token_error};
 pub use granting::{Grant, read_grant};
 pub use law::{
     answers_are_read_by_their_members, granted_clients_show_their_secret,
     headers_are_read_literally, printed_requests_are_granted, printed_tokens_are_read,
     refused_answers_have_the_first_reason, refused_requests_have_a_cause,
-    requests_are_granted_literally, written_answers_have_their_text,
-    written_requests_have_their_text,
+    requests_are_granted_literally, requests_are_read_for_their_client,
+    written_answers_have_their_text, written_requests_have_their_text,
 };
 pub use no::{GrantNo, TokensNo};
 pub use reading::{Tokens, read_tokens};

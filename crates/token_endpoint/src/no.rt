@@ -17,9 +17,11 @@ pub enum GrantNo {
     /// The shown id and secret are not those of a client (RFC 6749, 2.3.1). A `Basic` header cannot be read, no client has the
     /// id, it has no such secret, or `client_id` differs from the id in the `Basic` header.
     WrongClient,
-    /// `grant_type` is present and is not `authorization_code` (RFC 6749, 4.1.3).
+    /// `grant_type` is present and is not the one of this request: `authorization_code` for a token request with a code (RFC 6749,
+    /// 4.1.3), and `refresh_token` for a refresh request (6).
     OtherGrant,
-    /// A parameter is absent: the first of `grant_type`, `code` and `redirect_uri` (OpenID Connect Core 1.0, 3.1.3.1).
+    /// A parameter is absent: the first of `grant_type`, `code` and `redirect_uri` (OpenID Connect Core 1.0, 3.1.3.1), and in a refresh
+    /// request the first of `grant_type` and `refresh_token` (RFC 6749, 6).
     Missing(Text),
     /// Memory ran out.
     NoMemory,

@@ -1,0 +1,4 @@
+pub mod Consented
+pub mod Authorized
+pub mod Reached
+pub mod Laws

@@ -1,0 +1,5 @@
+pub mod Returned
+pub mod Loops
+pub mod OfClients
+pub mod Sending
+pub mod Samples

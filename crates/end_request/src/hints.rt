@@ -1,0 +1,92 @@
+// The client of a hint.
+
+ghost use Rattle.std.specs.Prelude.{◌≡◌, IfOk};
+ghost use Rattle.end_request.specs.Hints as spec;
+
+use client_keys::opening_key;
+use client_registry::{Client, Registry};
+use id_token::{IdClaims, IdNo, read_id};
+use sso_base::{NoMemory, Text};
+use std::alloc::Global;
+
+/// An ID Token, or why it is none.
+type IdRead = Result<IdClaims, IdNo>;
+
+// Reads an ID Token of the client.
+fn read_as_id(alloc: Global, client: &Client, text: &Text) -> Result<IdRead, NoMemory>
+    ensures { IfOk result (λ id. id ≡ spec.id_read_for client.now text.now) }
+{
+    let text = text.as_str().as_bytes();
+    let key = opening_key(alloc, client, text)?;
+    match read_id(alloc, key.as_str().as_bytes(), text) {
+        Err(IdNo::NoMemory) => Err(NoMemory),
+        id => Ok(id),
+    }
+}
+
+// Whether this is an ID Token of the issuer for the client.
+fn is_for(issuer: &str, id: &str, read: &IdRead) -> bool
+    ensures { result ≡ spec.is_for issuer.now id.now read.now }
+{
+    match read {
+        Ok(claims) => claims.iss.equals(issuer) && claims.aud.has(id),
+        Err(_) => false,
+    }
+}
+
+fn is_hint_for(
+    alloc: Global,
+    issuer: &str,
+    hint: &Text,
+    client: &Client,
+) -> Result<bool, NoMemory>
+    ensures { IfOk result (λ b. b ≡ spec.is_hint_for issuer.now hint.now client.now) }
+{
+    let read = read_as_id(alloc, client, hint)?;
+    Ok(is_for(issuer, client.id.as_str(), &read))
+}
+
+// Whether a request that names this client, or none, may be of the client with the number n.
+fn may_be(named: Option<u32>, n: u32) -> bool
+    ensures { result ≡ spec.may_be named n }
+{
+    match named {
+        None => true,
+        Some(m) => n == m,
+    }
+}
+
+fn fits(
+    alloc: Global,
+    issuer: &str,
+    named: Option<u32>,
+    hint: &Text,
+    n: u32,
+    client: &Client,
+) -> Result<bool, NoMemory>
+    ensures { IfOk result (λ b. b ≡ spec.fits issuer.now named hint.now n client.now) }
+{
+    if !may_be(named, n) {
+        return Ok(false);
+    }
+    is_hint_for(alloc, issuer, hint, client)
+}
+
+/// The first client that a hint fits: the hint is an ID Token of the provider for the client, sealed under one of the client's
+/// secrets. If the request names a client, it is that one or none.
+pub(crate) fn fitting(
+    alloc: Global,
+    registry: &Registry,
+    named: Option<u32>,
+    hint: &Text,
+) -> Result<Option<u32>, NoMemory>
+    ensures { IfOk result (λ n. n ≡ spec.fitting_from registry.now.provider.issuer named hint.now 0 registry.now.clients) }
+{
+    let issuer = registry.provider().issuer.as_str();
+    for n in 0..registry.clients() {
+        if fits(alloc, issuer, named, hint, n, registry.client(n))? {
+            return Ok(Some(n));
+        }
+    }
+    Ok(None)
+}

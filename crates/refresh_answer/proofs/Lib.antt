@@ -1,0 +1,9 @@
+pub mod Answered
+pub mod Families
+pub mod Steps
+pub mod Current
+pub mod Once
+pub mod Clients
+pub mod Passed
+pub mod Unchanged
+mod Samples

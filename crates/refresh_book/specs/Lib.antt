@@ -1,0 +1,4 @@
+pub mod Keeps
+pub mod Renewing
+pub mod Beginning
+pub mod Prepared

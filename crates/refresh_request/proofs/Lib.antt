@@ -1,0 +1,2 @@
+pub mod Requests
+mod Samples

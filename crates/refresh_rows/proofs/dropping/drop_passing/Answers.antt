@@ -1,0 +1,47 @@
+use Rattle.std.proofs.Common.{not, refl, ap, sym, ◌∙◌}
+use Rattle.held_rows.proofs.Ends.{all_stay}
+use Rattle.refresh_answer.specs.declared.rows.FamilyRow.{FamilyRow}
+use Rattle.refresh_answer.specs.declared.rows.AccessRow.{AccessRow}
+use Rattle.refresh_rows.specs.declared.token_row.TokenRow.{TokenRow}
+use Rattle.refresh_rows.specs.TokenRows.{is_of}
+use Rattle.refresh_rows.proofs.Lists.{filter_all}
+use Rattle.refresh_rows.proofs.Dropping.{step_families, step_rows, step_shorter}
+use Rattle.refresh_rows.proofs.dropping.drop_passing.Goals as goal
+
+pub loop-family-init : goal.loop-family-init
+loop-family-init g c =
+    record {
+      others = refl;
+      tokens = sym (filter_all (λ (t : TokenRow). is_of c.args.families.now.rows t.family) c.args.tokens.now.rows c.requires.tokens_here);
+      accesses = sym (filter_all (λ (x : AccessRow). is_of c.args.families.now.rows x.family) c.args.accesses.now.rows c.requires.accesses_here);
+      family_room = refl;
+      token_room = refl;
+      access_room = refl;
+    }
+
+pub loop-family-preserved : goal.loop-family-preserved
+loop-family-preserved g c =
+    let found = c.in-Some.ensures in
+    let fs = c.loop-family.families.rows in
+    let fs' = c.drop_family.new.families.rows in
+    let f = c.in-Some.family.now in
+    let before = c.loop-family.invariant in
+    let dropped = c.drop_family.ensures in
+    let place = c.number-place.result in
+    let same = c.number-place.ensures.value in
+    record {
+      others = step_families fs fs' f place found.held.distinct found.some.there found.held.sound same dropped.families (λ (x : FamilyRow). not (g.T.Test.passes c.args.test.now x)) (ap not found.some.yes) ∙ before.others;
+      tokens = step_rows fs fs' f place found.held.distinct found.some.there found.held.sound same dropped.families (λ (t : TokenRow). t.family) c.args.tokens.now.rows c.loop-family.tokens.rows c.drop_family.new.tokens.rows before.tokens dropped.tokens;
+      accesses = step_rows fs fs' f place found.held.distinct found.some.there found.held.sound same dropped.families (λ (x : AccessRow). x.family) c.args.accesses.now.rows c.loop-family.accesses.rows c.drop_family.new.accesses.rows before.accesses dropped.accesses;
+      family_room = dropped.family_room ∙ before.family_room;
+      token_room = dropped.token_room ∙ before.token_room;
+      access_room = dropped.access_room ∙ before.access_room;
+    }
+
+pub loop-family-smaller : goal.loop-family-smaller
+loop-family-smaller g c =
+    let found = c.in-Some.ensures in
+    step_shorter c.loop-family.families.rows c.drop_family.new.families.rows c.in-Some.family.now c.number-place.result found.held.distinct found.some.there found.held.sound c.number-place.ensures.value c.drop_family.ensures.families
+
+pub returns-clause-families : goal.returns-clause-families
+returns-clause-families g c = sym (all_stay (g.T.Test.passes c.args.test.now) c.loop-family.families.rows c.in_default.ensures.none) ∙ c.loop-family.invariant.others

@@ -1,0 +1,2 @@
+pub mod TokenRows
+pub mod Booked

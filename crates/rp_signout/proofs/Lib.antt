@@ -1,0 +1,4 @@
+pub mod Looking
+pub mod Asking
+pub mod Committing
+pub mod Samples

@@ -1,0 +1,8 @@
+use Rattle.std.proofs.Common.{ap, ◌∙◌, length}
+use Rattle.core_stack.proofs.Merging.{merged_length}
+use Rattle.signout_answer.specs.Around.{around, own_pair}
+use Rattle.rp_signout.proofs.step.SignoutCoreCore.count.Goals as goal
+
+pub returns-clause-count : goal.returns-clause-count
+returns-clause-count g c =
+    c.count.ensures ∙ merged_length around own_pair c.self.inside.kept.kept (g.P.Core.history c.self.inside.inner) c.self.invariant.count ∙ ap (λ x. length x.history) c.self.view_is

@@ -1,0 +1,3 @@
+pub mod Keeps
+pub mod Pages
+pub mod Prepared

@@ -1,0 +1,4 @@
+pub mod Questions
+pub mod Around
+pub mod Answering
+pub mod Laws

@@ -1,0 +1,189 @@
+//! Cases of sign-outs that a relying party starts (RP-Initiated Logout 1.0), each a line that a person can read: where browsers may be
+//! sent by a configuration, and runs of the provider of `op-plus`.
+//!
+//! The file `stdin` has the cases, and `stdout` has them with their answers. The crate `case_lines` documents how a line is read. The
+//! comments in the table name the source of the expected answers. A line is parsed as a request, which is processed as in a server, by
+//! reading and `step`, and its reply is printed.
+//!
+//! | Call | Effect or answer |
+//! |---|---|
+//! | `returns|LINES` | whether where browsers may be sent is accepted in the configuration with these lines in the client of the shop, or why not |
+//! | `has|LINES|CLIENT|URI` | whether the URI is registered by them for the client with this number |
+//! | `provider|LINES` | begins the provider of the configuration with these lines |
+//! | `ask|MOMENT|METHOD|TARGET|BODY|BROWSER|SESSION|AUTHORIZATION` | the line of the provider's reply |
+//! | `send|..`, with the same fields | the line, the reply in HTTP, and the messages in it |
+//! | `times|COUNT|ask|..` | the first line of so many calls, and how many lines are equal to it |
+//! | `keep` | the ID Token in the last reply is `$hint$` from now on, and `$other hint$` is one with another last character |
+//!
+//! LINES are separated by ` / `, and the configuration is `sample` of `sample_configuration`. The request at place p, from 1, draws the
+//! words 4p - 3 to 4p. Besides the texts of words, the names are those of `texts` and of the last reply, and `COUNT*TEXT`, a text
+//! that is repeated.
+//!
+//! | Module | What it has |
+//! |---|---|
+//! | `configured` | the configuration with lines in it |
+//! | `sending` | the calls `returns` and `has` |
+//! | `provider` | the provider of a run |
+//! | `lines` | the lines of replies |
+//! | `texts` | the named texts |
+//!
+//! A call here has a contract only if the calls below it need one.
+#![tactic(auto)]
+
+mod configured;
+mod lines;
+mod provider;
+mod sending;
+mod texts;
+
+use crate::provider::Provider;
+use case_lines::{Cases, Run, moment, number, print_cases, times, told, written};
+use sso_base::{Moment, NoMemory, Text};
+use std::alloc::Global;
+use std::{io, mem};
+
+// The provider, its run, and the ID Token that was kept.
+#[derive(Drop)]
+struct SignoutCases {
+    provider: Option<Provider>,
+    run: Run,
+    hint: Option<Text>,
+}
+
+impl SignoutCases {
+    fn new(alloc: Global) -> SignoutCases {
+        SignoutCases {
+            provider: None,
+            run: Run::new(alloc),
+            hint: None,
+        }
+    }
+
+    // Sets the provider, begins its run, and returns whether there is one. (The old one is dropped by a call, and not in place: the
+    // proof of that is long.)
+    fn set_provider(&mut self, alloc: Global, provider: Option<Provider>) -> bool {
+        let begins = provider.is_some();
+        drop(mem::replace(&mut self.provider, provider));
+        self.run = Run::new(alloc);
+        begins
+    }
+
+    fn begin(&mut self, alloc: Global, lines: &str) -> Result<String, NoMemory> {
+        let provider = Provider::begin(alloc, lines)?;
+        let begins = self.set_provider(alloc, provider);
+        told(alloc, if begins { "begun" } else { "no such provider" })
+    }
+
+    fn ask(
+        &mut self,
+        alloc: Global,
+        call: &str,
+        at: Moment,
+        fields: &[&str],
+    ) -> Result<String, NoMemory> {
+        match &mut self.provider {
+            Some(provider) => provider.ask(alloc, &mut self.run, call, at, fields),
+            None => told(alloc, "no provider"),
+        }
+    }
+
+    fn ask_at(
+        &mut self,
+        alloc: Global,
+        call: &str,
+        at: &str,
+        fields: &[&str],
+    ) -> Result<String, NoMemory> {
+        match moment(at) {
+            Some(at) => self.ask(alloc, call, at, fields),
+            None => told(alloc, "no such moment"),
+        }
+    }
+
+    // The first answer to a request that is made so many times, and how many answers are equal to it.
+    fn ask_often(
+        &mut self,
+        alloc: Global,
+        count: u32,
+        at: &str,
+        fields: &[&str],
+    ) -> Result<String, NoMemory> {
+        let first = self.ask_at(alloc, "ask", at, fields)?;
+        let mut same: u32 = 1;
+        for _ in 1..count {
+            if self.ask_at(alloc, "ask", at, fields)?.as_str() == first.as_str() {
+                same = same.wrapping_add(1);
+            }
+        }
+        Ok(format!(in alloc; "{}, {same} times", first.as_str())?)
+    }
+
+    fn keep(&mut self, alloc: Global) -> Result<String, NoMemory> {
+        match self.run.text("ID Token") {
+            Some(token) => {
+                self.hint = Some(Text::new(alloc, token)?);
+                told(alloc, "kept")
+            }
+            None => told(alloc, "no ID Token"),
+        }
+    }
+}
+
+// The text with another last character.
+fn with_another_end(alloc: Global, text: &str) -> Result<Text, NoMemory> {
+    let last = text.chars().next_back().unwrap_or(' ');
+    let rest = text.strip_suffix(last).unwrap_or(text);
+    let end = if last == 'A' { "E" } else { "A" };
+    let other = [rest, end].concat(alloc)?;
+    Text::new(alloc, other.as_str())
+}
+
+// The text of `COUNT*TEXT`, which is the text repeated.
+fn repeated(alloc: Global, name: &str) -> Result<Option<Text>, NoMemory> {
+    if times(name).is_none() {
+        return Ok(None);
+    }
+    let text = written(alloc, name)?;
+    Ok(Some(Text::new(alloc, text.as_str())?))
+}
+
+impl Cases for SignoutCases {
+    fn answer(&mut self, alloc: Global, fields: &[&str]) -> Result<String, NoMemory> {
+        match fields {
+            ["returns", lines] => sending::returns(alloc, lines),
+            ["has", lines, client, uri] => sending::has(alloc, lines, number(client), uri),
+            ["provider", lines] => self.begin(alloc, lines),
+            [call @ ("ask" | "send"), at, request @ ..] => self.ask_at(alloc, call, at, request),
+            ["times", count, "ask", at, request @ ..] => {
+                self.ask_often(alloc, number(count), at, request)
+            }
+            ["keep"] => self.keep(alloc),
+            _ => told(alloc, "no such call"),
+        }
+    }
+
+    fn text(&self, name: &str) -> Option<&str> {
+        match name {
+            "hint" => Some(self.hint.as_ref()?.as_str()),
+            _ => match texts::named(name) {
+                Some(text) => Some(text),
+                None => self.run.text(name),
+            },
+        }
+    }
+
+    fn made(&self, alloc: Global, name: &str) -> Result<Option<Text>, NoMemory> {
+        match (name, &self.hint) {
+            ("other hint", Some(hint)) => Ok(Some(with_another_end(alloc, hint.as_str())?)),
+            _ => repeated(alloc, name),
+        }
+    }
+}
+
+fn main(rt: HostRuntime) -> io::Result<()> {
+    let mut cases = SignoutCases::new(rt.alloc());
+    let printed = print_cases(&rt, &mut cases);
+    // (dropped by a call, and not in place: the proof of that is long)
+    drop(cases);
+    printed
+}
