@@ -57,14 +57,14 @@ shop =
     record {
       id = codes "shop"; secret = codes "shop-secret-shop-secret-shop-secret"; old_secret = None; seals_old = false; redirects = [];
       types = true ∷ false ∷ false ∷ false ∷ false ∷ false ∷ []; pairwise = false; asks_consent = true; logout = None; logout_session = false;
-      redirect_urls = []; logout_url = None; title = codes "shop";
+      redirect_urls = []; logout_url = None;
     }
 
 abbrev site : Configuration
 site =
     record {
       provider = op; prefix = []; listen = codes "127.0.0.1:8080"; secure = false; users = []; clients = shop ∷ []; parties = []; subjects = [] ∷ [];
-      lasting = false; full_pages = false; title = codes "127.0.0.1";
+      lasting = false;
     }
 
 abbrev none : List Pair

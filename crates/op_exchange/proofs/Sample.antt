@@ -33,7 +33,6 @@ shop_client =
       logout_session = true;
       redirect_urls = [];
       logout_url = None;
-      title = [];
     }
 
 abbrev pub sample : Configuration
@@ -48,8 +47,6 @@ sample =
       parties = [];
       subjects = (codes "alice" ∷ codes "bob" ∷ []) ∷ [];
       lasting = false;
-      full_pages = false;
-      title = [];
     }
 
 abbrev pub profile_scopes : Scopes

@@ -3,6 +3,5 @@ pub mod ScopeTexts
 pub mod CookieLaws
 pub mod ReplyLaws
 pub mod FormLaws
-pub mod PostedForms
 pub mod LineLaws
 mod Samples

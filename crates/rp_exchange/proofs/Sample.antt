@@ -32,7 +32,6 @@ shop_client =
       logout_session = true;
       redirect_urls = url_at 8081 (codes "/cb") ∷ [];
       logout_url = Some (url_at 8081 (codes "/logout"));
-      title = [];
     }
 
 abbrev pub news_client : Client
@@ -50,7 +49,6 @@ news_client =
       logout_session = false;
       redirect_urls = url_at 8082 (codes "/cb") ∷ [];
       logout_url = None;
-      title = [];
     }
 
 abbrev pub shop : Party
@@ -97,8 +95,6 @@ sample =
       parties = shop ∷ news ∷ [];
       subjects = [] ∷ [] ∷ [];
       lasting = false;
-      full_pages = false;
-      title = [];
     }
 
 -- the claims of an ID Token of this provider for the first client

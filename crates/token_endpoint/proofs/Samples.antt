@@ -47,7 +47,6 @@ client_a = record {
   logout_session = false;
   redirect_urls = [];
   logout_url = None;
-  title = [];
 }
 
 abbrev here : Configuration
@@ -61,8 +60,6 @@ here = record {
   parties = [];
   subjects = [] ∷ [];
   lasting = false;
-  full_pages = false;
-  title = [];
 }
 
 abbrev shown : Text → Text → Credentials

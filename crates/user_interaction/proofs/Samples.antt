@@ -27,7 +27,6 @@ client = record {
   logout_session = false;
   redirect_urls = [];
   logout_url = None;
-  title = [];
 }
 
 abbrev sample : Configuration
@@ -41,8 +40,6 @@ sample = record {
   parties = [];
   subjects = (codes "alice" ∷ []) ∷ (codes "alice" ∷ []) ∷ [];
   lasting = false;
-  full_pages = false;
-  title = [];
 }
 
 abbrev profile : Scopes

@@ -1,4 +1,0 @@
-pub mod Escaping
-pub mod Documents
-pub mod Forms
-pub mod Posting
