@@ -19,7 +19,7 @@ fn after(alloc: Global, before: &str, reply: &OpReply) -> Result<String, NoMemor
     Ok([before, line.as_str()].concat(alloc)?)
 }
 
-// The line of a reply of the core with proof keys, after `first` if it has a first refresh token, or after `own` if that core refused by
+// The line of a reply of the core with proof keys, after `first` if it has a first refresh token, or after `key` if that core refused by
 // itself.
 fn keys_line(
     alloc: Global,
@@ -28,14 +28,14 @@ fn keys_line(
 ) -> Result<String, NoMemory> {
     match reply {
         PkceReply::Through(reply) => after(alloc, first, reply),
-        PkceReply::Own(reply) => after(alloc, "own ", reply),
+        PkceReply::Own(reply) => after(alloc, "key ", reply),
     }
 }
 
 // The line of a reply of the core with refresh tokens by itself.
 fn refresh_line(alloc: Global, reply: &OwnReply) -> Result<String, NoMemory> {
     match reply {
-        OwnReply::Refreshed { .. } => told(alloc, "refresh tokens"),
+        OwnReply::Refreshed { .. } => told(alloc, "refreshed"),
         OwnReply::Refused { code } => Ok(["refresh refused ", code.as_str()].concat(alloc)?),
         OwnReply::Info { .. } => told(alloc, "refresh info"),
         OwnReply::NotHere => told(alloc, "refresh nothing"),
@@ -89,8 +89,8 @@ fn gone_line(
 
 /// The line of a reply:
 ///
-/// - that of the core inside: of the provider, after `first` if a first refresh token was added; after `own`, a refusal of the core with
-///   proof keys; after `refresh`, what the core with refresh tokens replies by itself;
+/// - that of the core inside: of the provider, after `first` if a first refresh token was added; after `key`, a refusal of the core with
+///   proof keys; `refreshed`, or after `refresh` what else the core with refresh tokens replies by itself;
 /// - `sure`, `kept`, `stale`, `full`;
 /// - `wrong` with the reason;
 /// - `gone` with the location in quotes, or `-` if there is none, and the line of the core inside, with the URLs to which its messages go.

@@ -1,5 +1,5 @@
-//! Cases of sign-outs that a relying party starts (RP-Initiated Logout 1.0), each a line that a person can read: where browsers may be
-//! sent by a configuration, and runs of the provider of `op-plus`.
+//! Cases of the provider of `op-plus`, each a line that a person can read: with proof keys (RFC 7636), refresh tokens (RFC 6749, 6) and
+//! sign-outs that a relying party starts (RP-Initiated Logout 1.0).
 //!
 //! The file `stdin` has the cases, and `stdout` has them with their answers. The crate `case_lines` documents how a line is read. The
 //! comments in the table name the source of the expected answers. A line is parsed as a request, which is processed as in a server, by
@@ -7,12 +7,15 @@
 //!
 //! | Call | Effect or answer |
 //! |---|---|
+//! | `challenge|VERIFIER` | the challenge of this verifier |
+//! | `read challenge|FORM`, `read verifier|FORM` | the challenge or the verifier in a form, `absent` or `bad` |
 //! | `returns|LINES` | whether where browsers may be sent is accepted in the configuration with these lines in the client of the shop, or why not |
 //! | `has|LINES|CLIENT|URI` | whether the URI is registered by them for the client with this number |
 //! | `provider|LINES` | begins the provider of the configuration with these lines |
 //! | `ask|MOMENT|METHOD|TARGET|BODY|BROWSER|SESSION|AUTHORIZATION` | the line of the provider's reply |
 //! | `send|..`, with the same fields | the line, the reply in HTTP, and the messages in it |
 //! | `times|COUNT|ask|..` | the first line of so many calls, and how many lines are equal to it |
+//! | `rotate|COUNT|MOMENT` | the same for requests of the shop, each with the refresh token of the reply before it |
 //! | `keep` | the ID Token in the last reply is `$hint$` from now on, and `$other hint$` is one with another last character |
 //!
 //! LINES are separated by ` / `, and the configuration is `sample` of `sample_configuration`. The request at place p, from 1, draws the
@@ -22,6 +25,7 @@
 //! | Module | What it has |
 //! |---|---|
 //! | `configured` | the configuration with lines in it |
+//! | `reading` | the calls on challenges and verifiers |
 //! | `sending` | the calls `returns` and `has` |
 //! | `provider` | the provider of a run |
 //! | `lines` | the lines of replies |
@@ -33,6 +37,7 @@
 mod configured;
 mod lines;
 mod provider;
+mod reading;
 mod sending;
 mod texts;
 
@@ -44,15 +49,15 @@ use std::{io, mem};
 
 // The provider, its run, and the ID Token that was kept.
 #[derive(Drop)]
-struct SignoutCases {
+struct OpPlusCases {
     provider: Option<Provider>,
     run: Run,
     hint: Option<Text>,
 }
 
-impl SignoutCases {
-    fn new(alloc: Global) -> SignoutCases {
-        SignoutCases {
+impl OpPlusCases {
+    fn new(alloc: Global) -> OpPlusCases {
+        OpPlusCases {
             provider: None,
             run: Run::new(alloc),
             hint: None,
@@ -118,6 +123,27 @@ impl SignoutCases {
         Ok(format!(in alloc; "{}, {same} times", first.as_str())?)
     }
 
+    // The answer to a refresh request of the shop with the second word of the last request.
+    fn refresh(&mut self, alloc: Global, at: &str) -> Result<String, NoMemory> {
+        let [_, token, ..] = self.run.last_words();
+        let token = token.to_text(alloc)?;
+        let request = texts::named("refresh").unwrap_or_default();
+        let body = [request, token.as_str()].concat(alloc)?;
+        self.ask_at(alloc, "ask", at, &["POST", "/token", body.as_str()])
+    }
+
+    // The first answer to so many refresh requests, each with the token of the reply before it, and how many answers are equal to it.
+    fn rotate(&mut self, alloc: Global, count: u32, at: &str) -> Result<String, NoMemory> {
+        let first = self.refresh(alloc, at)?;
+        let mut same: u32 = 1;
+        for _ in 1..count {
+            if self.refresh(alloc, at)?.as_str() == first.as_str() {
+                same = same.wrapping_add(1);
+            }
+        }
+        Ok(format!(in alloc; "{}, {same} times", first.as_str())?)
+    }
+
     fn keep(&mut self, alloc: Global) -> Result<String, NoMemory> {
         match self.run.text("ID Token") {
             Some(token) => {
@@ -147,9 +173,12 @@ fn repeated(alloc: Global, name: &str) -> Result<Option<Text>, NoMemory> {
     Ok(Some(Text::new(alloc, text.as_str())?))
 }
 
-impl Cases for SignoutCases {
+impl Cases for OpPlusCases {
     fn answer(&mut self, alloc: Global, fields: &[&str]) -> Result<String, NoMemory> {
         match fields {
+            ["challenge", verifier] => reading::challenge(alloc, verifier),
+            ["read challenge", form] => reading::challenge_in(alloc, form),
+            ["read verifier", form] => reading::verifier_in(alloc, form),
             ["returns", lines] => sending::returns(alloc, lines),
             ["has", lines, client, uri] => sending::has(alloc, lines, number(client), uri),
             ["provider", lines] => self.begin(alloc, lines),
@@ -157,6 +186,7 @@ impl Cases for SignoutCases {
             ["times", count, "ask", at, request @ ..] => {
                 self.ask_often(alloc, number(count), at, request)
             }
+            ["rotate", count, at] => self.rotate(alloc, number(count), at),
             ["keep"] => self.keep(alloc),
             _ => told(alloc, "no such call"),
         }
@@ -181,7 +211,7 @@ impl Cases for SignoutCases {
 }
 
 fn main(rt: HostRuntime) -> io::Result<()> {
-    let mut cases = SignoutCases::new(rt.alloc());
+    let mut cases = OpPlusCases::new(rt.alloc());
     let printed = print_cases(&rt, &mut cases);
     // (dropped by a call, and not in place: the proof of that is long)
     drop(cases);
