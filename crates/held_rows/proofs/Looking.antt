@@ -18,10 +18,10 @@ module _ {R : Type 0} (name : R → List ℕ) (key : By → R → Option (List �
       ap (row_of name (name row)) around.rows ∙ row_of-middle name (filter_map (row_at s.slots) around.before) row (filter_map (row_at s.slots) around.behind) (subst D around.rows stored.held.distinct)
 
   pub passing_there : (passes : R → Bool) (slot : ℕ) (o : Option R) → o ≡ row_at s.slots slot → IfSome (row_at s.slots slot) (λ row. passes row ≡ true) → IfSome o (IsPassing name passes (stored_rows s))
-  passing_there passes slot None is yes = tt
-  passing_there passes slot (Some row) is yes =
+  passing_there passes slot None is good = tt
+  passing_there passes slot (Some row) is good =
       let Y : Option R → Type 0 = λ x. IfSome x (λ r. passes r ≡ true) in
-      record { there = slot_is_there slot row (sym is); yes = subst Y (sym is) yes }
+      record { there = slot_is_there slot row (sym is); yes = subst Y (sym is) good }
 
   pub over_there : (life at slot : ℕ) (o : Option R) → o ≡ row_at s.slots slot → IfSome (row_at s.slots slot) (λ row. lives life (begun row) at ≡ false) → IfSome o (IsOver name life begun at (stored_rows s))
   over_there life at slot None is over = tt
