@@ -1,5 +1,5 @@
-//! Cases of the provider of `op-plus`, each a line that a person can read: with proof keys (RFC 7636), refresh tokens (RFC 6749, 6) and
-//! sign-outs that a relying party starts (RP-Initiated Logout 1.0).
+//! Cases of `op-plus` and `rp-plus`, each a line that a person can read: a provider with proof keys (RFC 7636), refresh tokens (RFC 6749,
+//! 6) and sign-outs that a relying party starts (RP-Initiated Logout 1.0), and relying parties with proof keys.
 //!
 //! The file `stdin` has the cases, and `stdout` has them with their answers. The crate `case_lines` documents how a line is read. The
 //! comments in the table name the source of the expected answers. A line is parsed as a request, which is processed as in a server, by
@@ -7,12 +7,15 @@
 //!
 //! | Call | Effect or answer |
 //! |---|---|
-//! | `challenge|VERIFIER` | the challenge of this verifier |
+//! | `challenge|VERIFIER` | the challenge of this verifier, by the provider |
+//! | `party's challenge|WORD` | the challenge of the verifier that is the text of this word, by a party |
 //! | `read challenge|FORM`, `read verifier|FORM` | the challenge or the verifier in a form, `absent` or `bad` |
 //! | `returns|LINES` | whether where browsers may be sent is accepted in the configuration with these lines in the client of the shop, or why not |
 //! | `has|LINES|CLIENT|URI` | whether the URI is registered by them for the client with this number |
 //! | `provider|LINES` | begins the provider of the configuration with these lines |
-//! | `ask|MOMENT|METHOD|TARGET|BODY|BROWSER|SESSION|AUTHORIZATION` | the line of the provider's reply |
+//! | `party|NAME` | begins the relying party with this name in the configuration without lines |
+//! | `ask|MOMENT|METHOD|TARGET|BODY|BROWSER|SESSION|AUTHORIZATION` | the line of the reply |
+//! | `ask|MOMENT|tokens|EXCHANGE|STATUS|BODY` | the line of the party's reply to the token endpoint's answer in this exchange |
 //! | `send|..`, with the same fields | the line, the reply in HTTP, and the messages in it |
 //! | `times|COUNT|ask|..` | the first line of so many calls, and how many lines are equal to it |
 //! | `rotate|COUNT|MOMENT` | the same for requests of the shop, each with the refresh token of the reply before it |
@@ -27,7 +30,7 @@
 //! | `configured` | the configuration with lines in it |
 //! | `reading` | the calls on challenges and verifiers |
 //! | `sending` | the calls `returns` and `has` |
-//! | `provider` | the provider of a run |
+//! | `provider`, `party` | the provider and the relying party of a run |
 //! | `lines` | the lines of replies |
 //! | `texts` | the named texts |
 //!
@@ -36,47 +39,71 @@
 
 mod configured;
 mod lines;
+mod party;
 mod provider;
 mod reading;
 mod sending;
 mod texts;
 
+use crate::party::RelyingParty;
 use crate::provider::Provider;
 use case_lines::{Cases, Run, moment, number, print_cases, times, told, written};
 use sso_base::{Moment, NoMemory, Text};
 use std::alloc::Global;
 use std::{io, mem};
 
-// The provider, its run, and the ID Token that was kept.
+// The provider or the relying party, its run, and the ID Token that was kept.
 #[derive(Drop)]
-struct OpPlusCases {
+struct PlusCases {
     provider: Option<Provider>,
+    party: Option<RelyingParty>,
     run: Run,
     hint: Option<Text>,
 }
 
-impl OpPlusCases {
-    fn new(alloc: Global) -> OpPlusCases {
-        OpPlusCases {
+impl PlusCases {
+    fn new(alloc: Global) -> PlusCases {
+        PlusCases {
             provider: None,
+            party: None,
             run: Run::new(alloc),
             hint: None,
         }
     }
 
-    // Sets the provider, begins its run, and returns whether there is one. (The old one is dropped by a call, and not in place: the
-    // proof of that is long.)
-    fn set_provider(&mut self, alloc: Global, provider: Option<Provider>) -> bool {
-        let begins = provider.is_some();
+    // Sets the provider or the party, and begins its run. (The old ones are dropped by calls, and not in place: the proof of that is
+    // long.)
+    fn set(&mut self, alloc: Global, provider: Option<Provider>, party: Option<RelyingParty>) {
         drop(mem::replace(&mut self.provider, provider));
+        drop(mem::replace(&mut self.party, party));
         self.run = Run::new(alloc);
-        begins
     }
 
-    fn begin(&mut self, alloc: Global, lines: &str) -> Result<String, NoMemory> {
+    fn begin_provider(&mut self, alloc: Global, lines: &str) -> Result<String, NoMemory> {
         let provider = Provider::begin(alloc, lines)?;
-        let begins = self.set_provider(alloc, provider);
+        let begins = provider.is_some();
+        self.set(alloc, provider, None);
         told(alloc, if begins { "begun" } else { "no such provider" })
+    }
+
+    fn begin_party(&mut self, alloc: Global, name: &str) -> Result<String, NoMemory> {
+        let party = RelyingParty::begin(alloc, name)?;
+        let begins = party.is_some();
+        self.set(alloc, None, party);
+        told(alloc, if begins { "begun" } else { "no such party" })
+    }
+
+    fn ask_party(
+        &mut self,
+        alloc: Global,
+        call: &str,
+        at: Moment,
+        fields: &[&str],
+    ) -> Result<String, NoMemory> {
+        match &mut self.party {
+            Some(party) => party.ask(alloc, &mut self.run, call, at, fields),
+            None => told(alloc, "nobody is there"),
+        }
     }
 
     fn ask(
@@ -88,7 +115,7 @@ impl OpPlusCases {
     ) -> Result<String, NoMemory> {
         match &mut self.provider {
             Some(provider) => provider.ask(alloc, &mut self.run, call, at, fields),
-            None => told(alloc, "no provider"),
+            None => self.ask_party(alloc, call, at, fields),
         }
     }
 
@@ -173,15 +200,17 @@ fn repeated(alloc: Global, name: &str) -> Result<Option<Text>, NoMemory> {
     Ok(Some(Text::new(alloc, text.as_str())?))
 }
 
-impl Cases for OpPlusCases {
+impl Cases for PlusCases {
     fn answer(&mut self, alloc: Global, fields: &[&str]) -> Result<String, NoMemory> {
         match fields {
             ["challenge", verifier] => reading::challenge(alloc, verifier),
+            ["party's challenge", verifier] => reading::challenge_of_party(alloc, verifier),
             ["read challenge", form] => reading::challenge_in(alloc, form),
             ["read verifier", form] => reading::verifier_in(alloc, form),
             ["returns", lines] => sending::returns(alloc, lines),
             ["has", lines, client, uri] => sending::has(alloc, lines, number(client), uri),
-            ["provider", lines] => self.begin(alloc, lines),
+            ["provider", lines] => self.begin_provider(alloc, lines),
+            ["party", name] => self.begin_party(alloc, name),
             [call @ ("ask" | "send"), at, request @ ..] => self.ask_at(alloc, call, at, request),
             ["times", count, "ask", at, request @ ..] => {
                 self.ask_often(alloc, number(count), at, request)
@@ -211,7 +240,7 @@ impl Cases for OpPlusCases {
 }
 
 fn main(rt: HostRuntime) -> io::Result<()> {
-    let mut cases = OpPlusCases::new(rt.alloc());
+    let mut cases = PlusCases::new(rt.alloc());
     let printed = print_cases(&rt, &mut cases);
     // (dropped by a call, and not in place: the proof of that is long)
     drop(cases);

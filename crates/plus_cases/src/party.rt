@@ -2,7 +2,7 @@
 
 ghost use Rattle.std.specs.Prelude.{◌<◌, length};
 
-use case_lines::{Run, answered, field, moment, request, told, word_of};
+use case_lines::{Run, answered, request, told, word_of};
 use client_registry::{RegNo, Registry, read_registry};
 use core_stack::Sending;
 use pkce_party::{PartyReply, PkceParty, party_http, party_message};
@@ -10,6 +10,7 @@ use rp_core::RpCore;
 use rp_exchange::RpAsk;
 use rp_request::{prepare_rp, prepare_tokens};
 use rp_response::rp_line;
+use sample_configuration::sample;
 use sso_base::{Core, CoreNo, Message, Moment, NoMemory};
 use std::alloc::Global;
 
@@ -76,42 +77,11 @@ fn party_read(
 }
 
 impl RelyingParty {
-    /// The relying party with this name and an empty history; none if the configuration is rejected or has no such party.
-    pub fn begin(alloc: Global, file: &str, name: &str) -> Result<Option<RelyingParty>, NoMemory> {
-        let registry = read_registry(alloc, file.as_bytes());
+    /// The relying party with this name in the configuration `sample`, with an empty history; none if there is no such party.
+    pub fn begin(alloc: Global, name: &str) -> Result<Option<RelyingParty>, NoMemory> {
+        let file = sample(alloc)?;
+        let registry = read_registry(alloc, file.as_str().as_bytes());
         party_read(alloc, &registry, name)
-    }
-
-    /// The answer of the relying party to a call:
-    ///
-    /// | Call | Answer |
-    /// |---|---|
-    /// | `ask|MOMENT|METHOD|TARGET|BODY|BROWSER|SESSION` | the line of the reply |
-    /// | `ask|MOMENT|tokens|EXCHANGE|STATUS|BODY` | the line of the reply to the token endpoint's answer in this exchange |
-    /// | `send|..`, with the same fields | the line, the reply in HTTP, and the message in it |
-    pub fn answer(
-        &mut self,
-        alloc: Global,
-        run: &mut Run,
-        fields: &[&str],
-    ) -> Result<String, NoMemory> {
-        match moment(field(fields, 1)) {
-            Some(at) => self.answer_at(alloc, run, at, fields),
-            None => told(alloc, "no such call"),
-        }
-    }
-
-    fn answer_at(
-        &mut self,
-        alloc: Global,
-        run: &mut Run,
-        at: Moment,
-        fields: &[&str],
-    ) -> Result<String, NoMemory> {
-        match fields {
-            [call @ ("ask" | "send"), _, asked @ ..] => self.ask(alloc, run, at, call, asked),
-            _ => told(alloc, "no such call"),
-        }
     }
 
     // ---- requests
@@ -143,13 +113,13 @@ impl RelyingParty {
         }
     }
 
-    // The answer to the call `ask` or `send`.
-    fn ask(
+    /// What a call prints for the reply to a request, or to an answer of the provider.
+    pub fn ask(
         &mut self,
         alloc: Global,
         run: &mut Run,
-        at: Moment,
         call: &str,
+        at: Moment,
         fields: &[&str],
     ) -> Result<String, NoMemory> {
         let asked = self.asked(alloc, fields)?;
