@@ -30,7 +30,7 @@ use Rattle.signout_answer.specs.declared.asks.EndReply.TheVariants as end
 use Rattle.signout_answer.specs.declared.asks.EndSetup.{EndSetup}
 use Rattle.serving.specs.declared.summary.Summary.{Summary}
 use Rattle.serving.specs.Summaries.{Telling}
-use Rattle.sso_serve.specs.Roles.{is_small_if}
+use Rattle.server_roles.specs.Roles.{is_small_if}
 use Rattle.sso_serve.specs.Cores.{op_manner, op_most, op_plus_manner, rp_manner, rp_plus_manner}
 use Rattle.sso_serve.specs.Servers.{OpPlusSummary, ServesOp, ServesOpPlus, ServesRp}
 

@@ -55,7 +55,7 @@ use Rattle.pkce_party.specs.Inside.{reply_inside}
 use Rattle.pkce_party.specs.Keeping.{pairs_of}
 use Rattle.pkce_party.specs.Telling.{party_sending, party_http}
 use Rattle.serving.specs.Manner.{Manner}
-use Rattle.sso_serve.specs.Roles.{provider_manner, party_manner}
+use Rattle.server_roles.specs.Roles.{provider_manner, party_manner}
 
 -- ---- the provider alone
 

@@ -1,4 +1,2 @@
-pub mod Roles
 pub mod Cores
-pub mod Rounds
 pub mod Servers

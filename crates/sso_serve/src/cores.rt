@@ -8,8 +8,6 @@ ghost use Rattle.rp_login.specs.Tables.{no_tables};
 ghost use Rattle.sso_serve.specs.Cores.{end_setup};
 ghost use Rattle.sso_serve.specs.Servers.{ServesOp, ServesOpPlus, ServesRp, ServesRpPlus};
 
-use crate::op::serve_op;
-use crate::rp::serve_rp;
 use client_registry::{Provider, Registry};
 use end_request::Returns;
 use op_core::OpCore;
@@ -19,6 +17,7 @@ use refresh_book::RefreshCore;
 use rp_core::RpCore;
 use rp_signout::SignoutCore;
 use server_desk::{Clock, Desk, Door, Draw, Link};
+use server_roles::{serve_op, serve_rp};
 use serving::{Summary, Tells};
 use signout_answer::EndSetup;
 use sso_base::NoMemory;

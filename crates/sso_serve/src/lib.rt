@@ -1,27 +1,15 @@
-//! The two roles of the sign-on system for servers with worker threads, and their servers. A server is generic in its core: any core
-//! that the provider is in, or any that a relying party is in.
+//! The servers of the sign-on system: those of the provider and of a relying party, alone and with all that other crates add to them.
 //!
-//! The crate `serving` defines how any server works. This crate has what differs between the two: how requests are parsed for their
-//! cores, and how their replies are sent.
+//! The crate `server_roles` has a server for any core. This crate puts the cores together.
 //!
 //! | Module | What it has |
 //! |---|---|
-//! | `op_role`, `rp_role` | [`OpRole`] and [`RpRole`], the roles |
-//! | `op`, `rp` | [`serve_op`] and [`serve_rp`], the servers |
-//! | `cores` | the servers of the provider and of a relying party, alone and with all that other crates add to them, as in [`op_plus_core`] |
-//! | `ran` | [`run_op`], [`run_rp`], [`run_op_plus`] and [`run_rp_plus`], the same without the core, and [`Ran`], their result |
+//! | `cores` | the cores, as in [`op_plus_core`], and their servers |
+//! | `ran` | [`run_op`], [`run_rp`], [`run_op_plus`] and [`run_rp_plus`], the servers without their cores, and [`Ran`], their result |
 #![tactic(auto)]
 
 mod cores;
-mod op;
-mod op_role;
 mod ran;
-mod rp;
-mod rp_role;
 
 pub use cores::op_plus_core;
-pub use op::serve_op;
-pub use op_role::OpRole;
 pub use ran::{Ran, run_op, run_op_plus, run_rp, run_rp_plus};
-pub use rp::serve_rp;
-pub use rp_role::RpRole;

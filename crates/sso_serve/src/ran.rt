@@ -27,7 +27,7 @@ pub struct Ran {
     pub entries: u64,
 }
 
-/// Serves the provider of this registry, as [`serve_op`](crate::serve_op), and returns how that ended.
+/// Serves the provider of this registry, as [`serve_op`](server_roles::serve_op), and returns how that ended.
 ///
 /// # Errors
 ///
@@ -51,7 +51,7 @@ pub fn run_op<R: Threads + Wait + Sync, D: Door, L: Link, C: Clock, W: Draw>(
     })
 }
 
-/// Serves the provider of this registry with proof keys, refresh tokens and questions before a sign-out, as [`serve_op`](crate::serve_op),
+/// Serves the provider of this registry with proof keys, refresh tokens and questions before a sign-out, as [`serve_op`](server_roles::serve_op),
 /// and returns how that ended. Browsers may be sent to these URIs.
 ///
 /// # Errors
@@ -78,7 +78,7 @@ pub fn run_op_plus<R: Threads + Wait + Sync, D: Door, L: Link, C: Clock, W: Draw
     })
 }
 
-/// Serves the party with this number in the registry, as [`serve_rp`](crate::serve_rp), and returns how that ended. It trusts this
+/// Serves the party with this number in the registry, as [`serve_rp`](server_roles::serve_rp), and returns how that ended. It trusts this
 /// provider, whose issuer must be the registry's.
 ///
 /// # Errors
@@ -107,7 +107,7 @@ pub fn run_rp<R: Threads + Wait + Sync, D: Door, L: Link, C: Clock, W: Draw>(
     })
 }
 
-/// Serves the party with this number in the registry with proof keys, as [`serve_rp`](crate::serve_rp), and returns how that ended. It trusts this
+/// Serves the party with this number in the registry with proof keys, as [`serve_rp`](server_roles::serve_rp), and returns how that ended. It trusts this
 /// provider, whose issuer must be the registry's.
 ///
 /// # Errors

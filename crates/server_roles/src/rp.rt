@@ -4,7 +4,7 @@ ghost use Rattle.std.specs.Prelude.{◌≡◌, ◌^◌, ◌≤◌, ◌<◌, [], 
 ghost use Rattle.std.specs.List.{All};
 ghost use Rattle.client_registry.specs.Numbers.{party_row};
 ghost use Rattle.serving.specs.Summaries.{Summarises};
-ghost use Rattle.sso_serve.specs.Roles.{party_manner};
+ghost use Rattle.server_roles.specs.Roles.{party_manner};
 
 use crate::rp_role::RpRole;
 use client_registry::Registry;

@@ -3,7 +3,7 @@
 ghost use Rattle.std.specs.Prelude.{◌≡◌, ◌^◌, ◌≤◌, ◌<◌, [], length, IfOk, OnErr};
 ghost use Rattle.std.specs.List.{All};
 ghost use Rattle.serving.specs.Summaries.{Summarises};
-ghost use Rattle.sso_serve.specs.Roles.{provider_manner};
+ghost use Rattle.server_roles.specs.Roles.{provider_manner};
 
 use crate::op_role::OpRole;
 use client_registry::Registry;

@@ -7,7 +7,7 @@ use Rattle.rp_exchange.specs.declared.reply.RpReply.TheVariants as reply
 use Rattle.core_stack.specs.declared.sending.Sending.{Sending}
 use Rattle.core_stack.specs.Relied.{exchange_named}
 use Rattle.core_stack.specs.Rounds.{rounds_of}
-use Rattle.sso_serve.specs.Roles.{message_in, answered_by}
+use Rattle.server_roles.specs.Roles.{message_in, answered_by}
 
 at_most_two : (r : RpReply) → rounds_of r ≤ 2
 at_most_two (reply.Ask to browser) = omega arith

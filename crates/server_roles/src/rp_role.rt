@@ -21,8 +21,8 @@ impl<'a, P: Relies + Send + Sync> Role for RpRole<'a, P> {
     ghost use Rattle.std.specs.Prelude.{refl, ◌<◌, length};
     ghost use Rattle.rp_exchange.specs.declared.ask.RpAsk.TheVariants as rp_ask;
     ghost use Rattle.core_stack.specs.Rounds.{rounds_of};
-    ghost use Rattle.sso_serve.specs.Roles.{party_manner};
-    ghost use Rattle.sso_serve.specs.Rounds.{rp_few_rounds, rp_fewer_rounds};
+    ghost use Rattle.server_roles.specs.Roles.{party_manner};
+    ghost use Rattle.server_roles.specs.Rounds.{rp_few_rounds, rp_fewer_rounds};
 
     type Core = P;
 

@@ -2,7 +2,7 @@
 
 ghost use Rattle.std.specs.Prelude.{◌≡◌};
 ghost use Rattle.std.specs.Option.{option_copied};
-ghost use Rattle.sso_serve.specs.Roles.{is_small_if};
+ghost use Rattle.server_roles.specs.Roles.{is_small_if};
 
 use client_registry::Registry;
 use core_stack::Provides;
@@ -37,7 +37,7 @@ fn is_small_if(ask: Option<&OpAsk>) -> bool
 
 impl<'a, P: Provides + Send + Sync> Role for OpRole<'a, P> {
     ghost use Rattle.std.specs.Prelude.{refl};
-    ghost use Rattle.sso_serve.specs.Roles.{provider_manner};
+    ghost use Rattle.server_roles.specs.Roles.{provider_manner};
     ghost use Rattle.std.proofs.Common.{arith};
 
     type Core = P;

@@ -1,0 +1,21 @@
+//! The two roles of the sign-on system for servers with worker threads, and their servers. A server is generic in its core: any core
+//! that the provider is in, or any that a relying party is in.
+//!
+//! The crate `serving` defines how any server works. This crate has what differs between the two: how requests are parsed for their
+//! cores, and how their replies are sent.
+//!
+//! | Module | What it has |
+//! |---|---|
+//! | `op_role`, `rp_role` | [`OpRole`] and [`RpRole`], the roles |
+//! | `op`, `rp` | [`serve_op`] and [`serve_rp`], the servers |
+#![tactic(auto)]
+
+mod op;
+mod op_role;
+mod rp;
+mod rp_role;
+
+pub use op::serve_op;
+pub use op_role::OpRole;
+pub use rp::serve_rp;
+pub use rp_role::RpRole;
