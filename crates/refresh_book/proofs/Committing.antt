@@ -28,7 +28,7 @@ use Rattle.core_stack.proofs.Numbers.{low_twice, one_longer, later_moment, none_
 use Rattle.core_stack.proofs.Merging.{count_passes, count_own, merged_passes, merged_own}
 use Rattle.core_stack.proofs.Passing.{inner_reversed, inner_last, inner_lighter}
 use Rattle.core_stack.proofs.Stepping.{weight_after, legal_own, legal_passed}
-use Rattle.core_stack.proofs.Holding.{holds_own, holds_passed, turn_may, code_may, may_through}
+use Rattle.core_stack.proofs.MarksHeld.{holds_own, holds_passed, turn_may, code_may, may_through}
 use Rattle.refresh_answer.specs.declared.asks.RefreshAsk.{RefreshAsk}
 use Rattle.refresh_answer.specs.declared.asks.RefreshAsk.TheVariants as ask
 use Rattle.refresh_answer.specs.declared.asks.RefreshParts.{RefreshParts}
