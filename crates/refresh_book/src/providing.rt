@@ -271,7 +271,7 @@ impl<P: Provides> Provides for RefreshCore<P> {
 
     ghost adds_what_it_gives = { λ s h p legal. outer_adds P.plain_ask P.given_reply P.provided P.IsAsk P.weighs P.most P.is_legal s h p legal
         (λ q is. P.adds_what_it_gives s.inner (inner_history h) q
-            (last_inside P.plain_ask P.given_reply P.provided P.IsAsk P.weighs P.most P.is_legal s h p legal q is)) };
+        (last_inside P.plain_ask P.given_reply P.provided P.IsAsk P.weighs P.most P.is_legal s h p legal q is)) };
 
     ghost given_is_told = { λ t r same. outer_given_told P.given_reply P.op_reply P.given_is_told t r same };
 
