@@ -186,12 +186,12 @@ module _ {A R : Type 0} (plain : A → Option OpAsk) (given : R → Option OpRep
       record {
         families_are = fams;
         tokens_are = tokens_are ∙ ap TL is.tokens_are ∙ filter_same (λ (t : RefreshRow). is_of c.families t.family) (λ (t : RefreshRow). now t.family) (λ t. here t.family) (filter (λ (t : RefreshRow). before t.family) (T past))
-        ∙ filter_stronger (λ (t : RefreshRow). before t.family) (λ (t : RefreshRow). now t.family) (λ t live. living_earlier (F past) t.family last at order live) (T past);
+            ∙ filter_stronger (λ (t : RefreshRow). before t.family) (λ (t : RefreshRow). now t.family) (λ t live. living_earlier (F past) t.family last at order live) (T past);
         accesses_are = accesses_are ∙ ap XL is.accesses_are
-        ∙ ap XM (filter_same (λ (x : AccessRow). is_of c.families x.family) (λ (x : AccessRow). now x.family) (λ x. here x.family) (live_rows access_life access_begun last Y)
-           ∙ filter_swap (λ (x : AccessRow). now x.family) (λ (x : AccessRow). lives access_life x.issued last) Y)
-        ∙ live_later access_life access_begun last at order (filter (λ (x : AccessRow). now x.family) Y)
-        ∙ ap XM (filter_stronger (λ (x : AccessRow). before x.family) (λ (x : AccessRow). now x.family) (λ x live. living_earlier (F past) x.family last at order live) (X past));
+            ∙ ap XM (filter_same (λ (x : AccessRow). is_of c.families x.family) (λ (x : AccessRow). now x.family) (λ x. here x.family) (live_rows access_life access_begun last Y)
+            ∙ filter_swap (λ (x : AccessRow). now x.family) (λ (x : AccessRow). lives access_life x.issued last) Y)
+            ∙ live_later access_life access_begun last at order (filter (λ (x : AccessRow). now x.family) Y)
+            ∙ ap XM (filter_stronger (λ (x : AccessRow). before x.family) (λ (x : AccessRow). now x.family) (λ x live. living_earlier (F past) x.family last at order live) (X past));
         last_is = last_is;
       }
 
@@ -205,12 +205,13 @@ module _ {A R : Type 0} (plain : A → Option OpAsk) (given : R → Option OpRep
       let live : AccessRow → Bool = λ x. lives access_life x.issued at in
       let TA : List RefreshRow → Type 0 = λ l. list_all (λ (t : RefreshRow). now t.family) l ≡ true in
       let XA : List AccessRow → Type 0 = λ l. list_all (λ (x : AccessRow). now x.family) l ≡ true in
-      let Y : List AccessRow = filter (λ (x : AccessRow). now x.family) (X past) in
-      (filter_same (λ (t : RefreshRow). is_of b.families t.family) (λ (t : RefreshRow). now t.family) (λ t. here t.family) b.tokens
-       ∙ filter_all (λ (t : RefreshRow). now t.family) b.tokens (subst TA (sym is.tokens_are) (all_passed (λ (t : RefreshRow). now t.family) (T past))),
-       filter_same (λ (x : AccessRow). is_of b.families x.family) (λ (x : AccessRow). now x.family) (λ x. here x.family) b.accesses
-       ∙ filter_all (λ (x : AccessRow). now x.family) b.accesses
-         (subst XA (sym (is.accesses_are ∙ filter_swap live (λ (x : AccessRow). now x.family) (X past))) (all_passed (λ (x : AccessRow). now x.family) (filter live (X past)))))
+      let Y : List AccessRow = filter (λ (x : AccessRow). now x.family) (X past) in (
+        filter_same (λ (t : RefreshRow). is_of b.families t.family) (λ (t : RefreshRow). now t.family) (λ t. here t.family) b.tokens
+            ∙ filter_all (λ (t : RefreshRow). now t.family) b.tokens (subst TA (sym is.tokens_are) (all_passed (λ (t : RefreshRow). now t.family) (T past))),
+        filter_same (λ (x : AccessRow). is_of b.families x.family) (λ (x : AccessRow). now x.family) (λ x. here x.family) b.accesses
+            ∙ filter_all (λ (x : AccessRow). now x.family) b.accesses
+            (subst XA (sym (is.accesses_are ∙ filter_swap live (λ (x : AccessRow). now x.family) (X past))) (all_passed (λ (x : AccessRow). now x.family) (filter live (X past)))),
+      )
 
   -- ---- after one more pair
 
@@ -258,9 +259,9 @@ module _ {A R : Type 0} (plain : A → Option OpAsk) (given : R → Option OpRep
       record {
         families_are = fams;
         tokens_are = tokens_are ∙ ap P ts
-        ∙ ap Q (sym (filter_put token_name (λ (t : RefreshRow). left t.family) retired (T past) living.old))
-        ∙ sym (filter_put token_name (λ (t : RefreshRow). left t.family) made (put token_name retired (T past)) living.new);
+            ∙ ap Q (sym (filter_put token_name (λ (t : RefreshRow). left t.family) retired (T past) living.old))
+            ∙ sym (filter_put token_name (λ (t : RefreshRow). left t.family) made (put token_name retired (T past)) living.new);
         accesses_are = accesses_are ∙ ap A' xs ∙ sym (filter_put access_name live access (filter (λ (x : AccessRow). left x.family) (X past)) living.fresh)
-        ∙ ap B' (sym (filter_put access_name (λ (x : AccessRow). left x.family) access (X past) living.told));
+            ∙ ap B' (sym (filter_put access_name (λ (x : AccessRow). left x.family) access (X past) living.told));
         last_is = last_is;
       }

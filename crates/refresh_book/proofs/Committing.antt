@@ -28,7 +28,7 @@ use Rattle.core_stack.proofs.Numbers.{low_twice, one_longer, later_moment, none_
 use Rattle.core_stack.proofs.Merging.{count_passes, count_own, merged_passes, merged_own}
 use Rattle.core_stack.proofs.Passing.{inner_reversed, inner_last, inner_lighter}
 use Rattle.core_stack.proofs.Stepping.{weight_after, legal_own, legal_passed}
-use Rattle.core_stack.proofs.Holding.{holds_own, holds_passed, turn_may, code_may, may_through}
+use Rattle.core_stack.proofs.MarksHeld.{holds_own, holds_passed, turn_may, code_may, may_through}
 use Rattle.refresh_answer.specs.declared.asks.RefreshAsk.{RefreshAsk}
 use Rattle.refresh_answer.specs.declared.asks.RefreshAsk.TheVariants as ask
 use Rattle.refresh_answer.specs.declared.asks.RefreshParts.{RefreshParts}
@@ -50,7 +50,7 @@ use Rattle.refresh_rows.specs.Booked.{Booked, is_of_place}
 use Rattle.refresh_book.specs.declared.renewing.Renewal.{Renewal}
 use Rattle.refresh_book.specs.declared.renewing.Renewal.TheVariants as renewed
 use Rattle.refresh_book.specs.Keeps.{KeptEntry, is_refresh_ask, is_own_family, code_held, IsBookAt, Keeps}
-use Rattle.refresh_book.specs.Renewing.{reply_of, renewal, tokens_left, accesses_left, Noted}
+use Rattle.refresh_book.specs.Renewing.{reply_of, renewal_asked, tokens_left, accesses_left, Noted}
 use Rattle.refresh_book.specs.Beginning.{MayBegin, family_asked}
 use Rattle.refresh_book.proofs.Owning.{all_filtered}
 use Rattle.refresh_book.proofs.Booking.{living_found, turned_book}
@@ -178,7 +178,7 @@ module _ {A R S : Type 0} (plain : A → Option OpAsk) (given : R → Option OpR
       let fams : c.families ≡ live_rows family_life family_begun at b.families = families_are ∙ ap L families_same in
       record {
         book = turned_book plain given provided (reverse H) last at b c (before at order) (book_now plain given provided IsAsk weighs most IsLegalInner s inner ks weight last limit turns codes b keeps H is)
-        fams (tokens_are ∙ ap T tokens_same) (accesses_are ∙ ap X accesses_same) last_is;
+            fams (tokens_are ∙ ap T tokens_same) (accesses_are ∙ ap X accesses_same) last_is;
         own = ap G fams ∙ all_filtered (is_own_family s.registry) (λ (f : FamilyRow). lives family_life f.begun at) b.families keeps.own;
       }
 
@@ -232,7 +232,7 @@ module _ {A R S : Type 0} (plain : A → Option OpAsk) (given : R → Option OpR
   info_is_own at fresh (ask.Refresh g) r told = absurd (some_none r (sym told))
 
   pub renewed_is_own : (at : ℕ) (c : Booked) → IsTurned at c → (fresh : List Word) (asked : RefreshAsk A) → is_refresh_ask asked ≡ true
-      → own_reply plain given provided s.registry (reverse H) at fresh asked ≡ Some (reply_of (renewal c fresh asked))
+      → own_reply plain given provided s.registry (reverse H) at fresh asked ≡ Some (reply_of (renewal_asked c fresh asked))
   renewed_is_own at c now fresh (ask.Refresh g) refresh = ap Some (sym (reply_renewed plain given provided (reverse H) at fresh c c now.book g))
   renewed_is_own at c now fresh (ask.Through a o) refresh = absurd (true_false (sym refresh))
 
@@ -255,9 +255,9 @@ module _ {A R S : Type 0} (plain : A → Option OpAsk) (given : R → Option OpR
       let N : ℕ → Type 0 = λ n. Keeps plain given provided IsAsk weighs most IsLegalInner s inner ks' (weight + w) p.entry.at n turns codes d in
       subst K (sym weight_grown) (subst T (sym last_is) (subst N (sym limit_is)
       (keeps_more p inner ks' w turns codes d (ap passed_count grown ∙ count_own ks own ∙ keeps.count) (own_history own ks' grown) w_is
-       (holds_own (outer_plain plain) (outer_given given) offline_mark false (reverse H) p last turns codes refl (before own.entry.at order) marks_now)
-       book good
-       (legal_own (IsRefreshAsk IsAsk) IsTold passed (outer_weight weighs) top Inside s H p w legal (own_passes_none own) values order (subst Q (sym said) refl) w_is room))))
+      (holds_own (outer_plain plain) (outer_given given) offline_mark false (reverse H) p last turns codes refl (before own.entry.at order) marks_now)
+      book good
+      (legal_own (IsRefreshAsk IsAsk) IsTold passed (outer_weight weighs) top Inside s H p w legal (own_passes_none own) values order (subst Q (sym said) refl) w_is room))))
 
   -- ---- that it passed on
 
@@ -268,7 +268,7 @@ module _ {A R S : Type 0} (plain : A → Option OpAsk) (given : R → Option OpR
       let J : List (Pair A R) → Type 0 = λ l. last_moment (reverse l) ≤ at in
       subst J (sym (inner_same ks inner H keeps.count is))
       (subst I (sym (inner_reversed passed H))
-       (low_twice (last_moment (inner_history (reverse H))) (last_moment (reverse H)) at (inner_last passed (IsRefreshAsk IsAsk) IsTold passed_moment (reverse H) legal.answered) order))
+      (low_twice (last_moment (inner_history (reverse H))) (last_moment (reverse H)) at (inner_last passed (IsRefreshAsk IsAsk) IsTold passed_moment (reverse H) legal.answered) order))
 
   -- the inner core has room
   pub inner_has_room : (asked : RefreshAsk A) (a : A) (offline : Bool) → asked ≡ ask.Through a offline → history_weight (outer_weight weighs) H + outer_weight weighs asked ≤ most s.inner
@@ -347,12 +347,12 @@ module _ {A R S : Type 0} (plain : A → Option OpAsk) (given : R → Option OpR
         let N : ℕ → Type 0 = λ n. Keeps plain given provided IsAsk weighs most IsLegalInner s inner' ks' (weight + w) at n turns' codes' d in
         subst K (sym weight_grown) (subst T (sym last_is) (subst N (sym limit_is)
         (keeps_more p inner' ks' w turns' codes' d
-         (ap C grown ∙ count_passes ks parts ∙ ap suc keeps.count ∙ sym (ap L (inner_taken inner' order inner_grown) ∙ one_longer inner taken))
-         (passed_history ks' inner' order grown inner_grown) w_is
-         (holds_passed (outer_plain plain) (outer_given given) offline_mark false (reverse H) p last turns turns' codes codes' (before at order) marks_now
-          (turns_by parts.first turns' turns_are)
-          (codes_by parts.first (answer_mark (outer_plain plain) (outer_given given) offline_mark false (reverse H) at parts.offline (plain asked)) codes' codes_are))
-         book good all_legal)))
+        (ap C grown ∙ count_passes ks parts ∙ ap suc keeps.count ∙ sym (ap L (inner_taken inner' order inner_grown) ∙ one_longer inner taken))
+        (passed_history ks' inner' order grown inner_grown) w_is
+        (holds_passed (outer_plain plain) (outer_given given) offline_mark false (reverse H) p last turns turns' codes codes' (before at order) marks_now
+        (turns_by parts.first turns' turns_are)
+        (codes_by parts.first (answer_mark (outer_plain plain) (outer_given given) offline_mark false (reverse H) at parts.offline (plain asked)) codes' codes_are))
+        book good all_legal)))
 
     -- ---- its rows have room
 
@@ -366,8 +366,8 @@ module _ {A R S : Type 0} (plain : A → Option OpAsk) (given : R → Option OpR
           let E : Option OpReply → List (TurnMark Bool) = λ o. turns_left (turn_ended o (named_in (plain asked))) (live_rows turn_life turn_mark_begun at turns) in
           may_through turn_mark_name turn_mark_begun began (turns_left (turn_ended g (named_in (plain asked))) (live_rows turn_life turn_mark_begun at turns)) left (left_is ∙ ap E (sym (around_given parts.first)))
           (turn_may (outer_plain plain) (outer_given given) offline_mark (λ l. provided (inner_history l)) (IsLegalRefresh plain given provided IsAsk weighs most IsLegalInner s) c
-           (outer_stack plain given provided IsAsk weighs most IsLegalInner beginnings s c stack) false H (around parts taken) last turns codes began all_legal
-           (before at order) marks_now (began_is ∙ ap G (sym (around_given parts.first))))
+          (outer_stack plain given provided IsAsk weighs most IsLegalInner beginnings s c stack) false H (around parts taken) last turns codes began all_legal
+          (before at order) marks_now (began_is ∙ ap G (sym (around_given parts.first))))
 
       pub code_fits : (made : Option (CodeMark Bool)) (left : List (CodeMark Bool)) → last_moment (reverse H) ≤ at
           → IsLegalRefresh plain given provided IsAsk weighs most IsLegalInner s (H ++ around parts taken ∷ [])
@@ -378,5 +378,5 @@ module _ {A R S : Type 0} (plain : A → Option OpAsk) (given : R → Option OpR
           let G : Option OpReply → Option (CodeMark Bool) = λ o. code_row o m at in
           may_through code_mark_name code_mark_begun made (live_rows code_life code_mark_begun at codes) left left_is
           (code_may (outer_plain plain) (outer_given given) offline_mark (λ l. provided (inner_history l)) (IsLegalRefresh plain given provided IsAsk weighs most IsLegalInner s) c
-           (outer_stack plain given provided IsAsk weighs most IsLegalInner beginnings s c stack) false H (around parts taken) last turns codes made all_legal
-           (before at order) marks_now (made_is ∙ ap G (sym (around_given parts.first))))
+          (outer_stack plain given provided IsAsk weighs most IsLegalInner beginnings s c stack) false H (around parts taken) last turns codes made all_legal
+          (before at order) marks_now (made_is ∙ ap G (sym (around_given parts.first))))

@@ -27,7 +27,7 @@ use Rattle.core_stack.specs.Stacked.{AreAnswered, IsStack}
 use Rattle.core_stack.proofs.Numbers.{low_twice, low_through}
 use Rattle.core_stack.proofs.Added.{one_at_most}
 use Rattle.core_stack.proofs.Merging.{inner_of_merged}
-use Rattle.core_stack.proofs.Holding.{turn_is_found, code_is_found}
+use Rattle.core_stack.proofs.MarksHeld.{turn_is_found, code_is_found}
 use Rattle.refresh_answer.specs.declared.rows.FamilyRow.{FamilyRow}
 use Rattle.refresh_answer.specs.declared.rows.AccessRow.{AccessRow}
 use Rattle.refresh_answer.specs.Rows.{family_life, family_begun, access_name, access_begun}

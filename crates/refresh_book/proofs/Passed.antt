@@ -56,11 +56,11 @@ all_found {X} name k (x ∷ xs) distinct each =
     let V : Word → Option X = λ v. row_of name v xs in
     and_from (k x) (list_all k xs) (each (name x) x (ap F (bytes_true (name x) (name x) refl)))
     (all_found name k xs distinct.1 (λ w y there.
-     (let G : Bool → Option X = λ b. cond b (Some x) (row_of name w xs) in
-      each w y (elim (bool_cases (bytes_eq (name x) w)) [
-        | inl e ↦ absurd (some_none y (sym there ∙ ap V (sym (bytes_same (name x) w e)) ∙ distinct.0))
-        | inr e ↦ ap G e ∙ there
-      ]))))
+    (let G : Bool → Option X = λ b. cond b (Some x) (row_of name w xs) in
+    each w y (elim (bool_cases (bytes_eq (name x) w)) [
+      | inl e ↦ absurd (some_none y (sym there ∙ ap V (sym (bytes_same (name x) w e)) ∙ distinct.0))
+      | inr e ↦ ap G e ∙ there
+    ]))))
 
 -- tests that agree on all rows
 filter_agree : {X : Type 0} (low p q : X → Bool) → ((x : X) → low x ≡ true → p x ≡ q x) → (l : List X) → list_all low l ≡ true → filter p l ≡ filter q l
@@ -239,8 +239,8 @@ module _ {A R : Type 0} (plain : A → Option OpAsk) (given : R → Option OpRep
   pub begun_book : (k : FamilyRow → Bool) (c : Booked) (f : FamilyRow) (w : Word) → IsAfter plain given provided past at k None None None c → f.by ≡ n → f.begun ≡ at → d.families ≡ c.families ++ f ∷ [] → d.tokens ≡ put token_name (Some (new_token f.by w)) c.tokens
       → d.accesses ≡ c.accesses → d.last ≡ at
       → (d.families ≡ live_rows family_life family_begun at (filter k Fs ++ f ∷ []))
-        × (d.tokens ≡ held_in (filter k Fs ++ f ∷ []) at (put token_name (Some (new_token f.by w)) (tokens plain given provided past)))
-        × (d.accesses ≡ live_rows access_life access_begun at (filter (λ (x : AccessRow). is_some (living_in (filter k Fs ++ f ∷ []) at x.family)) (accesses plain given provided past)))
+      × (d.tokens ≡ held_in (filter k Fs ++ f ∷ []) at (put token_name (Some (new_token f.by w)) (tokens plain given provided past)))
+      × (d.accesses ≡ live_rows access_life access_begun at (filter (λ (x : AccessRow). is_some (living_in (filter k Fs ++ f ∷ []) at x.family)) (accesses plain given provided past)))
   begun_book k c f w after by begun families_are tokens_are accesses_are last_is =
       let gs : List FamilyRow = filter k Fs in
       let hs : List FamilyRow = gs ++ f ∷ [] in
@@ -251,14 +251,15 @@ module _ {A R : Type 0} (plain : A → Option OpAsk) (given : R → Option OpRep
       let B : List AccessRow → List AccessRow = λ l. live_rows access_life access_begun at l in
       let N : ℕ → Option FamilyRow = λ m. family_at m gs in
       let none : family_at f.by gs ≡ None = ap N by ∙ none_at n gs (numbered_filter k n Fs (numbered plain given provided past)) in
-      let new : is_some (living_in hs at f.by) ≡ true = ap S (living_new gs f begun none) in
-      (families_are ∙ ap P after.families_are ∙ sym (filter_pushed (λ (g : FamilyRow). lives family_life g.begun at) gs f (ap E begun ∙ late_family at)),
-       tokens_are ∙ ap Q (after.tokens_are
-        ∙ filter_agree (λ (t : RefreshRow). nat_lt t.family n) (λ (t : RefreshRow). is_some (living_in gs at t.family)) (λ (t : RefreshRow). is_some (living_in hs at t.family)) (λ t low. ap S (sym (living_more gs f t.family by low))) (tokens plain given provided past) tokens_low)
-       ∙ sym (filter_put token_name (λ (t : RefreshRow). is_some (living_in hs at t.family)) (Some (new_token f.by w)) (tokens plain given provided past)
-          (λ t same. (let G : RefreshRow → Bool = λ r. is_some (living_in hs at r.family) in ap G (sym (some_same (new_token f.by w) t same)) ∙ new))),
-       accesses_are ∙ after.accesses_are
-       ∙ ap B (filter_agree (λ (x : AccessRow). nat_lt x.family n) (λ (x : AccessRow). is_some (living_in gs at x.family)) (λ (x : AccessRow). is_some (living_in hs at x.family)) (λ x low. ap S (sym (living_more gs f x.family by low))) (accesses plain given provided past) accesses_low))
+      let new : is_some (living_in hs at f.by) ≡ true = ap S (living_new gs f begun none) in (
+        families_are ∙ ap P after.families_are ∙ sym (filter_pushed (λ (g : FamilyRow). lives family_life g.begun at) gs f (ap E begun ∙ late_family at)),
+        tokens_are ∙ ap Q (after.tokens_are
+            ∙ filter_agree (λ (t : RefreshRow). nat_lt t.family n) (λ (t : RefreshRow). is_some (living_in gs at t.family)) (λ (t : RefreshRow). is_some (living_in hs at t.family)) (λ t low. ap S (sym (living_more gs f t.family by low))) (tokens plain given provided past) tokens_low)
+            ∙ sym (filter_put token_name (λ (t : RefreshRow). is_some (living_in hs at t.family)) (Some (new_token f.by w)) (tokens plain given provided past)
+            (λ t same. (let G : RefreshRow → Bool = λ r. is_some (living_in hs at r.family) in ap G (sym (some_same (new_token f.by w) t same)) ∙ new))),
+        accesses_are ∙ after.accesses_are
+            ∙ ap B (filter_agree (λ (x : AccessRow). nat_lt x.family n) (λ (x : AccessRow). is_some (living_in gs at x.family)) (λ (x : AccessRow). is_some (living_in hs at x.family)) (λ x low. ap S (sym (living_more gs f x.family by low))) (accesses plain given provided past) accesses_low),
+      )
 
   -- ---- an entry that was passed on
 
@@ -302,7 +303,7 @@ module _ {A R : Type 0} (plain : A → Option OpAsk) (given : R → Option OpRep
     -- the reply and the family that begins
     pub passed_reply : w ≡ fresh_word fresh 1 → family ≡ family_asked plain given provided past at (token_code (plain a)) → (first : Option Word) → first ≡ first_of begun w
         → (reply_around reply first ≡ with_first (begins plain given provided past (record { at = at; fresh = fresh; ask = asked })) (given reply) reply (fresh_word fresh 1))
-          × (begun_by (reply_around reply first) (begins plain given provided past (record { at = at; fresh = fresh; ask = asked })) ≡ begun)
+        × (begun_by (reply_around reply first) (begins plain given provided past (record { at = at; fresh = fresh; ask = asked })) ≡ begun)
     passed_reply w_is family_is first first_is =
         let W : Word → Option FamilyRow = λ v. if_true (offl && has_room (held_in Fs at (tokens plain given provided past)) v) maybe in
         let H : Bool → Option FamilyRow = λ x. if_true (offl && x) maybe in
@@ -319,8 +320,8 @@ module _ {A R : Type 0} (plain : A → Option OpAsk) (given : R → Option OpRep
     by_begun : (o : Option FamilyRow) → begun ≡ o → ((f : FamilyRow) → o ≡ Some f → (f.by ≡ n) × (f.begun ≡ at)) → d.families ≡ appended left.families o → d.tokens ≡ put token_name (token_of o w) left.tokens → d.accesses ≡ left.accesses → d.last ≡ at
         → IsAfter plain given provided past at k None None None left
         → (d.families ≡ live_rows family_life family_begun at (appended (filter k Fs) o))
-          × (d.tokens ≡ held_in (appended (filter k Fs) o) at (put token_name (token_of o w) (tokens plain given provided past)))
-          × (d.accesses ≡ live_rows access_life access_begun at (filter (λ (x : AccessRow). is_some (living_in (appended (filter k Fs) o) at x.family)) (accesses plain given provided past)))
+        × (d.tokens ≡ held_in (appended (filter k Fs) o) at (put token_name (token_of o w) (tokens plain given provided past)))
+        × (d.accesses ≡ live_rows access_life access_begun at (filter (λ (x : AccessRow). is_some (living_in (appended (filter k Fs) o) at x.family)) (accesses plain given provided past)))
     by_begun None is owned families_are tokens_are accesses_are last_is after = (families_are ∙ after.families_are, tokens_are ∙ after.tokens_are, accesses_are ∙ after.accesses_are)
     by_begun (Some f) is owned families_are tokens_are accesses_are last_is after =
         let mine = owned f refl in

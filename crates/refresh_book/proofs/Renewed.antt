@@ -38,7 +38,7 @@ use Rattle.refresh_rows.proofs.Lists.{filter_same}
 use Rattle.refresh_book.specs.declared.renewing.Renewal.{Renewal}
 use Rattle.refresh_book.specs.declared.renewing.Renewal.TheVariants as renewed
 use Rattle.refresh_book.specs.Keeps.{IsBookAt, is_refresh_ask}
-use Rattle.refresh_book.specs.Renewing.{reply_of, rotation, of_family, of_current, renewal_of, refusal, renewal_for, renewal, MayNote, Noted, AreRows, tokens_left, accesses_left}
+use Rattle.refresh_book.specs.Renewing.{reply_of, rotation, of_family, of_current, renewal_of, refusal, renewal_for, renewal_asked, MayNote, Noted, AreRows, tokens_left, accesses_left}
 use Rattle.refresh_book.proofs.Booking.{filter_none, tokens_distinct, living_found, all_left, IsAfter, none_living, book_after}
 
 number_swap : (a b : ℕ) → nat_eq a b ≡ nat_eq b a
@@ -171,7 +171,7 @@ module _ {A R : Type 0} (plain : A → Option OpAsk) (given : R → Option OpRep
         | inr old ↦ ap S live.2 ∙ ap C old ∙ sym (ap Q live.1 ∙ old_refused (held_in Fs at Ts) fresh g t (living_in Fs at t.family) old)
       ]
 
-  pub reply_renewed : (grant : Result RefreshGrant GrantNo) → reply_of (renewal b fresh (ask.Refresh {A = A} grant)) ≡ refresh_reply plain given provided past at fresh grant
+  pub reply_renewed : (grant : Result RefreshGrant GrantNo) → reply_of (renewal_asked b fresh (ask.Refresh {A = A} grant)) ≡ refresh_reply plain given provided past at fresh grant
   reply_renewed (Ok g) = reply_found g _ _ (found (word_of_text g.token))
   reply_renewed (Err no.NoMemory) = refl
   reply_renewed (Err other) = refl
@@ -357,7 +357,7 @@ module _ {A R : Type 0} (plain : A → Option OpAsk) (given : R → Option OpRep
   refusal_may no.NoMemory = tt
   refusal_may other = tt
 
-  pub may_note : (asked : RefreshAsk A) → MayNote b (renewal b fresh asked)
+  pub may_note : (asked : RefreshAsk A) → MayNote b (renewal_asked b fresh asked)
   may_note (ask.Through a o) = tt
   may_note (ask.Refresh (Err e)) = refusal_may e
   may_note (ask.Refresh (Ok g)) = may_renew g.client (word_of_text g.token)
@@ -365,7 +365,7 @@ module _ {A R : Type 0} (plain : A → Option OpAsk) (given : R → Option OpRep
   -- ---- the book of the past with the pair
 
   abbrev pair_of : RefreshAsk A → Outer A R
-  pair_of asked = record { entry = record { at = at; fresh = fresh; ask = asked }; reply = Own (reply_of (renewal b fresh asked)) }
+  pair_of asked = record { entry = record { at = at; fresh = fresh; ask = asked }; reply = Own (reply_of (renewal_asked b fresh asked)) }
 
   book_of : (asked : RefreshAsk A) (r : OwnReply)
       → IsAfter plain given provided past at (λ f. not (ends plain given provided past at asked f)) (token_made (length past) (row_presented Ts asked) (Own {R = R} r)) (token_retired (row_presented Ts asked) (Own {R = R} r)) (access_made at (row_presented Ts asked) (Own {R = R} r)) d
@@ -382,7 +382,7 @@ module _ {A R : Type 0} (plain : A → Option OpAsk) (given : R → Option OpRep
   refusal_after no.NoMemory rows = book_of (ask.Refresh (Err no.NoMemory)) own.NotHere (err_after no.NoMemory rows)
   refusal_after other rows = book_of (ask.Refresh (Err other)) (own.Refused (token_error other)) (err_after other rows)
 
-  pub renewed_book : (asked : RefreshAsk A) → is_refresh_ask asked ≡ true → Noted b d (renewal b fresh asked) → IsBookAt plain given provided (pair_of asked ∷ past) at d
+  pub renewed_book : (asked : RefreshAsk A) → is_refresh_ask asked ≡ true → Noted b d (renewal_asked b fresh asked) → IsBookAt plain given provided (pair_of asked ∷ past) at d
   renewed_book (ask.Through a o) is rows = absurd (true_false (sym is))
   renewed_book (ask.Refresh (Err e)) is rows = refusal_after e rows
   renewed_book (ask.Refresh (Ok g)) is rows =

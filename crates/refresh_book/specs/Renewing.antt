@@ -52,10 +52,10 @@ refusal why = Refused (token_error why)
 abbrev pub renewal_for : Booked → List Word → RefreshGrant → Renewal
 renewal_for b fresh grant = renewal_of b fresh grant.client (option_and_then (λ w. row_of token_name w b.tokens) (word_of_text grant.token))
 
-abbrev pub renewal : {A : Type 0} → Booked → List Word → RefreshAsk A → Renewal
-renewal b fresh (ask.Refresh (Ok grant)) = renewal_for b fresh grant
-renewal b fresh (ask.Refresh (Err why)) = refusal why
-renewal b fresh (ask.Through inner offline) = Unread
+abbrev pub renewal_asked : {A : Type 0} → Booked → List Word → RefreshAsk A → Renewal
+renewal_asked b fresh (ask.Refresh (Ok grant)) = renewal_for b fresh grant
+renewal_asked b fresh (ask.Refresh (Err why)) = refusal why
+renewal_asked b fresh (ask.Through inner offline) = Unread
 
 -- ---- the book after it
 

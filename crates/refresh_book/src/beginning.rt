@@ -53,12 +53,7 @@ fn token_code(ask: Option<&OpAsk>) -> Option<Word>
 }
 
 // The family that begins with tokens for a code.
-fn family_for(
-    alloc: Global,
-    place: u64,
-    at: Moment,
-    code: &CodeRow,
-) -> Result<FamilyRow, NoMemory>
+fn family_for(alloc: Global, place: u64, at: Moment, code: &CodeRow) -> Result<FamilyRow, NoMemory>
     ensures { IfOk result (λ f. f ≡ families.family_for place at code.now) }
 {
     Ok(FamilyRow {

@@ -62,11 +62,7 @@ pub(crate) fn plain_of<P: Provides>(ask: &RefreshAsk<P::Ask>) -> Option<&OpAsk>
 
 // The claims of a family's user for its client.
 #[tactic(auto, using(crate::proofs::Owning::client_low, crate::proofs::Owning::user_low))]
-fn family_info(
-    alloc: Global,
-    registry: &Registry,
-    family: &FamilyRow,
-) -> Result<OwnReply, NoMemory>
+fn family_info(alloc: Global, registry: &Registry, family: &FamilyRow) -> Result<OwnReply, NoMemory>
     requires { keeps.is_own_family registry.now family.now ≡ true }
     ensures { IfOk result (λ r. r ≡ spec.family_info registry.now family.now) }
 {
@@ -88,9 +84,11 @@ fn bearer_of(ask: Option<&OpAsk>) -> Option<Word>
     ensures { result ≡ keeps.bearer_in (option_copied ask.entry) }
 {
     match ask {
-        Some(OpAsk::Info {
-            bearer: Bearer::Given(word),
-        }) => Some(*word),
+        Some(
+            OpAsk::Info {
+                bearer: Bearer::Given(word),
+            },
+        ) => Some(*word),
         _ => None,
     }
 }

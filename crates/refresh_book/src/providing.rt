@@ -165,6 +165,7 @@ fn own_http(alloc: Global, registry: &Registry, reply: &OwnReply) -> Result<Http
 }
 
 impl<P: Provides> Provides for RefreshCore<P> {
+    ghost use Rattle.sso_base.specs.Legal.{IsEntry};
     ghost use Rattle.refresh_answer.specs.Around.{inner_history, outer_plain, outer_told, outer_given, outer_notices, IsRefreshAsk};
     ghost use Rattle.refresh_answer.specs.Answering.{inner_setup};
     ghost use Rattle.refresh_answer.proofs.Passed.{last_inside, outer_adds, outer_given_told, outer_refusals, outer_signs_out};
@@ -255,7 +256,10 @@ impl<P: Provides> Provides for RefreshCore<P> {
         }
     }
 
-    fn known(entry: Entry<RefreshAsk<P::Ask>>) -> Entry<RefreshAsk<P::Ask>> {
+    fn known(entry: Entry<RefreshAsk<P::Ask>>) -> Entry<RefreshAsk<P::Ask>>
+        ensures same { result ≡ entry }
+        ensures values { IsEntry (IsRefreshAsk P.IsAsk) result }
+    {
         known::<P>(entry)
     }
 
@@ -267,7 +271,7 @@ impl<P: Provides> Provides for RefreshCore<P> {
 
     ghost adds_what_it_gives = { λ s h p legal. outer_adds P.plain_ask P.given_reply P.provided P.IsAsk P.weighs P.most P.is_legal s h p legal
         (λ q is. P.adds_what_it_gives s.inner (inner_history h) q
-            (last_inside P.plain_ask P.given_reply P.provided P.IsAsk P.weighs P.most P.is_legal s h p legal q is)) };
+        (last_inside P.plain_ask P.given_reply P.provided P.IsAsk P.weighs P.most P.is_legal s h p legal q is)) };
 
     ghost given_is_told = { λ t r same. outer_given_told P.given_reply P.op_reply P.given_is_told t r same };
 

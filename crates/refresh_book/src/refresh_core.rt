@@ -35,7 +35,7 @@ impl<P: Provides> Model for RefreshCore<P> {
 
     ghost invariant = { λ c. (c.registry ≡ P.provider_registry c.inner)
         × Keeps P.plain_ask P.given_reply P.provided P.IsAsk P.weighs P.most P.is_legal (record { inner = P.setup c.inner; registry = c.registry })
-            (P.history c.inner) c.kept.kept c.kept.weight c.kept.last c.kept.most c.turns.rows c.codes.rows c.book };
+        (P.history c.inner) c.kept.kept c.kept.weight c.kept.last c.kept.most c.turns.rows c.codes.rows c.book };
 }
 
 // The history of the inner core is legal. The call does nothing.

@@ -21,7 +21,10 @@ pub(crate) enum Renewal {
     /// A refusal, since the book has no room for a token.
     Full,
     /// A refusal of an old token of the family of this place. If it is this client's, it ends.
-    Reused { place: u64, client: u32 },
+    Reused {
+        place: u64,
+        client: u32,
+    },
     /// New tokens for the current token of this row.
     Rotated {
         row: RefreshRow,
@@ -115,8 +118,8 @@ fn renewal_for(book: &Book, fresh: &[Word; 4], grant: &RefreshGrant) -> Renewal
 }
 
 /// The renewal of a refresh request, by the book at its moment.
-pub(crate) fn renewal<A: Drop>(book: &Book, fresh: &[Word; 4], ask: &RefreshAsk<A>) -> Renewal
-    ensures { result ≡ renew.renewal book.now fresh.now ask.now }
+pub(crate) fn renewal_asked<A: Drop>(book: &Book, fresh: &[Word; 4], ask: &RefreshAsk<A>) -> Renewal
+    ensures { result ≡ renew.renewal_asked book.now fresh.now ask.now }
 {
     match ask {
         RefreshAsk::Refresh { grant: Ok(grant) } => renewal_for(book, fresh, grant),

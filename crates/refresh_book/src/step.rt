@@ -10,7 +10,7 @@ ghost use Rattle.refresh_book.specs.Keeps.{is_refresh_ask as is_refresh_of};
 
 use crate::entries::{is_refresh_ask, known, weight_of};
 use crate::refresh_core::RefreshCore;
-use crate::renewing::{note_renewal, renewal, reply_of};
+use crate::renewing::{note_renewal, renewal_asked, reply_of};
 use core_stack::{Kept, KeptJournal, Provides};
 use refresh_answer::{OwnReply, RefreshAsk, RefreshParts, RefreshReply};
 use refresh_rows::Book;
@@ -104,7 +104,12 @@ impl<P: Provides> RefreshCore<P> {
     }
 
     // The entry of a request at this moment, or at the last entry's moment if that is later.
-    fn entry(&self, at: Moment, fresh: [Word; 4], ask: RefreshAsk<P::Ask>) -> Entry<RefreshAsk<P::Ask>>
+    fn entry(
+        &self,
+        at: Moment,
+        fresh: [Word; 4],
+        ask: RefreshAsk<P::Ask>,
+    ) -> Entry<RefreshAsk<P::Ask>>
         ensures entry { result ≡ entry_of self.now.history at fresh ask }
         ensures order { last_moment (reverse self.now.history) ≤ result.at }
         ensures values { IsEntry (around.IsRefreshAsk P.IsAsk) result }
@@ -175,7 +180,7 @@ impl<P: Provides> RefreshCore<P> {
         }
         let at = entry.at;
         self.book.turn_to(at);
-        let renewed = renewal(&self.book, &entry.fresh, &entry.ask);
+        let renewed = renewal_asked(&self.book, &entry.fresh, &entry.ask);
         note_renewal(&mut self.book, renewed);
         let own = Pair {
             entry,

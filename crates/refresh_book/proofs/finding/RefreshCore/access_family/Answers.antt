@@ -21,4 +21,4 @@ returns-clause-own g c = λ f is.
     let K = λ (r : Configuration). is_own_family r f ≡ true in
     subst K (ap (λ x. x.registry) c.self.view_is)
     (good_access (is_own_family inside.registry) inside.book.families c.args.at (option_and_then (if_lives access_life access_begun c.args.at) (row_of access_name c.args.word inside.book.accesses)) f
-     c.self.invariant.1.own (sym c.family_of_access.ensures ∙ is))
+    c.self.invariant.1.own (sym c.family_of_access.ensures ∙ is))

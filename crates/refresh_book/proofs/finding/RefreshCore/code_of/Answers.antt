@@ -20,14 +20,14 @@ code-requires g c =
     inside.kept.kept inside.kept.weight inside.kept.last inside.kept.most inside.turns.rows inside.codes.rows inside.book c.self.invariant.1 c.args.self.now.history (ap (λ x. x.history) c.self.view_is) in
     subst D (sym same)
     (low_twice (last_moment (reverse (g.P.Provides.provided (inner_history H)))) (last_moment (reverse H)) c.args.at
-     (provider_low g.P.Provides.plain_ask g.P.Provides.given_reply g.P.Provides.provided g.P.Provides.IsAsk g.P.Core.weighs g.P.Core.most g.P.Core.is_legal (λ t front rest l. g.met.P.Core.beginnings_are_legal t front rest l)
-      (record { inner = g.P.Core.setup inside.inner; registry = inside.registry }) (g.P.Provides.provider_registry inside.inner) (record {
+    (provider_low g.P.Provides.plain_ask g.P.Provides.given_reply g.P.Provides.provided g.P.Provides.IsAsk g.P.Core.weighs g.P.Core.most g.P.Core.is_legal (λ t front rest l. g.met.P.Core.beginnings_are_legal t front rest l)
+    (record { inner = g.P.Core.setup inside.inner; registry = inside.registry }) (g.P.Provides.provider_registry inside.inner) (record {
       begins = g.met.P.Provides.begins;
       beginnings = λ front rest l. g.met.P.Core.beginnings_are_legal (g.P.Core.setup inside.inner) front rest l;
       provider = λ l legal. g.met.P.Provides.is_provider inside.inner l legal;
       adds = λ l p legal. g.met.P.Provides.adds_what_it_gives (g.P.Core.setup inside.inner) l p legal;
     }) H legal)
-     c.requires)
+    c.requires)
 
 pub returns-clause-held : goal.returns-clause-held
 returns-clause-held g c =

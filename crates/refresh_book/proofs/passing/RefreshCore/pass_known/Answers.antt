@@ -125,9 +125,9 @@ note-requires-clause-turn g c =
     changes.begun
     (turns_left changes.ended (live_rows turn_life turn_mark_begun c.args.at c.pass_on.new.turns.rows))
     c.requires.order legal (c.changes_of-changes.ensures.begun ∙ (turn_row_same (option_copied c.given.result) (g.P.Provides.given_reply reply) pending.wish (is_wish (g.P.Provides.plain_ask a)) pending.sent c.args.offline c.args.at
-     c.given.ensures c.requires.pending.wish c.requires.pending.sent))
+    c.given.ensures c.requires.pending.wish c.requires.pending.sent))
     (ap E c.changes_of-changes.ensures.ended ∙ (left_same (option_copied c.given.result) (g.P.Provides.given_reply reply) pending.turn (named_in (g.P.Provides.plain_ask a)) c.args.at c.pass_on.new.turns.rows inside.turns.rows
-     c.given.ensures c.requires.pending.turn c.pass_on.ensures.turns))
+    c.given.ensures c.requires.pending.turn c.pass_on.ensures.turns))
 
 pub note-requires-clause-code : goal.note-requires-clause-code
 note-requires-clause-code g c =
@@ -169,7 +169,7 @@ note-requires-clause-code g c =
     })
     changes.made (live_rows code_life code_mark_begun c.args.at c.pass_on.new.codes.rows)
     c.requires.order legal (c.changes_of-changes.ensures.made ∙ (code_row_same (option_copied c.given.result) (g.P.Provides.given_reply reply) pending.answer (answer_mark (outer_plain g.P.Provides.plain_ask) (outer_given g.P.Provides.given_reply) offline_mark false (reverse H) c.args.at c.args.offline (g.P.Provides.plain_ask a)) c.args.at
-     c.given.ensures c.requires.pending.answer))
+    c.given.ensures c.requires.pending.answer))
     (live_codes_same c.args.at c.pass_on.new.codes.rows inside.codes.rows c.pass_on.ensures.codes)
 
 pub invariant_of-self-2 : goal.invariant_of-self-2
@@ -215,35 +215,36 @@ invariant_of-self-2 g c =
     let good = ap AL families_are
     ∙ all_appended (GO inside.registry) left (begun (g.P.Provides.given_reply reply)) (all_filtered (GO inside.registry) (λ f. not (is_spent pending.spent f)) book.families now.own)
     (begun_good (GO inside.registry) (roomy book.tokens c.second-word.result && gives_tokens (g.P.Provides.given_reply reply)) pending.family
-     (λ f is. (let X = λ (r : Configuration). GO r f in ap X registry ∙ c.requires.pending.own f is))) in
+    (λ f is. (let X = λ (r : Configuration). GO r f in ap X registry ∙ c.requires.pending.own f is))) in
     let S =
     λ (t : g.P.Core.Setup).
     Keeps g.P.Provides.plain_ask g.P.Provides.given_reply g.P.Provides.provided g.P.Provides.IsAsk g.P.Core.weighs g.P.Core.most g.P.Core.is_legal (record { inner = t; registry = inside.registry }) (g.P.Core.history c.pass_on.new.inner)
     c.note.new.kept.kept c.note.new.kept.weight c.note.new.kept.last c.note.new.kept.most c.note.new.turns.rows c.note.new.codes.rows d in
     let K = λ (l : List (KeptEntry g.row.P-Ask.Denot)). l ++ kept.Passed parts ∷ [] in
-    let W = λ (n : ℕ). n + c.args.weight in
-    (c.self.invariant.0 ∙ g.met.P.Provides.registry_is inside.inner c.pass_on.new.inner (sym c.pass_on.ensures.setup),
-     subst S (sym c.pass_on.ensures.setup)
-     (passed_keeps g.P.Provides.plain_ask g.P.Provides.given_reply g.P.Provides.provided g.P.Provides.IsAsk g.P.Core.weighs g.P.Core.most g.P.Core.is_legal (record { inner = g.P.Core.setup inside.inner; registry = inside.registry }) (g.P.Core.history inside.inner)
-    inside.kept.kept inside.kept.weight inside.kept.last inside.kept.most inside.turns.rows inside.codes.rows inside.book c.self.invariant.1 c.args.self.now.history (ap (λ x. x.history) c.self.view_is)
-     c.args.at c.args.fresh parts a reply c.note.new.kept.kept (g.P.Core.history c.pass_on.new.inner) c.note.new.kept.weight c.note.new.kept.last c.note.new.kept.most c.args.weight
-     c.note.new.turns.rows c.note.new.codes.rows d c.requires.order (c.note.ensures.kept ∙ ap K c.pass_on.ensures.kept) c.in-Ok.ensures.history (c.note.ensures.weight ∙ ap W c.pass_on.ensures.weight)
-     c.note.ensures.last (c.note.ensures.most ∙ c.pass_on.ensures.most) c.requires.weight legal
-     (c.note.ensures.turns
-      ∙ put_turn_same changes.begun (turn_row (g.P.Provides.given_reply reply) (is_wish (g.P.Provides.plain_ask a)) c.args.offline c.args.at)
-      (turns_left changes.ended (live_rows turn_life turn_mark_begun c.args.at c.pass_on.new.turns.rows))
-      (turns_left (turn_ended (g.P.Provides.given_reply reply) (named_in (g.P.Provides.plain_ask a))) (live_rows turn_life turn_mark_begun c.args.at inside.turns.rows))
-      (c.changes_of-changes.ensures.begun ∙ (turn_row_same (option_copied c.given.result) (g.P.Provides.given_reply reply) pending.wish (is_wish (g.P.Provides.plain_ask a)) pending.sent c.args.offline c.args.at
-     c.given.ensures c.requires.pending.wish c.requires.pending.sent))
-      (ap E c.changes_of-changes.ensures.ended ∙ (left_same (option_copied c.given.result) (g.P.Provides.given_reply reply) pending.turn (named_in (g.P.Provides.plain_ask a)) c.args.at c.pass_on.new.turns.rows inside.turns.rows
-     c.given.ensures c.requires.pending.turn c.pass_on.ensures.turns)))
-     (c.note.ensures.codes
-      ∙ put_code_same changes.made (code_row (g.P.Provides.given_reply reply) (answer_mark (outer_plain g.P.Provides.plain_ask) (outer_given g.P.Provides.given_reply) offline_mark false (reverse H) c.args.at c.args.offline (g.P.Provides.plain_ask a)) c.args.at)
-      (live_rows code_life code_mark_begun c.args.at c.pass_on.new.codes.rows) (live_rows code_life code_mark_begun c.args.at inside.codes.rows)
-      (c.changes_of-changes.ensures.made ∙ (code_row_same (option_copied c.given.result) (g.P.Provides.given_reply reply) pending.answer (answer_mark (outer_plain g.P.Provides.plain_ask) (outer_given g.P.Provides.given_reply) offline_mark false (reverse H) c.args.at c.args.offline (g.P.Provides.plain_ask a)) c.args.at
-     c.given.ensures c.requires.pending.answer))
-      (live_codes_same c.args.at c.pass_on.new.codes.rows inside.codes.rows c.pass_on.ensures.codes))
-     now_book good))
+    let W = λ (n : ℕ). n + c.args.weight in (
+      c.self.invariant.0 ∙ g.met.P.Provides.registry_is inside.inner c.pass_on.new.inner (sym c.pass_on.ensures.setup),
+      subst S (sym c.pass_on.ensures.setup)
+          (passed_keeps g.P.Provides.plain_ask g.P.Provides.given_reply g.P.Provides.provided g.P.Provides.IsAsk g.P.Core.weighs g.P.Core.most g.P.Core.is_legal (record { inner = g.P.Core.setup inside.inner; registry = inside.registry }) (g.P.Core.history inside.inner)
+          inside.kept.kept inside.kept.weight inside.kept.last inside.kept.most inside.turns.rows inside.codes.rows inside.book c.self.invariant.1 c.args.self.now.history (ap (λ x. x.history) c.self.view_is)
+          c.args.at c.args.fresh parts a reply c.note.new.kept.kept (g.P.Core.history c.pass_on.new.inner) c.note.new.kept.weight c.note.new.kept.last c.note.new.kept.most c.args.weight
+          c.note.new.turns.rows c.note.new.codes.rows d c.requires.order (c.note.ensures.kept ∙ ap K c.pass_on.ensures.kept) c.in-Ok.ensures.history (c.note.ensures.weight ∙ ap W c.pass_on.ensures.weight)
+          c.note.ensures.last (c.note.ensures.most ∙ c.pass_on.ensures.most) c.requires.weight legal
+          (c.note.ensures.turns
+          ∙ put_turn_same changes.begun (turn_row (g.P.Provides.given_reply reply) (is_wish (g.P.Provides.plain_ask a)) c.args.offline c.args.at)
+          (turns_left changes.ended (live_rows turn_life turn_mark_begun c.args.at c.pass_on.new.turns.rows))
+          (turns_left (turn_ended (g.P.Provides.given_reply reply) (named_in (g.P.Provides.plain_ask a))) (live_rows turn_life turn_mark_begun c.args.at inside.turns.rows))
+          (c.changes_of-changes.ensures.begun ∙ (turn_row_same (option_copied c.given.result) (g.P.Provides.given_reply reply) pending.wish (is_wish (g.P.Provides.plain_ask a)) pending.sent c.args.offline c.args.at
+          c.given.ensures c.requires.pending.wish c.requires.pending.sent))
+          (ap E c.changes_of-changes.ensures.ended ∙ (left_same (option_copied c.given.result) (g.P.Provides.given_reply reply) pending.turn (named_in (g.P.Provides.plain_ask a)) c.args.at c.pass_on.new.turns.rows inside.turns.rows
+          c.given.ensures c.requires.pending.turn c.pass_on.ensures.turns)))
+          (c.note.ensures.codes
+          ∙ put_code_same changes.made (code_row (g.P.Provides.given_reply reply) (answer_mark (outer_plain g.P.Provides.plain_ask) (outer_given g.P.Provides.given_reply) offline_mark false (reverse H) c.args.at c.args.offline (g.P.Provides.plain_ask a)) c.args.at)
+          (live_rows code_life code_mark_begun c.args.at c.pass_on.new.codes.rows) (live_rows code_life code_mark_begun c.args.at inside.codes.rows)
+          (c.changes_of-changes.ensures.made ∙ (code_row_same (option_copied c.given.result) (g.P.Provides.given_reply reply) pending.answer (answer_mark (outer_plain g.P.Provides.plain_ask) (outer_given g.P.Provides.given_reply) offline_mark false (reverse H) c.args.at c.args.offline (g.P.Provides.plain_ask a)) c.args.at
+          c.given.ensures c.requires.pending.answer))
+          (live_codes_same c.args.at c.pass_on.new.codes.rows inside.codes.rows c.pass_on.ensures.codes))
+          now_book good),
+    )
 
 pub returns-clause-history : goal.returns-clause-history
 returns-clause-history g c =

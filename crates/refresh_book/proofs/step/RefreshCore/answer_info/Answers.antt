@@ -46,18 +46,19 @@ invariant_of-self-2 g c =
     let now = turned g.P.Provides.plain_ask g.P.Provides.given_reply g.P.Provides.provided g.P.Provides.IsAsk g.P.Core.weighs g.P.Core.most g.P.Core.is_legal (record { inner = g.P.Core.setup inside.inner; registry = inside.registry }) (g.P.Core.history inside.inner)
     inside.kept.kept inside.kept.weight inside.kept.last inside.kept.most inside.turns.rows inside.codes.rows inside.book c.self.invariant.1 c.args.self.now.history (ap (λ x. x.history) c.self.view_is)
     c.args.entry.at c.requires.order c.prepared.new.book c.turn_to.new.self c.prepared.ensures.families c.prepared.ensures.tokens c.prepared.ensures.accesses
-    c.turn_to.ensures.families c.turn_to.ensures.tokens c.turn_to.ensures.accesses c.turn_to.ensures.last in
-    (c.self.invariant.0,
-     own_keeps g.P.Provides.plain_ask g.P.Provides.given_reply g.P.Provides.provided g.P.Provides.IsAsk g.P.Core.weighs g.P.Core.most g.P.Core.is_legal (record { inner = g.P.Core.setup inside.inner; registry = inside.registry }) (g.P.Core.history inside.inner)
-    inside.kept.kept inside.kept.weight inside.kept.last inside.kept.most inside.turns.rows inside.codes.rows inside.book c.self.invariant.1 c.args.self.now.history (ap (λ x. x.history) c.self.view_is)
-     own c.push.new.self.kept c.push.new.self.weight c.push.new.self.last c.push.new.self.most c.args.weight c.turn_to.new.self
-     (c.push.ensures.kept ∙ ap K c.prepared.ensures.kept) (c.push.ensures.weight ∙ ap W c.prepared.ensures.weight) c.push.ensures.last (c.push.ensures.most ∙ c.prepared.ensures.most)
-     (info_is_own g.P.Provides.plain_ask g.P.Provides.given_reply g.P.Provides.provided g.P.Provides.IsAsk g.P.Core.weighs g.P.Core.most g.P.Core.is_legal (record { inner = g.P.Core.setup inside.inner; registry = inside.registry }) (g.P.Core.history inside.inner)
-    inside.kept.kept inside.kept.weight inside.kept.last inside.kept.most inside.turns.rows inside.codes.rows inside.book c.self.invariant.1 c.args.self.now.history (ap (λ x. x.history) c.self.view_is)
-      c.args.entry.at c.args.entry.fresh c.args.entry.ask c.args.reply (subst O (sym (ap (λ x. x.registry) c.self.view_is)) c.requires.own))
-     c.requires.order c.requires.values c.requires.weight room
-     (info_book g.P.Provides.plain_ask g.P.Provides.given_reply g.P.Provides.provided (reverse c.args.self.now.history) c.args.entry.at c.turn_to.new.self c.turn_to.new.self now.book inside.registry c.args.entry.fresh c.args.entry.ask c.args.reply (subst O (sym (ap (λ x. x.registry) c.self.view_is)) c.requires.own))
-     now.own)
+    c.turn_to.ensures.families c.turn_to.ensures.tokens c.turn_to.ensures.accesses c.turn_to.ensures.last in (
+      c.self.invariant.0,
+      own_keeps g.P.Provides.plain_ask g.P.Provides.given_reply g.P.Provides.provided g.P.Provides.IsAsk g.P.Core.weighs g.P.Core.most g.P.Core.is_legal (record { inner = g.P.Core.setup inside.inner; registry = inside.registry }) (g.P.Core.history inside.inner)
+          inside.kept.kept inside.kept.weight inside.kept.last inside.kept.most inside.turns.rows inside.codes.rows inside.book c.self.invariant.1 c.args.self.now.history (ap (λ x. x.history) c.self.view_is)
+          own c.push.new.self.kept c.push.new.self.weight c.push.new.self.last c.push.new.self.most c.args.weight c.turn_to.new.self
+          (c.push.ensures.kept ∙ ap K c.prepared.ensures.kept) (c.push.ensures.weight ∙ ap W c.prepared.ensures.weight) c.push.ensures.last (c.push.ensures.most ∙ c.prepared.ensures.most)
+          (info_is_own g.P.Provides.plain_ask g.P.Provides.given_reply g.P.Provides.provided g.P.Provides.IsAsk g.P.Core.weighs g.P.Core.most g.P.Core.is_legal (record { inner = g.P.Core.setup inside.inner; registry = inside.registry }) (g.P.Core.history inside.inner)
+          inside.kept.kept inside.kept.weight inside.kept.last inside.kept.most inside.turns.rows inside.codes.rows inside.book c.self.invariant.1 c.args.self.now.history (ap (λ x. x.history) c.self.view_is)
+          c.args.entry.at c.args.entry.fresh c.args.entry.ask c.args.reply (subst O (sym (ap (λ x. x.registry) c.self.view_is)) c.requires.own))
+          c.requires.order c.requires.values c.requires.weight room
+          (info_book g.P.Provides.plain_ask g.P.Provides.given_reply g.P.Provides.provided (reverse c.args.self.now.history) c.args.entry.at c.turn_to.new.self c.turn_to.new.self now.book inside.registry c.args.entry.fresh c.args.entry.ask c.args.reply (subst O (sym (ap (λ x. x.registry) c.self.view_is)) c.requires.own))
+          now.own,
+    )
 
 pub returns-clause-history : goal.returns-clause-history
 returns-clause-history g c =
