@@ -76,7 +76,13 @@ module _ {A R : Type 0} (c : EndSetup) (plain : A → Option OpAsk) where
       let is = pair_answered (IsEndAsk IsAsk) (IsEndReply c plain) after before p (subst L parts answered) in
       let yes = yes_of before p.entry.at p.entry.fresh p.entry.ask back r (subst D told is) in
       record {
-        word = yes.word; session = yes.session; inner = yes.inner; form = yes.form; asked = yes.asked; signs_out = yes.signs_out; request = yes.request;
+        word = yes.word;
+        session = yes.session;
+        inner = yes.inner;
+        form = yes.form;
+        asked = yes.asked;
+        signs_out = yes.signs_out;
+        request = yes.request;
         registered = yes.registered;
       }
 
