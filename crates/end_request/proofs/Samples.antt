@@ -55,15 +55,31 @@ no_rule_is_broken = record { urls = refl; few = refl }
 abbrev shop : Client
 shop =
     record {
-      id = codes "shop"; secret = codes "shop-secret-shop-secret-shop-secret"; old_secret = None; seals_old = false; redirects = [];
-      types = true ∷ false ∷ false ∷ false ∷ false ∷ false ∷ []; pairwise = false; asks_consent = true; logout = None; logout_session = false;
-      redirect_urls = []; logout_url = None;
+      id = codes "shop";
+      secret = codes "shop-secret-shop-secret-shop-secret";
+      old_secret = None;
+      seals_old = false;
+      redirects = [];
+      types = true ∷ false ∷ false ∷ false ∷ false ∷ false ∷ [];
+      pairwise = false;
+      asks_consent = true;
+      logout = None;
+      logout_session = false;
+      redirect_urls = [];
+      logout_url = None;
     }
 
 abbrev site : Configuration
 site =
     record {
-      provider = op; prefix = []; listen = codes "127.0.0.1:8080"; secure = false; users = []; clients = shop ∷ []; parties = []; subjects = [] ∷ [];
+      provider = op;
+      prefix = [];
+      listen = codes "127.0.0.1:8080";
+      secure = false;
+      users = [];
+      clients = shop ∷ [];
+      parties = [];
+      subjects = [] ∷ [];
       lasting = false;
     }
 

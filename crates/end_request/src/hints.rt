@@ -34,12 +34,7 @@ fn is_for(issuer: &str, id: &str, read: &IdRead) -> bool
     }
 }
 
-fn is_hint_for(
-    alloc: Global,
-    issuer: &str,
-    hint: &Text,
-    client: &Client,
-) -> Result<bool, NoMemory>
+fn is_hint_for(alloc: Global, issuer: &str, hint: &Text, client: &Client) -> Result<bool, NoMemory>
     ensures { IfOk result (λ b. b ≡ spec.is_hint_for issuer.now hint.now client.now) }
 {
     let read = read_as_id(alloc, client, hint)?;

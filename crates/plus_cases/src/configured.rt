@@ -18,5 +18,10 @@ pub fn configured(alloc: Global, lines: &str) -> Result<String, NoMemory> {
 pub fn configured_lasting(alloc: Global, lines: &str) -> Result<String, NoMemory> {
     let file = configured(alloc, lines)?;
     let second = in_second_version(alloc, file.as_str())?;
-    Ok(second.replacen(alloc, "[provider]\n", "[provider]\nhistory = \"lasting\"\n", 1)?)
+    Ok(second.replacen(
+        alloc,
+        "[provider]\n",
+        "[provider]\nhistory = \"lasting\"\n",
+        1,
+    )?)
 }

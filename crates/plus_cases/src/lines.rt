@@ -21,11 +21,7 @@ fn after(alloc: Global, before: &str, reply: &OpReply) -> Result<String, NoMemor
 
 // The line of a reply of the core with proof keys, after `first` if it has a first refresh token, or after `key` if that core refused by
 // itself.
-fn keys_line(
-    alloc: Global,
-    first: &str,
-    reply: &PkceReply<OpReply>,
-) -> Result<String, NoMemory> {
+fn keys_line(alloc: Global, first: &str, reply: &PkceReply<OpReply>) -> Result<String, NoMemory> {
     match reply {
         PkceReply::Through(reply) => after(alloc, first, reply),
         PkceReply::Own(reply) => after(alloc, "key ", reply),
@@ -44,10 +40,7 @@ fn refresh_line(alloc: Global, reply: &OwnReply) -> Result<String, NoMemory> {
 }
 
 // The line of a reply of the core inside.
-fn inner_line(
-    alloc: Global,
-    reply: &RefreshReply<PkceReply<OpReply>>,
-) -> Result<String, NoMemory> {
+fn inner_line(alloc: Global, reply: &RefreshReply<PkceReply<OpReply>>) -> Result<String, NoMemory> {
     match reply {
         RefreshReply::Through(reply) => keys_line(alloc, "", reply),
         RefreshReply::First { inner, .. } => keys_line(alloc, "first ", inner),

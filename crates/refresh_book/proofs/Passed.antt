@@ -72,7 +72,9 @@ filter_agree {X} low p q same (x ∷ xs) all =
     ap K (same x both.0) ∙ ap L (filter_agree low p q same xs both.1)
 
 access_of_presented : {R : Type 0} (at : ℕ) (o : Option RefreshRow) (reply : RefreshReply R) (x : AccessRow) → access_made at o reply ≡ Some x → (t : RefreshRow) × (o ≡ Some t) × (x.family ≡ t.family)
-access_of_presented at (Some t) (Own (own.Refreshed a v s)) x h = (t, refl, sym (ap (λ (y : AccessRow). y.family) (some_same (record { word = a; family = t.family; issued = at }) x h)))
+access_of_presented at (Some t) (Own (own.Refreshed a v s)) x h =
+    let made : AccessRow = record { word = a; family = t.family; issued = at } in
+    (t, refl, sym (ap (λ (y : AccessRow). y.family) (some_same made x h)))
 access_of_presented at None (Own (own.Refreshed a v s)) x h = absurd (some_none x (sym h))
 access_of_presented at o (Own other) x h = absurd (some_none x (sym h))
 access_of_presented at o (First r v) x h = absurd (some_none x (sym h))

@@ -81,7 +81,7 @@ holds_more {A} {R} c past p last rows rows' order holds rows_are =
     record {
       live = rows_carried question_name question_life question_begun last at (question_kept c past p) made rows rows' order (λ r s h. ap B (question_same c past p r s h)) (questions c past) holds.live follow;
       begun = begun_carried question_name question_life question_begun last at (question_kept c past p) made rows rows' order (λ r s h. ap B (question_same c past p r s h))
-      (λ r h. question_begins c p.entry.ask p.reply at r h) holds.begun follow;
+          (λ r h. question_begins c p.entry.ask p.reply at r h) holds.begun follow;
     }
 
 -- ---- room for a question
@@ -145,8 +145,8 @@ module _ {A R : Type 0} (c : EndSetup) (plain : A → Option OpAsk) (past : List
       let N : QuestionRow → Word = λ row. row.word in
       let B : QuestionRow → ℕ = λ row. row.begun in
       if_row (MayAddRow question_name question_begun true (rows_left ended live)) made (λ row there.
-       (let fits = made_fits at fresh asked r row done (sym made_is ∙ there) in
-        let F : List QuestionRow → Type 0 = λ l. MayAddRow question_name question_begun true l row in
-        subst F (sym (left_is_kept ended live))
-        (may_add_reserved question_name question_life question_begun (unless_ended ended) last at order rows (λ r s k. ap N (unless_same ended r s k)) (λ r s k. ap B (unless_same ended r s k))
-         holds.begun (questions c past) holds.live row fits.0 fits.1)))
+      (let fits = made_fits at fresh asked r row done (sym made_is ∙ there) in
+      let F : List QuestionRow → Type 0 = λ l. MayAddRow question_name question_begun true l row in
+      subst F (sym (left_is_kept ended live))
+      (may_add_reserved question_name question_life question_begun (unless_ended ended) last at order rows (λ r s k. ap N (unless_same ended r s k)) (λ r s k. ap B (unless_same ended r s k))
+      holds.begun (questions c past) holds.live row fits.0 fits.1)))

@@ -132,8 +132,8 @@ module _ {A R S : Type 0} (plain : A → Option OpAsk) (IsAsk : A → Type 0) (w
       let N : ℕ → Type 0 = λ n. Keeps plain IsAsk weighs most IsLegalInner s inner ks' (weight + w) at n rows' in
       subst K (sym weight_grown) (subst T (sym last_is) (subst N (sym limit_is)
       (keeps_more p inner ks' w rows' (ap C grown ∙ count_own ks o ∙ keeps.count) (own_history o ks' grown) w_is
-       (holds_more s.own (reverse H) p last rows rows' (ahead at order) table_now (rows_are ∙ ap U (own_makes R s.own o.entry.ask o.reply at) ∙ ap V (own_ends R o.entry.ask o.reply)))
-       (legal_own (IsEndAsk IsAsk) (IsEndReply s.own plain) passed (end_weight weighs) (λ (t : SignoutSetup S). most t.inner) (λ (t : SignoutSetup S). IsLegalInner t.inner) s H p w legal_now (own_is_not_passed o) values order (subst D (sym done) refl) w_is room))))
+      (holds_more s.own (reverse H) p last rows rows' (ahead at order) table_now (rows_are ∙ ap U (own_makes R s.own o.entry.ask o.reply at) ∙ ap V (own_ends R o.entry.ask o.reply)))
+      (legal_own (IsEndAsk IsAsk) (IsEndReply s.own plain) passed (end_weight weighs) (λ (t : SignoutSetup S). most t.inner) (λ (t : SignoutSetup S). IsLegalInner t.inner) s H p w legal_now (own_is_not_passed o) values order (subst D (sym done) refl) w_is room))))
 
   -- ---- that it passed on
 
@@ -144,8 +144,8 @@ module _ {A R S : Type 0} (plain : A → Option OpAsk) (IsAsk : A → Type 0) (w
       let J : List (Pair A R) → Type 0 = λ l. last_moment (reverse l) ≤ at in
       subst J (sym (inner_same ks inner H keeps.count is))
       (subst I (sym (inner_reversed passed H))
-       (low_twice (last_moment (inner_history (reverse H))) (last_moment (reverse H)) at
-        (inner_last passed (IsEndAsk IsAsk) (IsEndReply s.own plain) (λ p q h. passed_moment p q h) (reverse H) legal_now.answered) order))
+      (low_twice (last_moment (inner_history (reverse H))) (last_moment (reverse H)) at
+      (inner_last passed (IsEndAsk IsAsk) (IsEndReply s.own plain) (λ p q h. passed_moment p q h) (reverse H) legal_now.answered) order))
 
   -- the inner core has room
   pub inner_has_room : (p : EndParts) (asked : A) (w : ℕ) → history_weight (end_weight weighs) H + w ≤ most s.inner → w ≡ end_weight weighs (ask_around p asked)
@@ -201,8 +201,7 @@ module _ {A R S : Type 0} (plain : A → Option OpAsk) (IsAsk : A → Type 0) (w
         let N : ℕ → Type 0 = λ n. Keeps plain IsAsk weighs most IsLegalInner s inner' ks' (weight + w) at n rows' in
         subst K (sym weight_grown) (subst T (sym last_is) (subst N (sym limit_is)
         (keeps_more q inner' ks' w rows'
-         (ap C grown ∙ count_passes ks p ∙ ap suc keeps.count ∙ sym (ap L (inner_taken inner' order inner_grown) ∙ one_longer inner taken))
-         (passed_history ks' inner' order grown inner_grown) w_is
-         (holds_more s.own (reverse H) q last rows rows' (ahead at order) table_now (rows_are ∙ ap U (parts_make_none s.own p asked reply at) ∙ ap V (parts_end p asked reply)))
-         (passed_legal inner' w order inner_grown done values w_is room legal))))
-
+        (ap C grown ∙ count_passes ks p ∙ ap suc keeps.count ∙ sym (ap L (inner_taken inner' order inner_grown) ∙ one_longer inner taken))
+        (passed_history ks' inner' order grown inner_grown) w_is
+        (holds_more s.own (reverse H) q last rows rows' (ahead at order) table_now (rows_are ∙ ap U (parts_make_none s.own p asked reply at) ∙ ap V (parts_end p asked reply)))
+        (passed_legal inner' w order inner_grown done values w_is room legal))))

@@ -41,7 +41,13 @@ other_paths_are_passed_on = refl
 abbrev request : Ask
 request =
     record {
-      method = Get; path = codes "/op/end_session"; query = codes "state=x"; body = None; first = None; second = Some (word 9); auth = None;
+      method = Get;
+      path = codes "/op/end_session";
+      query = codes "state=x";
+      body = None;
+      first = None;
+      second = Some (word 9);
+      auth = None;
     }
 
 below_the_issuer : route_asked (codes "/op") request ≡ Some Start

@@ -13,6 +13,8 @@ use sso_base::{Ask, Entry, HttpReply, Messages, Moment, NoMemory, Word};
 use std::alloc::Global;
 
 impl<P: Provides> Provides for SignoutCore<P> {
+    ghost use Rattle.std.specs.Prelude.{◌≡◌};
+    ghost use Rattle.sso_base.specs.Legal.{IsEntry};
     ghost use Rattle.signout_answer.specs.Around.{inner_history, plain_inside, reply_inside, notices_inside, IsEndAsk};
     ghost use Rattle.signout_answer.proofs.Providing.{same_inside, end_adds, end_given_told, end_refusals, end_signs_out};
     ghost use Rattle.rp_signout.specs.Prepared as spec;
@@ -91,7 +93,10 @@ impl<P: Provides> Provides for SignoutCore<P> {
         end_http::<P>(alloc, registry, reply)
     }
 
-    fn known(entry: Entry<EndAsk<P::Ask>>) -> Entry<EndAsk<P::Ask>> {
+    fn known(entry: Entry<EndAsk<P::Ask>>) -> Entry<EndAsk<P::Ask>>
+        ensures same { result ≡ entry }
+        ensures values { IsEntry (IsEndAsk P.IsAsk) result }
+    {
         known::<P>(entry)
     }
 

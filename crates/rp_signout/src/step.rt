@@ -391,7 +391,10 @@ impl<P: Provides> SignoutCore<P> {
     {
         let Entry { at, fresh, ask } = entry;
         let split = split(ask, back);
-        let Parted { inner: asked, parts } = split;
+        let Parted {
+            inner: asked,
+            parts,
+        } = split;
         let told = match pass_on(
             &mut self.inner,
             &mut self.kept,

@@ -66,9 +66,9 @@ module _ {A R : Type 0} (c : EndSetup) (plain : A → Option OpAsk) where
 
   module _ (given : R → Option OpReply) (notices : R → Option (List Message)) (provided : List (Pair A R) → List OpPair) (IsLegal : List (Pair A R) → Type 0) (h : List (Outer A R))
       (adds : (q : Pair A R) → IsLegal (inner_history h ++ q ∷ [])
-          → AddsGiven q.entry.at q.entry.fresh (plain q.entry.ask) (given q.reply) (provided (inner_history h)) (provided (inner_history h ++ q ∷ [])))
+      → AddsGiven q.entry.at q.entry.fresh (plain q.entry.ask) (given q.reply) (provided (inner_history h)) (provided (inner_history h ++ q ∷ [])))
       (signs_out : (q : Pair A R) (w : Option Word) → IsLegal (inner_history h ++ q ∷ []) → plain q.entry.ask ≡ Some (SignOut w)
-          → (sent : List Message) × (given q.reply ≡ Some (SignedOut sent)) × (notices q.reply ≡ Some sent)) where
+      → (sent : List Message) × (given q.reply ≡ Some (SignedOut sent)) × (notices q.reply ≡ Some sent)) where
     abbrev after : Outer A R → List OpPair
     after p = provided (inner_history (h ++ p ∷ []))
 
@@ -177,9 +177,9 @@ module _ {A R S : Type 0} (plain : A → Option OpAsk) (given : R → Option OpR
 
   pub end_adds : (notices : R → Option (List Message)) (provided : List (Pair A R) → List OpPair)
       → ((q : Pair A R) → IsLegalInner s.inner (inner_history h ++ q ∷ [])
-          → AddsGiven q.entry.at q.entry.fresh (plain q.entry.ask) (given q.reply) (provided (inner_history h)) (provided (inner_history h ++ q ∷ [])))
+      → AddsGiven q.entry.at q.entry.fresh (plain q.entry.ask) (given q.reply) (provided (inner_history h)) (provided (inner_history h ++ q ∷ [])))
       → ((q : Pair A R) (w : Option Word) → IsLegalInner s.inner (inner_history h ++ q ∷ []) → plain q.entry.ask ≡ Some (SignOut w)
-          → (sent : List Message) × (given q.reply ≡ Some (SignedOut sent)) × (notices q.reply ≡ Some sent))
+      → (sent : List Message) × (given q.reply ≡ Some (SignedOut sent)) × (notices q.reply ≡ Some sent))
       → Legal → AddsGiven p.entry.at p.entry.fresh (plain_inside plain p.entry.ask) (reply_inside given p.reply) (provided (inner_history h)) (provided (inner_history (h ++ p ∷ [])))
   end_adds notices provided adds signs_out legal =
       adds_by s.own plain given notices provided (λ l. IsLegalInner s.inner l) h adds signs_out p.entry.at p.entry.fresh p.entry.ask p.reply (last_answered legal) (λ q is. last_inside legal q is)
@@ -200,12 +200,12 @@ module _ {A R S : Type 0} (plain : A → Option OpAsk) (given : R → Option OpR
       let G : EndReply R → Option OpReply = λ t. reply_inside given t in
       ap G through.3
       ∙ inner (pair_inside p.entry.at p.entry.fresh through.0 through.1)
-        (last_inside legal (pair_inside p.entry.at p.entry.fresh through.0 through.1) (inside_is through.0 through.1 through.2 through.3)) (sym (ap T through.3) ∙ said)
+      (last_inside legal (pair_inside p.entry.at p.entry.fresh through.0 through.1) (inside_is through.0 through.1 through.2 through.3)) (sym (ap T through.3) ∙ said)
 
   -- a sign-out is passed on
   pub end_signs_out : (notices : R → Option (List Message)) (w : Option Word) → Legal → plain_inside plain p.entry.ask ≡ Some (SignOut w)
       → ((q : Pair A R) → IsLegalInner s.inner (inner_history h ++ q ∷ []) → plain q.entry.ask ≡ Some (SignOut w)
-          → (sent : List Message) × (given q.reply ≡ Some (SignedOut sent)) × (notices q.reply ≡ Some sent))
+      → (sent : List Message) × (given q.reply ≡ Some (SignedOut sent)) × (notices q.reply ≡ Some sent))
       → (sent : List Message) × (reply_inside given p.reply ≡ Some (SignedOut sent)) × (notices_inside notices p.reply ≡ Some sent)
   end_signs_out notices w legal asked inner =
       let through = asked_by s.own plain (reverse h) p.entry.at p.entry.fresh p.entry.ask p.reply (SignOut w) (last_answered legal) asked in

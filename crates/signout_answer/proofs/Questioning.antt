@@ -124,14 +124,15 @@ asked_before {A} {R} c past w row found =
     let maker = made_by c stands.maker.entry.ask stands.maker.reply stands.maker.entry.at stands.first stands.makes in
     let same : stands.first ≡ row = carried_same c stands.later (stands.maker ∷ stands.earlier) stands.first row stands.stays in
     let is = maker.row_is ∙ same in
-    let word_is : maker.word ≡ w = ap (λ (x : QuestionRow). x.word) maker.row_is ∙ stands.named in
-    (maker.form,
-     record {
-       later = stands.later;
-       request = stands.maker;
-       earlier = stands.earlier;
-       parts = stands.parts;
-       asked = maker.ask_is ∙ ap (λ s. Start maker.form s) (ap (λ (x : QuestionRow). x.session) is);
-       told = maker.reply_is ∙ ap (λ v. reply.Sure v) word_is;
-     },
-     maker.read ∙ ap (λ (x : QuestionRow). Ok x.wish) is)
+    let word_is : maker.word ≡ w = ap (λ (x : QuestionRow). x.word) maker.row_is ∙ stands.named in (
+      maker.form,
+      record {
+        later = stands.later;
+        request = stands.maker;
+        earlier = stands.earlier;
+        parts = stands.parts;
+        asked = maker.ask_is ∙ ap (λ s. Start maker.form s) (ap (λ (x : QuestionRow). x.session) is);
+        told = maker.reply_is ∙ ap (λ v. reply.Sure v) word_is;
+      },
+      maker.read ∙ ap (λ (x : QuestionRow). Ok x.wish) is,
+    )

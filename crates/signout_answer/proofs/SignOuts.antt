@@ -39,9 +39,9 @@ nothing_added {A} {R} provided h o =
 module _ {A R S : Type 0} (plain : A → Option OpAsk) (given : R → Option OpReply) (notices : R → Option (List Message)) (IsAsk : A → Type 0) (weighs : A → ℕ) (most : S → ℕ)
     (IsLegalInner : S → List (Pair A R) → Type 0) (provided : List (Pair A R) → List OpPair) (c : Configuration) (s : SignoutSetup S) (h : List (Outer A R)) (p : Outer A R)
     (adds : (q : Pair A R) → IsLegalInner s.inner (inner_history h ++ q ∷ [])
-        → AddsGiven q.entry.at q.entry.fresh (plain q.entry.ask) (given q.reply) (provided (inner_history h)) (provided (inner_history h ++ q ∷ [])))
+    → AddsGiven q.entry.at q.entry.fresh (plain q.entry.ask) (given q.reply) (provided (inner_history h)) (provided (inner_history h ++ q ∷ [])))
     (signs_out : (q : Pair A R) (w : Option Word) → IsLegalInner s.inner (inner_history h ++ q ∷ []) → plain q.entry.ask ≡ Some (SignOut w)
-        → (sent : List Message) × (given q.reply ≡ Some (SignedOut sent)) × (notices q.reply ≡ Some sent))
+    → (sent : List Message) × (given q.reply ≡ Some (SignedOut sent)) × (notices q.reply ≡ Some sent))
     (is_provider : (l : List (Pair A R)) → IsLegalInner s.inner l → IsLegalHistory c (provided l)) where
   pub gone_signs_out : (back : Option Text) (r : R) (session word : Option Word) (agree : Bool) (inner : A) → IsLegalSignout plain IsAsk weighs most IsLegalInner s (h ++ p ∷ [])
       → p.reply ≡ reply.Gone back r → p.entry.ask ≡ Confirm word agree session inner → plain inner ≡ Some (SignOut session)

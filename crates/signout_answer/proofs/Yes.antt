@@ -74,11 +74,17 @@ module _ {A R : Type 0} (c : EndSetup) (plain : A → Option OpAsk) where
       let L : List (Outer A R) → Type 0 = λ l. AreAnswered (IsEndAsk IsAsk) (IsEndReply c plain) l in
       let D : EndReply R → Type 0 = λ t. IsReply (doing c plain before p.entry.at p.entry.fresh p.entry.ask) t in
       let is = pair_answered (IsEndAsk IsAsk) (IsEndReply c plain) after before p (subst L parts answered) in
-      let yes = yes_of before p.entry.at p.entry.fresh p.entry.ask back r (subst D told is) in
+      let said = yes_of before p.entry.at p.entry.fresh p.entry.ask back r (subst D told is) in
       record {
-        word = yes.word; session = yes.session; inner = yes.inner; form = yes.form; asked = yes.asked; signs_out = yes.signs_out; request = yes.request;
-        registered = yes.registered;
+        word = said.word;
+        session = said.session;
+        inner = said.inner;
+        form = said.form;
+        asked = said.asked;
+        signs_out = said.signs_out;
+        request = said.request;
+        registered = said.registered;
       }
 
   pub was_allowed : (past : List (Outer A R)) (p : Outer A R) (to : Text) → SaidYes c plain past p (Some to) → WasAllowed c past to
-  was_allowed past p to yes = record { word = yes.word; session = yes.session; form = yes.form; request = yes.request; registered = yes.registered to refl }
+  was_allowed past p to said = record { word = said.word; session = said.session; form = said.form; request = said.request; registered = said.registered to refl }

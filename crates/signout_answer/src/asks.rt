@@ -36,18 +36,11 @@ pub enum EndReply<R: Drop> {
     /// The reply of the core inside.
     Through(R),
     /// The user is asked a question.
-    Sure {
-        word: Word,
-    },
+    Sure { word: Word },
     /// The request to end a session is refused.
-    Wrong {
-        why: EndNo,
-    },
+    Wrong { why: EndNo },
     /// The user was signed out. The browser goes to the location, if there is one.
-    Gone {
-        back: Option<Text>,
-        inner: R,
-    },
+    Gone { back: Option<Text>, inner: R },
     /// The user did not agree: the session stays.
     Kept,
     /// The browser has no such question.

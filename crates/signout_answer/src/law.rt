@@ -53,9 +53,9 @@ pub fn messages_are_those_of_a_sign_out<P: Provides>()
     ensures { (x : P) (own : EndSetup) (h : List (Outer P.Ask P.Reply)) (p : Outer P.Ask P.Reply) (back : Option Text) (r : P.Reply)
         → IsLegalSignout P.plain_ask P.IsAsk P.weighs P.most P.is_legal (record { own = own; inner = P.setup x }) (h ++ p ∷ [])
         → p.reply ≡ reply.Gone back r
-        → (yes : laws.SaidYes own P.plain_ask (reverse h) p back)
-            × laws.IsSignOut P.given_reply P.notices (P.provider_registry x) (P.provided (inner_history h))
-                (P.provided (inner_history (h ++ p ∷ []))) p r yes.session }
+        → (said : laws.SaidYes own P.plain_ask (reverse h) p back)
+        × laws.IsSignOut P.given_reply P.notices (P.provider_registry x) (P.provided (inner_history h))
+        (P.provided (inner_history (h ++ p ∷ []))) p r said.session }
 {}
 
 /// A question is found after a past if and only if some pair made it, and no later pair made one of its word or ended it.

@@ -1,5 +1,5 @@
 use Rattle.sso_base.specs.Rows.{live_rows}
-use Rattle.core_stack.proofs.Holding.{may_through}
+use Rattle.core_stack.proofs.MarksHeld.{may_through}
 use Rattle.signout_answer.specs.Questions.{question_life, question_name, question_begun}
 use Rattle.rp_signout.specs.Keeps.{rows_left}
 use Rattle.rp_signout.proofs.table.keep_questions.Goals as goal

@@ -4,7 +4,7 @@ use Rattle.sso_base.specs.Rows.{put, live_rows}
 use Rattle.sso_base.specs.Weights.{empty_weight}
 use Rattle.sso_base.specs.Journal.{history_weight}
 use Rattle.core_stack.specs.declared.kept.Kept.TheVariants as kept
-use Rattle.core_stack.proofs.Holding.{may_through}
+use Rattle.core_stack.proofs.MarksHeld.{may_through}
 use Rattle.signout_answer.specs.declared.asks.EndSetup.{EndSetup}
 use Rattle.signout_answer.specs.declared.parts.Doing.TheVariants as does
 use Rattle.signout_answer.specs.declared.questions.QuestionRow.{QuestionRow}
@@ -29,12 +29,12 @@ keep_questions-requires-clause-may g c =
     may_through question_name question_begun c.args.made (rows_left c.own_ended-ended.result (live_rows question_life question_begun c.args.entry.at inside.questions.rows))
     (rows_left c.own_ended-ended.result (live_rows question_life question_begun c.args.entry.at c.prepared.new.questions.rows)) (ap L c.prepared.ensures.questions)
     (question_may inside.setup g.P.Provides.plain_ask (reverse c.args.self.now.history) c.args.entry.at c.args.entry.fresh c.args.entry.ask c.args.own c.args.made inside.kept.last inside.questions.rows
-     (subst D (sym set) c.requires.done) (subst M (sym set) c.requires.made)
-     (not_ahead g.P.Provides.plain_ask g.P.Provides.IsAsk g.P.Core.weighs g.P.Core.most g.P.Core.is_legal s (g.P.Core.history inside.inner) inside.kept.kept inside.kept.weight inside.kept.last inside.kept.most
-      inside.questions.rows c.self.invariant c.args.self.now.history (ap (λ x. x.history) c.self.view_is) c.args.entry.at c.requires.order)
-     (held_now g.P.Provides.plain_ask g.P.Provides.IsAsk g.P.Core.weighs g.P.Core.most g.P.Core.is_legal s (g.P.Core.history inside.inner) inside.kept.kept inside.kept.weight inside.kept.last inside.kept.most
-      inside.questions.rows c.self.invariant c.args.self.now.history (ap (λ x. x.history) c.self.view_is))
-     c.own_ended-ended.result)
+    (subst D (sym set) c.requires.done) (subst M (sym set) c.requires.made)
+    (not_ahead g.P.Provides.plain_ask g.P.Provides.IsAsk g.P.Core.weighs g.P.Core.most g.P.Core.is_legal s (g.P.Core.history inside.inner) inside.kept.kept inside.kept.weight inside.kept.last inside.kept.most
+    inside.questions.rows c.self.invariant c.args.self.now.history (ap (λ x. x.history) c.self.view_is) c.args.entry.at c.requires.order)
+    (held_now g.P.Provides.plain_ask g.P.Provides.IsAsk g.P.Core.weighs g.P.Core.most g.P.Core.is_legal s (g.P.Core.history inside.inner) inside.kept.kept inside.kept.weight inside.kept.last inside.kept.most
+    inside.questions.rows c.self.invariant c.args.self.now.history (ap (λ x. x.history) c.self.view_is))
+    c.own_ended-ended.result)
 
 pub push-requires-clause-least : goal.push-requires-clause-least
 push-requires-clause-least g c =

@@ -16,7 +16,7 @@ returns g c =
     let R = λ (x : Doing). IfOk c.confirmed_in.result (λ d. confirmed_doing d ≡ x) in
     subst R
     (answer_looked_up g.P.Provides.plain_ask g.P.Provides.IsAsk g.P.Core.weighs g.P.Core.most g.P.Core.is_legal (record { own = inside.setup; inner = g.P.Core.setup inside.inner }) (g.P.Core.history inside.inner)
-     inside.kept.kept inside.kept.weight inside.kept.last inside.kept.most inside.questions.rows c.self.invariant c.args.self.now.history (ap (λ x. x.history) c.self.view_is)
-     c.args.at c.requires c.args.word c.in-Some.word c.in-Some.is c.confirmed_in.ensures.held.distinct c.args.session.now c.args.inner.now c.is_sign_out-signs.result signs c.args.agree
-     ∙ ap E (ap (λ x. x.setup) c.self.view_is))
+    inside.kept.kept inside.kept.weight inside.kept.last inside.kept.most inside.questions.rows c.self.invariant c.args.self.now.history (ap (λ x. x.history) c.self.view_is)
+    c.args.at c.requires c.args.word c.in-Some.word c.in-Some.is c.confirmed_in.ensures.held.distinct c.args.session.now c.args.inner.now c.is_sign_out-signs.result signs c.args.agree
+    ∙ ap E (ap (λ x. x.setup) c.self.view_is))
     c.confirmed_in.ensures.doing
