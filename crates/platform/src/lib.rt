@@ -1,6 +1,6 @@
 //! This machine: the words that the program was started with, files as a shelf, writers as sinks, and desks over its network, its
 //! clock and its random bytes. They report nothing of what they hold, and their few lines are the edge of what is proved: that the
-//! machine does as its calls say is trusted, and tried by cases (`platform_cases`).
+//! machine does as its calls say is trusted, and tried by cases (`outside_cases`).
 //!
 //! | Module | What it has |
 //! |---|---|

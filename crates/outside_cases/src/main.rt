@@ -1,8 +1,10 @@
-//! Cases of this machine, each a line that a person can read: a writer, the words of a process, addresses, the clock, random
-//! words, a door and a link over loopback.
+//! Cases of what lies around the servers, each a line that a person can read: how requests are read, how replies and messages are written,
+//! the answers of other servers, and sinks and shelves in memory. Then those of this machine: a writer, the words of a process, addresses,
+//! the clock, random words, a door and a link over loopback.
 //!
 //! The file `stdin` has the cases, and `stdout` has them with their answers. The crate `case_lines` documents how a line is
-//! read.
+//! read. The comments in the table name the source of the expected answers. In the bytes of a request or of an answer, `\r` and
+//! `\n` are the two bytes of a line end, and the same is true in printed quotes.
 //!
 //! | Call | Answer |
 //! |---|---|
@@ -14,6 +16,11 @@
 //!
 //! | Module | What it has |
 //! |---|---|
+//! | `sources` | sources that give few bytes at a call, and fail at some calls |
+//! | `requests` | the calls `ask`, `cut`, `fronts` and `fault`: a request is read |
+//! | `replies` | the calls `reply`, `refusal` and `message`: a reply or a message is written |
+//! | `peers` | the call `peer`: the answer of another server is read |
+//! | `outside` | the calls `write` and `fetch`: sinks and shelves in memory, some of whose calls fail |
 //! | `process` | the calls `writer` and `words` |
 //! | `hands` | the call `clock`: a clock over two clocks that are set by hand |
 //! | `network` | the call `tries`: a link over a network in memory |
@@ -23,7 +30,12 @@
 mod hands;
 mod loopback;
 mod network;
+mod outside;
+mod peers;
 mod process;
+mod replies;
+mod requests;
+mod sources;
 mod this_machine;
 
 use case_lines::{Cases, print_lines, told, written_out};
@@ -35,22 +47,42 @@ use std::random::RandomSource;
 use std::thread::Threads;
 use std::time::Clock;
 
-#[derive(Drop)]
-struct PlatformCases {}
+// The answer to a call on HTTP, or on a sink or a shelf in memory.
+fn answer_http(alloc: Global, fields: &[&str]) -> Result<String, NoMemory> {
+    match fields {
+        ["ask", bytes] => requests::ask(alloc, bytes),
+        ["cut", most, bytes] => requests::cut(alloc, most, bytes),
+        ["fronts", bytes] => requests::fronts(alloc, bytes),
+        ["fault", call, bytes] => requests::fault(alloc, call, bytes),
+        ["reply", ..] => replies::reply(alloc, fields),
+        ["refusal", name] => replies::refusal(alloc, name),
+        ["message", to, auth, body] => replies::message(alloc, to, auth, body),
+        ["peer", bytes] => peers::peer(alloc, bytes),
+        ["write", most, failing, pieces] => outside::write(alloc, most, failing, pieces),
+        ["fetch", failing, names, most] => outside::fetch(alloc, failing, names, most),
+        _ => told(alloc, "no call"),
+    }
+}
 
-impl Cases for PlatformCases {
+#[derive(Drop)]
+struct OutsideCases {}
+
+impl Cases for OutsideCases {
     fn answer(&mut self, alloc: Global, fields: &[&str]) -> Result<String, NoMemory> {
         match fields {
             ["writer", call] => process::writer(alloc, call),
             ["words", words @ ..] => process::words(alloc, words),
             ["clock", readings @ ..] => hands::shows(alloc, readings),
             ["tries", addresses @ ..] => network::tries(alloc, addresses),
-            _ => told(alloc, "no such call"),
+            _ => answer_http(alloc, fields),
         }
     }
 
-    fn text(&self, _name: &str) -> Option<&str> {
-        None
+    fn text(&self, name: &str) -> Option<&str> {
+        match name {
+            "form" => Some("Content-Type: application/x-www-form-urlencoded"),
+            _ => None,
+        }
     }
 }
 
@@ -58,7 +90,7 @@ impl Cases for PlatformCases {
 fn answer<R>(
     rt: &R,
     alloc: Global,
-    cases: &mut PlatformCases,
+    cases: &mut OutsideCases,
     line: &str,
 ) -> Result<String, NoMemory>
 where
@@ -74,6 +106,6 @@ where
 }
 
 fn main(rt: HostRuntime) -> io::Result<()> {
-    let mut cases = PlatformCases {};
+    let mut cases = OutsideCases {};
     print_lines(&rt, |line| answer(&rt, rt.alloc(), &mut cases, line))
 }
