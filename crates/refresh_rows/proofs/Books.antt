@@ -24,7 +24,7 @@ use Rattle.refresh_rows.specs.declared.token_row.TokenRow.{TokenRow}
 use Rattle.refresh_rows.specs.TokenRows.{held_name, held_since, held_token, refresh_row, refresh_rows, is_of, tokens_of, accesses_of}
 use Rattle.refresh_rows.specs.Booked.{Fewer, family_of_family, family_of_token, family_of_access, IsBook}
 use Rattle.refresh_rows.proofs.Lists.{filter_all, all_passed, all_weaker, all_pushed, fewer_in_all, fewer_less, fewer_of, fewer_more, fewer_right, fewer_put, map_found, map_long}
-use Rattle.refresh_rows.proofs.Dropping.{found_push, found_last, all_found}
+use Rattle.refresh_rows.proofs.LeftOut.{found_push, found_last, all_found}
 
 -- ---- an empty book
 
@@ -174,7 +174,7 @@ module _ (fs : List FamilyRow) (ts : List TokenRow) (xs : List AccessRow) (last 
         changed = put_late held_name held_since last t ts refl is.changed;
         issued = is.issued;
         tokens_here = put_here (λ (y : TokenRow). is_of (fs ++ f ∷ []) y.family) held_name t ts (found_last fs f)
-        (all_weaker (λ (y : TokenRow). is_of fs y.family) (λ (y : TokenRow). is_of (fs ++ f ∷ []) y.family) (λ y there. found_push fs f y.family there) ts is.tokens_here);
+            (all_weaker (λ (y : TokenRow). is_of fs y.family) (λ (y : TokenRow). is_of (fs ++ f ∷ []) y.family) (λ y there. found_push fs f y.family there) ts is.tokens_here);
         accesses_here = all_weaker (λ (x : AccessRow). is_of fs x.family) (λ (x : AccessRow). is_of (fs ++ f ∷ []) x.family) (λ x there. found_push fs f x.family there) xs is.accesses_here;
         few_families = subst M (sym one_more) (fewer_more family_of_family family_of_token fs ts f t refl is.few_families);
         few_accesses = subst K (sym one_more) (fewer_right family_of_access family_of_token xs ts t is.few_accesses);

@@ -1,11 +1,8 @@
 -- Places and words as keys of tables.
-use Rattle.std.proofs.Common.{◌≡◌, ◌<◌, ◌^◌, ℕ, nat_eq, Bool, true, ◌&&◌, cond, List, [], ◌∷◌, Option, Some, inl, inr, refl, ap, sym, ◌∙◌, arith}
-use Rattle.std.proofs.lemmas.Bool.{and_parts, eqb-true}
+use Rattle.std.proofs.Common.{◌≡◌, ◌<◌, ◌^◌, ℕ, nat_eq, Bool, true, cond, List, [], ◌∷◌, Option, Some, inl, inr, refl, ap, sym, ◌∙◌, arith}
 use Rattle.std.proofs.lemmas.Nat.{from_be_bytes-to_be_bytes_8}
 use Rattle.std.specs.Int.{w64, from_be_bytes}
-use Rattle.std.specs.List.{AllByRecursion}
 use Rattle.std.specs.Str.{bytes_eq}
-use Rattle.sso_base.specs.Words.{Word}
 use Rattle.sso_base.specs.Rows.{row_of}
 use Rattle.sso_base.proofs.RowLaws.{bool_cases, bytes_same, bytes_true}
 use Rattle.refresh_answer.specs.Places.{place_bytes}
@@ -13,23 +10,7 @@ use Rattle.refresh_answer.specs.Rows.{family_name}
 use Rattle.refresh_answer.specs.Families.{family_at}
 use Rattle.refresh_answer.specs.declared.rows.FamilyRow.{FamilyRow}
 use Rattle.refresh_answer.proofs.Families.{other_number, true_false}
-
--- ---- what the tests pass has the key
-
-pub of_place : (place by : ℕ) (b : Bool) → (nat_eq place by && b) ≡ true → ◌≡◌ {A = Option (List ℕ)} (Some (place_bytes by)) (Some (place_bytes place))
-of_place place by b h =
-    let P : ℕ → Option (List ℕ) = λ n. Some (place_bytes n) in
-    sym (ap P (eqb-true place by (and_parts (nat_eq place by) b h).0))
-
-pub of_code : (code word : Word) (b : Bool) → (bytes_eq code word && b) ≡ true → ◌≡◌ {A = Option (List ℕ)} (Some word) (Some code)
-of_code code word b h =
-    let P : Word → Option (List ℕ) = λ w. Some w in
-    sym (ap P (bytes_same code word (and_parts (bytes_eq code word) b h).0))
-
-pub of_family : (family place : ℕ) → nat_eq family place ≡ true → ◌≡◌ {A = Option (List ℕ)} (Some (place_bytes family)) (Some (place_bytes place))
-of_family family place h =
-    let P : ℕ → Option (List ℕ) = λ n. Some (place_bytes n) in
-    ap P (eqb-true family place h)
+use Rattle.refresh_rows.specs.Booked.{ArePlaces}
 
 -- ---- a place has its own bytes
 
@@ -46,9 +27,6 @@ place_same n m low high =
       | inl e ↦ (let same : n ≡ m = place_is n m low high e in e ∙ sym (number_same n m same))
       | inr e ↦ e ∙ sym (other_number n m (λ same. (let P : ℕ → List ℕ = λ k. place_bytes k in true_false (sym (bytes_true (place_bytes n) (place_bytes m) (ap P same)) ∙ e))))
     ]
-
-abbrev pub ArePlaces : List FamilyRow → Type 0
-ArePlaces fs = AllByRecursion (λ (f : FamilyRow). f.by < 2 ^ 64) fs
 
 -- the family of a place is found by its bytes
 pub place_found : (n : ℕ) (fs : List FamilyRow) → n < 2 ^ 64 → ArePlaces fs → row_of family_name (place_bytes n) fs ≡ family_at n fs

@@ -1,6 +1,6 @@
 pub mod Keys
 pub mod Lists
-pub mod Dropping
+pub mod LeftOut
 pub mod Books
 pub mod Looking
 mod Samples

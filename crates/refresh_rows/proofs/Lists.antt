@@ -59,9 +59,15 @@ abbrev one_if : Bool → ℕ
 one_if true = 1
 one_if false = 0
 
+one_longer : (n : ℕ) → suc n ≡ 1 + n
+one_longer n = omega arith
+
+none_longer : (n : ℕ) → n ≡ 0 + n
+none_longer n = omega arith
+
 counted_by : {X : Type 0} (b : Bool) (x : X) (l : List X) → length (cond b (x ∷ l) l) ≡ one_if b + length l
-counted_by true x l = refl
-counted_by false x l = refl
+counted_by true x l = one_longer (length l)
+counted_by false x l = none_longer (length l)
 
 pushed_sum : (all whole one before last : ℕ) → all ≡ one + before → whole ≡ before + last → one + whole ≡ all + last
 pushed_sum all whole one before last is more = omega (arith, is, more)
@@ -157,7 +163,7 @@ taken_low {Y} name k w y (z ∷ zs) distinct there =
       | inr e ↦
           subst L (sym (ap W e))
           (left_sum (length (filter k (z ∷ zs))) (length (filter k zs)) (one_if (k z)) (length (filter k (without name w zs))) (one_if (k y)) (length (filter k (z ∷ without name w zs)))
-           (counted_by (k z) z (filter k zs)) (counted_by (k z) z (filter k (without name w zs))) (taken_low name k w y zs distinct.1 (sym (ap F e) ∙ there)))
+          (counted_by (k z) z (filter k zs)) (counted_by (k z) z (filter k (without name w zs))) (taken_low name k w y zs distinct.1 (sym (ap F e) ∙ there)))
     ]
 
 put_sum : (a b c m n all : ℕ) → a ≤ b → b ≤ c + m → m ≡ n → all ≡ c + n → a ≤ all

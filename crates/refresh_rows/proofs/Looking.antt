@@ -9,7 +9,8 @@ use Rattle.refresh_answer.specs.declared.rows.FamilyRow.{FamilyRow}
 use Rattle.refresh_answer.specs.declared.rows.RefreshRow.{RefreshRow}
 use Rattle.refresh_rows.specs.declared.token_row.TokenRow.{TokenRow}
 use Rattle.refresh_rows.specs.TokenRows.{held_name, refresh_row, refresh_rows}
-use Rattle.refresh_rows.proofs.Keys.{ArePlaces, place_found}
+use Rattle.refresh_rows.specs.Booked.{ArePlaces}
+use Rattle.refresh_rows.proofs.Keys.{place_found}
 use Rattle.refresh_rows.proofs.Lists.{map_found, map_long}
 
 pub token_found : (rows : List TokenRow) (named : Option Word) (w : Word) → named ≡ Some w → (found : Option TokenRow) (bytes : List ℕ) → bytes ≡ w → found ≡ row_of held_name bytes rows → (result : Option RefreshRow) → result ≡ option_map refresh_row found

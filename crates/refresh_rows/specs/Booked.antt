@@ -1,7 +1,7 @@
 -- The book: its three tables, and what is true of them. No table has more rows than there are refresh tokens.
-use Rattle.std.specs.Prelude.{◌≡◌, ◌<◌, ◌≤◌, ◌==◌, ℕ, Bool, true, ◌&&◌, List, length, filter}
+use Rattle.std.specs.Prelude.{◌≡◌, ◌<◌, ◌≤◌, ◌^◌, ◌==◌, ℕ, Bool, true, ◌&&◌, List, length, filter}
 use Rattle.std.specs.Str.{bytes_eq}
-use Rattle.std.specs.List.{list_all}
+use Rattle.std.specs.List.{list_all, AllByRecursion}
 use Rattle.sso_base.specs.Words.{Word}
 use Rattle.held_rows.specs.Held.{none_after}
 use Rattle.refresh_answer.specs.declared.rows.FamilyRow.{FamilyRow}
@@ -20,6 +20,10 @@ pub record Booked : Type 0 where
   pub family_room : ℕ
   pub token_room : ℕ
   pub access_room : ℕ
+
+-- the places of families are numbers of 64 bits
+abbrev pub ArePlaces : List FamilyRow → Type 0
+ArePlaces fs = AllByRecursion (λ (f : FamilyRow). f.by < 2 ^ 64) fs
 
 -- there is memory for one more row in each table
 pub record HasMemory (b : Booked) : Type 0 where

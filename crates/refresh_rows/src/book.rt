@@ -8,8 +8,7 @@ ghost use Rattle.oidc_words.specs.Lives.{access_life};
 ghost use Rattle.refresh_answer.specs.Rows.{family_life, most_tokens, family_begun, token_name, access_name, access_begun, new_token, old_token};
 ghost use Rattle.refresh_answer.specs.Families.{family_at, living_in, has_room};
 ghost use Rattle.refresh_rows.specs.TokenRows.{held_name, refresh_row, is_of};
-ghost use Rattle.refresh_rows.specs.Booked.{HasMemory, is_of_place, is_of_code};
-ghost use Rattle.refresh_rows.proofs.Keys.{ArePlaces};
+ghost use Rattle.refresh_rows.specs.Booked.{ArePlaces, HasMemory, is_of_place, is_of_code};
 
 use crate::adding::{issue, put_access, retire};
 use crate::dropping::{drop_expired, drop_over, drop_passing};
@@ -197,12 +196,7 @@ impl Book {
         ensures last { self.new.last ≡ at }
         ensures memory { HasMemory self.new }
     {
-        drop_over(
-            &mut self.families,
-            &mut self.tokens,
-            &mut self.accesses,
-            at,
-        );
+        drop_over(&mut self.families, &mut self.tokens, &mut self.accesses, at);
         drop_expired(&mut self.accesses, at);
         self.last = at;
     }

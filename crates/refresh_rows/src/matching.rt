@@ -1,10 +1,12 @@
 // The families of a place or a code, and the tokens of a family.
 
-ghost use Rattle.std.specs.Prelude.{◌==◌, ◌&&◌};
+ghost use Rattle.std.specs.Prelude.{◌==◌, ◌&&◌, Some};
 ghost use Rattle.std.specs.Str.{bytes_eq};
+ghost use Rattle.std.proofs.Common.{sym, ap};
+ghost use Rattle.std.proofs.lemmas.Bool.{and_parts, eqb-true};
+ghost use Rattle.sso_base.proofs.RowLaws.{bytes_same};
 ghost use Rattle.held_rows.specs.declared.row.By.TheVariants.{Name, Group};
 ghost use Rattle.refresh_answer.specs.Places.{place_bytes};
-ghost use Rattle.refresh_rows.proofs.Keys.{of_place, of_code, of_family};
 
 use crate::token_row::TokenRow;
 use held_rows::{By, Test};
@@ -50,7 +52,8 @@ impl Test<FamilyRow> for OfPlace {
         self.place.as_bytes()
     }
 
-    ghost are_found = { λ t f passes. of_place t.place f.by (t.client == f.client) passes };
+    ghost are_found = { λ t f passes. ap (λ n. Some (place_bytes n))
+        (sym (eqb-true t.place f.by (and_parts (t.place == f.by) (t.client == f.client) passes).0)) };
 }
 
 impl Test<FamilyRow> for OfCode {
@@ -72,7 +75,8 @@ impl Test<FamilyRow> for OfCode {
         self.code.as_bytes()
     }
 
-    ghost are_found = { λ t f passes. of_code t.code f.code (t.client == f.client) passes };
+    ghost are_found = { λ t f passes. ap Some
+        (sym (bytes_same t.code f.code (and_parts (bytes_eq t.code f.code) (t.client == f.client) passes).0)) };
 }
 
 impl Test<TokenRow> for OfFamily {
@@ -94,7 +98,7 @@ impl Test<TokenRow> for OfFamily {
         self.family.as_bytes()
     }
 
-    ghost are_found = { λ t row passes. of_family row.family t.family passes };
+    ghost are_found = { λ t row passes. ap (λ n. Some (place_bytes n)) (eqb-true row.family t.family passes) };
 }
 
 impl Test<AccessRow> for OfFamily {
@@ -116,5 +120,5 @@ impl Test<AccessRow> for OfFamily {
         self.family.as_bytes()
     }
 
-    ghost are_found = { λ t row passes. of_family row.family t.family passes };
+    ghost are_found = { λ t row passes. ap (λ n. Some (place_bytes n)) (eqb-true row.family t.family passes) };
 }

@@ -1,4 +1,4 @@
 use Rattle.refresh_rows.proofs.book.know_tokens.Goals as goal
 
 pub returns : goal.returns
-returns c = c.find.ensures.held.distinct
+returns c = c.find-row.ensures.held.distinct

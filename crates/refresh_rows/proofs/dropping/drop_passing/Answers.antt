@@ -5,7 +5,7 @@ use Rattle.refresh_answer.specs.declared.rows.AccessRow.{AccessRow}
 use Rattle.refresh_rows.specs.declared.token_row.TokenRow.{TokenRow}
 use Rattle.refresh_rows.specs.TokenRows.{is_of}
 use Rattle.refresh_rows.proofs.Lists.{filter_all}
-use Rattle.refresh_rows.proofs.Dropping.{step_families, step_rows, step_shorter}
+use Rattle.refresh_rows.proofs.LeftOut.{step_families, step_rows, step_shorter}
 use Rattle.refresh_rows.proofs.dropping.drop_passing.Goals as goal
 
 pub loop-family-init : goal.loop-family-init

@@ -79,7 +79,7 @@ returns-clause-tokens c =
     let P = λ (l : List RefreshRow). put token_name (Some (refresh_row new)) l in
     rw (← c.self.view_is)
     (ap M (c.issue.ensures.rows ∙ ap I c.retire.ensures.rows) ∙ map_put refresh_row held_name token_name (λ t. refl) new (put held_name (Some old) inside.tokens.rows)
-     ∙ ap P (map_put refresh_row held_name token_name (λ t. refl) old inside.tokens.rows))
+    ∙ ap P (map_put refresh_row held_name token_name (λ t. refl) old inside.tokens.rows))
 
 pub returns-clause-accesses : goal.returns-clause-accesses
 returns-clause-accesses c =

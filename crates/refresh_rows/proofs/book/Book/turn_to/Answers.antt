@@ -23,7 +23,7 @@ invariant_of-self c =
     let dropped = c.drop_over.new in
     later_book dropped.families.rows dropped.tokens.rows dropped.accesses.rows c.drop_expired.new.accesses.rows inside.last c.args.at (rw (← c.self.view_is) at c.requires.order) c.drop_expired.ensures.rows
     (dropped_book inside.families.rows dropped.families.rows inside.tokens.rows dropped.tokens.rows inside.accesses.rows dropped.accesses.rows inside.last (λ (f : FamilyRow). lives family_life f.begun c.args.at)
-     c.drop_over.ensures.families c.drop_over.ensures.tokens c.drop_over.ensures.accesses c.self.invariant)
+    c.drop_over.ensures.families c.drop_over.ensures.tokens c.drop_over.ensures.accesses c.self.invariant)
 
 pub returns-clause-tokens : goal.returns-clause-tokens
 returns-clause-tokens c =
@@ -47,5 +47,5 @@ returns-clause-memory c =
       families = still_room (λ (f : FamilyRow). lives family_life f.begun c.args.at) inside.families.rows dropped.families.rows inside.families.capacity dropped.families.capacity c.drop_over.ensures.families c.drop_over.ensures.family_room memory.families;
       tokens = still_room (λ (t : RefreshRow). is_of dropped.families.rows t.family) (refresh_rows inside.tokens.rows) (refresh_rows dropped.tokens.rows) inside.tokens.capacity dropped.tokens.capacity tokens c.drop_over.ensures.token_room memory.tokens;
       accesses = still_room (λ (x : AccessRow). lives access_life x.issued c.args.at) dropped.accesses.rows c.drop_expired.new.accesses.rows dropped.accesses.capacity c.drop_expired.new.accesses.capacity c.drop_expired.ensures.rows c.drop_expired.ensures.room
-      (still_room (λ (x : AccessRow). is_of dropped.families.rows x.family) inside.accesses.rows dropped.accesses.rows inside.accesses.capacity dropped.accesses.capacity c.drop_over.ensures.accesses c.drop_over.ensures.access_room memory.accesses);
+          (still_room (λ (x : AccessRow). is_of dropped.families.rows x.family) inside.accesses.rows dropped.accesses.rows inside.accesses.capacity dropped.accesses.capacity c.drop_over.ensures.accesses c.drop_over.ensures.access_room memory.accesses);
     }

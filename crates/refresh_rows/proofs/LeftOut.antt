@@ -17,7 +17,8 @@ use Rattle.refresh_answer.specs.Families.{family_at}
 use Rattle.refresh_answer.specs.declared.rows.FamilyRow.{FamilyRow}
 use Rattle.refresh_answer.proofs.Families.{true_false, other_number}
 use Rattle.refresh_rows.specs.TokenRows.{is_of}
-use Rattle.refresh_rows.proofs.Keys.{ArePlaces, place_same, number_same}
+use Rattle.refresh_rows.specs.Booked.{ArePlaces}
+use Rattle.refresh_rows.proofs.Keys.{place_same, number_same}
 use Rattle.refresh_rows.proofs.Lists.{filter_same, all_weaker}
 
 -- a family that does not pass is left out of those that do
