@@ -1,4 +1,5 @@
 """User agents that log in: one that speaks HTTP by the standard library, and headless Chromium."""
+import base64
 import fcntl
 import html.parser
 import http.client
@@ -20,13 +21,13 @@ class Page:
         self.url, self.status, self.headers, self.body = url, status, headers, body
 
     def form(self):
-        """The action and the hidden fields of the page's form."""
+        """The action and the hidden fields of the page's first form."""
         found = {"action": None, "fields": {}}
 
         class Parser(html.parser.HTMLParser):
             def handle_starttag(self, tag, attributes):
                 have = dict(attributes)
-                if tag == "form":
+                if tag == "form" and found["action"] is None:
                     found["action"] = have.get("action", "")
                 if tag == "input" and have.get("type") == "hidden":
                     found["fields"][have["name"]] = have["value"]
@@ -142,6 +143,56 @@ class Chromium:
 
     def get(self, url):
         self.call("Page.navigate", url=url)
+
+    # ---- elements as a person finds them: by what they are and by their names
+
+    def find(self, role, name):
+        """The one element with this role and this name in the accessibility tree, or nothing."""
+        root = self.call("DOM.getDocument")["root"]["nodeId"]
+        found = self.call("Accessibility.queryAXTree", nodeId=root, role=role, accessibleName=name)["nodes"]
+        there = [it["backendDOMNodeId"] for it in found if not it["ignored"]]
+        if len(there) > 1:
+            raise AssertionError(f"{len(there)} of {role} {name!r}")
+        return there[0] if there else None
+
+    def expect(self, role, name):
+        """The same, as soon as it is there."""
+        end = time.monotonic() + LIMIT
+        while time.monotonic() < end:
+            try:
+                found = self.find(role, name)
+                if found and self.run("document.readyState === 'complete'"):
+                    return found
+            except AssertionError as error:
+                if "Chromium ended" in str(error) or " of " in str(error):
+                    raise
+            time.sleep(0.02)
+        text = self.run("document.body ? document.body.innerText : ''")
+        raise AssertionError(f"no {role} {name!r} in {text!r}")
+
+    def type(self, name, text):
+        self.call("DOM.focus", backendNodeId=self.expect("textbox", name))
+        self.run("document.activeElement.select()")
+        self.call("Input.insertText", text=text)
+
+    def press(self, role, name):
+        """Clicks in the middle of it."""
+        element = self.expect(role, name)
+        self.call("DOM.scrollIntoViewIfNeeded", backendNodeId=element)
+        x1, y1, _, _, x2, y2, _, _ = self.call("DOM.getBoxModel", backendNodeId=element)["model"]["content"]
+        for kind in ("mousePressed", "mouseReleased"):
+            self.call("Input.dispatchMouseEvent", type=kind, x=(x1 + x2) / 2, y=(y1 + y2) / 2, button="left", clickCount=1)
+
+    def picture(self, width, height, scheme):
+        """The page in a window of this size, `light` or `dark`, as PNG."""
+        self.call("Emulation.setDeviceMetricsOverride", width=width, height=height, deviceScaleFactor=1, mobile=False)
+        self.call("Emulation.setEmulatedMedia", features=[{"name": "prefers-color-scheme", "value": scheme}])
+        fits = self.run("document.documentElement.scrollWidth <= innerWidth")
+        if not fits:
+            raise AssertionError(f"the page is wider than {width} pixels")
+        picture = base64.b64decode(self.call("Page.captureScreenshot", format="png")["data"])
+        self.call("Emulation.clearDeviceMetricsOverride")
+        return picture
 
     def wait(self, condition):
         """Waits until this holds in the page."""

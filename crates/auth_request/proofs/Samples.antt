@@ -151,13 +151,13 @@ age-not_with_a_sign = refl
 
 -- a client of this id and these response types, with one redirection URI
 abbrev client : List ℕ → List Bool → Client
-client id types = record { id = id; secret = []; old_secret = None; seals_old = false; redirects = codes "https://a.b/cb" ∷ []; types = types; pairwise = false; asks_consent = true; logout = None; logout_session = false; redirect_urls = []; logout_url = None }
+client id types = record { id = id; secret = []; old_secret = None; seals_old = false; redirects = codes "https://a.b/cb" ∷ []; types = types; pairwise = false; asks_consent = true; logout = None; logout_session = false; redirect_urls = []; logout_url = None; title = [] }
 
 abbrev shop : Client
 shop = client (codes "shop") (true ∷ false ∷ false ∷ true ∷ false ∷ false ∷ [])
 
 abbrev shops : Configuration
-shops = record { provider = provider_of []; prefix = []; listen = []; secure = true; users = []; clients = shop ∷ []; parties = []; subjects = [] ∷ []; lasting = false }
+shops = record { provider = provider_of []; prefix = []; listen = []; secure = true; users = []; clients = shop ∷ []; parties = []; subjects = [] ∷ []; lasting = false; full_pages = false; title = [] }
 
 -- a request of the shop client
 abbrev good : Params

@@ -36,7 +36,7 @@ use Rattle.client_registry.specs.declared.records.Provider.{Provider}
 use Rattle.client_registry.specs.declared.records.User.{User}
 use Rattle.client_registry.specs.declared.records.Client.{Client}
 use Rattle.client_registry.specs.declared.records.Party.{Party}
-use Rattle.client_registry.specs.Records.{without_slash, endpoint, provider_of, lasting_of, rounds_of, proof_of, user_of, types_of, client_of_row, client_place, client_number, party_of, users_of, clients_of, parties_of}
+use Rattle.client_registry.specs.Records.{without_slash, endpoint, provider_of, lasting_of, full_pages_of, provider_title, client_title, rounds_of, proof_of, user_of, types_of, client_of_row, client_place, client_number, party_of, users_of, clients_of, parties_of}
 use Rattle.client_registry.specs.Secrets.{secrets, sealing, has_secret, all_secrets}
 use Rattle.client_registry.specs.Rules.{is_again, user_twice, client_twice, party_twice, short_secret, user_size, mixed_hosts, unknown_client, has_two_hosts, sector_of, text_place, records_refusals, pairwise_subject, subject_of, clashes, subjects_refusals}
 use Rattle.client_registry.specs.Registered.{AreApart, NumbersAreApart, HasNoneOf, AreDisjoint, IsUser, HoldsClaims, AllHoldClaims, IsSecret, IsClient, IsParty, IsLogoutOf, FitsClient, IsSubject, IsIssuerUrl, AreSubjectsBy, IsRegistry}
@@ -162,7 +162,7 @@ alice = alice_of (codes "{}")
 
 -- a client with this id, this secret and URIs at these hosts
 abbrev client : Bool → List ℕ → List ℕ → List WebUrl → Client
-client pairwise id secret urls = record { id = id; secret = secret; old_secret = None; seals_old = false; redirects = codes "https://a.b/cb" ∷ []; types = true ∷ false ∷ false ∷ false ∷ false ∷ false ∷ []; pairwise = pairwise; asks_consent = true; logout = None; logout_session = false; redirect_urls = urls; logout_url = None }
+client pairwise id secret urls = record { id = id; secret = secret; old_secret = None; seals_old = false; redirects = codes "https://a.b/cb" ∷ []; types = true ∷ false ∷ false ∷ false ∷ false ∷ false ∷ []; pairwise = pairwise; asks_consent = true; logout = None; logout_session = false; redirect_urls = urls; logout_url = None; title = [] }
 
 abbrev long : List ℕ
 long = codes "01234567890123456789012345678901"
@@ -368,7 +368,7 @@ not_a_party-of_an_age_of_a_thousand_million h = true≢false (sym h.age)
 fits-shop : FitsClient (party (codes "shop") 0 (codes "/cb")) shop
 fits-shop = record { redirect = refl; logout = refl; logout_of = tt; number = 0; types = refl; has_type = refl }
 
-not_fitting-another_redirection_uri : FitsClient (party (codes "shop") 0 (codes "/cb")) (record { id = codes "shop"; secret = long; old_secret = None; seals_old = false; redirects = []; types = []; pairwise = false; asks_consent = true; logout = None; logout_session = false; redirect_urls = []; logout_url = None }) → ⊥
+not_fitting-another_redirection_uri : FitsClient (party (codes "shop") 0 (codes "/cb")) (record { id = codes "shop"; secret = long; old_secret = None; seals_old = false; redirects = []; types = []; pairwise = false; asks_consent = true; logout = None; logout_session = false; redirect_urls = []; logout_url = None; title = [] }) → ⊥
 not_fitting-another_redirection_uri h = true≢false (sym h.redirect)
 
 logout-of_the_party : IsLogoutOf (party (codes "shop") 0 (codes "/cb")) (at_shop 443 (codes "/logout"))
@@ -518,6 +518,35 @@ lasting-not_by_default = refl
 lasting-ignored_in_version_1 : lasting_of First (with_history (codes "lasting")) ≡ false
 lasting-ignored_in_version_1 = refl
 
+-- ---- pages and titles
+
+abbrev with_text : List ℕ → List ℕ → Data
+with_text key t = table (member key (string t) no_members)
+
+full_pages-said_in_version_2 : full_pages_of Second (with_text (codes "pages") (codes "full")) ≡ true
+full_pages-said_in_version_2 = refl
+
+full_pages-not_if_plain : full_pages_of Second (with_text (codes "pages") (codes "plain")) ≡ false
+full_pages-not_if_plain = refl
+
+full_pages-not_by_default : full_pages_of Second (table no_members) ≡ false
+full_pages-not_by_default = refl
+
+full_pages-ignored_in_version_1 : full_pages_of First (with_text (codes "pages") (codes "full")) ≡ false
+full_pages-ignored_in_version_1 = refl
+
+provider_title-said_in_version_2 : provider_title Second (with_text (codes "title") (codes "Accounts")) ≡ codes "Accounts"
+provider_title-said_in_version_2 = refl
+
+client_title-said_in_version_2 : client_title Second (with_text (codes "title") (codes "A <Shop>")) ≡ codes "A <Shop>"
+client_title-said_in_version_2 = refl
+
+client_title-its_id_by_default : client_title Second (with_text (codes "id") (codes "shop")) ≡ codes "shop"
+client_title-its_id_by_default = refl
+
+client_title-ignored_in_version_1 : client_title First (table (member (codes "id") (string (codes "shop")) (member (codes "title") (string (codes "A <Shop>")) no_members))) ≡ codes "shop"
+client_title-ignored_in_version_1 = refl
+
 is_party-shop : IsParty (party_of (clients_of good) (party_row (codes "shop")))
 unfolding configuration_of
 is_party-shop = good_registry.party_rules.0
@@ -579,7 +608,7 @@ not_a_registry-whose_flag_is_a_word h =
     (user_holds (codes "{\"email_verified\":\"x\"}") h)
 
 abbrev twins : Configuration
-twins = record { provider = provider_of []; prefix = []; listen = []; secure = true; users = alice ∷ alice ∷ []; clients = shop ∷ []; parties = []; subjects = (codes "s" ∷ codes "t" ∷ []) ∷ []; lasting = false }
+twins = record { provider = provider_of []; prefix = []; listen = []; secure = true; users = alice ∷ alice ∷ []; clients = shop ∷ []; parties = []; subjects = (codes "s" ∷ codes "t" ∷ []) ∷ []; lasting = false; full_pages = false; title = [] }
 
 not_a_registry-of_one_id_twice : IsRegistry twins → ⊥
 not_a_registry-of_one_id_twice h = true≢false h.user_ids.0
@@ -730,7 +759,7 @@ abbrev short_text : List ℕ
 short_text = codes "version = 1\n[provider]\nissuer = \"https://a.b\"\nlisten = \"a.b:443\"\nsalt = \"00112233445566778899aabbccddeeff\"\n"
 
 abbrev nobody : Configuration
-nobody = record { provider = provider_of (codes "https://a.b"); prefix = []; listen = codes "a.b:443"; secure = true; users = []; clients = []; parties = []; subjects = []; lasting = false }
+nobody = record { provider = provider_of (codes "https://a.b"); prefix = []; listen = codes "a.b:443"; secure = true; users = []; clients = []; parties = []; subjects = []; lasting = false; full_pages = false; title = codes "a.b" }
 
 document-of_one_key : document_in (codes "a = 1") ≡ Some (table (member (codes "a") (integer (pos 1)) no_members))
 unfolding document_in toml_on_literals is_utf8 chars

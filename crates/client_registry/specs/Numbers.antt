@@ -72,6 +72,7 @@ no_client = record {
   logout_session = false;
   redirect_urls = [];
   logout_url = None;
+  title = [];
 }
 
 abbrev pub no_party : Party

@@ -49,12 +49,22 @@ abbrev pub lasting_of : Version → Data → Bool
 lasting_of First d = false
 lasting_of Second d = bytes_eq (text_or (codes "history") [] d) (codes "lasting")
 
+-- the pages of both roles are full, in the second version
+abbrev pub full_pages_of : Version → Data → Bool
+full_pages_of First d = false
+full_pages_of Second d = bytes_eq (text_or (codes "pages") [] d) (codes "full")
+
 abbrev pub no_url : WebUrl
 no_url = record { secure = false; host = []; port = 0; path = []; query = None }
 
 -- the URL at a key, or an empty one
 abbrev pub url_or_none : List ℕ → Data → WebUrl
 url_or_none key d = unwrap_or (url_at key d) no_url
+
+-- the title of the provider on its pages; the host of its issuer if it states none, and in the first version
+abbrev pub provider_title : Version → Data → List ℕ
+provider_title First d = (url_or_none (codes "issuer") d).host
+provider_title Second d = text_or (codes "title") (url_or_none (codes "issuer") d).host d
 
 -- ---- users
 
@@ -94,6 +104,11 @@ abbrev pub seals_old_of : Version → Data → Bool
 seals_old_of First d = false
 seals_old_of Second d = seals_old d
 
+-- the title of a client on pages; its id if it states none, and in the first version
+abbrev pub client_title : Version → Data → List ℕ
+client_title First d = text_or (codes "id") [] d
+client_title Second d = text_or (codes "title") (text_or (codes "id") [] d) d
+
 abbrev pub client_of_row : Version → Data → Client
 client_of_row v d = record {
   id = text_or (codes "id") [] d;
@@ -108,6 +123,7 @@ client_of_row v d = record {
   logout_session = flag_at (codes "logout_session") d;
   redirect_urls = urls_of (texts_at (codes "redirect_uris") d);
   logout_url = url_at (codes "logout_uri") d;
+  title = client_title v d;
 }
 
 -- ---- parties

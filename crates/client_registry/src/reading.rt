@@ -14,7 +14,8 @@ ghost use Rattle.client_registry.specs.Registered.{IsRegistry, AllHoldClaims};
 use crate::records::{Client, Party, User};
 use crate::registry::Registry;
 use crate::rows::{
-    clients_of, lasting_of, parties_of, provider_of, url_in, users_of, without_slash,
+    clients_of, full_pages_of, lasting_of, parties_of, provider_of, provider_title, url_in,
+    users_of, without_slash,
 };
 use crate::rules::judge_records;
 use crate::subjects::{Subjects, subjects_of};
@@ -132,6 +133,7 @@ fn registry_of(
     ensures { IfOk result (λ r. r ≡ configuration_of (view root.now)) }
 {
     let url = url_in(alloc, provider, "issuer")?;
+    let title = provider_title(alloc, version, provider, url.host.as_str())?;
     Ok(Registry {
         provider: provider_of(alloc, text_or(provider, "issuer", ""))?,
         prefix: Text::new(alloc, without_slash(url.path.as_str()))?,
@@ -142,6 +144,8 @@ fn registry_of(
         parties: rows.parties,
         subjects,
         lasting: lasting_of(version, provider),
+        full_pages: full_pages_of(version, provider),
+        title,
     })
 }
 

@@ -65,6 +65,8 @@ pub struct Client {
     pub redirect_urls: WebUrls,
     /// The stored parts of the logout URI.
     pub logout_url: Option<WebUrl>,
+    /// The title on pages: from 1 to 80 bytes, or the id.
+    pub title: Text,
 }
 
 /// A relying party.
@@ -151,6 +153,7 @@ impl Client {
             logout_session: self.logout_session,
             redirect_urls: self.redirect_urls.copy(alloc)?,
             logout_url: copied_url(alloc, &self.logout_url)?,
+            title: self.title.copy(alloc)?,
         })
     }
 

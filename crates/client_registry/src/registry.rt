@@ -28,6 +28,8 @@ pub struct Registry {
     pub(crate) parties: Vec<Party>,
     pub(crate) subjects: Vec<Subjects>,
     pub(crate) lasting: bool,
+    pub(crate) full_pages: bool,
+    pub(crate) title: Text,
 }
 
 impl Model for Registry {
@@ -46,6 +48,8 @@ impl Model for Registry {
       parties = r.parties.items;
       subjects = r.subjects.items;
       lasting = r.lasting;
+      full_pages = r.full_pages;
+      title = r.title;
     } };
 
     ghost invariant = { λ r. IsRegistry (record {
@@ -58,6 +62,8 @@ impl Model for Registry {
       parties = r.parties.items;
       subjects = r.subjects.items;
       lasting = r.lasting;
+      full_pages = r.full_pages;
+      title = r.title;
     }) };
 }
 
@@ -96,6 +102,20 @@ impl Registry {
         ensures { result ≡ self.now.lasting }
     {
         self.lasting
+    }
+
+    /// Whether users get full pages, and not plain ones.
+    pub fn full_pages(&self) -> bool
+        ensures { result ≡ self.now.full_pages }
+    {
+        self.full_pages
+    }
+
+    /// The title of the provider on its pages: from 1 to 80 bytes, or the host of its issuer.
+    pub fn title(&self) -> &Text
+        ensures { result.now ≡ self.now.title }
+    {
+        &self.title
     }
 
     /// How many users there are, at most 512.
@@ -202,6 +222,8 @@ impl Registry {
             parties: copied_parties(alloc, &self.parties)?,
             subjects: copied_subjects(alloc, &self.subjects)?,
             lasting: self.lasting,
+            full_pages: self.full_pages,
+            title: self.title.copy(alloc)?,
         })
     }
 }

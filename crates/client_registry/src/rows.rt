@@ -1,6 +1,6 @@
 // The records of a configuration's rows.
 
-ghost use Rattle.std.specs.Prelude.{◌≡◌, ◌<◌, ◌^◌, map, length, unwrap_or, option_copied, IfOk, IfSome};
+ghost use Rattle.std.specs.Prelude.{◌≡◌, ◌<◌, ◌^◌, map, length, codes, unwrap_or, option_copied, IfOk, IfSome};
 ghost use Rattle.toml.specs.View.{view};
 ghost use Rattle.claim_set.specs.Fitting.{ClaimsFit};
 ghost use Rattle.client_registry.specs.Registered.{HoldsClaims, AllHoldClaims};
@@ -189,6 +189,32 @@ pub(crate) fn lasting_of(version: Version, provider: &Value) -> bool
     }
 }
 
+// Whether pages are full, in the second version.
+pub(crate) fn full_pages_of(version: Version, provider: &Value) -> bool
+    ensures { result ≡ spec.full_pages_of version (view provider.now) }
+{
+    match version {
+        Version::First => false,
+        Version::Second => text_or(provider, "pages", "") == "full",
+    }
+}
+
+// The title of the provider whose issuer has this host.
+pub(crate) fn provider_title(
+    alloc: Global,
+    version: Version,
+    provider: &Value,
+    host: &str,
+) -> Result<Text, NoMemory>
+    requires { host.now ≡ (spec.url_or_none (codes "issuer") (view provider.now)).host }
+    ensures { IfOk result (λ t. t ≡ spec.provider_title version (view provider.now)) }
+{
+    match version {
+        Version::First => Text::new(alloc, host),
+        Version::Second => Text::new(alloc, text_or(provider, "title", host)),
+    }
+}
+
 // The old secret of a client, in the second version.
 fn old_secret_of(alloc: Global, version: Version, row: &Value) -> Result<Option<Text>, NoMemory>
     ensures { IfOk result (λ o. o ≡ spec.old_secret_of version (view row.now)) }
@@ -206,6 +232,16 @@ fn seals_old_of(version: Version, row: &Value) -> bool
     match version {
         Version::First => false,
         Version::Second => text_or(row, "seals", "") == "old",
+    }
+}
+
+fn client_title(alloc: Global, version: Version, row: &Value) -> Result<Text, NoMemory>
+    ensures { IfOk result (λ t. t ≡ spec.client_title version (view row.now)) }
+{
+    let id = text_or(row, "id", "");
+    match version {
+        Version::First => Text::new(alloc, id),
+        Version::Second => Text::new(alloc, text_or(row, "title", id)),
     }
 }
 
@@ -227,6 +263,7 @@ fn client_of(alloc: Global, version: Version, row: &Value) -> Result<Client, NoM
         logout_session: flag_at(row, "logout_session"),
         redirect_urls: urls_of(alloc, &redirects)?,
         logout_url: url_at(alloc, row, "logout_uri")?,
+        title: client_title(alloc, version, row)?,
     })
 }
 

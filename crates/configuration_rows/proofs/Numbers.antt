@@ -95,15 +95,21 @@ of_history_key : (v : Version) (d : Data) → OfRow (keys.history_key v d)
 of_history_key version.First d = tt
 of_history_key version.Second d = of_optional Provider d (codes "history") (kind.Text text.History)
 
+of_page_keys : (v : Version) (d : Data) → OfRow (keys.page_keys v d)
+of_page_keys version.First d = tt
+of_page_keys version.Second d = both _ _ (of_optional Provider d (codes "pages") (kind.Text text.Pages)) (of_optional Provider d (codes "title") (kind.Text text.Title))
+
 of_provider : (v : Version) (d : Data) → OfRow (keys.provider_row v d)
 of_provider v d =
     both _ _
     (both _ _
     (both _ _
+    (both _ _
     (of_required Provider d (codes "issuer") kind.Issuer)
     (of_required Provider d (codes "listen") (kind.Text (text.Name Visible 1 64))))
     (of_required Provider d (codes "salt") (kind.Text (text.Hex 16 64))))
-    (of_history_key v d)
+    (of_history_key v d))
+    (of_page_keys v d)
 
 of_user : (i : ℕ) (d : Data) → OfRow (keys.user_row i d)
 of_user i d =
@@ -152,8 +158,12 @@ of_client_settings parties r d =
     (of_logout_rule parties r d))
     (of_optional r d (codes "logout_session") kind.Flag)
 
+of_title_key : (v : Version) (r : Row) (d : Data) → OfRow (keys.title_key v r d)
+of_title_key version.First r d = tt
+of_title_key version.Second r d = of_optional r d (codes "title") (kind.Text text.Title)
+
 of_client : (v : Version) (parties : List Data) (i : ℕ) (d : Data) → OfRow (keys.client_row v parties i d)
-of_client v parties i d = both _ _ (of_client_names v (Client i) d) (of_client_settings parties (Client i) d)
+of_client v parties i d = both _ _ (both _ _ (of_client_names v (Client i) d) (of_client_settings parties (Client i) d)) (of_title_key v (Client i) d)
 
 of_redirect_rule : (clients : List Data) (r : Row) (d : Data) → OfRow (keys.redirect_rule clients r d)
 of_redirect_rule clients r d =

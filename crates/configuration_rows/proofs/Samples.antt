@@ -1,5 +1,5 @@
 -- The definitions computed on small cases: what each accepts, and what it refuses.
-use Rattle.std.proofs.Common.{◌≡◌, ◌==◌, ℕ, [], ◌∷◌, List, codes, true, false, pos, negsuc, Option, Some, None, option_map, refl, arith, true≢false}
+use Rattle.std.proofs.Common.{◌≡◌, ◌==◌, ℕ, [], ◌∷◌, List, replicate, codes, true, false, pos, negsuc, Option, Some, None, option_map, refl, arith, true≢false}
 use Rattle.std.specs.Fmt.{digits}
 use Rattle.std.specs.List.{list_all}
 use Rattle.std.specs.Str.{chars}
@@ -27,7 +27,7 @@ use Rattle.oidc_words.specs.Claims.{flag_claims, seconds_claims, is_claim_of, pr
 use Rattle.configuration_rows.specs.Kinds.{allows, is_within, is_name, breach}
 use Rattle.configuration_rows.specs.Versions.{version_of, version_in}
 use Rattle.oidc_words.specs.Types.{spellings}
-use Rattle.configuration_rows.specs.Rows.{required, optional, array_rule, uses, logout_rule, client_of, redirect_rule, response_texts, has_type, lacks_type, type_rule, seals_old, old_secret_keys, history_key, user_row, client_row, party_row, rows_refusals}
+use Rattle.configuration_rows.specs.Rows.{required, optional, array_rule, uses, logout_rule, client_of, redirect_rule, response_texts, has_type, lacks_type, type_rule, seals_old, old_secret_keys, history_key, page_keys, title_key, user_row, client_row, party_row, rows_refusals}
 use Rattle.configuration_rows.proofs.Phases.{is_least}
 
 abbrev none : Option Breach
@@ -428,6 +428,44 @@ history-of_another_kind = refl
 
 history-is_ignored_in_version_1 : history_key First (one (codes "history") (boolean true)) ≡ []
 history-is_ignored_in_version_1 = refl
+
+-- ---- pages and titles
+
+pages-that_are_plain : page_keys Second (one (codes "pages") (string (codes "plain"))) ≡ []
+pages-that_are_plain = refl
+
+pages-that_are_full : page_keys Second (one (codes "pages") (string (codes "full"))) ≡ []
+pages-that_are_full = refl
+
+pages-may_be_absent : page_keys Second (table no_members) ≡ []
+pages-may_be_absent = refl
+
+pages-of_another_text : page_keys Second (one (codes "pages") (string (codes "Full"))) ≡ no.WrongKind (codes "provider.pages") ∷ []
+pages-of_another_text = refl
+
+pages-of_another_kind : page_keys Second (one (codes "pages") (boolean true)) ≡ no.WrongKind (codes "provider.pages") ∷ []
+pages-of_another_kind = refl
+
+title-of_the_provider : page_keys Second (one (codes "title") (string (codes "A & B"))) ≡ []
+title-of_the_provider = refl
+
+title-of_no_bytes : page_keys Second (one (codes "title") (string [])) ≡ no.WrongKind (codes "provider.title") ∷ []
+title-of_no_bytes = refl
+
+pages-are_ignored_in_version_1 : page_keys First (table (member (codes "pages") (boolean true) (member (codes "title") (string []) no_members))) ≡ []
+pages-are_ignored_in_version_1 = refl
+
+title-of_80_bytes : title_key Second (Client 0) (one (codes "title") (string (replicate 80 34))) ≡ []
+title-of_80_bytes = refl
+
+title-of_81_bytes : title_key Second (Client 0) (one (codes "title") (string (replicate 81 34))) ≡ no.WrongKind (path_text (Client 0) (codes "title")) ∷ []
+title-of_81_bytes = refl
+
+title-of_another_kind : title_key Second (Client 0) (one (codes "title") (integer (pos 1))) ≡ no.WrongKind (path_text (Client 0) (codes "title")) ∷ []
+title-of_another_kind = refl
+
+title-is_ignored_in_version_1 : title_key First (Client 0) (one (codes "title") (integer (pos 1))) ≡ []
+title-is_ignored_in_version_1 = refl
 
 -- ---- rules over several rows
 

@@ -1,5 +1,5 @@
--- The configuration: its keys, each with its rule, row by row, in the order of its table. The second version has three more keys:
--- two for a client and one for the provider.
+-- The configuration: its keys, each with its rule, row by row, in the order of its table. The second version has six more keys:
+-- three for a client and three for the provider.
 use Rattle.std.specs.Prelude.{ℕ, ◌==◌, Bool, true, false, not, ◌&&◌, ◌||◌, List, [], ◌∷◌, ◌++◌, codes, Option, Some, None, is_some, if◌then◌else◌}
 use Rattle.std.specs.List.{list_any}
 use Rattle.std.specs.Str.{bytes_eq}
@@ -13,6 +13,7 @@ use Rattle.configuration_rows.specs.declared.row.Row.{Row}
 use Rattle.configuration_rows.specs.declared.row.Row.TheVariants.{Provider, User, Client, Party}
 use Rattle.configuration_rows.specs.declared.kind.Alphabet.TheVariants.{UserId, ClientId, PartyName, Visible}
 use Rattle.configuration_rows.specs.declared.kind.TextRule.TheVariants.{Any, Name, Hex, ResponseType, Subject, Consent, Seals, History, Scope, Prompt}
+use Rattle.configuration_rows.specs.declared.kind.TextRule.TheVariants.{Pages, Title}
 use Rattle.configuration_rows.specs.declared.kind.Kind.{Kind}
 use Rattle.configuration_rows.specs.declared.kind.Kind.TheVariants.{Text, Number, Flag, Issuer, Url, Urls, ResponseTypes, Claims}
 use Rattle.configuration_rows.specs.declared.kind.Breach.{Breach}
@@ -152,12 +153,18 @@ abbrev pub history_key : Version → Data → List RegNo
 history_key version.First d = []
 history_key version.Second d = optional Provider d (codes "history") (Text History)
 
+-- which pages users get, and the title on them: keys of the second version
+abbrev pub page_keys : Version → Data → List RegNo
+page_keys version.First d = []
+page_keys version.Second d = optional Provider d (codes "pages") (Text Pages) ++ optional Provider d (codes "title") (Text Title)
+
 abbrev pub provider_row : Version → Data → List RegNo
 provider_row v d =
     required Provider d (codes "issuer") Issuer
     ++ required Provider d (codes "listen") (Text (Name Visible 1 64))
     ++ required Provider d (codes "salt") (Text (Hex 16 64))
     ++ history_key v d
+    ++ page_keys v d
 
 abbrev pub user_row : ℕ → Data → List RegNo
 user_row i d =
@@ -176,7 +183,7 @@ abbrev pub old_secret_rule : Bool → Row → Data → List RegNo
 old_secret_rule true row d = required row d (codes "old_secret") (Text (Name Visible 0 128))
 old_secret_rule false row d = optional row d (codes "old_secret") (Text (Name Visible 0 128))
 
--- the keys of a client that only the second version has
+-- the secrets of a client that only the second version has
 abbrev pub old_secret_keys : Version → Row → Data → List RegNo
 old_secret_keys version.First row d = []
 old_secret_keys version.Second row d = old_secret_rule (seals_old d) row d ++ optional row d (codes "seals") (Text Seals)
@@ -197,8 +204,13 @@ client_settings parties row d =
     ++ logout_rule parties row d
     ++ optional row d (codes "logout_session") Flag
 
+-- the title of a client on pages: a key of the second version
+abbrev pub title_key : Version → Row → Data → List RegNo
+title_key version.First row d = []
+title_key version.Second row d = optional row d (codes "title") (Text Title)
+
 abbrev pub client_row : Version → List Data → ℕ → Data → List RegNo
-client_row v parties i d = client_names v (Client i) d ++ client_settings parties (Client i) d
+client_row v parties i d = client_names v (Client i) d ++ client_settings parties (Client i) d ++ title_key v (Client i) d
 
 abbrev pub party_names : List Data → Row → Data → List RegNo
 party_names clients row d =

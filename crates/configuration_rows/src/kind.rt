@@ -29,7 +29,7 @@ pub enum Alphabet {
     Visible,
 }
 
-/// The rule for a text. Bounds count characters; for hexadecimal digits they count the encoded bytes.
+/// The rule for a text. Bounds count characters; for hexadecimal digits they count the encoded bytes, and for a title bytes.
 #[derive(Clone, Copy)]
 pub enum TextRule {
     /// Any text.
@@ -60,6 +60,10 @@ pub enum TextRule {
     Seals,
     /// `stored` or `lasting`.
     History,
+    /// `plain` or `full`.
+    Pages,
+    /// From 1 to 80 bytes.
+    Title,
     /// Words of `scope`, with `openid` among them.
     Scope,
     /// Words of `prompt` (OpenID Connect Core 1.0, 3.1.2.1).
@@ -166,6 +170,8 @@ fn keeps(alloc: Global, rule: TextRule, text: &str) -> Result<bool, NoMemory>
         TextRule::Consent => Ok(is_one_of(text, &["ask", "given"])),
         TextRule::Seals => Ok(is_one_of(text, &["new", "old"])),
         TextRule::History => Ok(is_one_of(text, &["stored", "lasting"])),
+        TextRule::Pages => Ok(is_one_of(text, &["plain", "full"])),
+        TextRule::Title => Ok(is_between(1, 80, text.len())),
         TextRule::Scope => is_scope(alloc, text),
         TextRule::Prompt => is_prompt(alloc, text),
     }

@@ -1,7 +1,7 @@
 //! The rows of a configuration file: its keys, each with its rule, and the errors of the rows.
 //!
 //! A configuration is TOML. Its keys are in one module, row by row, in the order in which errors of one kind are reported. The
-//! second version has three more keys: two for a client and one for the provider.
+//! second version has six more keys: three for a client and three for the provider.
 //!
 //! | Module | What it has |
 //! |---|---|

@@ -1,5 +1,5 @@
-// The keys of the configuration, each with its rule, row by row, in the order of its table. The second version has three more
-// keys: two for a client and one for the provider.
+// The keys of the configuration, each with its rule, row by row, in the order of its table. The second version has six more
+// keys: three for a client and three for the provider.
 
 ghost use Rattle.std.specs.Prelude.{◌≡◌, ◌++◌, map, OnOk};
 ghost use Rattle.toml.specs.Data.{table, no_members};
@@ -39,7 +39,7 @@ fn hex_of(least: usize, most: usize) -> Kind
     Kind::Text(TextRule::Hex { least, most })
 }
 
-// Checks the provider's key of the second version.
+// Checks whether the histories last, a key of the second version.
 fn history_key(refusals: &mut Refusals, version: Version, values: &Value) -> Result<(), NoMemory>
     ensures { OnOk result (refusals.new ≡ refusals.old ++ spec.history_key version (view values.now)) }
 {
@@ -52,6 +52,20 @@ fn history_key(refusals: &mut Refusals, version: Version, values: &Value) -> Res
             "history",
             Kind::Text(TextRule::History),
         ),
+    }
+}
+
+// Checks which pages users get and the title on them, keys of the second version.
+fn page_keys(refusals: &mut Refusals, version: Version, values: &Value) -> Result<(), NoMemory>
+    ensures { OnOk result (refusals.new ≡ refusals.old ++ spec.page_keys version (view values.now)) }
+{
+    match version {
+        Version::First => Ok(()),
+        Version::Second => {
+            let row = Row::Provider;
+            optional(refusals, row, values, "pages", Kind::Text(TextRule::Pages))?;
+            optional(refusals, row, values, "title", Kind::Text(TextRule::Title))
+        }
     }
 }
 
@@ -68,7 +82,8 @@ fn provider_row(refusals: &mut Refusals, version: Version, values: &Value) -> Re
         name_of(Alphabet::Visible, 1, 64),
     )?;
     required(refusals, row, values, "salt", hex_of(16, 64))?;
-    history_key(refusals, version, values)
+    history_key(refusals, version, values)?;
+    page_keys(refusals, version, values)
 }
 
 fn user_row(refusals: &mut Refusals, place: usize, values: &Value) -> Result<(), NoMemory>
@@ -109,7 +124,7 @@ fn old_secret_rule(
     }
 }
 
-// Checks the keys of a client that only the second version has.
+// Checks the secrets of a client that only the second version has.
 fn old_secret_keys(
     refusals: &mut Refusals,
     version: Version,
@@ -182,6 +197,21 @@ fn client_settings(
     optional(refusals, row, values, "logout_session", Kind::Flag)
 }
 
+// Checks the title of a client, a key of the second version.
+fn title_key(
+    refusals: &mut Refusals,
+    version: Version,
+    row: Row,
+    values: &Value,
+) -> Result<(), NoMemory>
+    ensures { OnOk result (refusals.new ≡ refusals.old ++ spec.title_key version row (view values.now)) }
+{
+    match version {
+        Version::First => Ok(()),
+        Version::Second => optional(refusals, row, values, "title", Kind::Text(TextRule::Title)),
+    }
+}
+
 fn client_row(
     refusals: &mut Refusals,
     version: Version,
@@ -192,7 +222,8 @@ fn client_row(
     ensures { OnOk result (refusals.new ≡ refusals.old ++ spec.client_row version (map view parties.now) place (view values.now)) }
 {
     client_names(refusals, version, Row::Client(place), values)?;
-    client_settings(refusals, parties, Row::Client(place), values)
+    client_settings(refusals, parties, Row::Client(place), values)?;
+    title_key(refusals, version, Row::Client(place), values)
 }
 
 fn party_names(

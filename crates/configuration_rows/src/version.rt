@@ -7,13 +7,13 @@ ghost use Rattle.configuration_rows.specs.Versions as spec;
 use crate::values::natural_at;
 use toml::Value;
 
-/// A version of the configuration. The second has all keys of the first, and three more: `old_secret` and `seals` of a client,
-/// and `history` of the provider. In the first version all three are ignored.
+/// A version of the configuration. The second has all keys of the first, and six more: `old_secret`, `seals` and `title` of a
+/// client, and `history`, `pages` and `title` of the provider. In the first version all six are ignored.
 #[derive(Clone, Copy)]
 pub enum Version {
     /// The first.
     First,
-    /// The second: a client may have two secrets, and the histories may last.
+    /// The second: a client may have two secrets, the histories may last, and pages may be full and have titles.
     Second,
 }
 

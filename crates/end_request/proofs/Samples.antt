@@ -67,6 +67,7 @@ shop =
       logout_session = false;
       redirect_urls = [];
       logout_url = None;
+      title = codes "shop";
     }
 
 abbrev site : Configuration
@@ -81,6 +82,8 @@ site =
       parties = [];
       subjects = [] ∷ [];
       lasting = false;
+      full_pages = false;
+      title = codes "127.0.0.1";
     }
 
 abbrev none : List Pair

@@ -53,6 +53,7 @@ shop =
       logout_session = false;
       redirect_urls = urls_of (codes "https://a.b/cb" ∷ []);
       logout_url = None;
+      title = [];
     }
 
 abbrev pub mail : Client
@@ -70,6 +71,7 @@ mail =
       logout_session = false;
       redirect_urls = urls_of (codes "https://c.d/cb" ∷ []);
       logout_url = None;
+      title = [];
     }
 
 abbrev pub shop_party : Party
@@ -116,6 +118,8 @@ small =
       parties = shop_party ∷ mail_party ∷ [];
       subjects = [] ∷ [] ∷ [];
       lasting = false;
+      full_pages = false;
+      title = [];
     }
 
 shop_is_client : IsClient shop

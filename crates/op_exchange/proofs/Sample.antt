@@ -33,6 +33,7 @@ shop_client =
       logout_session = true;
       redirect_urls = [];
       logout_url = None;
+      title = [];
     }
 
 abbrev pub sample : Configuration
@@ -47,6 +48,8 @@ sample =
       parties = [];
       subjects = (codes "alice" ∷ codes "bob" ∷ []) ∷ [];
       lasting = false;
+      full_pages = false;
+      title = [];
     }
 
 abbrev pub profile_scopes : Scopes

@@ -52,6 +52,7 @@ shop =
       logout_session = true;
       redirect_urls = urls_of (codes "https://a.b/cb" ∷ []);
       logout_url = url_of (codes "https://a.b/out");
+      title = [];
     }
 
 abbrev pub small : Configuration
@@ -66,6 +67,8 @@ small =
       parties = [];
       subjects = (codes "alice" ∷ []) ∷ [];
       lasting = false;
+      full_pages = false;
+      title = [];
     }
 
 pub named_fit : ClaimsFit named

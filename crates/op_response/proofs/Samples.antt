@@ -7,7 +7,8 @@ use Rattle.auth_request.specs.declared.wish.PageNo.TheVariants as page
 use Rattle.auth_answer.specs.declared.answer.Answer.{Answer}
 use Rattle.auth_answer.proofs.OnLiterals.{auth_answer_on_literals}
 use Rattle.token_endpoint.specs.declared.error.TokenError.TheVariants.{InvalidClient, InvalidGrant}
-use Rattle.sso_base.specs.declared.http.Kind.TheVariants.{Plain}
+use Rattle.sso_base.specs.declared.http.Kind.TheVariants.{Plain, Html}
+use Rattle.client_registry.specs.Configuration.{Configuration}
 use Rattle.sso_base.proofs.OnLiterals.{base64url_on_literals}
 use Rattle.http_reply.specs.UserAgent.{cookie_read}
 use Rattle.op_exchange.specs.declared.reply.OpReply.TheVariants as reply
@@ -15,10 +16,11 @@ use Rattle.op_response.specs.Cookies.{session_cookie, session_cookies}
 use Rattle.op_response.specs.Pages.{login_text, login_page, consent_text, consent_page}
 use Rattle.oidc_words.specs.Scopes.{scope_text}
 use Rattle.op_response.specs.Lines.{line_of}
-use Rattle.op_response.specs.Telling.{http_of}
+use Rattle.op_response.specs.FullPages.{scope_items}
+use Rattle.op_response.specs.Telling.{http_of, application_title}
 use Rattle.http_reply.specs.Told.{kept, sets_cookie}
 use Rattle.op_response.specs.Told.{words_set, is_token_response, has_mark}
-use Rattle.op_exchange.proofs.Sample.{word, sample, profile_scopes, callback_uri}
+use Rattle.op_exchange.proofs.Sample.{word, sample, shop_client, profile_scopes, callback_uri}
 
 -- ---- cookies
 
@@ -82,6 +84,27 @@ denied = record { redirect = callback_uri; fragment = false; state = Some (codes
 error_page_told : http_of sample (reply.ErrorPage page.Browser) ≡ record { status = 400; pragma = false; location = None; cookies = []; challenge = None; kind = Plain; body = codes "error browser" ++ 10 ∷ [] }
 unfolding http_of
 error_page_told = refl
+
+abbrev titled : Configuration
+titled = record sample { full_pages = true; title = codes "Accounts" }
+
+full_error_page_told : (http_of titled (reply.ErrorPage page.Browser)).kind ≡ Html
+unfolding http_of
+full_error_page_told = refl
+
+full_error_page_has_its_status : (http_of titled (reply.ErrorPage page.Turn)).status ≡ 400
+unfolding http_of
+full_error_page_has_its_status = refl
+
+title_of_an_unknown_application : application_title titled (codes "news-client") ≡ codes "news-client"
+title_of_an_unknown_application = refl
+
+title_of_an_application : application_title (record titled { clients = (record shop_client { title = codes "A Shop" }) ∷ [] }) (codes "shop-client") ≡ codes "A Shop"
+title_of_an_application = refl
+
+scopes_in_words : scope_items profile_scopes ≡ codes "<li>who you are: the identifier of your account</li>\n<li>your profile, such as your name and picture</li>\n"
+unfolding scope_items
+scopes_in_words = refl
 
 client_challenged : (http_of sample (reply.TokenRefused InvalidClient)).challenge ≡ Some (codes "Basic realm=\"sso\"")
 unfolding http_of

@@ -1,4 +1,4 @@
--- The pages on which a user logs in and consents (OpenID Connect Core 1.0, 3.1.2.3 and 3.1.2.4), in HTML (our choice).
+-- The plain pages on which a user logs in and consents (OpenID Connect Core 1.0, 3.1.2.3 and 3.1.2.4), in HTML (our choice).
 --
 -- Nothing is escaped in them, because no inserted text has a character with a meaning in HTML. A word's text has letters,
 -- digits, `-` and `_`; the id of a client has letters, digits, `.`, `_`, `~` and `-`; scope values have letters. The path of an

@@ -1,11 +1,15 @@
 -- The provider's replies in HTTP (RFC 9110; OpenID Connect Core 1.0, 3.1.2, 3.1.3 and 5.3).
-use Rattle.std.specs.Prelude.{ℕ, Bool, true, false, [], ◌∷◌, ◌++◌, codes, Option, Some, None}
+use Rattle.std.specs.Prelude.{ℕ, Bool, true, false, [], ◌∷◌, ◌++◌, codes, Option, Some, None, option_and_then}
 use Rattle.sso_base.specs.Words.{Word, Text, word_text}
 use Rattle.sso_base.specs.declared.http.HttpReply.{HttpReply}
 use Rattle.sso_base.specs.declared.http.Kind.TheVariants.{Empty, Json}
 use Rattle.http_reply.specs.Cookies.{cookie}
 use Rattle.http_reply.specs.Replies.{html, plain, sent_to}
+use Rattle.html_pages.specs.Documents.{shown}
+use Rattle.client_registry.specs.declared.records.Client.{Client}
 use Rattle.client_registry.specs.Configuration.{Configuration}
+use Rattle.client_registry.specs.Records.{client_place}
+use Rattle.client_registry.specs.Numbers.{client_at}
 use Rattle.oidc_words.specs.declared.scopes.Scopes.{Scopes}
 use Rattle.oidc_words.specs.Errors.{invalid_token}
 use Rattle.oidc_words.specs.TokenTypes.{bearer_word}
@@ -19,7 +23,7 @@ use Rattle.op_exchange.specs.declared.reply.OpReply.{OpReply}
 use Rattle.op_exchange.specs.declared.reply.OpReply.TheVariants as reply
 use Rattle.op_response.specs.Cookies.{browser_cookie, session_cookies}
 use Rattle.op_response.specs.Pages.{login_page, consent_page}
-use Rattle.op_response.specs.Lines.{page_word}
+use Rattle.op_response.specs.FullPages.{full_login_page, full_consent_page, error_line, error_page, signed_out_page}
 
 -- ---- kinds of replies
 
@@ -39,16 +43,37 @@ unauthorized challenge =
 
 -- ---- pages
 
+-- the login page, full or plain
+abbrev pub login_body : Bool → Text → Text → Text → Bool → Text
+login_body false site prefix turn again = login_page prefix turn again
+login_body true site prefix turn again = full_login_page site prefix turn again
+
 abbrev pub login_shown : Configuration → Word → Word → Bool → HttpReply
 login_shown c turn browser again =
-    html (cookie c.secure browser_cookie browser ∷ []) (login_page c.prefix (word_text turn) again)
+    html (cookie c.secure browser_cookie browser ∷ []) (login_body c.full_pages c.title c.prefix (word_text turn) again)
+
+-- the title of the client with an id
+abbrev pub title_in : Text → Option Client → Text
+title_in id None = id
+title_in id (Some client) = client.title
+
+abbrev pub application_title : Configuration → Text → Text
+application_title c id = title_in id (option_and_then (client_at c) (client_place id c.clients))
+
+-- the consent page, full or plain, for a client with this id
+abbrev pub consent_body : Bool → Configuration → Text → Text → Scopes → Text
+consent_body false c turn client scopes = consent_page c.prefix turn client scopes
+consent_body true c turn client scopes = full_consent_page c.title c.prefix turn (application_title c client) scopes
 
 abbrev pub consent_shown : Configuration → Word → Word → Option Word → Text → Scopes → HttpReply
 consent_shown c turn browser session client scopes =
-    html (cookie c.secure browser_cookie browser ∷ session_cookies c.secure session) (consent_page c.prefix (word_text turn) client scopes)
+    html (cookie c.secure browser_cookie browser ∷ session_cookies c.secure session) (consent_body c.full_pages c (word_text turn) client scopes)
 
-abbrev pub error_shown : PageNo → HttpReply
-error_shown why = plain 400 (codes "error " ++ page_word why)
+abbrev pub error_shown : Configuration → PageNo → HttpReply
+error_shown c why = shown 400 (error_page c.full_pages c.title why) (error_line why)
+
+abbrev pub signed_out_shown : Configuration → HttpReply
+signed_out_shown c = shown 200 (signed_out_page c.full_pages c.title) (codes "signed out")
 
 -- ---- error responses
 
@@ -69,12 +94,12 @@ http_of c (reply.LoginPage turn browser again) = login_shown c turn browser agai
 http_of c (reply.ConsentPage turn browser session client scopes) = consent_shown c turn browser session client scopes
 http_of c (reply.Answered answer session) = sent_to (answer_location answer) (session_cookies c.secure session)
 http_of c (reply.Refused refusal session) = sent_to (refusal_location refusal) (session_cookies c.secure session)
-http_of c (reply.ErrorPage why) = error_shown why
+http_of c (reply.ErrorPage why) = error_shown c why
 http_of c (reply.Tokens access id) = token_response 200 None (tokens_text (word_text access) id)
 http_of c (reply.TokenRefused code) = token_refused code
 http_of c (reply.Info claims) = json claims
 http_of c (reply.InfoRefused given) = unauthorized (bearer_challenge given)
-http_of c (reply.SignedOut messages) = plain 200 (codes "signed out")
+http_of c (reply.SignedOut messages) = signed_out_shown c
 http_of c (reply.Metadata text) = json text
 http_of c reply.Keys = json (codes "{\"keys\":[]}")
 http_of c reply.NotHere = plain 404 (codes "not here")

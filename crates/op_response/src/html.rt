@@ -1,4 +1,4 @@
-// Writing the login page and the consent page.
+// Writing the plain login page and the plain consent page.
 
 ghost use Rattle.std.specs.Prelude.{◌≡◌, IfOk};
 ghost use Rattle.sso_base.specs.Words.{word_text};

@@ -23,6 +23,7 @@ ghost use Rattle.http_reply.specs.Told.{kept, sets_cookie};
 ghost use Rattle.op_response.specs.Told.{browser_given, words_set, is_token_response, has_mark};
 ghost use Rattle.op_response.specs.Laws.{WrittenTokensAreRead, LoginFormsArePostedToTheProvider, LoginFormsHaveTheirTurn, ConsentFormsArePostedToTheProvider};
 ghost use Rattle.op_response.specs.Laws.{ConsentFormsHaveTheirTurn, ConsentPagesNameClientAndScopes, PlainBodiesAreLines, LinesTellTheParts};
+ghost use Rattle.op_response.specs.Laws.{FullConsentPagesNameApplicationAndScopes, LoginPagesPostTheirForm, ConsentPagesPostTheirForm};
 
 /// The cookies of a reply hold exactly the words that it sets, in order: the browser word of a page, and the session word, if
 /// there is one. A user agent reads each under its name as the word's text, for every path, `HttpOnly`, `SameSite=Lax` and, if
@@ -55,18 +56,27 @@ pub fn challenges_are_unauthorized()
 {}
 
 /// The login form and the consent form are posted to the paths that the provider serves for them, with the text of their own
-/// turn. A consent page states the client and the scope values that it requests.
+/// turn, on full and on plain pages. A plain consent page states the client and the scope values that it requests, a full one the
+/// title of the application and the scope values in words.
 pub fn forms_are_posted_to_the_provider()
     ensures login { LoginFormsArePostedToTheProvider }
     ensures login_turn { LoginFormsHaveTheirTurn }
     ensures consent { ConsentFormsArePostedToTheProvider }
     ensures consent_turn { ConsentFormsHaveTheirTurn }
     ensures asked { ConsentPagesNameClientAndScopes }
+    ensures asked_in_words { FullConsentPagesNameApplicationAndScopes }
     ensures scopes { (s : Scopes) → scopes_among (parameter_words (Some (scope_text s))) ≡ s }
 {}
 
-/// The text of a word, the id of a registry's client and the scope values have no character with a meaning in HTML, so pages
-/// escape nothing.
+/// A full page posts what a plain one posts: the same method and action, and the same names and values in the same order, if the
+/// path of the issuer has no `"`, `<` and `>`. A full consent page also has a form that ends the session.
+pub fn full_pages_post_what_plain_ones_post()
+    ensures login { LoginPagesPostTheirForm }
+    ensures consent { ConsentPagesPostTheirForm }
+{}
+
+/// The text of a word, the id of a registry's client and the scope values have no character with a meaning in HTML, so plain
+/// pages escape nothing.
 pub fn pages_have_nothing_to_escape()
     ensures word { (w : Word) → has_mark (word_text w) ≡ false }
     ensures client { (c : Configuration) (n : ℕ) → IsRegistry c → has_mark (client_id c n) ≡ false }

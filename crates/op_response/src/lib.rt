@@ -4,13 +4,15 @@
 //! | Module | What it has |
 //! |---|---|
 //! | `telling` | [`op_http`] and [`token_response`]: the status, the fields and the body of a reply |
-//! | `html` | the login page and the consent page |
+//! | `html` | the plain login page and the plain consent page |
+//! | `full_pages` | the full pages: login, consent, the end of a session, and errors |
 //! | `cookies` | the browser's cookie and the session's |
 //! | `lines` | [`op_line`]: the line of a reply |
 //! | `law` | laws about the output of replies, for the crates above |
 #![tactic(auto)]
 
 mod cookies;
+mod full_pages;
 mod html;
 mod law;
 mod lines;
@@ -18,8 +20,9 @@ mod telling;
 
 pub use law::{
     challenges_are_unauthorized, cookies_hold_the_words_of_replies,
-    forms_are_posted_to_the_provider, lines_tell_parts_and_codes, pages_have_nothing_to_escape,
-    plain_bodies_are_lines, responses_send_the_user_agent_on, token_responses_are_not_cached,
+    forms_are_posted_to_the_provider, full_pages_post_what_plain_ones_post,
+    lines_tell_parts_and_codes, pages_have_nothing_to_escape, plain_bodies_are_lines,
+    responses_send_the_user_agent_on, token_responses_are_not_cached,
 };
 pub use lines::op_line;
 pub use telling::{op_http, token_response};

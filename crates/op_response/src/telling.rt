@@ -1,17 +1,21 @@
 // Replies in HTTP.
 
 ghost use Rattle.std.specs.Prelude.{◌≡◌, IfOk};
+ghost use Rattle.sso_base.specs.Words.{word_text};
 ghost use Rattle.op_response.specs.Cookies.{session_cookies};
 ghost use Rattle.http_reply.specs.Replies.{sent_to};
 ghost use Rattle.op_response.specs.Telling as spec;
 
 use crate::cookies::{browser_cookies, push_session};
+use crate::full_pages::{
+    error_line, error_page, full_consent_page, full_login_page, signed_out_page,
+};
 use crate::html::{consent_page, login_page};
-use crate::lines::page_word;
 use auth_answer::{print_answer, print_refusal};
 use auth_request::PageNo;
 use client_registry::Registry;
-use http_reply::{concatenated, html, joined, plain};
+use html_pages::shown;
+use http_reply::{html, joined, plain};
 use oidc_words::{BEARER, INVALID_TOKEN, Scopes};
 use op_exchange::OpReply;
 use sso_base::{Blob, HttpReply, Kind, NoMemory, Text, Texts, Word};
@@ -103,6 +107,22 @@ fn bearer_challenge(alloc: Global, given: bool) -> Result<Text, NoMemory>
     Ok(Text::from_string(challenge))
 }
 
+// The login page, full or plain.
+fn login_body(
+    alloc: Global,
+    registry: &Registry,
+    turn: &Word,
+    again: bool,
+) -> Result<Blob, NoMemory>
+    ensures { IfOk result (λ b. b ≡ spec.login_body registry.now.full_pages registry.now.title registry.now.prefix (word_text turn.now) again) }
+{
+    if registry.full_pages() {
+        full_login_page(alloc, registry.title(), registry.prefix(), turn, again)
+    } else {
+        login_page(alloc, registry.prefix(), turn, again)
+    }
+}
+
 fn login_shown(
     alloc: Global,
     registry: &Registry,
@@ -113,8 +133,37 @@ fn login_shown(
     ensures { IfOk result (λ h. h ≡ spec.login_shown registry.now turn.now browser.now again) }
 {
     let cookies = browser_cookies(alloc, registry.secure(), browser)?;
-    let page = login_page(alloc, registry.prefix(), turn, again)?;
+    let page = login_body(alloc, registry, turn, again)?;
     Ok(html(cookies, page))
+}
+
+// The title of the client with this id.
+#[tactic(auto, using(auth_request::proofs::Numbers::below))]
+fn application_title<'a>(registry: &'a Registry, client: &'a Text) -> &'a str
+    ensures { result.now ≡ spec.application_title registry.now client.now }
+{
+    match registry.find_client(client.as_str().as_bytes()) {
+        Some(number) => registry.client(number).title.as_str(),
+        None => client.as_str(),
+    }
+}
+
+// The consent page, full or plain.
+fn consent_body(
+    alloc: Global,
+    registry: &Registry,
+    turn: &Word,
+    client: &Text,
+    scopes: &Scopes,
+) -> Result<Blob, NoMemory>
+    ensures { IfOk result (λ b. b ≡ spec.consent_body registry.now.full_pages registry.now (word_text turn.now) client.now scopes.now) }
+{
+    if registry.full_pages() {
+        let application = application_title(registry, client);
+        full_consent_page(alloc, registry, turn, application, scopes)
+    } else {
+        consent_page(alloc, registry.prefix(), turn, client, scopes)
+    }
 }
 
 fn consent_shown(
@@ -130,28 +179,36 @@ fn consent_shown(
 {
     let mut cookies = browser_cookies(alloc, registry.secure(), browser)?;
     push_session(&mut cookies, alloc, registry.secure(), session)?;
-    let page = consent_page(alloc, registry.prefix(), turn, client, scopes)?;
+    let page = consent_body(alloc, registry, turn, client, scopes)?;
     Ok(html(cookies, page))
 }
 
-fn error_shown(alloc: Global, why: PageNo) -> Result<HttpReply, NoMemory>
-    ensures { IfOk result (λ h. h ≡ spec.error_shown why) }
+fn error_shown(alloc: Global, registry: &Registry, why: PageNo) -> Result<HttpReply, NoMemory>
+    ensures { IfOk result (λ h. h ≡ spec.error_shown registry.now why) }
 {
-    let line = concatenated(alloc, "error ", page_word(why))?;
-    plain(alloc, 400, line.as_str())
+    let line = error_line(alloc, why)?;
+    let page = error_page(alloc, registry, why)?;
+    shown(alloc, 400, page, line.as_str())
+}
+
+fn signed_out_shown(alloc: Global, registry: &Registry) -> Result<HttpReply, NoMemory>
+    ensures { IfOk result (λ h. h ≡ spec.signed_out_shown registry.now) }
+{
+    let page = signed_out_page(alloc, registry)?;
+    shown(alloc, 200, page, "signed out")
 }
 
 /// The HTTP reply for this reply of a provider with this registry.
 ///
-/// A login page and a consent page are HTML and set the browser's cookie `op_b`. Authorization responses redirect the user
-/// agent to their location, with status 303. Each of these, except a login page, sets the session's cookie `op_s` if it has a
-/// session word. A cookie is a word's text, for every path, `HttpOnly`, `SameSite=Lax` and, if the issuer is https, `Secure`
-/// (RFC 6265, 4.1).
+/// A login page and a consent page are HTML, plain or full as the registry says, and set the browser's cookie `op_b`.
+/// Authorization responses redirect the user agent to their location, with status 303. Each of these, except a login page, sets
+/// the session's cookie `op_s` if it has a session word. A cookie is a word's text, for every path, `HttpOnly`, `SameSite=Lax`
+/// and, if the issuer is https, `Secure` (RFC 6265, 4.1).
 ///
 /// Token responses are JSON with `Pragma: no-cache` (RFC 6749, 5.1 and 5.2). The claims of a user, the provider's metadata and
-/// its keys are JSON. Error pages, sign-outs, and replies for an unknown path or a full table are one line of text. A client
-/// that is not authenticated, and a UserInfo request without a valid token, get a challenge with status 401 (RFC 6749, 5.2; RFC
-/// 6750, 3).
+/// its keys are JSON. Error pages and sign-outs are one line of text, or HTML if pages are full. Replies for an unknown path or a
+/// full table are one line of text. A client that is not authenticated, and a UserInfo request without a valid token, get a
+/// challenge with status 401 (RFC 6749, 5.2; RFC 6750, 3).
 #[tactic(auto, unfolding(crate::specs::Telling::http_of))]
 pub fn op_http(alloc: Global, registry: &Registry, reply: &OpReply) -> Result<HttpReply, NoMemory>
     ensures { IfOk result (λ h. h ≡ spec.http_of registry.now reply.now) }
@@ -176,7 +233,7 @@ pub fn op_http(alloc: Global, registry: &Registry, reply: &OpReply) -> Result<Ht
         OpReply::Refused { refusal, session } => {
             sent_with_session(alloc, secure, print_refusal(alloc, refusal)?, session)
         }
-        OpReply::ErrorPage { why } => error_shown(alloc, *why),
+        OpReply::ErrorPage { why } => error_shown(alloc, registry, *why),
         OpReply::Tokens { access, id } => {
             let body = print_tokens(alloc, access, id)?;
             Ok(token_response(alloc, 200, None, body))
@@ -186,7 +243,7 @@ pub fn op_http(alloc: Global, registry: &Registry, reply: &OpReply) -> Result<Ht
         OpReply::InfoRefused { given } => {
             Ok(unauthorized(alloc, bearer_challenge(alloc, *given)?))
         }
-        OpReply::SignedOut { .. } => plain(alloc, 200, "signed out"),
+        OpReply::SignedOut { .. } => signed_out_shown(alloc, registry),
         OpReply::Metadata { text } => json(alloc, text.as_str().as_bytes()),
         OpReply::Keys => json(alloc, NO_KEYS.as_bytes()),
         OpReply::NotHere => plain(alloc, 404, "not here"),

@@ -34,7 +34,7 @@ use Rattle.jws_compact.proofs.Written.{written_sealed}
 use Rattle.sso_base.proofs.Spelling.{IsBytes-from_all_bytes}
 
 abbrev shop : Client
-shop = record { id = codes "c"; secret = codes "key"; old_secret = None; seals_old = false; redirects = []; types = []; pairwise = false; asks_consent = false; logout = None; logout_session = false; redirect_urls = []; logout_url = None }
+shop = record { id = codes "c"; secret = codes "key"; old_secret = None; seals_old = false; redirects = []; types = []; pairwise = false; asks_consent = false; logout = None; logout_session = false; redirect_urls = []; logout_url = None; title = [] }
 
 -- a request with a scope, an age and, where there is one, another request inside
 abbrev asking : Option (List ℕ) → Params

@@ -2,7 +2,7 @@
 
 use sample_configuration::{
     ALICE, ALICES_CLAIMS, BOB, MAIL_CLIENT, NEWS_CLIENT, OLD_SEALS, PROVIDER, SHOP_CLIENT,
-    with_old_secrets, with_two_secrets,
+    with_full_pages, with_old_secrets, with_two_secrets,
 };
 use sso_base::NoMemory;
 use std::alloc::Global;
@@ -69,6 +69,12 @@ fn ignored_secrets(alloc: Global) -> Result<String, NoMemory> {
     with_old_secrets(alloc, file.as_str(), OLD_SEALS)
 }
 
+// The same with full pages.
+fn full_pages(alloc: Global) -> Result<String, NoMemory> {
+    let file = shop(alloc)?;
+    with_full_pages(alloc, file.as_str())
+}
+
 // The head of a configuration whose provider has this issuer.
 fn provider_at(alloc: Global, issuer: &str) -> Result<String, NoMemory> {
     Ok(PROVIDER.replacen(alloc, "http://127.0.0.1:8080", issuer, 1)?)
@@ -101,6 +107,7 @@ pub fn configuration(alloc: Global, name: &str) -> Result<String, NoMemory> {
         "two secrets" => two_secrets(alloc, ""),
         "old seals" => two_secrets(alloc, OLD_SEALS),
         "first version" => ignored_secrets(alloc),
+        "full pages" => full_pages(alloc),
         "below a path" => below_a_path(alloc),
         "https" => https(alloc),
         _ => Ok(String::new(alloc)),

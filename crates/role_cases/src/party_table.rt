@@ -1,7 +1,10 @@
 // The calls of the table `party`.
 
 use crate::roles::{Role, Roles};
-use crate::setup::{ELSEWHERE, ELSEWHERE_AUTHORIZE, LOCAL, configuration, configuration_with};
+use crate::setup::{
+    ELSEWHERE, ELSEWHERE_AUTHORIZE, LOCAL, configuration, configuration_with,
+    configuration_with_pages,
+};
 use case_lines::number;
 use sso_base::NoMemory;
 use std::alloc::Global;
@@ -38,19 +41,26 @@ fn begin_changing_party(
     roles.begin_party(alloc, file.as_str(), name, None)
 }
 
+// The same with full pages.
+fn begin_full_party(alloc: Global, roles: &mut Roles, name: &str) -> Result<String, NoMemory> {
+    let file = configuration_with_pages(alloc)?;
+    roles.begin_party(alloc, file.as_str(), name, None)
+}
+
 // Begins a relying party of the other provider.
 fn begin_elsewhere(alloc: Global, roles: &mut Roles, name: &str) -> Result<String, NoMemory> {
     let file = configuration(alloc, ELSEWHERE)?;
     roles.begin_party(alloc, file.as_str(), name, Some(ELSEWHERE_AUTHORIZE))
 }
 
-/// The answer to a call: `party|NAME`, `party|NAME|elsewhere` and `provider` begin a role. With `two secrets` or `old seals` at the
-/// end, clients have two secrets. A call after `provider` goes to the provider, and every other call to the relying party, as often
-/// as `times|COUNT` before it says.
+/// The answer to a call: `party|NAME`, `party|NAME|elsewhere`, `party|NAME|full pages` and `provider` begin a role. With `two
+/// secrets` or `old seals` at the end, clients have two secrets. A call after `provider` goes to the provider, and every other
+/// call to the relying party, as often as `times|COUNT` before it says.
 pub fn answer(alloc: Global, roles: &mut Roles, fields: &[&str]) -> Result<String, NoMemory> {
     match fields {
         ["party", name] => begin_party(alloc, roles, name),
         ["party", name, "elsewhere"] => begin_elsewhere(alloc, roles, name),
+        ["party", name, "full pages"] => begin_full_party(alloc, roles, name),
         ["party", name, secrets] => begin_changing_party(alloc, roles, name, secrets),
         ["provider"] => begin_provider(alloc, roles),
         ["provider", secrets @ ("two secrets" | "old seals")] => {

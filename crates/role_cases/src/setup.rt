@@ -2,7 +2,7 @@
 
 use sample_configuration::{
     ALICE, ALICES_CLAIMS, BOB, MAIL_CLIENT, MAIL_PARTY, NEWS_CLIENT, NEWS_PARTY, OLD_SEALS,
-    PROVIDER, SHOP_CLIENT, SHOP_PARTY, with_two_secrets,
+    PROVIDER, SHOP_CLIENT, SHOP_PARTY, with_full_pages, with_two_secrets,
 };
 use sso_base::NoMemory;
 use std::alloc::Global;
@@ -179,4 +179,10 @@ pub fn configuration_with(alloc: Global, secrets: &str) -> Result<String, NoMemo
     };
     let file = configuration(alloc, LOCAL)?;
     with_two_secrets(alloc, file.as_str(), lines)
+}
+
+/// The configuration of the cases with full pages.
+pub fn configuration_with_pages(alloc: Global) -> Result<String, NoMemory> {
+    let file = configuration(alloc, LOCAL)?;
+    with_full_pages(alloc, file.as_str())
 }

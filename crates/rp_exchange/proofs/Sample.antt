@@ -32,6 +32,7 @@ shop_client =
       logout_session = true;
       redirect_urls = url_at 8081 (codes "/cb") ∷ [];
       logout_url = Some (url_at 8081 (codes "/logout"));
+      title = [];
     }
 
 abbrev pub news_client : Client
@@ -49,6 +50,7 @@ news_client =
       logout_session = false;
       redirect_urls = url_at 8082 (codes "/cb") ∷ [];
       logout_url = None;
+      title = [];
     }
 
 abbrev pub shop : Party
@@ -95,6 +97,8 @@ sample =
       parties = shop ∷ news ∷ [];
       subjects = [] ∷ [] ∷ [];
       lasting = false;
+      full_pages = false;
+      title = [];
     }
 
 -- the claims of an ID Token of this provider for the first client

@@ -1,11 +1,20 @@
 -- Laws about the replies that a relying party writes. Each is a clause of a function of `law.rt`, which says it in words.
-use Rattle.std.specs.Prelude.{◌≡◌, ℕ, is_some, map}
+use Rattle.std.specs.Prelude.{◌≡◌, ℕ, true, false, [], ◌∷◌, ◌++◌, codes, is_some, map}
+use Rattle.std.specs.Str.Iter.{HasSubslice}
+use Rattle.sso_base.specs.Words.{Text}
 use Rattle.http_reply.specs.UserAgent.{cookie_read}
 use Rattle.client_registry.specs.Configuration.{Configuration}
 use Rattle.client_registry.specs.Numbers.{party_name}
 use Rattle.client_registry.specs.Registered.{IsRegistry}
+use Rattle.oidc_words.specs.Paths.{leave_path}
+use Rattle.rp_exchange.specs.declared.no.RpNo.{RpNo}
 use Rattle.rp_exchange.specs.declared.reply.RpReply.{RpReply}
+use Rattle.rp_exchange.specs.declared.reply.RpReply.TheVariants as reply
+use Rattle.html_pages.specs.Escaping.{escaped}
+use Rattle.html_pages.specs.Posting.{control_of, posted, form_posted}
 use Rattle.rp_response.specs.Cookies.{browser_cookie, session_cookie}
+use Rattle.rp_response.specs.Lines.{line_of}
+use Rattle.rp_response.specs.FullPages.{is_of_logout}
 use Rattle.rp_response.specs.Telling.{http_of}
 use Rattle.http_reply.specs.Told.{kept, sets_cookie}
 use Rattle.rp_response.specs.Told.{browser_given, session_given, words_set}
@@ -26,3 +35,27 @@ abbrev pub SessionCookiesAreSet : Type 0
 SessionCookiesAreSet =
     (c : Configuration) (n : ℕ) (r : RpReply) → IsRegistry c
     → sets_cookie (session_cookie (party_name c n)) (http_of c n r).cookies ≡ is_some (session_given r)
+
+-- ---- errors
+
+abbrev pub PlainErrorsAreTheirLines : Type 0
+PlainErrorsAreTheirLines =
+    (c : Configuration) (n : ℕ) (why : RpNo) → c.full_pages ≡ false
+    → (http_of c n (reply.Refused why)).body ≡ line_of (reply.Refused why) ++ 10 ∷ []
+
+abbrev pub LogoutErrorsAreTheirLines : Type 0
+LogoutErrorsAreTheirLines =
+    (c : Configuration) (n : ℕ) (why : RpNo) → is_of_logout why ≡ true
+    → (http_of c n (reply.Refused why)).body ≡ line_of (reply.Refused why) ++ 10 ∷ []
+
+abbrev pub FullErrorsShowTheirLines : Type 0
+FullErrorsShowTheirLines =
+    (c : Configuration) (n : ℕ) (why : RpNo) → c.full_pages ≡ true → is_of_logout why ≡ false
+    → HasSubslice (http_of c n (reply.Refused why)).body (escaped (line_of (reply.Refused why)))
+
+-- ---- forms
+
+abbrev pub FullFrontPagesLeave : Type 0
+FullFrontPagesLeave =
+    (c : Configuration) (n : ℕ) (sub : Text) → c.full_pages ≡ true
+    → posted (http_of c n (reply.User sub)).body ≡ form_posted leave_path ∷ control_of (codes "button") [] ∷ []

@@ -16,6 +16,7 @@ ghost use Rattle.rp_response.specs.Telling.{http_of};
 ghost use Rattle.rp_response.specs.Lines.{line_of};
 ghost use Rattle.rp_response.specs.Told.{sends_on, is_full};
 ghost use Rattle.rp_response.specs.Laws.{CookiesAreTheWordsOfReplies, BrowserCookiesAreSet, SessionCookiesAreSet};
+ghost use Rattle.rp_response.specs.Laws.{PlainErrorsAreTheirLines, LogoutErrorsAreTheirLines, FullErrorsShowTheirLines, FullFrontPagesLeave};
 
 /// The cookies of a reply hold exactly the words that it sets: the browser word when a login begins, and the session word when
 /// a session begins. A user agent reads each under its name as the word's text, for every path, `HttpOnly`, `SameSite=Lax` and,
@@ -35,9 +36,12 @@ pub fn logins_send_the_user_agent_on()
     ensures status { (c : Configuration) (n : ℕ) (r : RpReply) → ((http_of c n r).status ≡ 303) ↔ (sends_on r ≡ true) }
 {}
 
-/// The body of an error is its line. Its status is 503 if and only if a table has no room, and 400 otherwise.
+/// The body of an error is its line, unless pages are full; that of a logout token always is. The full page of any other error has
+/// the line in it, escaped. The status is 503 if and only if a table has no room, and 400 otherwise.
 pub fn refusals_are_their_lines()
-    ensures body { (c : Configuration) (n : ℕ) (why : RpNo) → (http_of c n (reply.Refused why)).body ≡ line_of (reply.Refused why) ++ 10 ∷ [] }
+    ensures body { PlainErrorsAreTheirLines }
+    ensures logout { LogoutErrorsAreTheirLines }
+    ensures shown { FullErrorsShowTheirLines }
     ensures full { (c : Configuration) (n : ℕ) (why : RpNo) → ((http_of c n (reply.Refused why)).status ≡ 503) ↔ (is_full why ≡ true) }
     ensures others { (c : Configuration) (n : ℕ) (why : RpNo) → ¬ (is_full why ≡ true) → (http_of c n (reply.Refused why)).status ≡ 400 }
 {}
@@ -55,6 +59,11 @@ pub fn messages_are_not_told()
     ensures fetch { (c : Configuration) (n : ℕ) (v w : Word) (m k : Message) → http_of c n (reply.Fetch v m) ≡ http_of c n (reply.Fetch w k) }
     ensures exchange_line { (v w : Word) (m k : Message) → line_of (reply.Exchange v m) ≡ line_of (reply.Exchange w k) }
     ensures fetch_line { (v w : Word) (m k : Message) → line_of (reply.Fetch v m) ≡ line_of (reply.Fetch w k) }
+{}
+
+/// A full front page posts one form, which leaves the party. It is the same form for every user and title.
+pub fn full_front_pages_leave()
+    ensures { FullFrontPagesLeave }
 {}
 
 /// The page that posts a fragment is the same at every party of every registry, and its form goes to its own location.

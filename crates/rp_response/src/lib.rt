@@ -5,6 +5,7 @@
 //! |---|---|
 //! | `telling` | [`rp_http`]: the status, the fields and the body of a reply |
 //! | `page` | the page that posts the fragment of its location |
+//! | `full_pages` | the full pages: the front page, after it was left, and for a login that failed |
 //! | `cookies` | the browser's cookie and the session's |
 //! | `lines` | [`rp_line`]: the line of a reply |
 //! | `refusals` | the printed names of errors |
@@ -12,6 +13,7 @@
 #![tactic(auto)]
 
 mod cookies;
+mod full_pages;
 mod law;
 mod lines;
 mod page;
@@ -19,7 +21,7 @@ mod refusals;
 mod telling;
 
 pub use law::{
-    cookies_hold_the_words_of_replies, lines_tell_no_words_and_no_values,
+    cookies_hold_the_words_of_replies, full_front_pages_leave, lines_tell_no_words_and_no_values,
     lines_tell_subjects_and_codes, logins_send_the_user_agent_on, messages_are_not_told,
     plain_bodies_are_lines, refusals_are_their_lines, the_fragment_page_is_the_same_everywhere,
 };

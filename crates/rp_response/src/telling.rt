@@ -1,12 +1,15 @@
 // Replies in HTTP.
 
 ghost use Rattle.std.specs.Prelude.{◌≡◌, ◌<◌, length, IfOk};
+ghost use Rattle.client_registry.specs.Numbers.{party_client};
 ghost use Rattle.rp_response.specs.Telling as spec;
 
 use crate::cookies::{browser_cookies, session_cookies};
+use crate::full_pages::{left_page, nobody_page, refused_page, user_page};
 use crate::page::fragment_page;
 use crate::refusals::refusal_line;
-use client_registry::Registry;
+use client_registry::{Client, Registry};
+use html_pages::shown;
 use http_reply::{concatenated, empty, html, plain, sent_to};
 use oidc_words::HOME_PATH;
 use rp_exchange::{RpNo, RpReply};
@@ -40,11 +43,48 @@ fn fragment(alloc: Global) -> Result<HttpReply, NoMemory>
     Ok(html(Texts::new(alloc), page))
 }
 
-fn user(alloc: Global, sub: &Text) -> Result<HttpReply, NoMemory>
-    ensures { IfOk result (λ h. h ≡ spec.user sub.now) }
+// The party's client.
+fn client_of(registry: &Registry, party: u32) -> &Client
+    requires { party < length registry.now.parties }
+    ensures { result.now ≡ party_client registry.now party }
 {
+    // The contract of `parties` states the invariant of every registry: the client of each of its parties exists.
+    let _parties = registry.parties();
+    let number = registry.party(party).client;
+    registry.client(number)
+}
+
+fn user(
+    alloc: Global,
+    registry: &Registry,
+    party: u32,
+    sub: &Text,
+) -> Result<HttpReply, NoMemory>
+    requires { party < length registry.now.parties }
+    ensures { IfOk result (λ h. h ≡ spec.user registry.now party sub.now) }
+{
+    let title = client_of(registry, party).title.as_str();
+    let page = user_page(alloc, registry.full_pages(), title, sub.as_str())?;
     let line = concatenated(alloc, "user ", sub.as_str())?;
-    plain(alloc, 200, line.as_str())
+    shown(alloc, 200, page, line.as_str())
+}
+
+fn nobody(alloc: Global, registry: &Registry, party: u32) -> Result<HttpReply, NoMemory>
+    requires { party < length registry.now.parties }
+    ensures { IfOk result (λ h. h ≡ spec.nobody registry.now party) }
+{
+    let title = client_of(registry, party).title.as_str();
+    let page = nobody_page(alloc, registry.full_pages(), title)?;
+    shown(alloc, 200, page, "nobody")
+}
+
+fn left(alloc: Global, registry: &Registry, party: u32) -> Result<HttpReply, NoMemory>
+    requires { party < length registry.now.parties }
+    ensures { IfOk result (λ h. h ≡ spec.left registry.now party) }
+{
+    let title = client_of(registry, party).title.as_str();
+    let page = left_page(alloc, registry.full_pages(), title)?;
+    shown(alloc, 200, page, "left")
 }
 
 // The status of an error.
@@ -57,11 +97,19 @@ fn refused_status(why: &RpNo) -> u16
     }
 }
 
-fn refused(alloc: Global, why: &RpNo) -> Result<HttpReply, NoMemory>
-    ensures { IfOk result (λ h. h ≡ spec.refused why.now) }
+fn refused(
+    alloc: Global,
+    registry: &Registry,
+    party: u32,
+    why: &RpNo,
+) -> Result<HttpReply, NoMemory>
+    requires { party < length registry.now.parties }
+    ensures { IfOk result (λ h. h ≡ spec.refused registry.now party why.now) }
 {
     let line = refusal_line(alloc, why)?;
-    plain(alloc, refused_status(why), line.as_str())
+    let title = client_of(registry, party).title.as_str();
+    let page = refused_page(alloc, registry.full_pages(), title, why, line.as_str())?;
+    shown(alloc, refused_status(why), page, line.as_str())
 }
 
 /// The HTTP reply for this reply of the party with this number in the registry.
@@ -72,8 +120,8 @@ fn refused(alloc: Global, why: &RpNo) -> Result<HttpReply, NoMemory>
 ///
 /// The fragment page is HTML; it reads the fragment and posts it to its own location. The reply to an accepted logout is empty,
 /// with status 200 (OpenID Connect Back-Channel Logout 1.0, 2.8). The replies that show who is logged in, and that a session is
-/// over, are one line of text. An error is its line, with status 400, or 503 if a table is full. An unknown path has status
-/// 404.
+/// over, are one line of text, or HTML if pages are full. An error has status 400, or 503 if a table is full. It is its line, or
+/// HTML with this line if pages are full, except that of a logout token. An unknown path has status 404.
 ///
 /// A reply that is waiting for the provider has status 502, and does not show its message.
 ///
@@ -95,11 +143,11 @@ pub fn rp_http(
         RpReply::Fragment => fragment(alloc),
         RpReply::Exchange { .. } | RpReply::Fetch { .. } => plain(alloc, 502, "pending"),
         RpReply::Entered { session, .. } => entered(alloc, secure, name, session),
-        RpReply::User { sub } => user(alloc, sub),
-        RpReply::Nobody => plain(alloc, 200, "nobody"),
-        RpReply::Left { .. } => plain(alloc, 200, "left"),
+        RpReply::User { sub } => user(alloc, registry, party, sub),
+        RpReply::Nobody => nobody(alloc, registry, party),
+        RpReply::Left { .. } => left(alloc, registry, party),
         RpReply::Ended { .. } => Ok(empty(alloc)),
-        RpReply::Refused { why } => refused(alloc, why),
+        RpReply::Refused { why } => refused(alloc, registry, party, why),
         RpReply::NotHere => plain(alloc, 404, "not here"),
     }
 }

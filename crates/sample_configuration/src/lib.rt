@@ -6,12 +6,15 @@
 //! | `rows` | rows of configurations |
 //! | `whole` | [`sample`], the configuration of `examples/sample.toml`, and [`news_alone`], a part of it |
 //! | `old_secrets` | configurations whose clients have an old secret too, as [`with_two_secrets`], and the secrets |
+//! | `full_pages` | [`with_full_pages`], a configuration with full pages |
 #![tactic(auto)]
 
+mod full_pages;
 mod old_secrets;
 mod rows;
 mod whole;
 
+pub use full_pages::with_full_pages;
 pub use old_secrets::{
     OLD_SEALS, in_second_version, secret_of, with_old_secret, with_old_secrets, with_two_secrets,
 };

@@ -36,8 +36,10 @@ use Rattle.op_exchange.specs.declared.ask.OpAsk.{OpAsk}
 use Rattle.op_exchange.specs.declared.ask.OpAsk.TheVariants as ask
 use Rattle.op_exchange.specs.declared.reply.OpReply.{OpReply}
 use Rattle.op_exchange.specs.declared.reply.OpReply.TheVariants as op
+use Rattle.html_pages.specs.Documents.{head_text, document, body_shown}
 use Rattle.op_response.specs.Pages.{login_text, consent_text}
-use Rattle.op_response.specs.Telling.{http_of as op_http}
+use Rattle.op_response.specs.FullPages.{login_content, consent_content, signed_out_content, full_signed_out_page, signed_out_page}
+use Rattle.op_response.specs.Telling.{http_of as op_http, login_body, consent_body, application_title}
 use Rattle.op_response.proofs.ReplyLaws.{tokens_are_read}
 use Rattle.op_answer.specs.Past.{OpPast}
 use Rattle.op_answer.specs.Answering.{op_reply, op_answer}
@@ -50,7 +52,8 @@ use Rattle.rp_exchange.specs.declared.no.RpNo.TheVariants as no
 use Rattle.rp_exchange.specs.declared.reply.RpReply.{RpReply}
 use Rattle.rp_exchange.specs.declared.reply.RpReply.TheVariants as rp
 use Rattle.rp_response.specs.Page.{fragment_page}
-use Rattle.rp_response.specs.Telling.{http_of as rp_http}
+use Rattle.rp_response.specs.FullPages.{begin_link, user_content, full_user_page, full_nobody_page, full_left_page, user_page, nobody_page, left_page}
+use Rattle.rp_response.specs.Telling.{http_of as rp_http, party_title}
 use Rattle.sign_on.proofs.IssuedHashes.{tokens_are_text}
 
 -- ---- what has no tokens
@@ -129,13 +132,35 @@ page_is_unread (b ∷ text) page =
     let same : b ≡ 60 = eqb-true b 60 page in
     ap (λ (x : ℕ). read (x ∷ text)) same ∙ page_unread text
 
-login_is_page : (prefix turn note : Text) → is_page (login_text prefix turn note) ≡ true
-unfolding login_text
-login_is_page prefix turn note = refl
+document_is_page : (heading site content : Text) → is_page (document heading site content) ≡ true
+unfolding head_text
+document_is_page heading site content = refl
 
-consent_is_page : (prefix turn client scopes : Text) → is_page (consent_text prefix turn client scopes) ≡ true
+login_is_page : (is_full : Bool) (site prefix turn : Text) (again : Bool) → is_page (login_body is_full site prefix turn again) ≡ true
+unfolding login_text
+login_is_page false site prefix turn again = refl
+login_is_page true site prefix turn again = document_is_page (codes "Sign in") site (login_content prefix turn again)
+
+consent_is_page : (is_full : Bool) (c : Configuration) (turn client : Text) (scopes : Scopes) → is_page (consent_body is_full c turn client scopes) ≡ true
 unfolding consent_text
-consent_is_page prefix turn client scopes = refl
+consent_is_page false c turn client scopes = refl
+consent_is_page true c turn client scopes = document_is_page (codes "Do you agree?") c.title (consent_content c.prefix turn (application_title c client) scopes)
+
+signed_out_unread : (is_full : Bool) (site : Text) → read (body_shown (signed_out_page is_full site) (codes "signed out")) ≡ None
+signed_out_unread false site = signed_unread (codes "igned out" ++ 10 ∷ [])
+signed_out_unread true site = page_is_unread (full_signed_out_page site) (document_is_page (codes "You are signed out") site signed_out_content)
+
+user_page_unread : (is_full : Bool) (title sub : Text) → read (body_shown (user_page is_full title sub) (codes "user " ++ sub)) ≡ None
+user_page_unread false title sub = user_unread ((codes "ser " ++ sub) ++ 10 ∷ [])
+user_page_unread true title sub = page_is_unread (full_user_page title sub) (document_is_page (codes "Welcome") title (user_content sub))
+
+nobody_page_unread : (is_full : Bool) (title : Text) → read (body_shown (nobody_page is_full title) (codes "nobody")) ≡ None
+nobody_page_unread false title = nobody_unread
+nobody_page_unread true title = page_is_unread (full_nobody_page title) (document_is_page (codes "You are not signed in") title (begin_link (codes "Sign in")))
+
+left_page_unread : (is_full : Bool) (title : Text) → read (body_shown (left_page is_full title) (codes "left")) ≡ None
+left_page_unread false title = left_unread (codes "eft" ++ 10 ∷ [])
+left_page_unread true title = page_is_unread (full_left_page title) (document_is_page (codes "You are signed out") title (begin_link (codes "Sign in again")))
 
 fragment_is_page : is_page fragment_page ≡ true
 unfolding fragment_page
@@ -205,9 +230,11 @@ pub provider_gave : (c : Configuration) (past : OpPast) (e : Entry OpAsk) (reply
     → GaveTokens reply came
 unfolding op_http
 provider_gave c past e (op.LoginPage turn browser again) came registry is given =
-    absurd (no_json 200 _ came (page_is_unread _ (login_is_page _ _ _)) given)
+    let body : Text = login_body c.full_pages c.title c.prefix (word_text turn) again in
+    absurd (no_json 200 body came (page_is_unread body (login_is_page c.full_pages c.title c.prefix (word_text turn) again)) given)
 provider_gave c past e (op.ConsentPage turn browser session client scopes) came registry is given =
-    absurd (no_json 200 _ came (page_is_unread _ (consent_is_page _ _ _ _)) given)
+    let body : Text = consent_body c.full_pages c (word_text turn) client scopes in
+    absurd (no_json 200 body came (page_is_unread body (consent_is_page c.full_pages c (word_text turn) client scopes)) given)
 provider_gave c past e (op.Answered answer session) came registry is given = absurd (other_status 303 _ came refl given)
 provider_gave c past e (op.Refused refusal session) came registry is given = absurd (other_status 303 _ came refl given)
 provider_gave c past e (op.ErrorPage why) came registry is given = absurd (other_status 400 _ came refl given)
@@ -220,7 +247,8 @@ provider_gave c past e (op.TokenRefused other) came registry is given = absurd (
 provider_gave c past e (op.Info claims) came registry is given =
     absurd (info_has_no_tokens c past e e.ask claims came registry (infos_have_a_cause c past e claims is) given)
 provider_gave c past e (op.InfoRefused other) came registry is given = absurd (other_status 401 _ came refl given)
-provider_gave c past e (op.SignedOut messages) came registry is given = absurd (no_json 200 _ came (signed_unread _) given)
+provider_gave c past e (op.SignedOut messages) came registry is given =
+    absurd (no_json 200 (body_shown (signed_out_page c.full_pages c.title) (codes "signed out")) came (signed_out_unread c.full_pages c.title) given)
 provider_gave c past e (op.Metadata text) came registry is given =
     let R : Text → Type 0 = λ t. tokens_read (answered 200 t) ≡ Ok came in
     absurd (no_claim (metadata c.provider) came (ClaimsFit-metadata c.provider (printable c registry)) (metadata_have_none c.provider) (subst R (sym (metadata_are c past e text is)) given))
@@ -243,9 +271,12 @@ party_gave_none c n rp.Fragment came given = no_json 200 _ came (page_is_unread 
 party_gave_none c n (rp.Exchange pending message) came given = other_status 502 _ came refl given
 party_gave_none c n (rp.Fetch pending message) came given = other_status 502 _ came refl given
 party_gave_none c n (rp.Entered session sub) came given = other_status 303 _ came refl given
-party_gave_none c n (rp.User sub) came given = no_json 200 _ came (user_unread _) given
-party_gave_none c n rp.Nobody came given = no_json 200 _ came nobody_unread given
-party_gave_none c n (rp.Left ended) came given = no_json 200 _ came (left_unread _) given
+party_gave_none c n (rp.User sub) came given =
+    no_json 200 (body_shown (user_page c.full_pages (party_title c n) sub) (codes "user " ++ sub)) came (user_page_unread c.full_pages (party_title c n) sub) given
+party_gave_none c n rp.Nobody came given =
+    no_json 200 (body_shown (nobody_page c.full_pages (party_title c n)) (codes "nobody")) came (nobody_page_unread c.full_pages (party_title c n)) given
+party_gave_none c n (rp.Left ended) came given =
+    no_json 200 (body_shown (left_page c.full_pages (party_title c n)) (codes "left")) came (left_page_unread c.full_pages (party_title c n)) given
 party_gave_none c n (rp.Ended count) came given = no_json 200 _ came nothing_unread given
 party_gave_none c n (rp.Refused why) came given = refused_gives_none c n why came given
 party_gave_none c n rp.NotHere came given = other_status 404 _ came refl given

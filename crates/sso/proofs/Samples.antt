@@ -76,6 +76,8 @@ configuration = record {
   parties = [];
   subjects = [];
   lasting = false;
+  full_pages = false;
+  title = codes "a.b";
 }
 
 small_read : registry_read small ≡ Ok configuration

@@ -32,6 +32,7 @@ pub fn client_with(alloc: Global, secret: &str, old: &str) -> Result<Client, NoM
         logout_session: false,
         redirect_urls: WebUrls::new(alloc),
         logout_url: None,
+        title: Text::new(alloc, "c")?,
     })
 }
 

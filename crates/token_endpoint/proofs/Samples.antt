@@ -47,6 +47,7 @@ client_a = record {
   logout_session = false;
   redirect_urls = [];
   logout_url = None;
+  title = [];
 }
 
 abbrev here : Configuration
@@ -60,6 +61,8 @@ here = record {
   parties = [];
   subjects = [] ∷ [];
   lasting = false;
+  full_pages = false;
+  title = [];
 }
 
 abbrev shown : Text → Text → Credentials

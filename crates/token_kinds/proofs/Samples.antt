@@ -34,7 +34,7 @@ id_claims_with_jti-are_read_as_a_logout_token = refl
 -- ---- a client that issues tokens in its own name, for a provider
 
 abbrev client : Client
-client = record { id = codes "c"; secret = codes "key"; old_secret = None; seals_old = false; redirects = []; types = []; pairwise = false; asks_consent = false; logout = None; logout_session = false; redirect_urls = []; logout_url = None }
+client = record { id = codes "c"; secret = codes "key"; old_secret = None; seals_old = false; redirects = []; types = []; pairwise = false; asks_consent = false; logout = None; logout_session = false; redirect_urls = []; logout_url = None; title = [] }
 
 abbrev own : IdClaims
 own = record { iss = codes "c"; sub = codes "alice"; aud = codes "i" ∷ []; azp = None; exp = 1120; iat = 1000; auth_time = None; nonce = Some (codes "n"); sid = None; at_hash = None; c_hash = None; more = no_members }

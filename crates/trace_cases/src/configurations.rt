@@ -3,8 +3,8 @@
 use client_registry::{Registry, read_registry};
 use sample_configuration::{
     ALICE, ALICES_CLAIMS, ANY_CLIENT, BOB, MAIL_CLIENT, MAIL_PARTY, NEWS_CLIENT, NEWS_PARTY,
-    OLD_SEALS, PROVIDER, SHOP_CLIENT, SHOP_PARTY, news_alone, sample, with_old_secrets,
-    with_two_secrets,
+    OLD_SEALS, PROVIDER, SHOP_CLIENT, SHOP_PARTY, news_alone, sample, with_full_pages,
+    with_old_secrets, with_two_secrets,
 };
 use sso_base::NoMemory;
 use std::alloc::Global;
@@ -128,8 +128,14 @@ pub fn registry(alloc: Global) -> Result<Option<Registry>, NoMemory> {
     Ok(read_registry(alloc, file.as_bytes()).ok())
 }
 
-/// The configuration with this name: `sample`, `news`, `wide`, `two secrets`, `old seals`, `first version`, `two sids`, or a
-/// response type.
+// The sample with full pages.
+fn full_pages(alloc: Global) -> Result<String, NoMemory> {
+    let file = sample(alloc)?;
+    with_full_pages(alloc, file.as_str())
+}
+
+/// The configuration with this name: `sample`, `news`, `wide`, `two secrets`, `old seals`, `first version`, `two sids`,
+/// `full pages`, or a response type.
 pub fn configuration(alloc: Global, name: &str) -> Result<String, NoMemory> {
     match name {
         "sample" => sample(alloc),
@@ -139,6 +145,7 @@ pub fn configuration(alloc: Global, name: &str) -> Result<String, NoMemory> {
         "old seals" => two_secrets(alloc, OLD_SEALS),
         "first version" => ignored_secrets(alloc),
         "two sids" => two_sids(alloc),
+        "full pages" => full_pages(alloc),
         _ => sample_with(alloc, name),
     }
 }

@@ -43,6 +43,8 @@ registry = record {
   parties = party (codes "shop") ∷ party (codes "news") ∷ [];
   subjects = [];
   lasting = false;
+  full_pages = false;
+  title = [];
 }
 
 -- three lines of which two take a place, at the moment 1000

@@ -27,6 +27,7 @@ client = record {
   logout_session = false;
   redirect_urls = [];
   logout_url = None;
+  title = [];
 }
 
 abbrev sample : Configuration
@@ -40,6 +41,8 @@ sample = record {
   parties = [];
   subjects = (codes "alice" ∷ []) ∷ (codes "alice" ∷ []) ∷ [];
   lasting = false;
+  full_pages = false;
+  title = [];
 }
 
 abbrev profile : Scopes

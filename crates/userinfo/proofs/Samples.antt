@@ -67,6 +67,8 @@ here = record {
   parties = [];
   subjects = (codes "x7" ∷ []) ∷ [];
   lasting = false;
+  full_pages = false;
+  title = [];
 }
 
 members_with-two_of_three : members_with (λ k. is_wanted email_only [] k) all_of_alice ≡ member (codes "email") (string (codes "a@b.org")) (member (codes "email_verified") (boolean true) no_members)

@@ -97,6 +97,31 @@ pub fn secrets(alloc: Global, version: &str, old: &str, new: &str) -> Result<Str
     first_secrets(alloc, &answer)
 }
 
+fn told_titles(alloc: Global, registry: &Registry) -> Result<String, NoMemory> {
+    let pages = if registry.full_pages() { "full" } else { "plain" };
+    let title = registry.title().as_str();
+    let client = if 0 < registry.clients() {
+        registry.client(0).title.as_str()
+    } else {
+        "-"
+    };
+    Ok(format!(in alloc; "{pages} pages, provider {title}, first client {client}")?)
+}
+
+fn all_titles(alloc: Global, answer: &Result<Registry, RegNo>) -> Result<String, NoMemory> {
+    match answer {
+        Ok(registry) => told_titles(alloc, registry),
+        Err(why) => told_refusal(alloc, refusal(why)),
+    }
+}
+
+/// `titles|VERSION|OLD|NEW`: its pages, and the titles of the provider and of its first client.
+pub fn titles(alloc: Global, version: &str, old: &str, new: &str) -> Result<String, NoMemory> {
+    let file = sample_of(alloc, version, old, new)?;
+    let answer = read_registry(alloc, file.as_bytes());
+    all_titles(alloc, &answer)
+}
+
 /// `file|TEXT`: a whole file. ` / ` is a line feed.
 pub fn file(alloc: Global, text: &str) -> Result<String, NoMemory> {
     let lines = text.replace(alloc, " / ", "\n")?;

@@ -1,0 +1,5 @@
+pub mod EscapedTexts
+pub mod PostedTags
+pub mod Slices
+pub mod ShownReplies
+mod Samples

@@ -1,0 +1,4 @@
+pub mod Escaping
+pub mod Documents
+pub mod Forms
+pub mod Posting

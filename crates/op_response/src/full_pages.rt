@@ -1,0 +1,239 @@
+// Writing the full pages.
+
+ghost use Rattle.std.specs.Prelude.{◌≡◌, ◌++◌, IfOk, OnOk};
+ghost use Rattle.sso_base.specs.Words.{word_text};
+ghost use Rattle.op_response.specs.FullPages as spec;
+
+use crate::lines::page_word;
+use auth_request::PageNo;
+use client_registry::Registry;
+use html_pages::Page;
+use http_reply::concatenated;
+use oidc_words::{CONSENT_PATH, LOGIN_PATH, SIGNOUT_PATH, Scopes};
+use op_exchange::{AGREE_FIELD, AGREE_VALUE, PASSWORD_FIELD, TURN_FIELD, USER_FIELD};
+use sso_base::{Blob, NoMemory, Text, Word};
+use std::alloc::Global;
+
+// ---- the login page
+
+fn push_again(page: &mut Page, again: bool) -> Result<(), NoMemory>
+    ensures { OnOk result (page.new ≡ page.old ++ spec.again_alert again) }
+{
+    if again {
+        page.push_alert("The user name or the password is wrong.")
+    } else {
+        Ok(())
+    }
+}
+
+#[tactic(auto, unfolding(crate::specs::FullPages::login_fields))]
+fn push_login_fields(page: &mut Page) -> Result<(), NoMemory>
+    ensures { OnOk result (page.new ≡ page.old ++ spec.login_fields) }
+{
+    page.push("<label for=\"user\">User name</label>\n<input id=\"user\" name=\"")?;
+    page.push(USER_FIELD)?;
+    page.push(
+        "\" autocomplete=\"username\" spellcheck=\"false\" required autofocus>\n\
+         <label for=\"password\">Password</label>\n<input id=\"password\" type=\"password\" name=\"",
+    )?;
+    page.push(PASSWORD_FIELD)?;
+    page.push("\" autocomplete=\"current-password\" required>\n<button>Sign in</button>\n</form>\n")
+}
+
+fn push_login(page: &mut Page, prefix: &str, turn: &str, again: bool) -> Result<(), NoMemory>
+    ensures { OnOk result (page.new ≡ page.old ++ spec.login_content prefix.now turn.now again) }
+{
+    push_again(page, again)?;
+    page.push_form(prefix, LOGIN_PATH)?;
+    page.push_hidden(TURN_FIELD, turn)?;
+    push_login_fields(page)
+}
+
+// The login page of a site with this title, with an alert after a wrong password.
+pub(crate) fn full_login_page(
+    alloc: Global,
+    site: &Text,
+    prefix: &Text,
+    turn: &Word,
+    again: bool,
+) -> Result<Blob, NoMemory>
+    ensures { IfOk result (λ b. b ≡ spec.full_login_page site.now prefix.now (word_text turn.now) again) }
+{
+    let turn = turn.to_text(alloc)?;
+    let mut page = Page::begin(alloc, "Sign in", site.as_str())?;
+    push_login(&mut page, prefix.as_str(), turn.as_str(), again)?;
+    page.end()
+}
+
+// ---- the consent page
+
+fn item(requested: bool, words: &'static str) -> &'static str
+    ensures { result.now ≡ spec.item requested words.now }
+{
+    if requested { words } else { "" }
+}
+
+#[tactic(auto, unfolding(crate::specs::FullPages::scope_items))]
+fn push_scopes(page: &mut Page, scopes: &Scopes) -> Result<(), NoMemory>
+    ensures { OnOk result (page.new ≡ page.old ++ spec.scope_items scopes.now) }
+{
+    page.push(item(
+        scopes.openid,
+        "<li>who you are: the identifier of your account</li>\n",
+    ))?;
+    page.push(item(
+        scopes.profile,
+        "<li>your profile, such as your name and picture</li>\n",
+    ))?;
+    page.push(item(scopes.email, "<li>your email address</li>\n"))?;
+    page.push(item(scopes.address, "<li>your postal address</li>\n"))?;
+    page.push(item(scopes.phone, "<li>your phone number</li>\n"))
+}
+
+fn push_asked(page: &mut Page, application: &str, scopes: &Scopes) -> Result<(), NoMemory>
+    ensures { OnOk result (page.new ≡ page.old ++ spec.asked_for application.now scopes.now) }
+{
+    page.push("<p><b>")?;
+    page.push_text(application)?;
+    page.push("</b> asks for:</p>\n<ul>\n")?;
+    push_scopes(page, scopes)?;
+    page.push("</ul>\n")
+}
+
+#[tactic(auto, unfolding(crate::specs::FullPages::agree_buttons))]
+fn push_agree_buttons(page: &mut Page) -> Result<(), NoMemory>
+    ensures { OnOk result (page.new ≡ page.old ++ spec.agree_buttons) }
+{
+    page.push("<button name=\"")?;
+    page.push(AGREE_FIELD)?;
+    page.push("\" value=\"")?;
+    page.push(AGREE_VALUE)?;
+    page.push("\">Agree</button>\n<button class=\"quiet\" name=\"")?;
+    page.push(AGREE_FIELD)?;
+    page.push("\" value=\"no\">Refuse</button>\n</form>\n")
+}
+
+fn push_agree(page: &mut Page, prefix: &str, turn: &str) -> Result<(), NoMemory>
+    ensures { OnOk result (page.new ≡ page.old ++ spec.agree_form prefix.now turn.now) }
+{
+    page.push_form(prefix, CONSENT_PATH)?;
+    page.push_hidden(TURN_FIELD, turn)?;
+    push_agree_buttons(page)
+}
+
+#[tactic(auto, unfolding(crate::specs::FullPages::other_button))]
+fn push_other(page: &mut Page, prefix: &str) -> Result<(), NoMemory>
+    ensures { OnOk result (page.new ≡ page.old ++ spec.other_form prefix.now) }
+{
+    page.push_form(prefix, SIGNOUT_PATH)?;
+    page.push("<p>Not you? <button class=\"quiet link\">Sign out</button></p>\n</form>\n")
+}
+
+// The consent page of a site with this title, for an application with this title.
+pub(crate) fn full_consent_page(
+    alloc: Global,
+    registry: &Registry,
+    turn: &Word,
+    application: &str,
+    scopes: &Scopes,
+) -> Result<Blob, NoMemory>
+    ensures { IfOk result (λ b. b ≡ spec.full_consent_page registry.now.title registry.now.prefix (word_text turn.now) application.now scopes.now) }
+{
+    let prefix = registry.prefix().as_str();
+    let turn = turn.to_text(alloc)?;
+    let mut page = Page::begin(alloc, "Do you agree?", registry.title().as_str())?;
+    push_asked(&mut page, application, scopes)?;
+    push_agree(&mut page, prefix, turn.as_str())?;
+    push_other(&mut page, prefix)?;
+    page.end()
+}
+
+// ---- after a sign-out
+
+fn full_signed_out_page(alloc: Global, site: &Text) -> Result<Blob, NoMemory>
+    ensures { IfOk result (λ b. b ≡ spec.full_signed_out_page site.now) }
+{
+    let mut page = Page::begin(alloc, "You are signed out", site.as_str())?;
+    page.push(
+        "<p>Applications that sign out together with this site are notified. You can close this page.</p>\n",
+    )?;
+    page.end()
+}
+
+// The page after a sign-out, if pages are full.
+pub(crate) fn signed_out_page(
+    alloc: Global,
+    registry: &Registry,
+) -> Result<Option<Blob>, NoMemory>
+    ensures { IfOk result (λ o. o ≡ spec.signed_out_page registry.now.full_pages registry.now.title) }
+{
+    if registry.full_pages() {
+        Ok(Some(full_signed_out_page(alloc, registry.title())?))
+    } else {
+        Ok(None)
+    }
+}
+
+// ---- errors
+
+fn error_heading(why: PageNo) -> &'static str
+    ensures { result.now ≡ spec.error_heading why }
+{
+    match why {
+        PageNo::Client => "Unknown application",
+        PageNo::Redirect => "Unknown address",
+        PageNo::Twice => "Unclear request",
+        PageNo::Turn => "Already used, or too late",
+        PageNo::Browser => "Another browser's page",
+    }
+}
+
+fn error_advice(why: PageNo) -> &'static str
+    ensures { result.now ≡ spec.error_advice why }
+{
+    match why {
+        PageNo::Client =>
+            "The application that sent you here is not registered with this site. Please tell those who run it.",
+        PageNo::Redirect =>
+            "The application asks for an answer at an address that is not registered for it. Please tell those who run it.",
+        PageNo::Twice =>
+            "The application sent something twice that may come once. Please go back to it and begin again.",
+        PageNo::Turn =>
+            "A page to sign in works once, and for ten minutes. Please go back to the application and begin again.",
+        PageNo::Browser =>
+            "This sign-in began in another browser, or this one keeps no cookies. \
+             Please go back to the application and begin again.",
+    }
+}
+
+// The line of a plain page.
+pub(crate) fn error_line(alloc: Global, why: PageNo) -> Result<Text, NoMemory>
+    ensures { IfOk result (λ t. t ≡ spec.error_line why) }
+{
+    concatenated(alloc, "error ", page_word(why))
+}
+
+fn full_error_page(alloc: Global, site: &Text, why: PageNo) -> Result<Blob, NoMemory>
+    ensures { IfOk result (λ b. b ≡ spec.full_error_page site.now why) }
+{
+    let line = error_line(alloc, why)?;
+    let mut page = Page::begin(alloc, error_heading(why), site.as_str())?;
+    page.push_alert(error_advice(why))?;
+    page.push_line(line.as_str())?;
+    page.end()
+}
+
+// The page of an error, if pages are full.
+pub(crate) fn error_page(
+    alloc: Global,
+    registry: &Registry,
+    why: PageNo,
+) -> Result<Option<Blob>, NoMemory>
+    ensures { IfOk result (λ o. o ≡ spec.error_page registry.now.full_pages registry.now.title why) }
+{
+    if registry.full_pages() {
+        Ok(Some(full_error_page(alloc, registry.title(), why)?))
+    } else {
+        Ok(None)
+    }
+}
