@@ -79,7 +79,7 @@ style_posts_nothing : (rest : Text) → posted (style ++ rest) ≡ posted rest
 unfolding style
 style_posts_nothing rest = refl
 
-abbrev before_heading : Text
+abbrev pub before_heading : Text
 before_heading =
     codes "<!doctype html>\n<html lang=\"en\">\n<head>\n<meta charset=\"utf-8\">\n"
     ++ codes "<meta name=\"viewport\" content=\"width=device-width, initial-scale=1\">\n<title>"
