@@ -336,6 +336,34 @@ fn party_rows(refusals: &mut Refusals, clients: &[Value], parties: &[Value]) -> 
     Ok(())
 }
 
+// Checks the users of a configuration: their array, and its rows. So it is for clients and parties.
+fn users(refusals: &mut Refusals, root: &Value) -> Result<(), NoMemory>
+    ensures { OnOk result (refusals.new ≡ refusals.old ++ spec.users_rows (view root.now)) }
+{
+    array(refusals, root, "user")?;
+    user_rows(refusals, rows_at(root, "user"))
+}
+
+fn clients(refusals: &mut Refusals, version: Version, root: &Value) -> Result<(), NoMemory>
+    requires { version ≡ version_in (view root.now) }
+    ensures { OnOk result (refusals.new ≡ refusals.old ++ spec.clients_rows (view root.now)) }
+{
+    array(refusals, root, "client")?;
+    client_rows(
+        refusals,
+        version,
+        rows_at(root, "party"),
+        rows_at(root, "client"),
+    )
+}
+
+fn parties(refusals: &mut Refusals, root: &Value) -> Result<(), NoMemory>
+    ensures { OnOk result (refusals.new ≡ refusals.old ++ spec.parties_rows (view root.now)) }
+{
+    array(refusals, root, "party")?;
+    party_rows(refusals, rows_at(root, "client"), rows_at(root, "party"))
+}
+
 /// Appends the errors of the rows of a configuration of this version, in order. `empty` is an empty table.
 #[tactic(auto, unfolding(crate::specs::Rows::rows_refusals))]
 pub fn judge_rows(
@@ -348,13 +376,8 @@ pub fn judge_rows(
     requires empty { view empty.now ≡ table no_members }
     ensures { OnOk result (refusals.new ≡ refusals.old ++ spec.rows_refusals (view root.now)) }
 {
-    let clients = rows_at(root, "client");
-    let parties = rows_at(root, "party");
     provider_row(refusals, version, table_at(root, "provider", empty))?;
-    array(refusals, root, "user")?;
-    user_rows(refusals, rows_at(root, "user"))?;
-    array(refusals, root, "client")?;
-    client_rows(refusals, version, parties, clients)?;
-    array(refusals, root, "party")?;
-    party_rows(refusals, clients, parties)
+    users(refusals, root)?;
+    clients(refusals, version, root)?;
+    parties(refusals, root)
 }
