@@ -42,7 +42,7 @@ full_left_page title = document (codes "You are signed out") title (begin_link (
 
 abbrev pub denied_advice : AuthError → Text
 denied_advice AccessDenied = codes "You did not agree, or you may not use this application."
-denied_advice other = codes "You could not be signed in. Please begin again."
+denied_advice code = codes "You could not be signed in. Please begin again."
 
 -- what a user can do
 abbrev pub refusal_advice : RpNo → Text
