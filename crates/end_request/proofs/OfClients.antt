@@ -31,10 +31,10 @@ keeps i row none =
     let kind : List RegNo = note_if (is_other_kind (get returns_key row)) (no.WrongKind (path_at i)) in
     let urls : List RegNo = note_if (not (are_urls (row_returns row))) (no.BadUrl (path_at i)) in
     let many : List RegNo = note_if (nat_lt most_returns (length (row_returns row))) (no.TooMany (text_or (codes "id") [] row)) in
-    let rest : urls ++ many ≡ [] = back_nil kind (urls ++ many) none in
+    let front : kind ++ urls ≡ [] = front_nil (kind ++ urls) many none in
     record {
-      urls = turned (are_urls (row_returns row)) (unmet (not (are_urls (row_returns row))) (no.BadUrl (path_at i)) (front_nil urls many rest));
-      few = unmet (nat_lt most_returns (length (row_returns row))) (no.TooMany (text_or (codes "id") [] row)) (back_nil urls many rest);
+      urls = turned (are_urls (row_returns row)) (unmet (not (are_urls (row_returns row))) (no.BadUrl (path_at i)) (back_nil kind urls front));
+      few = unmet (nat_lt most_returns (length (row_returns row))) (no.TooMany (text_or (codes "id") [] row)) (back_nil (kind ++ urls) many none);
     }
 
 all_keep : (rows : List Data) → AllFrom (λ i row. returns_row i row ≡ []) 0 rows → AllByRecursion (λ row. KeepsRule (row_returns row)) rows

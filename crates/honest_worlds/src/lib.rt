@@ -9,6 +9,4 @@
 
 mod law;
 
-pub use law::{
-    no_condition_can_be_left_out, unforged_tokens_are_needed, whole_logins_are_honest,
-};
+pub use law::{no_condition_can_be_left_out, unforged_tokens_are_needed, whole_logins_are_honest};

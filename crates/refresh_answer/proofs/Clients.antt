@@ -143,5 +143,5 @@ module _ {A R : Type 0} (plain : A → Option OpAsk) (given : R → Option OpRep
       let N : Option FamilyRow → Option FamilyRow = λ o. family_at f.by (appended (filter k (Fs before)) o) in
       let E : RefreshAsk A → Bool = λ a. not (is_replay (row_presented (T before) a) a f || is_code_replay (code_presented plain given provided before p.entry.at a) (outer_plain plain a) f) in
       let code = no_code (code_presented plain given provided before p.entry.at (ask.Refresh (Ok g))) f in
-      let kept : k f ≡ true = ap E asked ∙ neither _ _ (no_replay A (row_presented (T before) (ask.Refresh (Ok g))) g f other) code in
+      let kept : k f ≡ true = ap E asked ∙ neither _ _ (no_replay A (row_presented {A = A} (T before) (ask.Refresh (Ok g))) g f other) code in
       ap N none ∙ still k f.by (Fs before) f stands kept

@@ -1,5 +1,5 @@
 -- Where no word was drawn twice: a token is answered by new ones once; and after an old one was presented, its family is over.
-use Rattle.std.proofs.Common.{◌≡◌, ◌<◌, ◌+◌, ℕ, suc, nat_eq, Bool, true, false, not, ◌&&◌, ◌||◌, cond, List, [], ◌∷◌, ◌++◌, length, filter, Option, Some, None, option_and_then, option_map, Ok, inl, inr, refl, ap, sym, ◌∙◌, subst, arith}
+use Rattle.std.proofs.Common.{◌≡◌, ◌<◌, ℕ, suc, nat_eq, Bool, true, false, not, ◌&&◌, ◌||◌, cond, List, [], ◌∷◌, ◌++◌, length, filter, Option, Some, None, option_and_then, option_map, Ok, inl, inr, refl, ap, sym, ◌∙◌, subst, arith}
 use Rattle.sso_base.specs.Words.{Word, fresh_word}
 use Rattle.sso_base.specs.Rows.{row_of, put, if_lives}
 use Rattle.sso_base.specs.Drawn.{IsDrawn}
@@ -20,7 +20,6 @@ use Rattle.refresh_answer.specs.declared.asks.RefreshAsk.TheVariants as ask
 use Rattle.refresh_answer.specs.declared.asks.OwnReply.{OwnReply}
 use Rattle.refresh_answer.specs.declared.asks.OwnReply.TheVariants as own
 use Rattle.refresh_answer.specs.declared.asks.RefreshReply.{RefreshReply}
-use Rattle.refresh_answer.specs.declared.asks.RefreshReply.TheVariants.{Through}
 use Rattle.refresh_answer.specs.declared.rows.FamilyRow.{FamilyRow}
 use Rattle.refresh_answer.specs.declared.rows.AccessRow.{AccessRow}
 use Rattle.refresh_answer.specs.declared.rows.RefreshRow.{RefreshRow}
@@ -209,10 +208,11 @@ module _ {A R : Type 0} (plain : A → Option OpAsk) (given : R → Option OpRep
   over_stays (p ∷ later) past n low h =
       let all : List (Outer A R) = later ++ past in
       let before = over_stays later past n low h in
-      let k : FamilyRow → Bool = λ f. not (ends plain given provided all p.entry.at p.entry.ask f) in
-      (found_appended n (length all) (filter k (Fs all)) (begun_by p.reply (begins plain given provided all p.entry)) (λ f is. begun_place plain given provided all p.entry p.reply f is) (not_same n (length all) before.1)
-       ∙ none_filtered k n (Fs all) before.0,
-       longer n (length all) before.1)
+      let k : FamilyRow → Bool = λ f. not (ends plain given provided all p.entry.at p.entry.ask f) in (
+        found_appended n (length all) (filter k (Fs all)) (begun_by p.reply (begins plain given provided all p.entry)) (λ f is. begun_place plain given provided all p.entry p.reply f is) (not_same n (length all) before.1)
+            ∙ none_filtered k n (Fs all) before.0,
+        longer n (length all) before.1,
+      )
 
   replay_by : (o : Option RefreshRow) (asked : RefreshAsk A) (g : RefreshGrant) (row : RefreshRow) (f : FamilyRow) (other : Bool) → asked ≡ ask.Refresh (Ok g) → o ≡ Some row → row.current ≡ false → row.family ≡ f.by → g.client ≡ f.client
       → not (is_replay o asked f || other) ≡ false
@@ -238,9 +238,10 @@ module _ {A R : Type 0} (plain : A → Option OpAsk) (given : R → Option OpRep
       none_begun past p.entry p.reply (Ok old.grant) (begins plain given provided past p.entry) (fresh_word p.entry.fresh 1) (subst G old.asked is.2) in
       let N : Option FamilyRow → Option FamilyRow = λ o. family_at f.by (Rattle.refresh_answer.specs.Families.appended (filter k (Fs past)) o) in
       let out : k f ≡ false =
-      replay_by (row_presented (T past) p.entry.ask) p.entry.ask old.grant old.row f (is_code_replay (code_presented plain given provided past p.entry.at p.entry.ask) (outer_plain plain p.entry.ask) f) old.asked old.presented_is old.old old.family old.client in
-      (ap N none ∙ gone k f.by (length past) (Fs past) f (numbered plain given provided past) old.stands out,
-       longer f.by (length past) (found_below f.by (length past) (Fs past) f (numbered plain given provided past) old.stands))
+      replay_by (row_presented (T past) p.entry.ask) p.entry.ask old.grant old.row f (is_code_replay (code_presented plain given provided past p.entry.at p.entry.ask) (outer_plain plain p.entry.ask) f) old.asked old.presented_is old.old old.family old.client in (
+        ap N none ∙ gone k f.by (length past) (Fs past) f (numbered plain given provided past) old.stands out,
+        longer f.by (length past) (found_below f.by (length past) (Fs past) f (numbered plain given provided past) old.stands),
+      )
 
   pub no_refresh_after : (past after between before : List (Outer A R)) (p q : Outer A R) (f : FamilyRow) (w : Word) → Answered past → HasNewWords past → past ≡ after ++ q ∷ (between ++ p ∷ before)
       → IsReuse plain given provided before p f → IsTokenOf (T before) f.by w → IsRefreshed q w → ⊥

@@ -207,7 +207,7 @@ module _ {A R : Type 0} (plain : A → Option OpAsk) (given : R → Option OpRep
     -- a sign-out is passed on
     pub outer_signs_out : (notices : R → Option (List Message)) (w : Option Word) → outer_plain plain p.entry.ask ≡ Some (op_ask.SignOut w)
         → ((q : Pair A R) → IsLegalInner s.inner (inner_history h ++ q ∷ []) → plain q.entry.ask ≡ Some (op_ask.SignOut w)
-            → (sent : List Message) × (given q.reply ≡ Some (op_reply.SignedOut sent)) × (notices q.reply ≡ Some sent))
+        → (sent : List Message) × (given q.reply ≡ Some (op_reply.SignedOut sent)) × (notices q.reply ≡ Some sent))
         → (sent : List Message) × (outer_given given p.reply ≡ Some (op_reply.SignedOut sent)) × (outer_notices notices p.reply ≡ Some sent)
     outer_signs_out notices w asked inner =
         let through = plain_through p.entry.ask (op_ask.SignOut w) asked in
@@ -233,7 +233,7 @@ module _ {A R : Type 0} (plain : A → Option OpAsk) (given : R → Option OpRep
       record {
         begins = stack.begins;
         beginnings = λ front rest legal. beginning_is_legal (IsRefreshAsk IsAsk) (IsRefreshReply plain given provided s.registry) passed (outer_weight weighs) (λ (t : Setup S). most t.inner)
-        (λ (t : Setup S) (l : List (Pair A R)). IsLegalInner t.inner l) (λ t front rest l. beginnings t.inner front rest l) s front rest legal;
+            (λ (t : Setup S) (l : List (Pair A R)). IsLegalInner t.inner l) (λ t front rest l. beginnings t.inner front rest l) s front rest legal;
         provider = λ h legal. stack.provider (inner_history h) legal.inner;
         adds = λ h p legal. outer_adds IsAsk weighs most IsLegalInner s h p legal (λ q is. stack.adds (inner_history h) q (last_inside IsAsk weighs most IsLegalInner s h p legal q is));
       }

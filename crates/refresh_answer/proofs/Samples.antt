@@ -76,8 +76,8 @@ over-after_30_days = refl
 
 -- ---- first tokens
 
-first-with_tokens : with_first (Some family) (Some (op_reply.Tokens one [])) 0 two ≡ First 0 two
+first-with_tokens : with_first {R = ℕ} (Some family) (Some (op_reply.Tokens one [])) 0 two ≡ First 0 two
 first-with_tokens = refl
 
-none-with_a_refusal : with_first (Some family) (Some (op_reply.TokenRefused InvalidGrant)) 0 two ≡ Through 0
+none-with_a_refusal : with_first {R = ℕ} (Some family) (Some (op_reply.TokenRefused InvalidGrant)) 0 two ≡ Through 0
 none-with_a_refusal = refl

@@ -29,7 +29,7 @@ use Rattle.refresh_answer.specs.declared.rows.AccessRow.{AccessRow}
 use Rattle.refresh_answer.specs.declared.rows.RefreshRow.{RefreshRow}
 use Rattle.refresh_answer.specs.Rows.{token_name, new_token, old_token}
 use Rattle.refresh_answer.specs.Around.{Outer}
-use Rattle.refresh_answer.specs.Families.{access_family, living, held_tokens, has_room, row_presented, presented, tokens, families, begins, begun_by, if_true, family_for, token_made, token_retired, access_made}
+use Rattle.refresh_answer.specs.Families.{access_family, living, held_tokens, has_room, row_presented, presented, tokens, code_presented, begins, begun_by, if_true, family_for, token_made, token_retired, access_made}
 use Rattle.refresh_answer.specs.Answering.{IsReply, with_first, own_reply, refreshed, refreshed_by, rotated, info_reply, family_info}
 use Rattle.refresh_answer.proofs.Families.{some_none}
 
@@ -172,7 +172,7 @@ module _ {A R : Type 0} (plain : A → Option OpAsk) (given : R → Option OpRep
   begun_place_by other b o n at f h = absurd (some_none f (sym h))
 
   pub begun_place : (past : List (Outer A R)) (e : Entry (RefreshAsk A)) (reply : RefreshReply R) (f : FamilyRow) → begun_by reply (begins plain given provided past e) ≡ Some f → f.by ≡ length past
-  begun_place past e reply f h = begun_place_by reply _ _ (length past) e.at f h
+  begun_place past e reply f h = begun_place_by reply _ (code_presented plain given provided past e.at e.ask) (length past) e.at f h
 
   if_true_some : (b : Bool) (o : Option FamilyRow) (f : FamilyRow) → if_true b o ≡ Some f → b ≡ true
   if_true_some true o f h = refl

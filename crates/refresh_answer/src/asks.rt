@@ -67,10 +67,7 @@ pub enum RefreshReply<R: Drop> {
     /// The reply of the inner core.
     Through(R),
     /// The reply of the inner core, which is tokens for a code, and the first refresh token of a family.
-    First {
-        inner: R,
-        refresh: Word,
-    },
+    First { inner: R, refresh: Word },
     /// A reply without the inner core.
     Own(OwnReply),
 }

@@ -62,6 +62,6 @@ pub fn refused_requests_change_nothing<P: Provides>()
     ensures { (past : List (Outer P.Ask P.Reply)) (p : Outer P.Ask P.Reply) (grant : Result RefreshGrant GrantNo) (code : token_error_of)
         → p.entry.ask ≡ ask.Refresh grant → p.reply ≡ reply_as.Own (own_as.Refused code)
         → ((f : family_row) → spec.is_replay
-            (spec.row_presented (spec.tokens P.plain_ask P.given_reply P.provided past) p.entry.ask) p.entry.ask f ≡ false)
+        (spec.row_presented (spec.tokens P.plain_ask P.given_reply P.provided past) p.entry.ask) p.entry.ask f ≡ false)
         → laws.IsAsBefore P.plain_ask P.given_reply P.provided past p }
 {}

@@ -21,7 +21,7 @@ use Rattle.refresh_answer.specs.declared.rows.RefreshRow.{RefreshRow}
 use Rattle.refresh_answer.specs.declared.rows.AccessRow.{AccessRow}
 use Rattle.refresh_answer.specs.Rows.{family_life, family_begun, token_name, access_name, access_begun}
 use Rattle.refresh_answer.specs.Around.{Outer}
-use Rattle.refresh_answer.specs.Families.{family_at, living_in, held_in, families, tokens, accesses}
+use Rattle.refresh_answer.specs.Families.{family_at, living_in, held_in, row_presented, token_retired, token_made, access_made, families, tokens, accesses}
 use Rattle.refresh_answer.proofs.Families.{some_none, true_false, AreNumbered, found_before, if_lives_parts, living_before}
 use Rattle.refresh_answer.proofs.Current.{numbered}
 use Rattle.refresh_rows.specs.TokenRows.{is_of}
@@ -152,11 +152,14 @@ module _ {A R : Type 0} (plain : A → Option OpAsk) (given : R → Option OpRep
 
   pub tokens_distinct : (past : List (Outer A R)) → IsDistinct token_name (T past)
   tokens_distinct [] = tt
-  tokens_distinct (p ∷ past) = put_distinct token_name _ _ (put_distinct token_name _ _ (tokens_distinct past))
+  tokens_distinct (p ∷ past) =
+      let o : Option RefreshRow = row_presented (T past) p.entry.ask in
+      let retired : Option RefreshRow = token_retired o p.reply in
+      put_distinct token_name (token_made (length past) o p.reply) (put token_name retired (T past)) (put_distinct token_name retired (T past) (tokens_distinct past))
 
   pub accesses_distinct : (past : List (Outer A R)) → IsDistinct access_name (X past)
   accesses_distinct [] = tt
-  accesses_distinct (p ∷ past) = put_distinct access_name _ _ (accesses_distinct past)
+  accesses_distinct (p ∷ past) = put_distinct access_name (access_made p.entry.at (row_presented (T past) p.entry.ask) p.reply) (X past) (accesses_distinct past)
 
   -- the families in a table are those that live
   of_live : (past : List (Outer A R)) (k : FamilyRow → Bool) (at n : ℕ) (fs : List FamilyRow) → AreNumbered (length past) (filter k (F past)) → fs ≡ live_rows family_life family_begun at (filter k (F past))

@@ -56,8 +56,8 @@ absent None h = refl
 absent (Some x) h = absurd (true_false h)
 
 not_both : (a b : Bool) → (a ≡ true → b ≡ true) → b ≡ false → a ≡ false
-not_both true b each no = sym (each refl) ∙ no
-not_both false b each no = refl
+not_both true b each isnt = sym (each refl) ∙ isnt
+not_both false b each isnt = refl
 
 module _ (last at : ℕ) (order : last ≤ at) where
   -- a family that lives at the moment lived earlier
@@ -77,10 +77,10 @@ module _ (last at : ℕ) (order : last ≤ at) where
   found_of_living fs n = lives_of_living fs n (family_at n fs) refl
 
   module _ (fs : List FamilyRow) where
-    here : AccessRow → Bool
+    abbrev here : AccessRow → Bool
     here x = is_some (living_in fs last x.family)
 
-    of_access : Option AccessRow → Option FamilyRow
+    abbrev of_access : Option AccessRow → Option FamilyRow
     of_access o = option_and_then (λ (row : AccessRow). living_in fs at row.family) o
 
     -- an access token of a family that is over is of none

@@ -22,6 +22,7 @@ use Rattle.refresh_answer.specs.declared.asks.RefreshAsk.{RefreshAsk}
 use Rattle.refresh_answer.specs.declared.asks.RefreshAsk.TheVariants as ask
 use Rattle.refresh_answer.specs.declared.asks.OwnReply.{OwnReply}
 use Rattle.refresh_answer.specs.declared.asks.OwnReply.TheVariants as own
+use Rattle.refresh_answer.specs.declared.asks.RefreshReply.{RefreshReply}
 use Rattle.refresh_answer.specs.declared.asks.RefreshReply.TheVariants.{Own}
 use Rattle.refresh_answer.specs.declared.rows.FamilyRow.{FamilyRow}
 use Rattle.refresh_answer.specs.declared.rows.RefreshRow.{RefreshRow}
@@ -118,6 +119,12 @@ module _ {A R : Type 0} (plain : A → Option OpAsk) (given : R → Option OpRep
   abbrev Ts : List RefreshRow
   Ts = tokens plain given provided past
 
+  abbrev of_request : Result RefreshGrant GrantNo → RefreshAsk A
+  of_request grant = ask.Refresh grant
+
+  abbrev by_itself : OwnReply → RefreshReply R
+  by_itself r = Own r
+
   -- the token of a word in the past, and in the book
   abbrev Found : Option RefreshRow → Option RefreshRow → Type 0
   Found r s =
@@ -171,7 +178,7 @@ module _ {A R : Type 0} (plain : A → Option OpAsk) (given : R → Option OpRep
         | inr old ↦ ap S live.2 ∙ ap C old ∙ sym (ap Q live.1 ∙ old_refused (held_in Fs at Ts) fresh g t (living_in Fs at t.family) old)
       ]
 
-  pub reply_renewed : (grant : Result RefreshGrant GrantNo) → reply_of (renewal_asked b fresh (ask.Refresh {A = A} grant)) ≡ refresh_reply plain given provided past at fresh grant
+  pub reply_renewed : (grant : Result RefreshGrant GrantNo) → reply_of (renewal_asked b fresh (of_request grant)) ≡ refresh_reply plain given provided past at fresh grant
   reply_renewed (Ok g) = reply_found g _ _ (found (word_of_text g.token))
   reply_renewed (Err no.NoMemory) = refl
   reply_renewed (Err other) = refl
@@ -179,7 +186,7 @@ module _ {A R : Type 0} (plain : A → Option OpAsk) (given : R → Option OpRep
   -- ---- the book after it
 
   abbrev Kept : (FamilyRow → Bool) → OwnReply → Option RefreshRow → Type 0
-  Kept k r row = IsAfter plain given provided past at k (token_made (length past) row (Own {R = R} r)) (token_retired row (Own {R = R} r)) (access_made at row (Own {R = R} r)) d
+  Kept k r row = IsAfter plain given provided past at k (token_made (length past) row (by_itself r)) (token_retired row (by_itself r)) (access_made at row (by_itself r)) d
 
   -- a renewal that changes nothing, where all families pass
   unchanged : (k : FamilyRow → Bool) → filter k b.families ≡ b.families → AreRows d b.families b.tokens b.accesses b.last → IsAfter plain given provided past at k None None None d
@@ -190,7 +197,7 @@ module _ {A R : Type 0} (plain : A → Option OpAsk) (given : R → Option OpRep
       book_after plain given provided past at b d k None None None (numbered_filter k (length past) Fs (numbered plain given provided past)) held (none_living plain given provided past at k)
       (rows.families ∙ sym same) (rows.tokens ∙ sym (ap T rows.families ∙ left.0)) (rows.accesses ∙ sym (ap X rows.families ∙ left.1)) (rows.last_is ∙ held.last_is)
 
-  row_of_rotation : Renewal → RefreshRow → RefreshRow
+  abbrev row_of_rotation : Renewal → RefreshRow → RefreshRow
   row_of_rotation (renewed.Rotated row a v s) t = row
   row_of_rotation other t = t
 
@@ -368,12 +375,12 @@ module _ {A R : Type 0} (plain : A → Option OpAsk) (given : R → Option OpRep
   pair_of asked = record { entry = record { at = at; fresh = fresh; ask = asked }; reply = Own (reply_of (renewal_asked b fresh asked)) }
 
   book_of : (asked : RefreshAsk A) (r : OwnReply)
-      → IsAfter plain given provided past at (λ f. not (ends plain given provided past at asked f)) (token_made (length past) (row_presented Ts asked) (Own {R = R} r)) (token_retired (row_presented Ts asked) (Own {R = R} r)) (access_made at (row_presented Ts asked) (Own {R = R} r)) d
+      → IsAfter plain given provided past at (λ f. not (ends plain given provided past at asked f)) (token_made (length past) (row_presented Ts asked) (by_itself r)) (token_retired (row_presented Ts asked) (by_itself r)) (access_made at (row_presented Ts asked) (by_itself r)) d
       → IsBookAt plain given provided (record { entry = record { at = at; fresh = fresh; ask = asked }; reply = Own r } ∷ past) at d
   book_of asked r after = record { families_are = after.families_are; tokens_are = after.tokens_are; accesses_are = after.accesses_are; last_is = after.last_is }
 
   each_err : (e : GrantNo) (f : FamilyRow) → not (ends plain given provided past at (ask.Refresh (Err e)) f) ≡ true
-  each_err e f = not_either false (is_code_replay (code_presented plain given provided past at (ask.Refresh {A = A} (Err e))) None f) refl (no_code (code_presented plain given provided past at (ask.Refresh {A = A} (Err e))) f)
+  each_err e f = not_either false (is_code_replay (code_presented plain given provided past at (of_request (Err e))) None f) refl (no_code (code_presented plain given provided past at (of_request (Err e))) f)
 
   err_after : (e : GrantNo) → AreRows d b.families b.tokens b.accesses b.last → IsAfter plain given provided past at (λ f. not (ends plain given provided past at (ask.Refresh (Err e)) f)) None None None d
   err_after e rows = unchanged (λ f. not (ends plain given provided past at (ask.Refresh (Err e)) f)) (filter_none (λ f. not (ends plain given provided past at (ask.Refresh (Err e)) f)) (each_err e) b.families) rows
@@ -387,4 +394,4 @@ module _ {A R : Type 0} (plain : A → Option OpAsk) (given : R → Option OpRep
   renewed_book (ask.Refresh (Err e)) is rows = refusal_after e rows
   renewed_book (ask.Refresh (Ok g)) is rows =
       book_of (ask.Refresh (Ok g)) (reply_of (renewal_for b fresh g))
-      (after_found g (code_presented plain given provided past at (ask.Refresh {A = A} (Ok g))) _ _ (found (word_of_text g.token)) rows)
+      (after_found g (code_presented plain given provided past at (of_request (Ok g))) _ _ (found (word_of_text g.token)) rows)

@@ -8,7 +8,7 @@ use crate::entries::{first, second};
 use oidc_words::Scopes;
 use refresh_answer::{FamilyRow, OwnReply, RefreshAsk, RefreshGrant, RefreshRow};
 use refresh_rows::Book;
-use sso_base::Word;
+use sso_base::{Entry, Word};
 use token_endpoint::{GrantNo, TokenError, token_error};
 
 /// What a refresh request gets, and what it does to its family.
@@ -118,11 +118,11 @@ fn renewal_for(book: &Book, fresh: &[Word; 4], grant: &RefreshGrant) -> Renewal
 }
 
 /// The renewal of a refresh request, by the book at its moment.
-pub(crate) fn renewal_asked<A: Drop>(book: &Book, fresh: &[Word; 4], ask: &RefreshAsk<A>) -> Renewal
-    ensures { result ≡ renew.renewal_asked book.now fresh.now ask.now }
+pub(crate) fn renewal_asked<A: Drop>(book: &Book, entry: &Entry<RefreshAsk<A>>) -> Renewal
+    ensures { result ≡ renew.renewal_asked book.now entry.now.fresh entry.now.ask }
 {
-    match ask {
-        RefreshAsk::Refresh { grant: Ok(grant) } => renewal_for(book, fresh, grant),
+    match &entry.ask {
+        RefreshAsk::Refresh { grant: Ok(grant) } => renewal_for(book, &entry.fresh, grant),
         RefreshAsk::Refresh { grant: Err(why) } => refusal(why),
         RefreshAsk::Through { .. } => Renewal::Unread,
     }

@@ -180,7 +180,7 @@ impl<P: Provides> RefreshCore<P> {
         }
         let at = entry.at;
         self.book.turn_to(at);
-        let renewed = renewal_asked(&self.book, &entry.fresh, &entry.ask);
+        let renewed = renewal_asked(&self.book, &entry);
         note_renewal(&mut self.book, renewed);
         let own = Pair {
             entry,

@@ -29,10 +29,12 @@ pub fn asks_offline(
     ensures { IfOk result (λ b. b ≡ spec.asks_offline registry.now request.now (option_copied ask.entry)) }
 {
     match ask {
-        Some(OpAsk::Authorize {
-            verdict: Verdict::Grant(wish),
-            ..
-        }) if may_be_offline(wish) => asks_for_scope(alloc, registry, request, "offline_access"),
+        Some(
+            OpAsk::Authorize {
+                verdict: Verdict::Grant(wish),
+                ..
+            },
+        ) if may_be_offline(wish) => asks_for_scope(alloc, registry, request, "offline_access"),
         _ => Ok(false),
     }
 }

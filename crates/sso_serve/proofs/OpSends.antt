@@ -81,8 +81,30 @@ pub asked_is_shared : (P A R : RattleType) (g : provides.Ghosts P.Denot A.Denot 
     → IsSync P → IsSync A → IsSync (asked.the_row P A R g h)
 asked_is_shared P A R g h p a = search (end_setup.the_sync, kept_is_shared, held.the_sync, end_asks.the_sync, ended_replies.the_sync, parts) depth 60 fits 20000
 
-pub ruleset sends = (asked_is_sent, refreshed_is_sent, keyed_is_sent, provider_is_sent, end_asks.the_send, refresh_asks.the_send,
-  keyed_asks.the_send, asks.the_send, end_replies.the_send, refresh_replies.the_send, keyed_replies.the_send, replies.the_send, parts)
+pub ruleset sends = (
+  asked_is_sent,
+  refreshed_is_sent,
+  keyed_is_sent,
+  provider_is_sent,
+  end_asks.the_send,
+  refresh_asks.the_send,
+  keyed_asks.the_send,
+  asks.the_send,
+  end_replies.the_send,
+  refresh_replies.the_send,
+  keyed_replies.the_send,
+  replies.the_send,
+  parts,
+)
 
-pub ruleset shares = (asked_is_shared, refreshed_is_shared, keyed_is_shared, provider_is_shared, end_asks.the_sync, refresh_asks.the_sync,
-  keyed_asks.the_sync, asks.the_sync, parts)
+pub ruleset shares = (
+  asked_is_shared,
+  refreshed_is_shared,
+  keyed_is_shared,
+  provider_is_shared,
+  end_asks.the_sync,
+  refresh_asks.the_sync,
+  keyed_asks.the_sync,
+  asks.the_sync,
+  parts,
+)

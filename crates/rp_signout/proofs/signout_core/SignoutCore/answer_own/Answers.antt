@@ -10,7 +10,7 @@ use Rattle.signout_answer.specs.declared.parts.Doing.TheVariants as does
 use Rattle.signout_answer.specs.declared.questions.QuestionRow.{QuestionRow}
 use Rattle.signout_answer.specs.Questions.{question_life, question_name, question_begun}
 use Rattle.signout_answer.specs.Around.{end_weight}
-use Rattle.signout_answer.specs.Answering.{doing}
+use Rattle.signout_answer.specs.Answering.{doing, SignoutSetup}
 use Rattle.signout_answer.proofs.Inside.{least_outer}
 use Rattle.rp_signout.specs.Keeps.{KeptEntry, rows_left, own_ended, own_made}
 use Rattle.rp_signout.proofs.Looking.{not_ahead, held_now}
@@ -21,7 +21,7 @@ use Rattle.rp_signout.proofs.signout_core.SignoutCore.answer_own.Goals as goal
 pub keep_questions-requires-clause-may : goal.keep_questions-requires-clause-may
 keep_questions-requires-clause-may g c =
     let inside = c.self.inside in
-    let s = record { own = inside.setup; inner = g.P.Core.setup inside.inner } in
+    let s : SignoutSetup g.P.Core.Setup = record { own = inside.setup; inner = g.P.Core.setup inside.inner } in
     let set : inside.setup ≡ c.args.self.now.setup = ap (λ x. x.setup) c.self.view_is in
     let D = λ (e : EndSetup). doing e g.P.Provides.plain_ask (reverse c.args.self.now.history) c.args.entry.at c.args.entry.fresh c.args.entry.ask ≡ does.Own c.args.own in
     let M = λ (e : EndSetup). c.args.made ≡ own_made e c.args.entry.ask c.args.own c.args.entry.at in

@@ -7,7 +7,7 @@ use Rattle.refresh_answer.specs.Answering.{own_reply}
 use Rattle.refresh_book.specs.Keeps.{is_refresh_ask}
 use Rattle.refresh_book.specs.Beginning.{IsPending}
 use Rattle.refresh_book.proofs.Committing.{refresh_is_own}
-use Rattle.refresh_book.proofs.passing.RefreshCore.pass.Goals as goal
+use Rattle.refresh_book.proofs.refresh_core.RefreshCore.pass.Goals as goal
 
 pub unreachable-requires : goal.unreachable-requires
 unreachable-requires g c =

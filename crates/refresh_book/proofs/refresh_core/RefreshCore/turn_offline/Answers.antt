@@ -1,7 +1,7 @@
 use Rattle.std.proofs.Common.{ap}
 use Rattle.std.specs.Option.{option_copied}
 use Rattle.refresh_book.proofs.Looking.{turn_looked_up}
-use Rattle.refresh_book.proofs.finding.RefreshCore.turn_offline.Goals as goal
+use Rattle.refresh_book.proofs.refresh_core.RefreshCore.turn_offline.Goals as goal
 
 pub returns : goal.returns
 returns g c =

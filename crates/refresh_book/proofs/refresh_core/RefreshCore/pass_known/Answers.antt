@@ -29,7 +29,7 @@ use Rattle.refresh_book.specs.Beginning.{is_spent, gives_tokens, first_of, token
 use Rattle.refresh_book.proofs.Owning.{all_filtered, all_appended}
 use Rattle.refresh_book.proofs.Passed.{passed_reply, passed_book}
 use Rattle.refresh_book.proofs.Committing.{has_room, book_before, turned, may_begin, begun_good, inner_has_room, passed_history, passed_legal, passed_keeps, turn_fits, code_fits}
-use Rattle.refresh_book.proofs.passing.RefreshCore.pass_known.Goals as goal
+use Rattle.refresh_book.proofs.refresh_core.RefreshCore.pass_known.Goals as goal
 
 inner_no : {X : Type 0} (a b : CoreNo) → ◌≡◌ {A = Result X CoreNo} (Err a) (Err b) → a ≡ b
 inner_no a b h = cc

@@ -9,7 +9,7 @@ use Rattle.refresh_answer.proofs.Passed.{least_outer}
 use Rattle.refresh_book.specs.Keeps.{KeptEntry}
 use Rattle.refresh_book.proofs.Passed.{info_book}
 use Rattle.refresh_book.proofs.Committing.{has_room, book_before, turned, info_is_own, own_history, own_keeps}
-use Rattle.refresh_book.proofs.step.RefreshCore.answer_info.Goals as goal
+use Rattle.refresh_book.proofs.refresh_core.RefreshCore.answer_info.Goals as goal
 
 pub turn_to-requires-clause-order : goal.turn_to-requires-clause-order
 turn_to-requires-clause-order g c =

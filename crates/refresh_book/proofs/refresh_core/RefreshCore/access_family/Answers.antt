@@ -6,7 +6,7 @@ use Rattle.refresh_answer.specs.Rows.{access_name, access_begun}
 use Rattle.refresh_book.specs.Keeps.{is_own_family}
 use Rattle.refresh_book.proofs.Looking.{family_looked_up}
 use Rattle.refresh_book.proofs.Owning.{good_access}
-use Rattle.refresh_book.proofs.finding.RefreshCore.access_family.Goals as goal
+use Rattle.refresh_book.proofs.refresh_core.RefreshCore.access_family.Goals as goal
 
 pub returns-clause-found : goal.returns-clause-found
 returns-clause-found g c =

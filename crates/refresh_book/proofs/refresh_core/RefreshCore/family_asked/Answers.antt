@@ -3,7 +3,7 @@ use Rattle.std.specs.Option.{option_copied}
 use Rattle.core_stack.proofs.Same.{some_same}
 use Rattle.refresh_answer.specs.declared.rows.FamilyRow.{FamilyRow}
 use Rattle.refresh_book.specs.Keeps.{is_own_family}
-use Rattle.refresh_book.proofs.beginning.RefreshCore.family_asked.Goals as goal
+use Rattle.refresh_book.proofs.refresh_core.RefreshCore.family_asked.Goals as goal
 
 -- a family is of the client and the user of its code
 pub returns-in_ok-family_for-in-Some-clause-own : goal.returns-in_ok-family_for-in-Some-clause-own

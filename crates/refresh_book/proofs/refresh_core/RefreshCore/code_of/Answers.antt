@@ -8,7 +8,7 @@ use Rattle.refresh_answer.specs.Around.{inner_history}
 use Rattle.core_stack.proofs.Numbers.{low_twice}
 use Rattle.refresh_book.proofs.Looking.{inner_same, legal_now, provider_low}
 use Rattle.refresh_book.proofs.Owning.{code_is_own}
-use Rattle.refresh_book.proofs.finding.RefreshCore.code_of.Goals as goal
+use Rattle.refresh_book.proofs.refresh_core.RefreshCore.code_of.Goals as goal
 
 pub code-requires : goal.code-requires
 code-requires g c =

@@ -1,7 +1,7 @@
 use Rattle.std.proofs.Common.{ap}
 use Rattle.std.specs.Option.{option_copied}
 use Rattle.refresh_book.proofs.Looking.{code_looked_up}
-use Rattle.refresh_book.proofs.finding.RefreshCore.code_offline.Goals as goal
+use Rattle.refresh_book.proofs.refresh_core.RefreshCore.code_offline.Goals as goal
 
 pub returns : goal.returns
 returns g c =

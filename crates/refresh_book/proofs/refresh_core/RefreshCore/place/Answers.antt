@@ -2,7 +2,7 @@ use Rattle.std.proofs.Common.{ap, sym, ◌∙◌, length}
 use Rattle.std.proofs.lemmas.List.{length-reverse}
 use Rattle.core_stack.proofs.Merging.{merged_length}
 use Rattle.refresh_answer.specs.Around.{around, own_pair}
-use Rattle.refresh_book.proofs.beginning.RefreshCore.place.Goals as goal
+use Rattle.refresh_book.proofs.refresh_core.RefreshCore.place.Goals as goal
 
 pub returns : goal.returns
 returns g c =

@@ -2,7 +2,7 @@ use Rattle.std.proofs.Common.{◌≡◌, ap, sym, subst, true}
 use Rattle.std.specs.Option.{option_copied}
 use Rattle.client_registry.specs.Configuration.{Configuration}
 use Rattle.refresh_book.specs.Keeps.{is_own_family}
-use Rattle.refresh_book.proofs.finding.RefreshCore.info.Goals as goal
+use Rattle.refresh_book.proofs.refresh_core.RefreshCore.info.Goals as goal
 
 pub family_info-requires : goal.family_info-requires
 family_info-requires g c =

@@ -11,7 +11,7 @@ use Rattle.refresh_book.specs.declared.renewing.Renewal.{Renewal}
 use Rattle.refresh_book.specs.Renewing.{reply_of, renewal_asked, MayNote, Noted}
 use Rattle.refresh_book.proofs.Renewed.{may_note, renewed_book}
 use Rattle.refresh_book.proofs.Committing.{has_room, book_before, turned, renewed_is_own, noted_own, own_history, own_keeps}
-use Rattle.refresh_book.proofs.step.RefreshCore.answer_refresh.Goals as goal
+use Rattle.refresh_book.proofs.refresh_core.RefreshCore.answer_refresh.Goals as goal
 
 pub turn_to-requires-clause-order : goal.turn_to-requires-clause-order
 turn_to-requires-clause-order g c =
