@@ -175,6 +175,7 @@ module _ (c : Configuration) (turn : Word) (client : Text) (scopes : Scopes) whe
   turn_of_consent = hidden turn_field (word_text turn)
 
   in_agree : (s : Text) → HasSubslice agree_part s → HasSubslice (document (codes "Do you agree?") c.title content) s
+  unfolding consent_content
   in_agree s w = in_document (codes "Do you agree?") c.title content s (in_first (asked_part ++ agree_part) other_part s (in_second asked_part agree_part s w))
 
   consent_form_by : (is_full : Bool) → HasSubslice (consent_body is_full c (word_text turn) client scopes) (posted_to c.prefix consent_path)
@@ -190,6 +191,7 @@ module _ (c : Configuration) (turn : Word) (client : Text) (scopes : Scopes) whe
       in_agree s (in_first (form_of_consent ++ turn_of_consent) agree_buttons s (in_second form_of_consent turn_of_consent s (turn_there turn)))
 
   full_asked : HasSubslice (consent_body true c (word_text turn) client scopes) asked_part
+  unfolding consent_content
   full_asked =
       in_document (codes "Do you agree?") c.title content asked_part ([], agree_part ++ other_part, append_assoc asked_part agree_part other_part)
 

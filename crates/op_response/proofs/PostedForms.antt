@@ -164,7 +164,7 @@ other_posts prefix p =
 
 full_consent : (site prefix turn application : Text) (s : Scopes) → IsInert prefix → IsInert turn
     → posted (full_consent_page site prefix turn application s) ≡ consent_posted prefix turn ++ other_posted true prefix
-unfolding agree_buttons
+unfolding agree_buttons consent_content
 full_consent site prefix turn application s p h =
     let action : Text = prefix ++ consent_path in
     let other : Text = other_form prefix ++ closing in

@@ -75,7 +75,7 @@ other_button = codes "<p>Not you? <button class=\"quiet link\">Sign out</button>
 abbrev pub other_form : Text → Text
 other_form prefix = form (prefix ++ signout_path) ++ other_button
 
-abbrev pub consent_content : Text → Text → Text → Scopes → Text
+unfoldable pub consent_content : Text → Text → Text → Scopes → Text
 consent_content prefix turn application scopes = asked_for application scopes ++ agree_form prefix turn ++ other_form prefix
 
 -- of a site with this title: the form of a turn, given the turn's text, with an action below the path of the issuer; the title
@@ -85,7 +85,7 @@ full_consent_page site prefix turn application scopes = document (codes "Do you 
 
 -- ---- after a sign-out
 
-abbrev pub signed_out_content : Text
+unfoldable pub signed_out_content : Text
 signed_out_content = codes "<p>Applications that sign out together with this site are notified. You can close this page.</p>\n"
 
 abbrev pub full_signed_out_page : Text → Text
@@ -113,7 +113,7 @@ error_advice page.Browser =
 abbrev pub error_line : PageNo → Text
 error_line why = codes "error " ++ page_word why
 
-abbrev pub error_content : PageNo → Text
+unfoldable pub error_content : PageNo → Text
 error_content why = alert (error_advice why) ++ small_line (error_line why)
 
 abbrev pub full_error_page : Text → PageNo → Text

@@ -129,6 +129,21 @@ fn push_other(page: &mut Page, prefix: &str) -> Result<(), NoMemory>
     page.push("<p>Not you? <button class=\"quiet link\">Sign out</button></p>\n</form>\n")
 }
 
+#[tactic(auto, unfolding(crate::specs::FullPages::consent_content))]
+fn push_consent(
+    page: &mut Page,
+    prefix: &str,
+    turn: &str,
+    application: &str,
+    scopes: &Scopes,
+) -> Result<(), NoMemory>
+    ensures { OnOk result (page.new ≡ page.old ++ spec.consent_content prefix.now turn.now application.now scopes.now) }
+{
+    push_asked(page, application, scopes)?;
+    push_agree(page, prefix, turn)?;
+    push_other(page, prefix)
+}
+
 // The consent page of a site with this title, for an application with this title.
 pub(crate) fn full_consent_page(
     alloc: Global,
@@ -142,29 +157,31 @@ pub(crate) fn full_consent_page(
     let prefix = registry.prefix().as_str();
     let turn = turn.to_text(alloc)?;
     let mut page = Page::begin(alloc, "Do you agree?", registry.title().as_str())?;
-    push_asked(&mut page, application, scopes)?;
-    push_agree(&mut page, prefix, turn.as_str())?;
-    push_other(&mut page, prefix)?;
+    push_consent(&mut page, prefix, turn.as_str(), application, scopes)?;
     page.end()
 }
 
 // ---- after a sign-out
 
+#[tactic(auto, unfolding(crate::specs::FullPages::signed_out_content))]
+fn push_signed_out(page: &mut Page) -> Result<(), NoMemory>
+    ensures { OnOk result (page.new ≡ page.old ++ spec.signed_out_content) }
+{
+    page.push(
+        "<p>Applications that sign out together with this site are notified. You can close this page.</p>\n",
+    )
+}
+
 fn full_signed_out_page(alloc: Global, site: &Text) -> Result<Blob, NoMemory>
     ensures { IfOk result (λ b. b ≡ spec.full_signed_out_page site.now) }
 {
     let mut page = Page::begin(alloc, "You are signed out", site.as_str())?;
-    page.push(
-        "<p>Applications that sign out together with this site are notified. You can close this page.</p>\n",
-    )?;
+    push_signed_out(&mut page)?;
     page.end()
 }
 
 // The page after a sign-out, if pages are full.
-pub(crate) fn signed_out_page(
-    alloc: Global,
-    registry: &Registry,
-) -> Result<Option<Blob>, NoMemory>
+pub(crate) fn signed_out_page(alloc: Global, registry: &Registry) -> Result<Option<Blob>, NoMemory>
     ensures { IfOk result (λ o. o ≡ spec.signed_out_page registry.now.full_pages registry.now.title) }
 {
     if registry.full_pages() {
@@ -200,8 +217,7 @@ fn error_advice(why: PageNo) -> &'static str
             "The application sent something twice that may come once. Please go back to it and begin again.",
         PageNo::Turn =>
             "A page to sign in works once, and for ten minutes. Please go back to the application and begin again.",
-        PageNo::Browser =>
-            "This sign-in began in another browser, or this one keeps no cookies. \
+        PageNo::Browser => "This sign-in began in another browser, or this one keeps no cookies. \
              Please go back to the application and begin again.",
     }
 }
@@ -213,13 +229,21 @@ pub(crate) fn error_line(alloc: Global, why: PageNo) -> Result<Text, NoMemory>
     concatenated(alloc, "error ", page_word(why))
 }
 
+#[tactic(auto, unfolding(crate::specs::FullPages::error_content))]
+fn push_error(page: &mut Page, why: PageNo, line: &str) -> Result<(), NoMemory>
+    requires { line.now ≡ spec.error_line why }
+    ensures { OnOk result (page.new ≡ page.old ++ spec.error_content why) }
+{
+    page.push_alert(error_advice(why))?;
+    page.push_line(line)
+}
+
 fn full_error_page(alloc: Global, site: &Text, why: PageNo) -> Result<Blob, NoMemory>
     ensures { IfOk result (λ b. b ≡ spec.full_error_page site.now why) }
 {
     let line = error_line(alloc, why)?;
     let mut page = Page::begin(alloc, error_heading(why), site.as_str())?;
-    page.push_alert(error_advice(why))?;
-    page.push_line(line.as_str())?;
+    push_error(&mut page, why, line.as_str())?;
     page.end()
 }
 

@@ -24,12 +24,7 @@ fn push_begin(page: &mut Page, words: &str) -> Result<(), NoMemory>
 }
 
 // A page with a heading and a link that begins a login.
-fn begin_page(
-    alloc: Global,
-    heading: &str,
-    title: &str,
-    words: &str,
-) -> Result<Blob, NoMemory>
+fn begin_page(alloc: Global, heading: &str, title: &str, words: &str) -> Result<Blob, NoMemory>
     ensures { IfOk result (λ b. b ≡ document heading.now title.now (spec.begin_link words.now)) }
 {
     let mut page = Page::begin(alloc, heading, title)?;
@@ -92,11 +87,7 @@ pub(crate) fn nobody_page(
 // ---- after it was left
 
 // The page after a party was left, if pages are full.
-pub(crate) fn left_page(
-    alloc: Global,
-    is_full: bool,
-    title: &str,
-) -> Result<Option<Blob>, NoMemory>
+pub(crate) fn left_page(alloc: Global, is_full: bool, title: &str) -> Result<Option<Blob>, NoMemory>
     ensures { IfOk result (λ o. o ≡ spec.left_page is_full title.now) }
 {
     if is_full {
@@ -137,12 +128,7 @@ fn push_refused(page: &mut Page, why: &RpNo, line: &str) -> Result<(), NoMemory>
     page.push_line(line)
 }
 
-fn full_refused_page(
-    alloc: Global,
-    title: &str,
-    why: &RpNo,
-    line: &str,
-) -> Result<Blob, NoMemory>
+fn full_refused_page(alloc: Global, title: &str, why: &RpNo, line: &str) -> Result<Blob, NoMemory>
     requires { line.now ≡ refusal_line why.now }
     ensures { IfOk result (λ b. b ≡ spec.full_refused_page title.now why.now) }
 {

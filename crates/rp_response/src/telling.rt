@@ -54,12 +54,7 @@ fn client_of(registry: &Registry, party: u32) -> &Client
     registry.client(number)
 }
 
-fn user(
-    alloc: Global,
-    registry: &Registry,
-    party: u32,
-    sub: &Text,
-) -> Result<HttpReply, NoMemory>
+fn user(alloc: Global, registry: &Registry, party: u32, sub: &Text) -> Result<HttpReply, NoMemory>
     requires { party < length registry.now.parties }
     ensures { IfOk result (λ h. h ≡ spec.user registry.now party sub.now) }
 {
