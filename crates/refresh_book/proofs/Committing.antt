@@ -156,33 +156,6 @@ module _ {A R S : Type 0} (plain : A → Option OpAsk) (given : R → Option OpR
       let L : ℕ → Type 0 = λ n. history_weight (outer_weight weighs) H + w ≤ n in
       subst W (sym weighs_now) (subst L (sym keeps.limit_is) room)
 
-  -- memory was reserved, and nothing else changed
-  pub keeps_reserved : (ks' : List (KeptEntry A)) (weight' last' limit' : ℕ) (turns' : List (TurnMark Bool)) (codes' : List (CodeMark Bool)) (a : Booked) → ks' ≡ ks → weight' ≡ weight → last' ≡ last → limit' ≡ limit
-      → turns' ≡ turns → codes' ≡ codes → a.families ≡ b.families → a.tokens ≡ b.tokens → a.accesses ≡ b.accesses → a.last ≡ b.last → Keeps plain given provided IsAsk weighs most IsLegalInner s inner ks' weight' last' limit' turns' codes' a
-  keeps_reserved ks' weight' last' limit' turns' codes' a ks_same weight_same last_same limit_same turns_same codes_same families_same tokens_same accesses_same moment_same =
-      let E : List (KeptEntry A) → Type 0 = λ l. Keeps plain given provided IsAsk weighs most IsLegalInner s inner l weight' last' limit' turns' codes' a in
-      let W : ℕ → Type 0 = λ n. Keeps plain given provided IsAsk weighs most IsLegalInner s inner ks n last' limit' turns' codes' a in
-      let M : ℕ → Type 0 = λ n. Keeps plain given provided IsAsk weighs most IsLegalInner s inner ks weight n limit' turns' codes' a in
-      let N : ℕ → Type 0 = λ n. Keeps plain given provided IsAsk weighs most IsLegalInner s inner ks weight last n turns' codes' a in
-      let T : List (TurnMark Bool) → Type 0 = λ l. Keeps plain given provided IsAsk weighs most IsLegalInner s inner ks weight last limit l codes' a in
-      let C : List (CodeMark Bool) → Type 0 = λ l. Keeps plain given provided IsAsk weighs most IsLegalInner s inner ks weight last limit turns l a in
-      let G : List FamilyRow → Bool = λ l. list_all (is_own_family s.registry) l in
-      subst E (sym ks_same) (subst W (sym weight_same) (subst M (sym last_same) (subst N (sym limit_same) (subst T (sym turns_same) (subst C (sym codes_same) (record {
-        count = keeps.count;
-        weight_is = keeps.weight_is;
-        last_is = keeps.last_is;
-        limit_is = keeps.limit_is;
-        marks = keeps.marks;
-        book = record {
-          families_are = families_same ∙ keeps.book.families_are;
-          tokens_are = tokens_same ∙ keeps.book.tokens_are;
-          accesses_are = accesses_same ∙ keeps.book.accesses_are;
-          last_is = moment_same ∙ keeps.book.last_is;
-        };
-        own = ap G families_same ∙ keeps.own;
-        legal = keeps.legal;
-      }))))))
-
   -- ---- the book, for which memory was reserved, and which was brought to the moment
 
   pub book_before : (at : ℕ) → last_moment (reverse H) ≤ at → (a : Booked) → a.last ≡ b.last → a.last ≤ at

@@ -374,10 +374,10 @@ module _ {A R : Type 0} (plain : A → Option OpAsk) (given : R → Option OpRep
   abbrev pair_of : RefreshAsk A → Outer A R
   pair_of asked = record { entry = record { at = at; fresh = fresh; ask = asked }; reply = Own (reply_of (renewal_asked b fresh asked)) }
 
-  book_of : (asked : RefreshAsk A) (r : OwnReply)
-      → IsAfter plain given provided past at (λ f. not (ends plain given provided past at asked f)) (token_made (length past) (row_presented Ts asked) (by_itself r)) (token_retired (row_presented Ts asked) (by_itself r)) (access_made at (row_presented Ts asked) (by_itself r)) d
-      → IsBookAt plain given provided (record { entry = record { at = at; fresh = fresh; ask = asked }; reply = Own r } ∷ past) at d
-  book_of asked r after = record { families_are = after.families_are; tokens_are = after.tokens_are; accesses_are = after.accesses_are; last_is = after.last_is }
+  book_of : (request : RefreshAsk A) (r : OwnReply)
+      → IsAfter plain given provided past at (λ f. not (ends plain given provided past at request f)) (token_made (length past) (row_presented Ts request) (by_itself r)) (token_retired (row_presented Ts request) (by_itself r)) (access_made at (row_presented Ts request) (by_itself r)) d
+      → IsBookAt plain given provided (record { entry = record { at = at; fresh = fresh; ask = request }; reply = Own r } ∷ past) at d
+  book_of request r after = record { families_are = after.families_are; tokens_are = after.tokens_are; accesses_are = after.accesses_are; last_is = after.last_is }
 
   each_err : (e : GrantNo) (f : FamilyRow) → not (ends plain given provided past at (ask.Refresh (Err e)) f) ≡ true
   each_err e f = not_either false (is_code_replay (code_presented plain given provided past at (of_request (Err e))) None f) refl (no_code (code_presented plain given provided past at (of_request (Err e))) f)

@@ -8,7 +8,7 @@ use crate::entries::{first, second};
 use oidc_words::Scopes;
 use refresh_answer::{FamilyRow, OwnReply, RefreshAsk, RefreshGrant, RefreshRow};
 use refresh_rows::Book;
-use sso_base::{Entry, Word};
+use sso_base::Word;
 use token_endpoint::{GrantNo, TokenError, token_error};
 
 /// What a refresh request gets, and what it does to its family.
@@ -35,12 +35,12 @@ pub(crate) enum Renewal {
 }
 
 /// The reply.
-pub(crate) fn reply_of(renewal: Renewal) -> OwnReply
-    ensures { result ≡ renew.reply_of renewal }
+pub(crate) fn reply_of(renewal: &Renewal) -> OwnReply
+    ensures { result ≡ renew.reply_of renewal.now }
 {
     match renewal {
         Renewal::Unread => OwnReply::NotHere,
-        Renewal::Refused(code) => OwnReply::Refused { code },
+        Renewal::Refused(code) => OwnReply::Refused { code: *code },
         Renewal::Full => OwnReply::Full,
         Renewal::Reused { .. } => OwnReply::Refused {
             code: TokenError::InvalidGrant,
@@ -51,9 +51,9 @@ pub(crate) fn reply_of(renewal: Renewal) -> OwnReply
             scopes,
             ..
         } => OwnReply::Refreshed {
-            access,
-            refresh,
-            scopes,
+            access: *access,
+            refresh: *refresh,
+            scopes: *scopes,
         },
     }
 }
@@ -118,21 +118,21 @@ fn renewal_for(book: &Book, fresh: &[Word; 4], grant: &RefreshGrant) -> Renewal
 }
 
 /// The renewal of a refresh request, by the book at its moment.
-pub(crate) fn renewal_asked<A: Drop>(book: &Book, entry: &Entry<RefreshAsk<A>>) -> Renewal
-    ensures { result ≡ renew.renewal_asked book.now entry.now.fresh entry.now.ask }
+pub(crate) fn renewal_asked<A: Drop>(book: &Book, fresh: &[Word; 4], ask: &RefreshAsk<A>) -> Renewal
+    ensures { result ≡ renew.renewal_asked book.now fresh.now ask.now }
 {
-    match &entry.ask {
-        RefreshAsk::Refresh { grant: Ok(grant) } => renewal_for(book, &entry.fresh, grant),
+    match ask {
+        RefreshAsk::Refresh { grant: Ok(grant) } => renewal_for(book, fresh, grant),
         RefreshAsk::Refresh { grant: Err(why) } => refusal(why),
         RefreshAsk::Through { .. } => Renewal::Unread,
     }
 }
 
 /// Notes a renewal in the book.
-pub(crate) fn note_renewal(book: &mut Book, renewal: Renewal)
+pub(crate) fn note_renewal(book: &mut Book, renewal: &Renewal)
     requires memory { HasMemory book.old }
-    requires may { renew.MayNote book.old renewal }
-    ensures noted { renew.Noted book.old book.new renewal }
+    requires may { renew.MayNote book.old renewal.now }
+    ensures noted { renew.Noted book.old book.new renewal.now }
 {
     match renewal {
         Renewal::Rotated {
@@ -140,8 +140,8 @@ pub(crate) fn note_renewal(book: &mut Book, renewal: Renewal)
             access,
             refresh,
             ..
-        } => book.rotate(row, refresh, access),
-        Renewal::Reused { place, client } => book.end_place(place, client),
+        } => book.rotate(*row, *refresh, *access),
+        Renewal::Reused { place, client } => book.end_place(*place, *client),
         _ => {}
     }
 }

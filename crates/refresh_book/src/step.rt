@@ -174,20 +174,21 @@ impl<P: Provides> RefreshCore<P> {
         ensures legal { spec.IsLegalRefresh P.plain_ask P.given_reply P.provided P.IsAsk P.weighs P.most P.is_legal
             (record { inner = P.setup self.new.inner; registry = self.new.registry }) self.new.history }
     {
+        let Entry { at, fresh, ask } = entry;
         if let Err(no) = reserve_own(&mut self.kept, &mut self.book) {
-            drop(entry);
+            // dropped by a call, as above
+            drop(ask);
             return Err(no);
         }
-        let at = entry.at;
         self.book.turn_to(at);
-        let renewed = renewal_asked(&self.book, &entry);
-        note_renewal(&mut self.book, renewed);
+        let renewed = renewal_asked(&self.book, &fresh, &ask);
+        note_renewal(&mut self.book, &renewed);
         let own = Pair {
-            entry,
-            reply: reply_of(renewed),
+            entry: Entry { at, fresh, ask },
+            reply: reply_of(&renewed),
         };
         self.kept.push(Kept::Own(own), at, weight);
-        Ok(RefreshReply::Own(reply_of(renewed)))
+        Ok(RefreshReply::Own(reply_of(&renewed)))
     }
 }
 

@@ -2,7 +2,10 @@ use Rattle.std.proofs.Common.{◌≡◌, ◌≤◌, ◌+◌, ◌++◌, ◌∷◌
 use Rattle.sso_base.specs.Weights.{empty_weight}
 use Rattle.sso_base.specs.Journal.{history_weight}
 use Rattle.client_registry.specs.Configuration.{Configuration}
+use Rattle.sso_base.specs.declared.history.Pair.{Pair}
 use Rattle.core_stack.specs.declared.kept.Kept.TheVariants as kept
+use Rattle.refresh_answer.specs.declared.asks.RefreshAsk.{RefreshAsk}
+use Rattle.refresh_answer.specs.declared.asks.OwnReply.{OwnReply}
 use Rattle.refresh_answer.specs.Around.{outer_plain, outer_weight}
 use Rattle.refresh_answer.specs.Answering.{info_reply}
 use Rattle.refresh_answer.proofs.Passed.{least_outer}
@@ -37,7 +40,7 @@ push-requires-clause-room g c =
 pub invariant_of-self-2 : goal.invariant_of-self-2
 invariant_of-self-2 g c =
     let inside = c.self.inside in
-    let own = record { entry = c.args.entry; reply = c.args.reply } in
+    let own : Pair (RefreshAsk g.row.P-Ask.Denot) OwnReply = record { entry = c.args.entry; reply = c.args.reply } in
     let K = λ (l : List (KeptEntry g.row.P-Ask.Denot)). l ++ kept.Own own ∷ [] in
     let W = λ (n : ℕ). n + c.args.weight in
     let R = λ (x : g.P.Core.Setup). history_weight (outer_weight g.P.Core.weighs) c.args.self.now.history + c.args.weight ≤ g.P.Core.most x in
@@ -63,7 +66,7 @@ invariant_of-self-2 g c =
 pub returns-clause-history : goal.returns-clause-history
 returns-clause-history g c =
     let inside = c.self.inside in
-    let own = record { entry = c.args.entry; reply = c.args.reply } in
+    let own : Pair (RefreshAsk g.row.P-Ask.Denot) OwnReply = record { entry = c.args.entry; reply = c.args.reply } in
     let K = λ (l : List (KeptEntry g.row.P-Ask.Denot)). l ++ kept.Own own ∷ [] in
     own_history g.P.Provides.plain_ask g.P.Provides.given_reply g.P.Provides.provided g.P.Provides.IsAsk g.P.Core.weighs g.P.Core.most g.P.Core.is_legal (record { inner = g.P.Core.setup inside.inner; registry = inside.registry }) (g.P.Core.history inside.inner)
     inside.kept.kept inside.kept.weight inside.kept.last inside.kept.most inside.turns.rows inside.codes.rows inside.book c.self.invariant.1 c.args.self.now.history (ap (λ x. x.history) c.self.view_is)

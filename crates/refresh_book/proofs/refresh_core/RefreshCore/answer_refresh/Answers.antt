@@ -1,7 +1,9 @@
 use Rattle.std.proofs.Common.{◌≡◌, ◌≤◌, ◌+◌, ◌++◌, ◌∷◌, [], ap, sym, subst, ◌∙◌, List, ℕ, reverse, Some}
 use Rattle.sso_base.specs.Weights.{empty_weight}
 use Rattle.sso_base.specs.Journal.{history_weight}
+use Rattle.sso_base.specs.declared.history.Pair.{Pair}
 use Rattle.core_stack.specs.declared.kept.Kept.TheVariants as kept
+use Rattle.refresh_answer.specs.declared.asks.RefreshAsk.{RefreshAsk}
 use Rattle.refresh_answer.specs.declared.asks.OwnReply.{OwnReply}
 use Rattle.refresh_answer.specs.declared.asks.RefreshReply.TheVariants.{Own}
 use Rattle.refresh_answer.specs.Around.{own_pair, outer_weight}
@@ -51,7 +53,7 @@ push-requires-clause-room g c =
 pub invariant_of-self-2 : goal.invariant_of-self-2
 invariant_of-self-2 g c =
     let inside = c.self.inside in
-    let own = record { entry = c.args.entry; reply = c.reply_of.result } in
+    let own : Pair (RefreshAsk g.row.P-Ask.Denot) OwnReply = record { entry = c.args.entry; reply = c.reply_of.result } in
     let K = λ (l : List (KeptEntry g.row.P-Ask.Denot)). l ++ kept.Own own ∷ [] in
     let W = λ (n : ℕ). n + c.args.weight in
     let R = λ (x : g.P.Core.Setup). history_weight (outer_weight g.P.Core.weighs) c.args.self.now.history + c.args.weight ≤ g.P.Core.most x in
@@ -81,7 +83,7 @@ invariant_of-self-2 g c =
 pub returns-clause-history : goal.returns-clause-history
 returns-clause-history g c =
     let inside = c.self.inside in
-    let own = record { entry = c.args.entry; reply = c.reply_of.result } in
+    let own : Pair (RefreshAsk g.row.P-Ask.Denot) OwnReply = record { entry = c.args.entry; reply = c.reply_of.result } in
     let X = λ (r : OwnReply). c.args.self.now.history ++ own_pair (record { entry = c.args.entry; reply = r }) ∷ [] in
     let K = λ (l : List (KeptEntry g.row.P-Ask.Denot)). l ++ kept.Own own ∷ [] in
     own_history g.P.Provides.plain_ask g.P.Provides.given_reply g.P.Provides.provided g.P.Provides.IsAsk g.P.Core.weighs g.P.Core.most g.P.Core.is_legal (record { inner = g.P.Core.setup inside.inner; registry = inside.registry }) (g.P.Core.history inside.inner)

@@ -54,8 +54,8 @@ turn_to-requires-clause-order g c =
     inside.kept.kept inside.kept.weight inside.kept.last inside.kept.most inside.turns.rows inside.codes.rows inside.book c.self.invariant.1 c.args.self.now.history (ap (λ x. x.history) c.self.view_is)
     c.args.at c.requires.order c.pass_on.new.book c.pass_on.ensures.book_last
 
-pub note_passed-requires-clause-may : goal.note_passed-requires-clause-may
-note_passed-requires-clause-may g c =
+pub note_passed-first-requires-clause-may : goal.note_passed-first-requires-clause-may
+note_passed-first-requires-clause-may g c =
     let inside = c.self.inside in
     let book = c.turn_to.new.self in
     let now = turned g.P.Provides.plain_ask g.P.Provides.given_reply g.P.Provides.provided g.P.Provides.IsAsk g.P.Core.weighs g.P.Core.most g.P.Core.is_legal (record { inner = g.P.Core.setup inside.inner; registry = inside.registry }) (g.P.Core.history inside.inner)
