@@ -98,7 +98,11 @@ pub fn secrets(alloc: Global, version: &str, old: &str, new: &str) -> Result<Str
 }
 
 fn told_titles(alloc: Global, registry: &Registry) -> Result<String, NoMemory> {
-    let pages = if registry.full_pages() { "full" } else { "plain" };
+    let pages = if registry.full_pages() {
+        "full"
+    } else {
+        "plain"
+    };
     let title = registry.title().as_str();
     let client = if 0 < registry.clients() {
         registry.client(0).title.as_str()
