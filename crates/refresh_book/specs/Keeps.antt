@@ -30,7 +30,7 @@ use Rattle.refresh_answer.specs.declared.rows.FamilyRow.{FamilyRow}
 use Rattle.refresh_answer.specs.declared.rows.AccessRow.{AccessRow}
 use Rattle.refresh_answer.specs.Rows.{family_life, family_begun, access_begun}
 use Rattle.refresh_answer.specs.Around.{Outer, merged_history, outer_plain, outer_given, outer_weight, offline_mark}
-use Rattle.refresh_answer.specs.Families.{provider_past, living_in, families, tokens, accesses, held_tokens}
+use Rattle.refresh_answer.specs.Families.{provider_past, living_in, families, accesses, held_tokens}
 use Rattle.refresh_answer.specs.Answering.{Setup, IsLegalRefresh}
 use Rattle.refresh_rows.specs.Booked.{Booked}
 

@@ -253,6 +253,8 @@ impl<P: Provides> RefreshCore<P> {
         ensures legal { spec.IsLegalRefresh P.plain_ask P.given_reply P.provided P.IsAsk P.weighs P.most P.is_legal
             (record { inner = P.setup self.new.inner; registry = self.new.registry }) self.new.history }
     {
+        // the invariant becomes known by reading a field
+        let _count = self.kept.count();
         let pending = self.pending(alloc, entry.at, &entry.ask)?;
         let Entry { at, fresh, ask } = entry;
         match ask {

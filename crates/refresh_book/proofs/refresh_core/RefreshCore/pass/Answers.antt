@@ -3,8 +3,8 @@ use Rattle.std.specs.Result.{IfOk}
 use Rattle.sso_base.specs.Legal.{IsEntry}
 use Rattle.refresh_answer.specs.declared.asks.RefreshAsk.{RefreshAsk}
 use Rattle.refresh_answer.specs.Around.{outer_weight, IsRefreshAsk}
-use Rattle.refresh_answer.specs.Answering.{own_reply}
-use Rattle.refresh_book.specs.Keeps.{is_refresh_ask}
+use Rattle.refresh_answer.specs.Answering.{own_reply, IsLegalRefresh}
+use Rattle.refresh_book.specs.Keeps.{Refreshing, is_refresh_ask}
 use Rattle.refresh_book.specs.Beginning.{IsPending}
 use Rattle.refresh_book.proofs.Committing.{refresh_is_own}
 use Rattle.refresh_book.proofs.refresh_core.RefreshCore.pass.Goals as goal
@@ -37,8 +37,14 @@ pass_known-requires-clause-weight g c =
     let Q = λ (a : RefreshAsk g.row.P-Ask.Denot). c.args.weight ≡ outer_weight g.P.Core.weighs a in
     subst Q c.in-Through.is c.requires.weight
 
-pub returns-in-Through-clause-history : goal.returns-in-Through-clause-history
-returns-in-Through-clause-history g c =
+pub returns-clause-history : goal.returns-clause-history
+returns-clause-history g c =
     let Q = λ (a : RefreshAsk g.row.P-Ask.Denot).
     IfOk c.pass_known.result (λ r. c.pass_known.new.self.history ≡ c.args.self.now.history ++ (record { entry = record { at = c.args.entry.at; fresh = c.args.entry.fresh; ask = a }; reply = r }) ∷ []) in
     subst Q (sym c.in-Through.is) c.pass_known.ensures.history
+
+pub returns-in_err-pending-clause-legal : goal.returns-in_err-pending-clause-legal
+returns-in_err-pending-clause-legal g c =
+    let L = λ (x : Refreshing g.row.P.Denot g.row.P-Ask.Denot g.row.P-Reply.Denot).
+    IsLegalRefresh g.P.Provides.plain_ask g.P.Provides.given_reply g.P.Provides.provided g.P.Provides.IsAsk g.P.Core.weighs g.P.Core.most g.P.Core.is_legal (record { inner = g.P.Core.setup x.inner; registry = x.registry }) x.history in
+    subst L c.self.view_is c.self.invariant.1.legal
