@@ -25,11 +25,20 @@ use Rattle.refresh_answer.proofs.asks.RefreshReply.TheSendSync as refresh_replie
 use Rattle.refresh_answer.proofs.asks.OwnReply.TheSendSync as refreshed_replies
 use Rattle.refresh_rows.proofs.book.Book.TheSendSync as book
 use Rattle.refresh_book.specs.contracts.refresh_core.RefreshCore as refreshed
-use Rattle.signout_answer.proofs.asks.EndSetup.TheSendSync as end_setup
+use Rattle.end_request.proofs.returns.Returns.TheSendSync as returns
 use Rattle.signout_answer.proofs.asks.EndAsk.TheSendSync as end_asks
 use Rattle.signout_answer.proofs.asks.EndReply.TheSendSync as end_replies
 use Rattle.signout_answer.proofs.parts.OwnReply.TheSendSync as ended_replies
+use Rattle.signout_answer.proofs.parts.EndParts.TheSendSync as end_parts
+use Rattle.signout_answer.proofs.questions.QuestionRow.TheSendSync as questions
 use Rattle.rp_signout.specs.contracts.signout_core.SignoutCore as asked
+use Rattle.sso_base.specs.contracts.history.Pair as pair
+use Rattle.held_rows.specs.contracts.held.Held as rows
+use Rattle.signout_answer.specs.contracts.asks.EndAsk as end_ask
+use Rattle.signout_answer.specs.contracts.parts.OwnReply as ended_reply
+use Rattle.signout_answer.specs.contracts.parts.EndParts as end_part
+use Rattle.signout_answer.specs.contracts.questions.QuestionRow as question
+use Rattle.signout_answer.specs.contracts.questions.QuestionRowRow.TheImpl as question_impl
 
 pub ruleset parts = (chain.crosses, crosses, sendable)
 
@@ -53,9 +62,17 @@ pub refreshed_is_sent : (P A R : RattleType) (g : provides.Ghosts P.Denot A.Deno
 refreshed_is_sent P A R g h p a =
     search (registry.the_send, kept_is_sent, held.the_send, book.the_send, refresh_asks.the_send, refreshed_replies.the_send, parts) depth 60 fits 20000
 
+pub kept_asked_is_sent : (A : RattleType) → IsSend A
+    → IsSend (kept.the_row end_part.the_row (pair.the_row (end_ask.the_row A) ended_reply.the_row))
+kept_asked_is_sent A a = search (kept_is_sent, end_parts.the_send, end_asks.the_send, ended_replies.the_send, parts) depth 60 fits 20000
+
+pub questions_are_sent : IsSend (rows.the_row question.the_row question_impl.ghosts)
+questions_are_sent = search (held.the_send, questions.the_send, parts) depth 60 fits 20000
+
 pub asked_is_sent : (P A R : RattleType) (g : provides.Ghosts P.Denot A.Denot R.Denot) (h : core.Ghosts P.Denot A.Denot R.Denot)
     → IsSend P → IsSend A → IsSend (asked.the_row P A R g h)
-asked_is_sent P A R g h p a = search (end_setup.the_send, kept_is_sent, held.the_send, end_asks.the_send, ended_replies.the_send, parts) depth 60 fits 20000
+asked_is_sent P A R g h p a =
+    search (registry.the_send, returns.the_send, kept_asked_is_sent, questions_are_sent, sendable) depth 60 fits 20000
 
 -- ---- threads share them
 
@@ -77,34 +94,28 @@ pub refreshed_is_shared : (P A R : RattleType) (g : provides.Ghosts P.Denot A.De
 refreshed_is_shared P A R g h p a =
     search (registry.the_sync, kept_is_shared, held.the_sync, book.the_sync, refresh_asks.the_sync, refreshed_replies.the_sync, parts) depth 60 fits 20000
 
+pub kept_asked_is_shared : (A : RattleType) → IsSync A
+    → IsSync (kept.the_row end_part.the_row (pair.the_row (end_ask.the_row A) ended_reply.the_row))
+kept_asked_is_shared A a = search (kept_is_shared, end_parts.the_sync, end_asks.the_sync, ended_replies.the_sync, parts) depth 60 fits 20000
+
+pub questions_are_shared : IsSync (rows.the_row question.the_row question_impl.ghosts)
+questions_are_shared = search (held.the_sync, questions.the_sync, parts) depth 60 fits 20000
+
 pub asked_is_shared : (P A R : RattleType) (g : provides.Ghosts P.Denot A.Denot R.Denot) (h : core.Ghosts P.Denot A.Denot R.Denot)
     → IsSync P → IsSync A → IsSync (asked.the_row P A R g h)
-asked_is_shared P A R g h p a = search (end_setup.the_sync, kept_is_shared, held.the_sync, end_asks.the_sync, ended_replies.the_sync, parts) depth 60 fits 20000
+asked_is_shared P A R g h p a =
+    search (registry.the_sync, returns.the_sync, kept_asked_is_shared, questions_are_shared, sendable) depth 60 fits 20000
 
-pub ruleset sends = (
-  asked_is_sent,
-  refreshed_is_sent,
-  keyed_is_sent,
-  provider_is_sent,
-  end_asks.the_send,
-  refresh_asks.the_send,
-  keyed_asks.the_send,
-  asks.the_send,
-  end_replies.the_send,
-  refresh_replies.the_send,
-  keyed_replies.the_send,
-  replies.the_send,
-  parts,
-)
+-- ---- for the cores around others, one at a time
 
-pub ruleset shares = (
-  asked_is_shared,
-  refreshed_is_shared,
-  keyed_is_shared,
-  provider_is_shared,
-  end_asks.the_sync,
-  refresh_asks.the_sync,
-  keyed_asks.the_sync,
-  asks.the_sync,
-  parts,
-)
+pub ruleset asking_sends = (asked_is_sent, end_asks.the_send, end_replies.the_send, parts)
+
+pub ruleset asking_shares = (asked_is_shared, parts)
+
+pub ruleset renewing_sends = (refreshed_is_sent, refresh_asks.the_send, refresh_replies.the_send, parts)
+
+pub ruleset renewing_shares = (refreshed_is_shared, refresh_asks.the_sync, parts)
+
+pub ruleset keyed_sends = (keyed_is_sent, provider_is_sent, keyed_asks.the_send, asks.the_send, keyed_replies.the_send, replies.the_send, parts)
+
+pub ruleset keyed_shares = (keyed_is_shared, provider_is_shared, keyed_asks.the_sync, asks.the_sync, parts)

@@ -174,6 +174,37 @@ IsRefreshedAsk asked = tokens.IsRefreshAsk IsKeyedAsk asked
 abbrev pub IsLegalRefreshed : Setup Configuration → List (Pair RefreshedAsk RefreshedReply) → Type 0
 IsLegalRefreshed s h = IsLegalRefresh keyed_plain keyed_given keyed_provided IsKeyedAsk keyed_weight op_most IsLegalKeyed s h
 
+-- ---- any core with questions before a sign-out around it
+
+abbrev pub asking_manner : {A R : Type 0} → (A → Option OpAsk) → (R → Option (List Message)) → (Configuration → Ask → A) → (OpAsk → A)
+    → (Configuration → R → HttpReply) → (A → ℕ) → Configuration → Manner (EndAsk A) (EndReply R)
+asking_manner plain notices prepared from_op http weighs c =
+    provider_manner (plain_inside plain) (notices_inside notices)
+    (λ d request. end_asked prepared from_op d request (route_asked d.prefix request)) (λ asked. signs.alone (from_op asked))
+    (end_http http) (end_weight weighs) c
+
+abbrev pub asking_most : {S : Type 0} → (S → ℕ) → SignoutSetup S → ℕ
+asking_most most s = most s.inner
+
+abbrev pub asking_setup : {P A R S : Type 0} → (P → S) → Signing P A R → SignoutSetup S
+asking_setup setup p = record { own = p.setup; inner = setup p.inner }
+
+abbrev pub asking_history : {P A R : Type 0} → Signing P A R → List (Outer A R)
+asking_history p = p.history
+
+-- the same where refresh tokens are around the core too, and the questions around these
+abbrev pub renewing_manner : {A R : Type 0} → (A → Option OpAsk) → (R → Option OpReply) → (R → Option (List Message))
+    → (Configuration → Ask → A) → (OpAsk → A) → (Configuration → R → HttpReply) → (A → ℕ) → Configuration → Manner (EndAsk (RefreshAsk A)) (EndReply (RefreshReply R))
+renewing_manner plain told notices prepared from_op http weighs c =
+    asking_manner (tokens.outer_plain plain) (tokens.outer_notices notices) (λ d request. token_read.asked_around plain d request (prepared d request))
+    (λ asked. token_read.alone (from_op asked)) (token_read.outer_http http told) (tokens.outer_weight weighs) c
+
+abbrev pub renewing_most : {S : Type 0} → (S → ℕ) → Setup S → ℕ
+renewing_most most s = most s.inner
+
+abbrev pub renewing_setup : {P A R S : Type 0} → (P → S) → Refreshing P A R → Setup S
+renewing_setup setup p = record { inner = setup p.inner; registry = p.registry }
+
 -- ---- the provider of `op-plus`: the last one, with questions before a sign-out around it
 
 abbrev pub OpPlus : Type 0
@@ -194,10 +225,7 @@ abbrev pub op_plus_around : EndSetup → Setup Configuration → SignoutSetup (S
 op_plus_around e s = record { own = e; inner = s }
 
 abbrev pub op_plus_manner : Configuration → Manner OpPlusAsk OpPlusReply
-op_plus_manner c =
-    provider_manner (plain_inside refreshed_plain) (notices_inside refreshed_notices)
-    (λ d request. end_asked refreshed_prepared refreshed_asked d request (route_asked d.prefix request)) (λ asked. signs.alone (refreshed_asked asked))
-    (end_http refreshed_http) (end_weight refreshed_weight) c
+op_plus_manner c = asking_manner refreshed_plain refreshed_notices refreshed_prepared refreshed_asked refreshed_http refreshed_weight c
 
 abbrev pub op_plus_most : SignoutSetup (Setup Configuration) → ℕ
 op_plus_most s = refreshed_most s.inner

@@ -8,6 +8,7 @@ ghost use Rattle.rp_login.specs.Tables.{no_tables};
 ghost use Rattle.sso_serve.specs.Cores.{end_setup};
 ghost use Rattle.sso_serve.specs.Servers.{ServesOp, ServesOpPlus, ServesRp, ServesRpPlus};
 
+use crate::layers::serve_renewing;
 use client_registry::{Provider, Registry};
 use end_request::Returns;
 use op_core::OpCore;
@@ -211,7 +212,7 @@ pub(crate) fn serve_op_plus<R: Threads + Wait + Sync, D: Door, L: Link, C: Clock
     ensures memory { OnErr result (desks.new.items ≡ desks.old.items) }
 {
     let core = op_plus_core(alloc, registry, returns)?;
-    serve_op(rt, alloc, registry, core, desks)
+    serve_renewing(rt, alloc, registry, core, desks)
 }
 
 // ---- a relying party

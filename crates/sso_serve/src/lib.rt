@@ -4,11 +4,13 @@
 //!
 //! | Module | What it has |
 //! |---|---|
+//! | `layers` | the provider's server for cores around others |
 //! | `cores` | the cores, as in [`op_plus_core`], and their servers |
 //! | `ran` | [`run_op`], [`run_rp`], [`run_op_plus`] and [`run_rp_plus`], the servers without their cores, and [`Ran`], their result |
 #![tactic(auto)]
 
 mod cores;
+mod layers;
 mod ran;
 
 pub use cores::op_plus_core;
