@@ -48,16 +48,17 @@ mod texts;
 use crate::party::RelyingParty;
 use crate::provider::Provider;
 use case_lines::{Cases, Run, moment, number, print_cases, times, told, written};
-use sso_base::{Moment, NoMemory, Text};
+use sso_base::{Moment, NoMemory, Text, Word};
 use std::alloc::Global;
 use std::{io, mem};
 
-// The provider or the relying party, its run, and the ID Token that was kept.
+// The provider or the relying party, its run, the second word that its last request drew, and the ID Token that was kept.
 #[derive(Drop)]
 struct PlusCases {
     provider: Option<Provider>,
     party: Option<RelyingParty>,
     run: Run,
+    second: Word,
     hint: Option<Text>,
 }
 
@@ -67,6 +68,7 @@ impl PlusCases {
             provider: None,
             party: None,
             run: Run::new(alloc),
+            second: Word::new([0; 32]),
             hint: None,
         }
     }
@@ -113,6 +115,7 @@ impl PlusCases {
         at: Moment,
         fields: &[&str],
     ) -> Result<String, NoMemory> {
+        self.second = self.run.words()[1];
         match &mut self.provider {
             Some(provider) => provider.ask(alloc, &mut self.run, call, at, fields),
             None => self.ask_party(alloc, call, at, fields),
@@ -152,8 +155,7 @@ impl PlusCases {
 
     // The answer to a refresh request of the shop with the second word of the last request.
     fn refresh(&mut self, alloc: Global, at: &str) -> Result<String, NoMemory> {
-        let [_, token, ..] = self.run.last_words();
-        let token = token.to_text(alloc)?;
+        let token = self.second.to_text(alloc)?;
         let request = texts::named("refresh").unwrap_or_default();
         let body = [request, token.as_str()].concat(alloc)?;
         self.ask_at(alloc, "ask", at, &["POST", "/token", body.as_str()])
