@@ -21,7 +21,8 @@ use Rattle.serving.specs.Summaries.{Telling, Summarises}
 use Rattle.sso_serve.specs.Cores.{op_manner, op_most, op_registry, op_history}
 use Rattle.sso_serve.specs.Cores.{alike, op_plus_around, op_plus_manner, op_plus_most, op_plus_setup, op_plus_history, IsLegalOpPlus}
 use Rattle.sso_serve.specs.Cores.{rp_manner, rp_most, rp_setup, rp_history, rp_plus_manner, rp_plus_history}
-use Rattle.sso_serve.specs.Servers.{OpPlusSummary, RpPlusSummary, ServesOp, ServesOpPlus, ServesRp, ServesRpPlus}
+use Rattle.sso_serve.specs.declared.ran.Ran.{Ran}
+use Rattle.sso_serve.specs.Servers.{RpPlusSummary, RanSo, RanOpPlus, ServesOp, ServesRp, ServesRpPlus}
 
 -- the provider and the registry beside it
 pub setups_same : (a b c : Configuration) → a ≡ c → b ≡ c → ◌≡◌ {A = Setup Configuration} (record { inner = a; registry = b }) (alike c)
@@ -39,18 +40,18 @@ module _ {D L C W S K : Type 0} (t : Telling D L C W S K) (olds news : List (Des
       λ v. IfOk result (Summarises t (op_manner c) op_most op_registry op_history op.IsLegalHistory v c.listen olds news) in
       subst Configured same summary
 
-  pub op_plus_served : {E : Type 0} (e own : EndSetup) (inner : Setup Configuration) (result : Result OpPlusSummary E) → own ≡ e
+  pub op_plus_ran : {E : Type 0} (e own : EndSetup) (inner : Setup Configuration) (result : Result Ran E) → own ≡ e
       → inner ≡ alike e.registry
-      → IfOk result (Summarises t (op_plus_manner e.registry) op_plus_most op_plus_setup op_plus_history IsLegalOpPlus (op_plus_around own inner)
-      e.registry.listen olds news)
-      → IfOk result (ServesOpPlus t olds news e)
-  op_plus_served e own inner result same alike_is summary =
+      → IfOk result (RanSo (Summarises t (op_plus_manner e.registry) op_plus_most op_plus_setup op_plus_history IsLegalOpPlus
+      (op_plus_around own inner) e.registry.listen olds news))
+      → IfOk result (RanOpPlus t olds news e)
+  op_plus_ran e own inner result same alike_is ran =
       let Served : SignoutSetup (Setup Configuration) → Type 0 =
-      λ v. IfOk result (Summarises t (op_plus_manner e.registry) op_plus_most op_plus_setup op_plus_history IsLegalOpPlus v
-      e.registry.listen olds news) in
+      λ v. IfOk result (RanSo (Summarises t (op_plus_manner e.registry) op_plus_most op_plus_setup op_plus_history IsLegalOpPlus v
+      e.registry.listen olds news)) in
       let Own : EndSetup → Type 0 = λ v. Served (op_plus_around v inner) in
       let Inner : Setup Configuration → Type 0 = λ v. Served (op_plus_around e v) in
-      subst Inner alike_is (subst Own same summary)
+      subst Inner alike_is (subst Own same ran)
 
   pub rp_served : {E : Type 0} (p configured : PartySetup) (result : Result (Summary Relying RpAsk RpReply) E) → configured ≡ p
       → IfOk result (Summarises t (rp_manner p.configuration p.number) rp_most rp_setup rp_history rp.IsLegalHistory configured

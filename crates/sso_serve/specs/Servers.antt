@@ -33,6 +33,11 @@ RpPlusSummary = Summary Relying RpAsk PartyReply
 abbrev pub ran_of : {O A R : Type 0} → Summary O A R → Ran
 ran_of s = record { fault = s.fault; served = s.served; entries = s.entries }
 
+module _ {O A R : Type 0} (served : Summary O A R → Type 0) where
+  -- a server did this, with this result
+  abbrev pub RanSo : Ran → Type 0
+  RanSo ran = (s : Summary O A R) × served s × (ran ≡ ran_of s)
+
 module _ {D L C W S K : Type 0} (t : Telling D L C W S K) (olds news : List (Desk D L C W)) where
   -- the provider of a configuration was served, at its `listen` address
   abbrev pub ServesOp : Configuration → Summary Providing OpAsk OpReply → Type 0

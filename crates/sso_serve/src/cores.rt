@@ -1,14 +1,13 @@
-// The servers of four cores: the provider, alone and with proof keys, refresh tokens and questions before a sign-out, and a relying party,
-// alone and with proof keys.
+// The core of the provider with proof keys, refresh tokens and questions before a sign-out, and the servers of three cores: the provider
+// alone, and a relying party, alone and with proof keys.
 
 ghost use Rattle.std.specs.Prelude.{◌≡◌, ◌^◌, ◌≤◌, ◌<◌, [], length, IfOk, OnErr};
 ghost use Rattle.std.specs.List.{All};
 ghost use Rattle.rp_accept.specs.Serving.{setup_of};
 ghost use Rattle.rp_login.specs.Tables.{no_tables};
 ghost use Rattle.sso_serve.specs.Cores.{end_setup};
-ghost use Rattle.sso_serve.specs.Servers.{ServesOp, ServesOpPlus, ServesRp, ServesRpPlus};
+ghost use Rattle.sso_serve.specs.Servers.{ServesOp, ServesRp, ServesRpPlus};
 
-use crate::layers::serve_renewing;
 use client_registry::{Provider, Registry};
 use end_request::Returns;
 use op_core::OpCore;
@@ -195,24 +194,6 @@ pub(crate) fn serve_op_alone<R: Threads + Wait + Sync, D: Door, L: Link, C: Cloc
 {
     let core = OpCore::new(alloc, registry.copy(alloc)?)?;
     serve_op(rt, alloc, registry, core, desks)
-}
-
-/// Serves the provider of this registry with proof keys, refresh tokens and questions before a sign-out. Browsers may be sent to these URIs.
-pub(crate) fn serve_op_plus<R: Threads + Wait + Sync, D: Door, L: Link, C: Clock, W: Draw>(
-    rt: &R,
-    alloc: Global,
-    registry: &Registry,
-    returns: Returns,
-    desks: &mut Vec<Desk<D, L, C, W>>,
-) -> Result<Summary<SignoutCore<RefreshCore<PkceCore<OpCore>>>>, NoMemory>
-    requires few { length desks.old.items ≤ 64 }
-    requires desks { All (λ desk. (desk.turns ≤ 2 ^ 56) × ((D.state desk.door).given < 2 ^ 63)) desks.old.items }
-    ensures summary { IfOk result
-        (ServesOpPlus ⟦<Desk<D, L, C, W> as Tells>⟧.telling desks.old.items desks.new.items (end_setup registry.now returns)) }
-    ensures memory { OnErr result (desks.new.items ≡ desks.old.items) }
-{
-    let core = op_plus_core(alloc, registry, returns)?;
-    serve_renewing(rt, alloc, registry, core, desks)
 }
 
 // ---- a relying party

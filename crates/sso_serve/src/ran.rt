@@ -6,7 +6,8 @@ ghost use Rattle.rp_accept.specs.Serving.{setup_of};
 ghost use Rattle.sso_serve.specs.Cores.{end_setup};
 ghost use Rattle.sso_serve.specs.Servers.{RanOp, RanOpPlus, RanRp, RanRpPlus};
 
-use crate::cores::{serve_op_alone, serve_op_plus, serve_rp_alone, serve_rp_plus};
+use crate::cores::{op_plus_core, serve_op_alone, serve_rp_alone, serve_rp_plus};
+use crate::layers::run_renewing;
 use client_registry::{Provider, Registry};
 use end_request::Returns;
 use server_desk::{Clock, Desk, Door, Draw, Link};
@@ -70,12 +71,8 @@ pub fn run_op_plus<R: Threads + Wait + Sync, D: Door, L: Link, C: Clock, W: Draw
         (RanOpPlus ⟦<Desk<D, L, C, W> as Tells>⟧.telling desks.old.items desks.new.items (end_setup registry.now returns)) }
     ensures memory { OnErr result (desks.new.items ≡ desks.old.items) }
 {
-    let summary = serve_op_plus(rt, alloc, registry, returns, desks)?;
-    Ok(Ran {
-        fault: summary.fault,
-        served: summary.served,
-        entries: summary.entries,
-    })
+    let core = op_plus_core(alloc, registry, returns)?;
+    run_renewing(rt, alloc, registry, core, desks)
 }
 
 /// Serves the party with this number in the registry, as [`serve_rp`](server_roles::serve_rp), and returns how that ended. It trusts this
