@@ -194,7 +194,8 @@ asking_history p = p.history
 
 -- the same where refresh tokens are around the core too, and the questions around these
 abbrev pub renewing_manner : {A R : Type 0} → (A → Option OpAsk) → (R → Option OpReply) → (R → Option (List Message))
-    → (Configuration → Ask → A) → (OpAsk → A) → (Configuration → R → HttpReply) → (A → ℕ) → Configuration → Manner (EndAsk (RefreshAsk A)) (EndReply (RefreshReply R))
+    → (Configuration → Ask → A) → (OpAsk → A) → (Configuration → R → HttpReply) → (A → ℕ) → Configuration
+    → Manner (EndAsk (RefreshAsk A)) (EndReply (RefreshReply R))
 renewing_manner plain told notices prepared from_op http weighs c =
     asking_manner (tokens.outer_plain plain) (tokens.outer_notices notices) (λ d request. token_read.asked_around plain d request (prepared d request))
     (λ asked. token_read.alone (from_op asked)) (token_read.outer_http http told) (tokens.outer_weight weighs) c
@@ -202,8 +203,9 @@ renewing_manner plain told notices prepared from_op http weighs c =
 abbrev pub renewing_most : {S : Type 0} → (S → ℕ) → Setup S → ℕ
 renewing_most most s = most s.inner
 
-abbrev pub renewing_setup : {P A R S : Type 0} → (P → S) → Refreshing P A R → Setup S
-renewing_setup setup p = record { inner = setup p.inner; registry = p.registry }
+-- (what is asked and what is replied say of which core it is)
+abbrev pub renewing_setup : {P A R S : Type 0} → (A → Option OpAsk) → (R → Option OpReply) → (P → S) → Refreshing P A R → Setup S
+renewing_setup plain given setup p = record { inner = setup p.inner; registry = p.registry }
 
 -- ---- the provider of `op-plus`: the last one, with questions before a sign-out around it
 

@@ -78,10 +78,10 @@ where
     requires desks { All (λ desk. (desk.turns ≤ 2 ^ 56) × ((D.state desk.door).given < 2 ^ 63)) desks.old.items }
     ensures summary { IfOk result (Summarises ⟦<Desk<D, L, C, W> as Tells>⟧.telling
         (renewing_manner P.plain_ask P.op_reply P.notices P.prepared P.from_op P.http_of P.weighs registry.now)
-        (asking_most (renewing_most P.most)) (asking_setup (renewing_setup P.setup)) asking_history
+        (asking_most (renewing_most P.most)) (asking_setup (renewing_setup P.plain_ask P.given_reply P.setup)) asking_history
         (IsLegalSignout (outer_plain P.plain_ask) (IsRefreshAsk P.IsAsk) (outer_weight P.weighs) (renewing_most P.most)
         (IsLegalRefresh P.plain_ask P.given_reply P.provided P.IsAsk P.weighs P.most P.is_legal))
-        (asking_setup (renewing_setup P.setup) core) registry.now.listen desks.old.items desks.new.items) }
+        (asking_setup (renewing_setup P.plain_ask P.given_reply P.setup) core) registry.now.listen desks.old.items desks.new.items) }
     ensures memory { OnErr result (desks.new.items ≡ desks.old.items) }
 {
     serve_asking(rt, alloc, registry, core, desks)
@@ -111,10 +111,10 @@ where
     requires desks { All (λ desk. (desk.turns ≤ 2 ^ 56) × ((D.state desk.door).given < 2 ^ 63)) desks.old.items }
     ensures ran { IfOk result (RanSo (Summarises ⟦<Desk<D, L, C, W> as Tells>⟧.telling
         (renewing_manner P.plain_ask P.op_reply P.notices P.prepared P.from_op P.http_of P.weighs registry.now)
-        (asking_most (renewing_most P.most)) (asking_setup (renewing_setup P.setup)) asking_history
+        (asking_most (renewing_most P.most)) (asking_setup (renewing_setup P.plain_ask P.given_reply P.setup)) asking_history
         (IsLegalSignout (outer_plain P.plain_ask) (IsRefreshAsk P.IsAsk) (outer_weight P.weighs) (renewing_most P.most)
         (IsLegalRefresh P.plain_ask P.given_reply P.provided P.IsAsk P.weighs P.most P.is_legal))
-        (asking_setup (renewing_setup P.setup) core) registry.now.listen desks.old.items desks.new.items)) }
+        (asking_setup (renewing_setup P.plain_ask P.given_reply P.setup) core) registry.now.listen desks.old.items desks.new.items)) }
     ensures memory { OnErr result (desks.new.items ≡ desks.old.items) }
 {
     let summary = serve_renewing(rt, alloc, registry, core, desks)?;
