@@ -1,2 +1,3 @@
+pub mod Ends
 pub mod Roles
 pub mod Rounds

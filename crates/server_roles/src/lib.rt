@@ -8,14 +8,17 @@
 //! |---|---|
 //! | `op_role`, `rp_role` | [`OpRole`] and [`RpRole`], the roles |
 //! | `op`, `rp` | [`serve_op`] and [`serve_rp`], the servers |
+//! | `ran` | [`run_provider`] and [`run_party`], the same without their cores, and [`Ran`], their result |
 #![tactic(auto)]
 
 mod op;
 mod op_role;
+mod ran;
 mod rp;
 mod rp_role;
 
 pub use op::serve_op;
 pub use op_role::OpRole;
+pub use ran::{Ran, run_party, run_provider};
 pub use rp::serve_rp;
 pub use rp_role::RpRole;

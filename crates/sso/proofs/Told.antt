@@ -9,8 +9,9 @@ use Rattle.signout_answer.specs.declared.asks.EndSetup.{EndSetup}
 use Rattle.server_desk.specs.declared.desk.Desk.{Desk}
 use Rattle.serving.specs.declared.summary.Summary.{Summary}
 use Rattle.serving.specs.Summaries.{Telling}
-use Rattle.sso_serve.specs.declared.ran.Ran.{Ran}
-use Rattle.sso_serve.specs.Servers.{ran_of, ServesOp, ServesRp, ServesOpPlus, ServesRpPlus, RanOp, RanRp, RanOpPlus, RanRpPlus}
+use Rattle.server_roles.specs.declared.ran.Ran.{Ran}
+use Rattle.server_roles.specs.Ends.{RanSo}
+use Rattle.sso_serve.specs.Servers.{ServesOp, ServesRp, ServesOpPlus, ServesRpPlus, RanOp, RanRp, RanOpPlus, RanRpPlus}
 use Rattle.sso.specs.Answer.{Answer}
 use Rattle.sso.specs.Asked.{server_answer}
 use Rattle.sso.specs.Outcomes.{ServedBy, ServedOp, ServedRp, ServedOpPlus, ServedRpPlus}
@@ -19,7 +20,7 @@ abbrev answer_of : Ran → Answer
 answer_of ran = server_answer ran.fault ran.served ran.entries
 
 pub server_told : {X Core A R E : Type 0} (Unchanged : Type 0) (Serves : X → Summary Core A R → Type 0) (x : X) (ran : Ran) (result : Result Answer E)
-    → ((s : Summary Core A R) × Serves x s × (ran ≡ ran_of s)) → IfOk result (λ answer. answer ≡ answer_of ran)
+    → RanSo (Serves x) ran → IfOk result (λ answer. answer ≡ answer_of ran)
     → IfOk result (ServedBy Unchanged Serves (Ok x))
 server_told Unchanged Serves x ran result (s, serves, same) told = IfOk-weaker result _ _ (λ answer is. (s, serves, is ∙ ap answer_of same)) told
 

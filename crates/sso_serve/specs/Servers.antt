@@ -1,5 +1,5 @@
 -- What servers did with their desks.
-use Rattle.std.specs.Prelude.{◌≡◌, List}
+use Rattle.std.specs.Prelude.{List}
 use Rattle.client_registry.specs.Configuration.{Configuration}
 use Rattle.op_exchange.specs.declared.ask.OpAsk.{OpAsk}
 use Rattle.op_exchange.specs.declared.reply.OpReply.{OpReply}
@@ -16,7 +16,8 @@ use Rattle.pkce_party.specs.Adding.{IsLegalParty}
 use Rattle.server_desk.specs.declared.desk.Desk.{Desk}
 use Rattle.serving.specs.declared.summary.Summary.{Summary}
 use Rattle.serving.specs.Summaries.{Telling, Summarises}
-use Rattle.sso_serve.specs.declared.ran.Ran.{Ran}
+use Rattle.server_roles.specs.declared.ran.Ran.{Ran}
+use Rattle.server_roles.specs.Ends.{RanSo}
 use Rattle.sso_serve.specs.Cores.{op_manner, op_most, op_registry, op_history}
 use Rattle.sso_serve.specs.Cores.{OpPlus, OpPlusAsk, OpPlusReply}
 use Rattle.sso_serve.specs.Cores.{alike, op_plus_around, op_plus_manner, op_plus_most, op_plus_setup, op_plus_history, IsLegalOpPlus}
@@ -28,15 +29,6 @@ OpPlusSummary = Summary OpPlus OpPlusAsk OpPlusReply
 
 abbrev pub RpPlusSummary : Type 0
 RpPlusSummary = Summary Relying RpAsk PartyReply
-
--- the result of a server that did this
-abbrev pub ran_of : {O A R : Type 0} → Summary O A R → Ran
-ran_of s = record { fault = s.fault; served = s.served; entries = s.entries }
-
-module _ {O A R : Type 0} (served : Summary O A R → Type 0) where
-  -- a server did this, with this result
-  abbrev pub RanSo : Ran → Type 0
-  RanSo ran = (s : Summary O A R) × served s × (ran ≡ ran_of s)
 
 module _ {D L C W S K : Type 0} (t : Telling D L C W S K) (olds news : List (Desk D L C W)) where
   -- the provider of a configuration was served, at its `listen` address
@@ -60,13 +52,13 @@ module _ {D L C W S K : Type 0} (t : Telling D L C W S K) (olds news : List (Des
 
   -- the same, with this result
   abbrev pub RanOp : Configuration → Ran → Type 0
-  RanOp c ran = (s : Summary Providing OpAsk OpReply) × ServesOp c s × (ran ≡ ran_of s)
+  RanOp c ran = RanSo (ServesOp c) ran
 
   abbrev pub RanOpPlus : EndSetup → Ran → Type 0
-  RanOpPlus e ran = (s : OpPlusSummary) × ServesOpPlus e s × (ran ≡ ran_of s)
+  RanOpPlus e ran = RanSo (ServesOpPlus e) ran
 
   abbrev pub RanRp : PartySetup → Ran → Type 0
-  RanRp p ran = (s : Summary Relying RpAsk RpReply) × ServesRp p s × (ran ≡ ran_of s)
+  RanRp p ran = RanSo (ServesRp p) ran
 
   abbrev pub RanRpPlus : PartySetup → Ran → Type 0
-  RanRpPlus p ran = (s : RpPlusSummary) × ServesRpPlus p s × (ran ≡ ran_of s)
+  RanRpPlus p ran = RanSo (ServesRpPlus p) ran

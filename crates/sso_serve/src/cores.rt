@@ -1,12 +1,10 @@
-// The core of the provider with proof keys, refresh tokens and questions before a sign-out, and the servers of three cores: the provider
-// alone, and a relying party, alone and with proof keys.
+// The cores that are put together: the provider's with proof keys, refresh tokens and questions before a sign-out, and a relying party's
+// with proof keys.
 
-ghost use Rattle.std.specs.Prelude.{◌≡◌, ◌^◌, ◌≤◌, ◌<◌, [], length, IfOk, OnErr};
-ghost use Rattle.std.specs.List.{All};
+ghost use Rattle.std.specs.Prelude.{◌≡◌, ◌<◌, [], length, IfOk};
 ghost use Rattle.rp_accept.specs.Serving.{setup_of};
 ghost use Rattle.rp_login.specs.Tables.{no_tables};
 ghost use Rattle.sso_serve.specs.Cores.{end_setup};
-ghost use Rattle.sso_serve.specs.Servers.{ServesOp, ServesRp, ServesRpPlus};
 
 use client_registry::{Provider, Registry};
 use end_request::Returns;
@@ -16,16 +14,9 @@ use pkce_party::PkceParty;
 use refresh_book::RefreshCore;
 use rp_core::RpCore;
 use rp_signout::SignoutCore;
-use server_desk::{Clock, Desk, Door, Draw, Link};
-use server_roles::{serve_op, serve_rp};
-use serving::{Summary, Tells};
 use signout_answer::EndSetup;
 use sso_base::NoMemory;
 use std::alloc::Global;
-use std::sync::Wait;
-use std::thread::Threads;
-
-// ---- the cores
 
 // Proof keys around a provider that has an empty history. The core lasts if the provider does.
 fn keys_around(alloc: Global, inner: OpCore, lasts: bool) -> PkceCore<OpCore>
@@ -163,8 +154,8 @@ fn keys_within(alloc: Global, inner: RpCore) -> PkceParty
     PkceParty::new(alloc, inner)
 }
 
-// A relying party of a registry with proof keys, with an empty history.
-fn rp_with_keys(
+/// A relying party of a registry with proof keys, with an empty history.
+pub(crate) fn rp_with_keys(
     alloc: Global,
     registry: Registry,
     party: u32,
@@ -176,65 +167,4 @@ fn rp_with_keys(
 {
     let inner = RpCore::new(alloc, registry, party, provider)?;
     Ok(keys_within(alloc, inner))
-}
-
-// ---- the provider
-
-/// Serves the provider of this registry.
-pub(crate) fn serve_op_alone<R: Threads + Wait + Sync, D: Door, L: Link, C: Clock, W: Draw>(
-    rt: &R,
-    alloc: Global,
-    registry: &Registry,
-    desks: &mut Vec<Desk<D, L, C, W>>,
-) -> Result<Summary<OpCore>, NoMemory>
-    requires few { length desks.old.items ≤ 64 }
-    requires desks { All (λ desk. (desk.turns ≤ 2 ^ 56) × ((D.state desk.door).given < 2 ^ 63)) desks.old.items }
-    ensures summary { IfOk result (ServesOp ⟦<Desk<D, L, C, W> as Tells>⟧.telling desks.old.items desks.new.items registry.now) }
-    ensures memory { OnErr result (desks.new.items ≡ desks.old.items) }
-{
-    let core = OpCore::new(alloc, registry.copy(alloc)?)?;
-    serve_op(rt, alloc, registry, core, desks)
-}
-
-// ---- a relying party
-
-/// Serves the party with this number in the registry. It trusts this provider.
-pub(crate) fn serve_rp_alone<R: Threads + Wait + Sync, D: Door, L: Link, C: Clock, W: Draw>(
-    rt: &R,
-    alloc: Global,
-    registry: &Registry,
-    party: u32,
-    provider: Provider,
-    desks: &mut Vec<Desk<D, L, C, W>>,
-) -> Result<Summary<RpCore>, NoMemory>
-    requires party { party < length registry.now.parties }
-    requires issuer { provider.issuer ≡ registry.now.provider.issuer }
-    requires few { length desks.old.items ≤ 64 }
-    requires desks { All (λ desk. (desk.turns ≤ 2 ^ 56) × ((D.state desk.door).given < 2 ^ 63)) desks.old.items }
-    ensures summary { IfOk result (ServesRp ⟦<Desk<D, L, C, W> as Tells>⟧.telling desks.old.items desks.new.items (setup_of registry.now party provider)) }
-    ensures memory { OnErr result (desks.new.items ≡ desks.old.items) }
-{
-    let core = RpCore::new(alloc, registry.copy(alloc)?, party, provider)?;
-    serve_rp(rt, alloc, registry, party, core, desks)
-}
-
-/// The same with proof keys.
-pub(crate) fn serve_rp_plus<R: Threads + Wait + Sync, D: Door, L: Link, C: Clock, W: Draw>(
-    rt: &R,
-    alloc: Global,
-    registry: &Registry,
-    party: u32,
-    provider: Provider,
-    desks: &mut Vec<Desk<D, L, C, W>>,
-) -> Result<Summary<PkceParty>, NoMemory>
-    requires party { party < length registry.now.parties }
-    requires issuer { provider.issuer ≡ registry.now.provider.issuer }
-    requires few { length desks.old.items ≤ 64 }
-    requires desks { All (λ desk. (desk.turns ≤ 2 ^ 56) × ((D.state desk.door).given < 2 ^ 63)) desks.old.items }
-    ensures summary { IfOk result
-        (ServesRpPlus ⟦<Desk<D, L, C, W> as Tells>⟧.telling desks.old.items desks.new.items (setup_of registry.now party provider)) }
-    ensures memory { OnErr result (desks.new.items ≡ desks.old.items) }
-{
-    let core = rp_with_keys(alloc, registry.copy(alloc)?, party, provider)?;
-    serve_rp(rt, alloc, registry, party, core, desks)
 }

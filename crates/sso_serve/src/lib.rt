@@ -4,9 +4,9 @@
 //!
 //! | Module | What it has |
 //! |---|---|
+//! | `cores` | the cores that are put together, as in [`op_plus_core`] |
 //! | `layers` | the provider's server for cores around others |
-//! | `cores` | the cores, as in [`op_plus_core`], and their servers |
-//! | `ran` | [`run_op`], [`run_rp`], [`run_op_plus`] and [`run_rp_plus`], the servers without their cores, and [`Ran`], their result |
+//! | `ran` | [`run_op`], [`run_rp`], [`run_op_plus`] and [`run_rp_plus`], the servers |
 #![tactic(auto)]
 
 mod cores;
@@ -14,4 +14,4 @@ mod layers;
 mod ran;
 
 pub use cores::op_plus_core;
-pub use ran::{Ran, run_op, run_op_plus, run_rp, run_rp_plus};
+pub use ran::{run_op, run_op_plus, run_rp, run_rp_plus};

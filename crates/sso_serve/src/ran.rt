@@ -1,4 +1,4 @@
-// The result of a server that has ended.
+// The servers. Each returns how it ended, without its core.
 
 ghost use Rattle.std.specs.Prelude.{◌≡◌, ◌^◌, ◌≤◌, ◌<◌, length, IfOk, OnErr};
 ghost use Rattle.std.specs.List.{All};
@@ -6,27 +6,19 @@ ghost use Rattle.rp_accept.specs.Serving.{setup_of};
 ghost use Rattle.sso_serve.specs.Cores.{end_setup};
 ghost use Rattle.sso_serve.specs.Servers.{RanOp, RanOpPlus, RanRp, RanRpPlus};
 
-use crate::cores::{op_plus_core, serve_op_alone, serve_rp_alone, serve_rp_plus};
+use crate::cores::{op_plus_core, rp_with_keys};
 use crate::layers::run_renewing;
 use client_registry::{Provider, Registry};
 use end_request::Returns;
+use op_core::OpCore;
+use rp_core::RpCore;
 use server_desk::{Clock, Desk, Door, Draw, Link};
+use server_roles::{Ran, run_party, run_provider};
 use serving::Tells;
 use sso_base::NoMemory;
 use std::alloc::Global;
 use std::sync::Wait;
 use std::thread::Threads;
-
-/// The result of a server that has ended, without its core.
-#[derive(Clone, Copy)]
-pub struct Ran {
-    /// Whether a door failed.
-    pub fault: bool,
-    /// The number of connections that its desks served.
-    pub served: u64,
-    /// The number of entries in the history of its core.
-    pub entries: u64,
-}
 
 /// Serves the provider of this registry, as [`serve_op`](server_roles::serve_op), and returns how that ended.
 ///
@@ -44,12 +36,8 @@ pub fn run_op<R: Threads + Wait + Sync, D: Door, L: Link, C: Clock, W: Draw>(
     ensures ran { IfOk result (RanOp ⟦<Desk<D, L, C, W> as Tells>⟧.telling desks.old.items desks.new.items registry.now) }
     ensures memory { OnErr result (desks.new.items ≡ desks.old.items) }
 {
-    let summary = serve_op_alone(rt, alloc, registry, desks)?;
-    Ok(Ran {
-        fault: summary.fault,
-        served: summary.served,
-        entries: summary.entries,
-    })
+    let core = OpCore::new(alloc, registry.copy(alloc)?)?;
+    run_provider(rt, alloc, registry, core, desks)
 }
 
 /// Serves the provider of this registry with proof keys, refresh tokens and questions before a sign-out, as [`serve_op`](server_roles::serve_op),
@@ -96,12 +84,8 @@ pub fn run_rp<R: Threads + Wait + Sync, D: Door, L: Link, C: Clock, W: Draw>(
     ensures ran { IfOk result (RanRp ⟦<Desk<D, L, C, W> as Tells>⟧.telling desks.old.items desks.new.items (setup_of registry.now party provider)) }
     ensures memory { OnErr result (desks.new.items ≡ desks.old.items) }
 {
-    let summary = serve_rp_alone(rt, alloc, registry, party, provider, desks)?;
-    Ok(Ran {
-        fault: summary.fault,
-        served: summary.served,
-        entries: summary.entries,
-    })
+    let core = RpCore::new(alloc, registry.copy(alloc)?, party, provider)?;
+    run_party(rt, alloc, registry, party, core, desks)
 }
 
 /// Serves the party with this number in the registry with proof keys, as [`serve_rp`](server_roles::serve_rp), and returns how that ended. It trusts this
@@ -126,10 +110,6 @@ pub fn run_rp_plus<R: Threads + Wait + Sync, D: Door, L: Link, C: Clock, W: Draw
         (RanRpPlus ⟦<Desk<D, L, C, W> as Tells>⟧.telling desks.old.items desks.new.items (setup_of registry.now party provider)) }
     ensures memory { OnErr result (desks.new.items ≡ desks.old.items) }
 {
-    let summary = serve_rp_plus(rt, alloc, registry, party, provider, desks)?;
-    Ok(Ran {
-        fault: summary.fault,
-        served: summary.served,
-        entries: summary.entries,
-    })
+    let core = rp_with_keys(alloc, registry.copy(alloc)?, party, provider)?;
+    run_party(rt, alloc, registry, party, core, desks)
 }
