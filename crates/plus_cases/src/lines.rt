@@ -1,5 +1,6 @@
 // The lines of replies.
 
+use crate::provider::Lined;
 use case_lines::{push_part, told, told_refusal, told_text};
 use core_stack::Provides;
 use end_request::EndNo;
@@ -80,24 +81,21 @@ fn gone_line(
     Ok(line)
 }
 
-/// The line of a reply:
-///
 /// - that of the core inside: of the provider, after `first` if a first refresh token was added; after `key`, a refusal of the core with
 ///   proof keys; `refreshed`, or after `refresh` what else the core with refresh tokens replies by itself;
 /// - `sure`, `kept`, `stale`, `full`;
 /// - `wrong` with the reason;
 /// - `gone` with the location in quotes, or `-` if there is none, and the line of the core inside, with the URLs to which its messages go.
-pub fn end_line(
-    alloc: Global,
-    reply: &EndReply<RefreshReply<PkceReply<OpReply>>>,
-) -> Result<String, NoMemory> {
-    match reply {
-        EndReply::Through(inner) => inner_line(alloc, inner),
-        EndReply::Sure { .. } => told(alloc, "sure"),
-        EndReply::Wrong { why } => told_refusal(alloc, refusal(why)),
-        EndReply::Gone { back, inner } => gone_line(alloc, back, inner),
-        EndReply::Kept => told(alloc, "kept"),
-        EndReply::Stale => told(alloc, "stale"),
-        EndReply::Full => told(alloc, "full"),
+impl Lined for EndReply<RefreshReply<PkceReply<OpReply>>> {
+    fn line(&self, alloc: Global) -> Result<String, NoMemory> {
+        match self {
+            EndReply::Through(inner) => inner_line(alloc, inner),
+            EndReply::Sure { .. } => told(alloc, "sure"),
+            EndReply::Wrong { why } => told_refusal(alloc, refusal(why)),
+            EndReply::Gone { back, inner } => gone_line(alloc, back, inner),
+            EndReply::Kept => told(alloc, "kept"),
+            EndReply::Stale => told(alloc, "stale"),
+            EndReply::Full => told(alloc, "full"),
+        }
     }
 }

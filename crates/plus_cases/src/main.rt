@@ -46,7 +46,7 @@ mod sending;
 mod texts;
 
 use crate::party::RelyingParty;
-use crate::provider::Provider;
+use crate::provider::{Begins, Lined, PlusCore, Provider};
 use case_lines::{Cases, Run, moment, number, print_cases, times, told, written};
 use sso_base::{Moment, NoMemory, Text, Word};
 use std::alloc::Global;
@@ -54,16 +54,19 @@ use std::{io, mem};
 
 // The provider or the relying party, its run, the second word that its last request drew, and the ID Token that was kept.
 #[derive(Drop)]
-struct PlusCases {
-    provider: Option<Provider>,
+struct PlusCases<P: Begins> {
+    provider: Option<Provider<P>>,
     party: Option<RelyingParty>,
     run: Run,
     second: Word,
     hint: Option<Text>,
 }
 
-impl PlusCases {
-    fn new(alloc: Global) -> PlusCases {
+impl<P: Begins> PlusCases<P>
+where
+    P::Reply: Lined,
+{
+    fn new(alloc: Global) -> PlusCases<P> {
         PlusCases {
             provider: None,
             party: None,
@@ -75,7 +78,7 @@ impl PlusCases {
 
     // Sets the provider or the party, and begins its run. (The old ones are dropped by calls, and not in place: the proof of that is
     // long.)
-    fn set(&mut self, alloc: Global, provider: Option<Provider>, party: Option<RelyingParty>) {
+    fn set(&mut self, alloc: Global, provider: Option<Provider<P>>, party: Option<RelyingParty>) {
         drop(mem::replace(&mut self.provider, provider));
         drop(mem::replace(&mut self.party, party));
         self.run = Run::new(alloc);
@@ -202,7 +205,10 @@ fn repeated(alloc: Global, name: &str) -> Result<Option<Text>, NoMemory> {
     Ok(Some(Text::new(alloc, text.as_str())?))
 }
 
-impl Cases for PlusCases {
+impl<P: Begins> Cases for PlusCases<P>
+where
+    P::Reply: Lined,
+{
     fn answer(&mut self, alloc: Global, fields: &[&str]) -> Result<String, NoMemory> {
         match fields {
             ["challenge", verifier] => reading::challenge(alloc, verifier),
@@ -242,7 +248,7 @@ impl Cases for PlusCases {
 }
 
 fn main(rt: HostRuntime) -> io::Result<()> {
-    let mut cases = PlusCases::new(rt.alloc());
+    let mut cases: PlusCases<PlusCore> = PlusCases::new(rt.alloc());
     let printed = print_cases(&rt, &mut cases);
     // (dropped by a call, and not in place: the proof of that is long)
     drop(cases);

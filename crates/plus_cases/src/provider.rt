@@ -1,66 +1,94 @@
 // The provider of a run.
 
 use crate::configured::{configured, configured_lasting};
-use crate::lines::end_line;
 use case_lines::{Run, request, told};
 use client_registry::{RegNo, Registry, read_registry};
 use core_stack::Provides;
 use end_request::{Returns, read_returns};
 use op_core::OpCore;
-use op_exchange::OpReply;
-use pkce_answer::PkceReply;
 use pkce_check::PkceCore;
-use refresh_answer::RefreshReply;
 use refresh_book::RefreshCore;
 use rp_signout::SignoutCore;
-use signout_answer::EndReply;
-use sso_base::{Core, CoreNo, Message, Messages, Moment, NoMemory};
+use sso_base::{CoreNo, Message, Messages, Moment, NoMemory};
 use sso_serve::op_plus_core;
 use std::alloc::Global;
 
-/// A provider, and its registry.
+/// The core of `op-plus`.
+pub type PlusCore = SignoutCore<RefreshCore<PkceCore<OpCore>>>;
+
+/// A reply that has a line.
+pub trait Lined {
+    /// The line of the reply.
+    fn line(&self, alloc: Global) -> Result<String, NoMemory>;
+}
+
+/// A core with which a run begins.
+pub trait Begins: Provides {
+    /// The provider of a registry in this core, with an empty history. Browsers may be sent to these URIs.
+    fn begin(alloc: Global, registry: &Registry, returns: Returns) -> Result<Self, NoMemory>;
+}
+
+impl Begins for PlusCore {
+    fn begin(alloc: Global, registry: &Registry, returns: Returns) -> Result<PlusCore, NoMemory> {
+        op_plus_core(alloc, registry, returns)
+    }
+}
+
+/// A provider in a core, and its registry. (All is for any core: the prover would compare all parts of a core with a name in each call.)
 #[derive(Drop)]
-pub struct Provider {
+pub struct Provider<P: Provides> {
     registry: Registry,
-    core: SignoutCore<RefreshCore<PkceCore<OpCore>>>,
+    core: P,
 }
 
-fn begun(
-    registry: Registry,
-    core: Result<SignoutCore<RefreshCore<PkceCore<OpCore>>>, NoMemory>,
-) -> Result<Option<Provider>, NoMemory> {
-    match core {
-        Ok(core) => Ok(Some(Provider { registry, core })),
-        Err(NoMemory) => Err(NoMemory),
+impl<P: Begins> Provider<P> {
+    fn begun(
+        registry: Registry,
+        core: Result<P, NoMemory>,
+    ) -> Result<Option<Provider<P>>, NoMemory> {
+        match core {
+            Ok(core) => Ok(Some(Provider { registry, core })),
+            Err(NoMemory) => Err(NoMemory),
+        }
     }
-}
 
-fn provider_of(
-    alloc: Global,
-    registry: Registry,
-    returns: Returns,
-) -> Result<Option<Provider>, NoMemory> {
-    let core = op_plus_core(alloc, &registry, returns);
-    begun(registry, core)
-}
-
-fn provider_sending(
-    alloc: Global,
-    registry: Registry,
-    file: &str,
-) -> Result<Option<Provider>, NoMemory> {
-    match read_returns(alloc, file.as_bytes()) {
-        Ok(returns) => provider_of(alloc, registry, returns),
-        Err(RegNo::NoMemory) => Err(NoMemory),
-        Err(_) => Ok(None),
+    fn of(
+        alloc: Global,
+        registry: Registry,
+        returns: Returns,
+    ) -> Result<Option<Provider<P>>, NoMemory> {
+        let core = P::begin(alloc, &registry, returns);
+        Self::begun(registry, core)
     }
-}
 
-fn provider_read(alloc: Global, file: &str) -> Result<Option<Provider>, NoMemory> {
-    match read_registry(alloc, file.as_bytes()) {
-        Ok(registry) => provider_sending(alloc, registry, file),
-        Err(RegNo::NoMemory) => Err(NoMemory),
-        Err(_) => Ok(None),
+    fn sending(
+        alloc: Global,
+        registry: Registry,
+        file: &str,
+    ) -> Result<Option<Provider<P>>, NoMemory> {
+        match read_returns(alloc, file.as_bytes()) {
+            Ok(returns) => Self::of(alloc, registry, returns),
+            Err(RegNo::NoMemory) => Err(NoMemory),
+            Err(_) => Ok(None),
+        }
+    }
+
+    fn read(alloc: Global, file: &str) -> Result<Option<Provider<P>>, NoMemory> {
+        match read_registry(alloc, file.as_bytes()) {
+            Ok(registry) => Self::sending(alloc, registry, file),
+            Err(RegNo::NoMemory) => Err(NoMemory),
+            Err(_) => Ok(None),
+        }
+    }
+
+    /// A provider with these lines in its configuration and an empty history; none if the configuration is rejected. After the line
+    /// `lasting` its history lasts.
+    pub fn begin(alloc: Global, lines: &str) -> Result<Option<Provider<P>>, NoMemory> {
+        let file = match lines.strip_prefix("lasting / ") {
+            Some(lines) => configured_lasting(alloc, lines)?,
+            None => configured(alloc, lines)?,
+        };
+        Self::read(alloc, file.as_str())
     }
 }
 
@@ -72,26 +100,16 @@ fn copied(alloc: Global, messages: &Messages) -> Result<Vec<Message>, NoMemory> 
     Ok(copied)
 }
 
-// The messages to clients in a reply.
-fn messages_in(
-    alloc: Global,
-    reply: &EndReply<RefreshReply<PkceReply<OpReply>>>,
-) -> Result<Vec<Message>, NoMemory> {
-    match <SignoutCore<RefreshCore<PkceCore<OpCore>>> as Provides>::messages(reply) {
-        Some(messages) => copied(alloc, messages),
-        None => Ok(Vec::new(alloc)),
-    }
-}
-
-impl Provider {
-    /// A provider with these lines in its configuration and an empty history; none if the configuration is rejected. After the line
-    /// `lasting` its history lasts.
-    pub fn begin(alloc: Global, lines: &str) -> Result<Option<Provider>, NoMemory> {
-        let file = match lines.strip_prefix("lasting / ") {
-            Some(lines) => configured_lasting(alloc, lines)?,
-            None => configured(alloc, lines)?,
-        };
-        provider_read(alloc, file.as_str())
+impl<P: Provides> Provider<P>
+where
+    P::Reply: Lined,
+{
+    // The messages to clients in a reply.
+    fn messages_in(alloc: Global, reply: &P::Reply) -> Result<Vec<Message>, NoMemory> {
+        match P::messages(reply) {
+            Some(messages) => copied(alloc, messages),
+            None => Ok(Vec::new(alloc)),
+        }
     }
 
     fn told(
@@ -99,16 +117,12 @@ impl Provider {
         alloc: Global,
         run: &mut Run,
         call: &str,
-        reply: &EndReply<RefreshReply<PkceReply<OpReply>>>,
+        reply: &P::Reply,
     ) -> Result<String, NoMemory> {
-        let messages = messages_in(alloc, reply)?;
-        let http = <SignoutCore<RefreshCore<PkceCore<OpCore>>> as Provides>::http(
-            alloc,
-            &self.registry,
-            reply,
-        )?;
+        let messages = Self::messages_in(alloc, reply)?;
+        let http = P::http(alloc, &self.registry, reply)?;
         run.keep(http, messages);
-        let line = end_line(alloc, reply)?;
+        let line = reply.line(alloc)?;
         run.told(alloc, call, line.as_str())
     }
 
@@ -118,7 +132,7 @@ impl Provider {
         alloc: Global,
         run: &mut Run,
         call: &str,
-        answer: &Result<EndReply<RefreshReply<PkceReply<OpReply>>>, CoreNo>,
+        answer: &Result<P::Reply, CoreNo>,
     ) -> Result<String, NoMemory> {
         match answer {
             Ok(reply) => {
@@ -143,11 +157,7 @@ impl Provider {
         fields: &[&str],
     ) -> Result<String, NoMemory> {
         let request = request(alloc, fields)?;
-        let asked = <SignoutCore<RefreshCore<PkceCore<OpCore>>> as Provides>::prepare(
-            alloc,
-            &self.registry,
-            &request,
-        )?;
+        let asked = P::prepare(alloc, &self.registry, &request)?;
         let answer = self.core.step(alloc, at, run.words(), asked);
         self.step_told(alloc, run, call, &answer)
     }
