@@ -1,7 +1,9 @@
 // The replies of a provider to requests, one after another.
 
-ghost use Rattle.std.specs.Prelude.{◌≡◌, [], length, IfOk};
-ghost use Rattle.sso_base.specs.Asked.{history_by};
+ghost use Rattle.std.specs.Prelude.{◌≡◌, ℕ, [], length, Err, IfOk};
+ghost use Rattle.sso_base.specs.Asked.{history_by, FillsHistory};
+ghost use Rattle.sso_base.specs.Journal.{most_of};
+ghost use Rattle.op_exchange.specs.Weight.{ask_weight};
 ghost use Rattle.op_answer.specs.Legal.{IsLegalHistory};
 
 use crate::state::OpCore;
@@ -15,7 +17,8 @@ use std::alloc::Global;
 ///
 /// # Errors
 ///
-/// Those of the provider's steps.
+/// - `NoMemory` if memory runs out.
+/// - `JournalFull` if the history of the requests before one, and that one, weigh more than a history of the registry may.
 pub fn provider_in_turn(
     alloc: Global,
     registry: Registry,
@@ -23,6 +26,7 @@ pub fn provider_in_turn(
 ) -> Result<Vec<OpReply>, CoreNo>
     ensures each { IfOk result (λ replies. length replies.items ≡ length asks.items) }
     ensures legal { IfOk result (λ replies. IsLegalHistory registry (history_by [] asks.items replies.items)) }
+    ensures full { (w : ℕ) → (result ≡ Err (CoreNo.JournalFull w)) → FillsHistory ask_weight (most_of registry.lasting) asks.items w }
 {
     match OpCore::new(alloc, registry) {
         Ok(core) => replies_in_turn(alloc, core, asks),

@@ -1,7 +1,9 @@
 // The replies of a relying party to requests, one after another.
 
-ghost use Rattle.std.specs.Prelude.{◌≡◌, ◌<◌, [], length, IfOk};
-ghost use Rattle.sso_base.specs.Asked.{history_by};
+ghost use Rattle.std.specs.Prelude.{◌≡◌, ◌<◌, ℕ, [], length, Err, IfOk};
+ghost use Rattle.sso_base.specs.Asked.{history_by, FillsHistory};
+ghost use Rattle.sso_base.specs.Journal.{most_of};
+ghost use Rattle.rp_exchange.specs.Weight.{ask_weight};
 ghost use Rattle.rp_accept.specs.Serving.{setup_of};
 ghost use Rattle.rp_answer.specs.Legal.{IsLegalHistory};
 
@@ -16,7 +18,8 @@ use std::alloc::Global;
 ///
 /// # Errors
 ///
-/// Those of the party's steps.
+/// - `NoMemory` if memory runs out.
+/// - `JournalFull` if the history of the requests before one, and that one, weigh more than a history of the registry may.
 pub fn party_in_turn(
     alloc: Global,
     registry: Registry,
@@ -28,6 +31,7 @@ pub fn party_in_turn(
     requires issuer { provider.issuer ≡ registry.provider.issuer }
     ensures each { IfOk result (λ replies. length replies.items ≡ length asks.items) }
     ensures legal { IfOk result (λ replies. IsLegalHistory (setup_of registry number provider) (history_by [] asks.items replies.items)) }
+    ensures full { (w : ℕ) → (result ≡ Err (CoreNo.JournalFull w)) → FillsHistory ask_weight (most_of registry.lasting) asks.items w }
 {
     match RpCore::new(alloc, registry, number, provider) {
         Ok(core) => replies_in_turn(alloc, core, asks),

@@ -36,6 +36,14 @@ one_value E a b h = cc
 pub holds_as : {A : Type 0} (E : Type 0) (P : A → Type 0) (a b : A) → ok_of E a ≡ ok_of E b → P a → P b
 holds_as E P a b h holds = subst P (one_value E a b h) holds
 
+-- ---- so does an error, and an error that is returned is the one that was found
+
+pub one_error : {A E : Type 0} (a b : E) → ◌≡◌ {A = Result A E} (Err a) (Err b) → a ≡ b
+one_error a b h = cc
+
+pub returned_error : {A E : Type 0} (result : Result A E) (returned found e : E) → result ≡ Err returned → returned ≡ found → result ≡ Err e → found ≡ e
+returned_error result returned found e is same so = cc
+
 -- ---- an error that none of the conditions has is not the first
 
 pub none_among : {E : Type 0} (is : E → Bool) (cs : List (Bool × E)) (e : E) → AllByRecursion (λ (c : Bool × E). is c.1 ≡ false) cs → is e ≡ true → first_refusal cs ≡ Err e → ⊥

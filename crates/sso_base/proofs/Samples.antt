@@ -18,7 +18,8 @@ use Rattle.sso_base.proofs.Utf8Bytes.{IsUtf8-are_ascii}
 use Rattle.sso_base.specs.Values.{AreWords}
 use Rattle.sso_base.specs.Weights.{told_weight, texts_bytes}
 use Rattle.sso_base.specs.Journal.{IsLegalHistoryBy, most_of, capacity_of, entry_moment, extended, history_weight}
-use Rattle.sso_base.specs.Asked.{history_by}
+use Rattle.sso_base.specs.declared.asked.Asked.{Asked}
+use Rattle.sso_base.specs.Asked.{history_by, asks_weight, FillsHistory}
 use Rattle.sso_base.specs.Refusals.{first_refusal, and_then, and_then_as, demand, forbid}
 use Rattle.sso_base.specs.Rows.{without, put, row_of, rows_by, lives, if_lives, live_rows}
 use Rattle.sso_base.specs.Stands.{is_named, carried, NoneMakes, Stands, KeepsNames, IsDistinct}
@@ -435,11 +436,23 @@ capacity-of_what_is_not = refl
 
 -- ---- the history of requests in turn
 
-history_by-two_requests : history_by {A = ℕ} {R = ℕ} [] (record { at = 7; fresh = drawn; ask = 0 } ∷ record { at = 6; fresh = drawn; ask = 0 } ∷ []) (0 ∷ 1 ∷ []) ≡ pair 7 0 ∷ pair 7 1 ∷ []
+abbrev asked_at : ℕ → Asked ℕ
+asked_at at = record { at = at; fresh = drawn; ask = 0 }
+
+history_by-two_requests : history_by {A = ℕ} {R = ℕ} [] (asked_at 7 ∷ asked_at 6 ∷ []) (0 ∷ 1 ∷ []) ≡ pair 7 0 ∷ pair 7 1 ∷ []
 history_by-two_requests = refl
 
-history_by-a_request_without_a_reply : history_by {A = ℕ} {R = ℕ} [] (record { at = 7; fresh = drawn; ask = 0 } ∷ []) [] ≡ []
+history_by-a_request_without_a_reply : history_by {A = ℕ} {R = ℕ} [] (asked_at 7 ∷ []) [] ≡ []
 history_by-a_request_without_a_reply = refl
+
+asks_weight-of_two_requests : asks_weight weighs_four (asked_at 7 ∷ asked_at 6 ∷ []) ≡ 8
+asks_weight-of_two_requests = refl
+
+fills_history-at_the_second : FillsHistory weighs_four 7 (asked_at 7 ∷ asked_at 6 ∷ asked_at 8 ∷ []) 4
+fills_history-at_the_second = record { front = asked_at 7 ∷ []; next = asked_at 6; rest = asked_at 8 ∷ []; all = refl; weighs_so = refl; full = omega arith }
+
+fills_history-not_where_it_fits : FillsHistory weighs_four 8 (asked_at 7 ∷ asked_at 6 ∷ []) 4 → ⊥
+fills_history-not_where_it_fits f = (let full : 8 < 8 = f.full in omega arith)
 
 -- ---- texts in ASCII, and texts in a list
 

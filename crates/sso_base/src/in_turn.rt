@@ -1,7 +1,7 @@
 // What a core replies to requests, one after another.
 
-ghost use Rattle.std.specs.Prelude.{◌≡◌, [], length, IfOk};
-ghost use Rattle.sso_base.specs.Asked.{history_by};
+ghost use Rattle.std.specs.Prelude.{◌≡◌, ℕ, [], length, Err, IfOk};
+ghost use Rattle.sso_base.specs.Asked.{history_by, FillsHistory};
 
 use crate::asked::Asked;
 use crate::step::{Core, CoreNo};
@@ -16,7 +16,8 @@ use std::alloc::Global;
 ///
 /// # Errors
 ///
-/// Those of the core's steps.
+/// - `NoMemory` if memory runs out.
+/// - `JournalFull` if the history of the requests before one, and that one, weigh more than a history of the core may.
 pub fn replies_in_turn<C: Core>(
     alloc: Global,
     mut core: C,
@@ -25,6 +26,7 @@ pub fn replies_in_turn<C: Core>(
     requires { C.history core ≡ [] }
     ensures each { IfOk result (λ replies. length replies.items ≡ length asks.items) }
     ensures legal { IfOk result (λ replies. C.is_legal (C.setup core) (history_by [] asks.items replies.items)) }
+    ensures full { (w : ℕ) → (result ≡ Err (CoreNo.JournalFull w)) → FillsHistory C.weighs (C.most (C.setup core)) asks.items w }
 {
     let _count = core.count();
     let mut replies = Vec::new(alloc);

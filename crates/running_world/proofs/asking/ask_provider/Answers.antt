@@ -1,8 +1,9 @@
-use Rattle.std.proofs.Common.{◌≡◌, ℕ, ◌<◌, ◌≤◌, ◌+◌, Result, Err, sym, ap, ◌∙◌, subst}
+use Rattle.std.proofs.Common.{◌≡◌, ◌<◌, ◌≤◌, ◌+◌, Err, sym, ap, ◌∙◌, subst}
 use Rattle.std.proofs.lemmas.Result.{err_from_is_err_and}
 use Rattle.sso_base.specs.Journal.{most_of, history_weight}
 use Rattle.sso_base.specs.declared.step.CoreNo.{CoreNo}
 use Rattle.sso_base.specs.declared.step.CoreNo.TheVariants.{JournalFull}
+use Rattle.sso_base.proofs.Refusals.{returned_error}
 use Rattle.client_registry.specs.Configuration.{Configuration}
 use Rattle.op_exchange.specs.declared.ask.OpAsk.{OpAsk}
 use Rattle.op_exchange.specs.Weight.{ask_weight}
@@ -27,17 +28,13 @@ returns-clause-room c =
     let M : Configuration → Type 0 = λ d. history_weight ask_weight c.args.provider.now.history + ask_weight (prepared c.args.transcript.now.registry c.args.request) ≤ most_of d.lasting in
     subst M c.requires.registry (subst A asked c.in_ok-told.ensures.room)
 
--- what was returned is what the provider refused
-refused_so : (result : Result (Unit {0}) CoreNo) (returned refused : CoreNo) (w : ℕ) → result ≡ Err returned → returned ≡ refused → result ≡ Err (JournalFull w) → refused ≡ JournalFull w
-refused_so result returned refused w is same full = cc
-
 pub returns-in_err-told-clause-full : goal.returns-in_err-told-clause-full
 returns-in_err-told-clause-full c =
     λ w is.
     (let asked : c.in_ok-asked.asked ≡ prepared c.args.transcript.now.registry c.args.request =
     c.in_ok-asked.ensures ∙ ap (λ (d : Configuration). prepared d c.args.request) (c.registry.ensures.registry ∙ ap (λ (t : Transcribed). t.registry) c.prepare.ensures.same) in
     let returned = err_from_is_err_and c.from_residual-in_err-told.result c.from_residual-in_err-told.ensures.1 in
-    let refused : c.in_err-told.field-0.0 ≡ JournalFull w = refused_so c.from_residual-in_err-told.result returned.0 c.in_err-told.field-0.0 w returned.1 returned.2 is in
+    let refused : c.in_err-told.field-0.0 ≡ JournalFull w = returned_error c.from_residual-in_err-told.result returned.0 c.in_err-told.field-0.0 (JournalFull w) returned.1 returned.2 is in
     let full = c.in_err-told.ensures.full w (ap (λ (no : CoreNo). Err no) refused) in
     let A : OpAsk → Type 0 = λ a. most_of c.args.provider.now.registry.lasting < w + ask_weight a in
     let M : Configuration → Type 0 = λ d. most_of d.lasting < w + ask_weight (prepared c.args.transcript.now.registry c.args.request) in

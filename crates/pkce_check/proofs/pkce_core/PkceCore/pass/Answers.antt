@@ -1,11 +1,11 @@
-use Rattle.std.proofs.Common.{◌≡◌, ◌≤◌, ◌+◌, ◌++◌, ◌∷◌, [], ap, sym, subst, ◌∙◌, List, Option, None, Result, Err, ℕ, reverse}
+use Rattle.std.proofs.Common.{◌≡◌, ◌≤◌, ◌+◌, ◌++◌, ◌∷◌, [], ap, sym, subst, ◌∙◌, List, Option, None, Err, ℕ, reverse}
 use Rattle.std.specs.Option.{option_copied}
 use Rattle.sso_base.specs.Words.{Word}
 use Rattle.sso_base.specs.Rows.{live_rows}
 use Rattle.sso_base.specs.Weights.{empty_weight}
 use Rattle.sso_base.specs.Journal.{history_weight}
-use Rattle.sso_base.specs.declared.step.CoreNo.{CoreNo}
 use Rattle.sso_base.specs.declared.step.CoreNo.TheVariants as no
+use Rattle.sso_base.proofs.Refusals.{one_error}
 use Rattle.oidc_words.specs.Lives.{turn_life, code_life}
 use Rattle.core_stack.specs.declared.kept.Kept.TheVariants as kept
 use Rattle.core_stack.specs.Rows.{turn_mark_begun, code_mark_begun}
@@ -18,13 +18,10 @@ use Rattle.pkce_check.specs.Keeps.{KeptEntry, Keeps}
 use Rattle.pkce_check.proofs.Committing.{has_room, inner_has_room, passed_history, passed_legal, passed_keeps, turn_fits, code_fits, turn_row_same, code_row_same, left_same, live_codes_same, put_turn_same, put_code_same}
 use Rattle.pkce_check.proofs.pkce_core.PkceCore.pass.Goals as goal
 
-inner_no : {X : Type 0} (a b : CoreNo) → ◌≡◌ {A = Result X CoreNo} (Err a) (Err b) → a ≡ b
-inner_no a b h = cc
-
 pub returns-in-Err-clause-room : goal.returns-in-Err-clause-room
 returns-in-Err-clause-room g c w full =
     let inside = c.self.inside in
-    let same : c.pass_on.result ≡ Err (no.JournalFull w) = c.in-Err.is ∙ ap Err (inner_no c.in-Err.no (no.JournalFull w) full) in
+    let same : c.pass_on.result ≡ Err (no.JournalFull w) = c.in-Err.is ∙ ap Err (one_error c.in-Err.no (no.JournalFull w) full) in
     let e = c.pass_on.ensures.full w same in
     let O = λ (n : ℕ). history_weight (outer_weight g.P.Core.weighs) c.args.self.now.history + n ≤ g.P.Core.most (g.P.Core.setup c.args.self.now.inner) in
     let S = λ (x : g.P.Core.Setup). history_weight (outer_weight g.P.Core.weighs) c.args.self.now.history + outer_weight g.P.Core.weighs c.args.entry.ask ≤ g.P.Core.most x in

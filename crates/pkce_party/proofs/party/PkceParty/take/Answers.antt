@@ -1,15 +1,12 @@
-use Rattle.std.proofs.Common.{◌≡◌, Result, Err, ap, ◌∙◌}
-use Rattle.sso_base.specs.declared.step.CoreNo.{CoreNo}
+use Rattle.std.proofs.Common.{◌≡◌, Err, ap, ◌∙◌}
 use Rattle.sso_base.specs.declared.step.CoreNo.TheVariants as no
+use Rattle.sso_base.proofs.Refusals.{one_error}
 use Rattle.pkce_party.proofs.Taking.{taken_keeps, taken_pairs, taken_room, taken_full}
 use Rattle.pkce_party.proofs.party.PkceParty.take.Goals as goal
 
-inner_no : {X : Type 0} (a b : CoreNo) → ◌≡◌ {A = Result X CoreNo} (Err a) (Err b) → a ≡ b
-inner_no a b h = cc
-
 pub returns-in-Err-clause-full : goal.returns-in-Err-clause-full
 returns-in-Err-clause-full c = λ w is.
-    let same : c.pass.result ≡ Err (no.JournalFull w) = c.in-Err.is ∙ ap Err (inner_no c.in-Err.no (no.JournalFull w) is) in
+    let same : c.pass.result ≡ Err (no.JournalFull w) = c.in-Err.is ∙ ap Err (one_error c.in-Err.no (no.JournalFull w) is) in
     taken_full c.self.inside.party c.args.self.now c.args.ask w c.self.view_is (c.pass.ensures.full w same)
 
 pub invariant_of-self-2 : goal.invariant_of-self-2

@@ -1,12 +1,12 @@
-use Rattle.std.proofs.Common.{◌≡◌, ◌≤◌, ◌+◌, ◌++◌, ◌∷◌, [], ap, sym, subst, ◌∙◌, ◌&&◌, not, filter, false, refl, List, Option, None, Result, Err, ℕ, reverse}
+use Rattle.std.proofs.Common.{◌≡◌, ◌≤◌, ◌+◌, ◌++◌, ◌∷◌, [], ap, sym, subst, ◌∙◌, ◌&&◌, not, filter, false, refl, List, Option, None, Err, ℕ, reverse}
 use Rattle.std.specs.List.{list_all}
 use Rattle.std.specs.Option.{option_copied}
 use Rattle.sso_base.specs.Words.{Word}
 use Rattle.sso_base.specs.Rows.{put, live_rows}
 use Rattle.sso_base.specs.Weights.{empty_weight}
 use Rattle.sso_base.specs.Journal.{history_weight}
-use Rattle.sso_base.specs.declared.step.CoreNo.{CoreNo}
 use Rattle.sso_base.specs.declared.step.CoreNo.TheVariants as no
+use Rattle.sso_base.proofs.Refusals.{one_error}
 use Rattle.client_registry.specs.Configuration.{Configuration}
 use Rattle.oidc_words.specs.Lives.{turn_life, code_life}
 use Rattle.op_exchange.specs.declared.reply.OpReply.{OpReply}
@@ -31,14 +31,11 @@ use Rattle.refresh_book.proofs.Passed.{passed_reply, passed_book}
 use Rattle.refresh_book.proofs.Committing.{has_room, book_before, turned, may_begin, begun_good, inner_has_room, passed_history, passed_legal, passed_keeps, turn_fits, code_fits}
 use Rattle.refresh_book.proofs.refresh_core.RefreshCore.pass_known.Goals as goal
 
-inner_no : {X : Type 0} (a b : CoreNo) → ◌≡◌ {A = Result X CoreNo} (Err a) (Err b) → a ≡ b
-inner_no a b h = cc
-
 pub returns-in-Err-clause-room : goal.returns-in-Err-clause-room
 returns-in-Err-clause-room g c w full =
     let inside = c.self.inside in
     let H = c.args.self.now.history in
-    let same : c.pass_on.result ≡ Err (no.JournalFull w) = c.in-Err.is ∙ ap Err (inner_no c.in-Err.no (no.JournalFull w) full) in
+    let same : c.pass_on.result ≡ Err (no.JournalFull w) = c.in-Err.is ∙ ap Err (one_error c.in-Err.no (no.JournalFull w) full) in
     let e = c.pass_on.ensures.full w same in
     let O = λ (n : ℕ). history_weight (outer_weight g.P.Core.weighs) H + n ≤ g.P.Core.most (g.P.Core.setup inside.inner) in
     let R = λ (x : g.P.Core.Setup). history_weight (outer_weight g.P.Core.weighs) H + c.args.weight ≤ g.P.Core.most x in

@@ -1,11 +1,11 @@
-use Rattle.std.proofs.Common.{◌≡◌, ◌≤◌, ◌+◌, ◌++◌, ◌∷◌, [], ap, sym, subst, ◌∙◌, List, Option, None, Result, Err, ℕ, reverse}
+use Rattle.std.proofs.Common.{◌≡◌, ◌≤◌, ◌+◌, ◌++◌, ◌∷◌, [], ap, sym, subst, ◌∙◌, List, Option, None, Err, ℕ, reverse}
 use Rattle.sso_base.specs.Words.{Word}
 use Rattle.sso_base.specs.Rows.{put, live_rows}
 use Rattle.sso_base.specs.Legal.{IsEntry}
 use Rattle.sso_base.specs.Weights.{empty_weight}
 use Rattle.sso_base.specs.Journal.{history_weight}
-use Rattle.sso_base.specs.declared.step.CoreNo.{CoreNo}
 use Rattle.sso_base.specs.declared.step.CoreNo.TheVariants as no
+use Rattle.sso_base.proofs.Refusals.{one_error}
 use Rattle.core_stack.specs.declared.kept.Kept.TheVariants as kept
 use Rattle.signout_answer.specs.declared.asks.EndAsk.{EndAsk}
 use Rattle.signout_answer.specs.declared.asks.EndReply.{EndReply}
@@ -19,13 +19,10 @@ use Rattle.rp_signout.specs.Keeps.{KeptEntry, Keeps, rows_left, passing, parts_d
 use Rattle.rp_signout.proofs.Committing.{has_room, inner_has_room, passed_history, passed_keeps}
 use Rattle.rp_signout.proofs.signout_core.SignoutCore.pass.Goals as goal
 
-inner_no : {X : Type 0} (a b : CoreNo) → ◌≡◌ {A = Result X CoreNo} (Err a) (Err b) → a ≡ b
-inner_no a b h = cc
-
 pub returns-in-Err-clause-room : goal.returns-in-Err-clause-room
 returns-in-Err-clause-room g c w full =
     let inside = c.self.inside in
-    let same : c.pass_on.result ≡ Err (no.JournalFull w) = c.in-Err.is ∙ ap Err (inner_no c.in-Err.no (no.JournalFull w) full) in
+    let same : c.pass_on.result ≡ Err (no.JournalFull w) = c.in-Err.is ∙ ap Err (one_error c.in-Err.no (no.JournalFull w) full) in
     let e = c.pass_on.ensures.full w same in
     let R = λ (x : g.P.Core.Setup). history_weight (end_weight g.P.Core.weighs) c.args.self.now.history + c.args.weight ≤ g.P.Core.most x in
     let room = subst R (sym (ap (λ x. g.P.Core.setup x.inner) c.self.view_is)) c.requires.room in
