@@ -17,6 +17,7 @@
 //! | `answers` | prints most answers |
 //! | `http` | a reply in HTTP as a text |
 //! | `run` | requests one after another: their random words, and the follow-up of the last reply |
+//! | `slow` | a source and a sink that give and take few bytes at a call |
 #![tactic(auto)]
 
 mod answers;
@@ -25,6 +26,7 @@ mod http;
 mod numbered;
 mod requests;
 mod run;
+mod slow;
 
 pub use crate::answers::{
     claim_refusal, flagged, or_else, push_named, push_part, told, told_bytes, told_hex,
@@ -39,6 +41,7 @@ pub use crate::http::{push_field, push_http, push_message};
 pub use crate::numbered::{word, words_of_place};
 pub use crate::requests::{answered, request};
 pub use crate::run::Run;
+pub use crate::slow::{SlowSink, SlowSource};
 use sso_base::{NoMemory, Text};
 use std::alloc::Global;
 use std::io;

@@ -1,35 +1,11 @@
 // Sinks and shelves in memory, some of whose calls fail.
 
-ghost use Rattle.std.specs.Prelude.{Some};
-
-use case_lines::{as_text, push_part, told};
+use case_lines::{SlowSink, as_text, push_part, told};
 use sso_base::{
-    Blob, FaultyShelf, FaultySink, File, MemoryShelf, NoMemory, Shelf, ShelfNo, Sink, SinkFault,
-    Text, write_whole,
+    Blob, FaultyShelf, FaultySink, File, MemoryShelf, NoMemory, Shelf, ShelfNo, SinkFault, Text,
+    write_whole,
 };
 use std::alloc::{AllocError, Global};
-
-/// A sink that takes at most a given number of bytes at a call, but at least one.
-#[derive(Drop)]
-struct SlowSink {
-    sink: FaultySink,
-    most: usize,
-}
-
-impl Sink for SlowSink {
-    ghost taken = { λ s. Some s.sink.sink.bytes };
-
-    ghost faults = { λ s. s.sink.sink.faults };
-
-    fn write_some(&mut self, piece: &[u8]) -> Result<usize, SinkFault> {
-        let most = self.most.max(1);
-        if piece.len() <= most {
-            self.sink.write_some(piece)
-        } else {
-            self.sink.write_some(&piece[..most])
-        }
-    }
-}
 
 // Writes the piece, and adds the result.
 fn write_piece(told: &mut String, sink: &mut SlowSink, piece: &str) -> Result<(), AllocError> {

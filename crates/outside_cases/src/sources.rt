@@ -1,32 +1,9 @@
 // Sources that give few bytes at a call, and fail at some calls.
 
-ghost use Rattle.std.specs.Prelude.{Some};
-
+use case_lines::SlowSource;
 use server_desk::{FaultySource, Source, SourceFault, read_whole};
 use sso_base::NoMemory;
 use std::alloc::Global;
-
-/// A source that gives at most a given number of bytes at a call, but at least one.
-#[derive(Drop)]
-pub struct SlowSource {
-    source: FaultySource,
-    most: usize,
-}
-
-impl Source for SlowSource {
-    ghost left = { λ s. Some s.source.bytes };
-
-    ghost faults = { λ s. s.source.faults };
-
-    fn read_some(&mut self, room: &mut [u8]) -> Result<usize, SourceFault> {
-        let most = self.most.max(1);
-        if room.len() <= most {
-            self.source.read_some(room)
-        } else {
-            self.source.read_some(&mut room[..most])
-        }
-    }
-}
 
 /// A source of these bytes that gives at most `most` at a call, and whose call with this number fails, from 1.
 pub fn slow(

@@ -1,5 +1,5 @@
-//! Cases of `op-plus` and `rp-plus`, each a line that a person can read: a provider with proof keys (RFC 7636), refresh tokens (RFC 6749,
-//! 6) and sign-outs that a relying party starts (RP-Initiated Logout 1.0), and relying parties with proof keys.
+//! Cases of `op-plus`, each a line that a person can read: a provider with proof keys (RFC 7636), refresh tokens (RFC 6749, 6) and
+//! sign-outs that a relying party starts (RP-Initiated Logout 1.0).
 //!
 //! The file `stdin` has the cases, and `stdout` has them with their answers. The crate `case_lines` documents how a line is read. The
 //! comments in the table name the source of the expected answers. A line is parsed as a request, which is processed as in a server, by
@@ -7,15 +7,12 @@
 //!
 //! | Call | Effect or answer |
 //! |---|---|
-//! | `challenge|VERIFIER` | the challenge of this verifier, by the provider |
-//! | `party's challenge|WORD` | the challenge of the verifier that is the text of this word, by a party |
+//! | `challenge|VERIFIER` | the challenge of this verifier |
 //! | `read challenge|FORM`, `read verifier|FORM` | the challenge or the verifier in a form, `absent` or `bad` |
 //! | `returns|LINES` | whether where browsers may be sent is accepted in the configuration with these lines in the client of the shop, or why not |
 //! | `has|LINES|CLIENT|URI` | whether the URI is registered by them for the client with this number |
 //! | `provider|LINES` | begins the provider of the configuration with these lines |
-//! | `party|NAME` | begins the relying party with this name in the configuration without lines |
 //! | `ask|MOMENT|METHOD|TARGET|BODY|BROWSER|SESSION|AUTHORIZATION` | the line of the reply |
-//! | `ask|MOMENT|tokens|EXCHANGE|STATUS|BODY` | the line of the party's reply to the token endpoint's answer in this exchange |
 //! | `send|..`, with the same fields | the line, the reply in HTTP, and the messages in it |
 //! | `times|COUNT|ask|..` | the first line of so many calls, and how many lines are equal to it |
 //! | `rotate|COUNT|MOMENT` | the same for requests of the shop, each with the refresh token of the reply before it |
@@ -30,7 +27,7 @@
 //! | `configured` | the configuration with lines in it |
 //! | `reading` | the calls on challenges and verifiers |
 //! | `sending` | the calls `returns` and `has` |
-//! | `provider`, `party` | the provider and the relying party of a run |
+//! | `provider` | the provider of a run |
 //! | `lines` | the lines of replies |
 //! | `texts` | the named texts |
 //!
@@ -39,24 +36,21 @@
 
 mod configured;
 mod lines;
-mod party;
 mod provider;
 mod reading;
 mod sending;
 mod texts;
 
-use crate::party::RelyingParty;
 use crate::provider::{Begins, Lined, PlusCore, Provider};
 use case_lines::{Cases, Run, moment, number, print_cases, times, told, written};
 use sso_base::{Moment, NoMemory, Text, Word};
 use std::alloc::Global;
 use std::{io, mem};
 
-// The provider or the relying party, its run, the second word that its last request drew, and the ID Token that was kept.
+// The provider, its run, the second word that its last request drew, and the ID Token that was kept.
 #[derive(Drop)]
 struct PlusCases<P: Begins> {
     provider: Option<Provider<P>>,
-    party: Option<RelyingParty>,
     run: Run,
     second: Word,
     hint: Option<Text>,
@@ -69,46 +63,19 @@ where
     fn new(alloc: Global) -> PlusCases<P> {
         PlusCases {
             provider: None,
-            party: None,
             run: Run::new(alloc),
             second: Word::new([0; 32]),
             hint: None,
         }
     }
 
-    // Sets the provider or the party, and begins its run. (The old ones are dropped by calls, and not in place: the proof of that is
-    // long.)
-    fn set(&mut self, alloc: Global, provider: Option<Provider<P>>, party: Option<RelyingParty>) {
-        drop(mem::replace(&mut self.provider, provider));
-        drop(mem::replace(&mut self.party, party));
-        self.run = Run::new(alloc);
-    }
-
-    fn begin_provider(&mut self, alloc: Global, lines: &str) -> Result<String, NoMemory> {
+    // Sets the provider, and begins its run. (The old one is dropped by a call, and not in place: the proof of that is long.)
+    fn begin(&mut self, alloc: Global, lines: &str) -> Result<String, NoMemory> {
         let provider = Provider::begin(alloc, lines)?;
         let begins = provider.is_some();
-        self.set(alloc, provider, None);
+        drop(mem::replace(&mut self.provider, provider));
+        self.run = Run::new(alloc);
         told(alloc, if begins { "begun" } else { "no such provider" })
-    }
-
-    fn begin_party(&mut self, alloc: Global, name: &str) -> Result<String, NoMemory> {
-        let party = RelyingParty::begin(alloc, name)?;
-        let begins = party.is_some();
-        self.set(alloc, None, party);
-        told(alloc, if begins { "begun" } else { "no such party" })
-    }
-
-    fn ask_party(
-        &mut self,
-        alloc: Global,
-        call: &str,
-        at: Moment,
-        fields: &[&str],
-    ) -> Result<String, NoMemory> {
-        match &mut self.party {
-            Some(party) => party.ask(alloc, &mut self.run, call, at, fields),
-            None => told(alloc, "nobody is there"),
-        }
     }
 
     fn ask(
@@ -121,7 +88,7 @@ where
         self.second = self.run.words()[1];
         match &mut self.provider {
             Some(provider) => provider.ask(alloc, &mut self.run, call, at, fields),
-            None => self.ask_party(alloc, call, at, fields),
+            None => told(alloc, "no provider"),
         }
     }
 
@@ -212,13 +179,11 @@ where
     fn answer(&mut self, alloc: Global, fields: &[&str]) -> Result<String, NoMemory> {
         match fields {
             ["challenge", verifier] => reading::challenge(alloc, verifier),
-            ["party's challenge", verifier] => reading::challenge_of_party(alloc, verifier),
             ["read challenge", form] => reading::challenge_in(alloc, form),
             ["read verifier", form] => reading::verifier_in(alloc, form),
             ["returns", lines] => sending::returns(alloc, lines),
             ["has", lines, client, uri] => sending::has(alloc, lines, number(client), uri),
-            ["provider", lines] => self.begin_provider(alloc, lines),
-            ["party", name] => self.begin_party(alloc, name),
+            ["provider", lines] => self.begin(alloc, lines),
             [call @ ("ask" | "send"), at, request @ ..] => self.ask_at(alloc, call, at, request),
             ["times", count, "ask", at, request @ ..] => {
                 self.ask_often(alloc, number(count), at, request)

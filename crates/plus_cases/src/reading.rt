@@ -1,26 +1,14 @@
 // Challenges, and challenges and verifiers in forms.
 
-use case_lines::{as_text, told, word_in};
+use case_lines::{as_text, told};
 use pkce_answer::{Challenge, Verifier};
 use pkce_check::{challenge_of, read_challenge, read_verifier};
-use pkce_party::KeyText;
 use sso_base::NoMemory;
 use std::alloc::Global;
 
 /// The challenge of this verifier.
 pub fn challenge(alloc: Global, verifier: &str) -> Result<String, NoMemory> {
     told(alloc, as_text(&challenge_of(verifier.as_bytes())))
-}
-
-/// The challenge of a party whose verifier is the text of this word.
-pub fn challenge_of_party(alloc: Global, verifier: &str) -> Result<String, NoMemory> {
-    match word_in(verifier) {
-        Some(word) => {
-            let challenge = KeyText::of_word(&word).challenge();
-            told(alloc, challenge.as_str())
-        }
-        None => told(alloc, "no word"),
-    }
 }
 
 fn challenge_told(alloc: Global, challenge: &Challenge) -> Result<String, NoMemory> {

@@ -1,5 +1,6 @@
 // The tables of a relying party are filled.
 
+use crate::cores::Begins;
 use crate::party::RelyingParty;
 use crate::sealed;
 use case_lines::{Run, told};
@@ -20,9 +21,9 @@ struct Begun {
     nonce: Word,
 }
 
-fn begin(
+fn begin<C: Begins>(
     alloc: Global,
-    party: &mut RelyingParty,
+    party: &mut RelyingParty<C>,
     run: &mut Run,
     at: Moment,
 ) -> Result<Begun, NoMemory> {
@@ -36,9 +37,9 @@ fn begin(
 }
 
 // A login, and its response with a code. Returns the answer to the latter.
-fn bring_code(
+fn bring_code<C: Begins>(
     alloc: Global,
-    party: &mut RelyingParty,
+    party: &mut RelyingParty<C>,
     run: &mut Run,
     at: Moment,
 ) -> Result<String, NoMemory> {
@@ -71,9 +72,9 @@ fn token_text(token: &Option<Text>) -> &str {
 }
 
 // A login, and its response with an ID Token. Returns the answer to the latter.
-fn bring_id_token(
+fn bring_id_token<C: Begins>(
     alloc: Global,
-    party: &mut RelyingParty,
+    party: &mut RelyingParty<C>,
     run: &mut Run,
     at: Moment,
 ) -> Result<String, NoMemory> {
@@ -86,9 +87,9 @@ fn bring_id_token(
 }
 
 // A logout token at `shop` with these claims. Returns the answer to it.
-fn bring_logout_token(
+fn bring_logout_token<C: Begins>(
     alloc: Global,
-    party: &mut RelyingParty,
+    party: &mut RelyingParty<C>,
     run: &mut Run,
     at: Moment,
     claims: &str,
@@ -101,9 +102,9 @@ fn bring_logout_token(
 }
 
 // The answer to the last request of one round.
-fn bring_one(
+fn bring_one<C: Begins>(
     alloc: Global,
-    party: &mut RelyingParty,
+    party: &mut RelyingParty<C>,
     run: &mut Run,
     at: Moment,
     what: &str,
@@ -126,9 +127,9 @@ fn bring_one(
 
 /// Brings so many of these: `codes` and `ID Tokens`, each to a login that is begun for it, `logout tokens` or `logout tokens of
 /// sessions`. Returns the answer to the first, and how many have that answer.
-pub fn bring(
+pub fn bring<C: Begins>(
     alloc: Global,
-    party: &mut RelyingParty,
+    party: &mut RelyingParty<C>,
     run: &mut Run,
     at: Moment,
     count: u32,

@@ -5,8 +5,9 @@
 //! read. The comments in the table name the source of the expected answers. A line is parsed as a request, which is processed
 //! as in a server, by `prepare` and `step`, and its reply is printed.
 //!
-//! There are two tables. A line `table|provider` or `table|party` begins a table, and all lines after it are calls of that
-//! table. So does `table|full provider` or `table|full party`, for lines that fill the tables of a role, which takes long:
+//! There are three tables. A line `table|provider`, `table|party` or `table|party with keys` begins a table, and all lines after it
+//! are calls of that table. So does `table|full provider` or `table|full party`, for lines that fill the tables of a role, which
+//! takes long:
 //!
 //! | Table | Call | Effect |
 //! |---|---|---|
@@ -17,7 +18,9 @@
 //! | | `party|NAME|SECRETS`, `provider|SECRETS` | the same with two secrets of clients, where SECRETS is `two secrets` or `old seals` |
 //! | | `provider|..` | is a call of that provider, after the first field |
 //! | | any other | is a call of the relying party |
-//! | both | `times|COUNT|..` | makes the call that follows COUNT times |
+//! | `party with keys` | `challenge|WORD` | prints the challenge of the verifier that is the text of this word |
+//! | | any other | as in the table `party`, but relying parties have proof keys (RFC 7636) |
+//! | all | `times|COUNT|..` | makes the call that follows COUNT times |
 //!
 //! `Provider` and `RelyingParty` document their calls. When one begins, the count of places begins anew, so each run reads as a
 //! small story. The request at place p, from 1, to either role draws the words 4p - 3 to 4p. Besides the texts of words, the
@@ -28,12 +31,13 @@
 //! | `provider_table` | the calls of the table `provider` |
 //! | `configurations` | the configurations of its providers |
 //! | `texts` | the named texts in its lines |
-//! | `party_table` | the calls of the table `party` |
-//! | `setup` | the configuration of its relying parties and their provider |
-//! | `sealed` | its ID Tokens and logout tokens |
+//! | `party_table`, `keys_table` | the calls of the tables `party` and `party with keys` |
+//! | `setup` | the configuration of their relying parties and their provider |
+//! | `sealed` | their ID Tokens and logout tokens |
 //! | `roles` | the roles, and their run |
 //! | `telling` | prints the steps of a role |
 //! | `provider` | `Provider`: the provider of a run |
+//! | `cores` | the cores of relying parties |
 //! | `party` | `RelyingParty`: the relying party of a run |
 //! | `filling` | fills its tables |
 //! | `in_turn` | the replies of a new provider and a new party to requests, one after another |
@@ -42,8 +46,10 @@
 #![tactic(auto)]
 
 mod configurations;
+mod cores;
 mod filling;
 mod in_turn;
+mod keys_table;
 mod party;
 mod party_table;
 mod provider;
@@ -54,8 +60,11 @@ mod setup;
 mod telling;
 mod texts;
 
+use crate::cores::Begins;
 use crate::roles::Roles;
 use case_lines::{Cases, print_cases, told};
+use pkce_party::PkceParty;
+use rp_core::RpCore;
 use sso_base::{NoMemory, Text};
 use std::alloc::Global;
 use std::{io, mem};
@@ -64,35 +73,41 @@ use std::{io, mem};
 enum Table {
     Provider,
     Party,
+    PartyWithKeys,
 }
 
-// The current table, and its roles.
+// The current table, and its roles: those of the table `party with keys`, or of the others. Their relying parties are in cores of
+// these types.
 #[derive(Drop)]
-struct RoleCases {
+struct RoleCases<C: Begins, K: Begins> {
     table: Option<Table>,
-    roles: Roles,
+    roles: Roles<C>,
+    roles_with_keys: Roles<K>,
 }
 
 fn table_named(name: &str) -> Option<Table> {
     match name {
         "provider" | "full provider" => Some(Table::Provider),
         "party" | "full party" => Some(Table::Party),
+        "party with keys" => Some(Table::PartyWithKeys),
         _ => None,
     }
 }
 
-impl RoleCases {
-    fn new(alloc: Global) -> RoleCases {
+impl<C: Begins, K: Begins> RoleCases<C, K> {
+    fn new(alloc: Global) -> RoleCases<C, K> {
         RoleCases {
             table: None,
             roles: Roles::new(alloc),
+            roles_with_keys: Roles::new(alloc),
         }
     }
 
     fn begin(&mut self, alloc: Global, name: &str) -> Result<String, NoMemory> {
         self.table = table_named(name);
-        // (dropped by a call, and not in place: the proof of that is long)
+        // (dropped by calls, and not in place: the proof of that is long)
         drop(mem::replace(&mut self.roles, Roles::new(alloc)));
+        drop(mem::replace(&mut self.roles_with_keys, Roles::new(alloc)));
         match self.table {
             Some(_) => told(alloc, "begun"),
             None => told(alloc, "no such table"),
@@ -103,12 +118,15 @@ impl RoleCases {
         match self.table {
             Some(Table::Provider) => provider_table::answer(alloc, &mut self.roles, fields),
             Some(Table::Party) => party_table::answer(alloc, &mut self.roles, fields),
+            Some(Table::PartyWithKeys) => {
+                keys_table::answer(alloc, &mut self.roles_with_keys, fields)
+            }
             None => told(alloc, "no table"),
         }
     }
 }
 
-// The text with this name in either table: no name is in both.
+// The text with this name in any table: no name is in two.
 fn named(name: &str) -> Option<&'static str> {
     match texts::named(name) {
         Some(text) => Some(text),
@@ -116,7 +134,7 @@ fn named(name: &str) -> Option<&'static str> {
     }
 }
 
-impl Cases for RoleCases {
+impl<C: Begins, K: Begins> Cases for RoleCases<C, K> {
     fn answer(&mut self, alloc: Global, fields: &[&str]) -> Result<String, NoMemory> {
         match fields {
             ["table", name] => self.begin(alloc, name),
@@ -125,7 +143,11 @@ impl Cases for RoleCases {
     }
 
     fn text(&self, name: &str) -> Option<&str> {
-        match self.roles.text(name) {
+        let text = match self.table {
+            Some(Table::PartyWithKeys) => self.roles_with_keys.text(name),
+            _ => self.roles.text(name),
+        };
+        match text {
             Some(text) => Some(text),
             None => named(name),
         }
@@ -137,7 +159,7 @@ impl Cases for RoleCases {
 }
 
 fn main(rt: HostRuntime) -> io::Result<()> {
-    let mut cases = RoleCases::new(rt.alloc());
+    let mut cases: RoleCases<RpCore, PkceParty> = RoleCases::new(rt.alloc());
     let printed = print_cases(&rt, &mut cases);
     // (dropped by a call, and not in place: the proof of that is long)
     drop(cases);

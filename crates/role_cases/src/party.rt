@@ -2,6 +2,7 @@
 
 ghost use Rattle.std.specs.Prelude.{◌≡◌, ◌<◌, length, IfOk};
 
+use crate::cores::Begins;
 use crate::filling::bring;
 use crate::in_turn::party_replies;
 use crate::telling::{Telling, fill, step_told};
@@ -10,19 +11,19 @@ use case_lines::{
     words_of_place,
 };
 use client_registry::{Provider, RegNo, Registry, read_registry};
-use rp_core::RpCore;
+use core_stack::Sending;
 use rp_exchange::{RpAsk, RpNo, RpReply};
 use rp_login::{Logins, PendingRow, SessionRow, Stage};
-use rp_request::{prepare_info, prepare_rp, prepare_tokens};
-use rp_response::{rp_http, rp_line};
-use sso_base::{Core, CoreNo, Message, Moment, NoMemory, Text, copied_text};
+use rp_response::rp_line;
+use sso_base::{CoreNo, Message, Moment, NoMemory, Text, copied_text};
 use std::alloc::Global;
 
-/// A relying party, its registry, and its number there.
+/// A relying party in a core, its registry, and its number there. (All is for any core: the prover would compare all parts of a core
+/// with a name in each call.)
 #[derive(Drop)]
-pub struct RelyingParty {
+pub struct RelyingParty<C: Begins> {
     registry: Registry,
-    core: RpCore,
+    core: C,
     party: u32,
 }
 
@@ -59,23 +60,23 @@ fn provider_of(
     })
 }
 
-fn core_of(
+fn core_of<C: Begins>(
     alloc: Global,
     registry: &Registry,
     party: u32,
     authorize: Option<&str>,
-) -> Result<RpCore, NoMemory>
+) -> Result<C, NoMemory>
     requires { party < length registry.now.parties }
 {
     let provider = provider_of(alloc, registry, authorize)?;
-    RpCore::new(alloc, registry.copy(alloc)?, party, provider)
+    C::begin(alloc, registry.copy(alloc)?, party, provider)
 }
 
-fn begun(
+fn begun<C: Begins>(
     registry: Registry,
-    core: Result<RpCore, NoMemory>,
+    core: Result<C, NoMemory>,
     party: u32,
-) -> Result<Option<RelyingParty>, NoMemory> {
+) -> Result<Option<RelyingParty<C>>, NoMemory> {
     match core {
         Ok(core) => Ok(Some(RelyingParty {
             registry,
@@ -87,12 +88,12 @@ fn begun(
 }
 
 // The relying party with this number, if there is one.
-fn party_of(
+fn party_of<C: Begins>(
     alloc: Global,
     registry: &Registry,
     party: u32,
     authorize: Option<&str>,
-) -> Result<Option<RelyingParty>, NoMemory> {
+) -> Result<Option<RelyingParty<C>>, NoMemory> {
     if party >= registry.parties() {
         return Ok(None);
     }
@@ -101,12 +102,12 @@ fn party_of(
     begun(registry, core, party)
 }
 
-fn party_read(
+fn party_read<C: Begins>(
     alloc: Global,
     registry: &Result<Registry, RegNo>,
     name: &str,
     authorize: Option<&str>,
-) -> Result<Option<RelyingParty>, NoMemory> {
+) -> Result<Option<RelyingParty<C>>, NoMemory> {
     match registry {
         Ok(registry) => match registry.find_party(name.as_bytes()) {
             Some(party) => party_of(alloc, registry, party, authorize),
@@ -117,36 +118,39 @@ fn party_read(
     }
 }
 
-impl Telling for RelyingParty {
-    type Reply = RpReply;
+impl<C: Begins> Telling for RelyingParty<C> {
+    type Reply = C::Reply;
 
     fn tell(
         &self,
         alloc: Global,
         run: &mut Run,
         call: &str,
-        reply: &RpReply,
+        reply: &C::Reply,
     ) -> Result<String, NoMemory> {
         if self.party >= self.registry.parties() {
             return told(alloc, "no party");
         }
-        let messages = messages_in(alloc, reply)?;
-        run.keep(rp_http(alloc, &self.registry, self.party, reply)?, messages);
-        let line = rp_line(alloc, reply)?;
+        let messages = Self::messages_in(alloc, reply)?;
+        run.keep(C::http(alloc, &self.registry, self.party, reply)?, messages);
+        let line = rp_line(alloc, C::answer(reply))?;
         let mut out = run.told(alloc, call, line.as_str())?;
         if call == "why" {
-            push_place(alloc, &mut out, reply)?;
+            push_place(alloc, &mut out, C::answer(reply))?;
         }
         Ok(out)
     }
 
     fn try_nothing(&mut self, alloc: Global, at: Moment) -> Option<bool> {
-        let answer = self.core.step(alloc, at, words_of_place(1), RpAsk::NotHere);
-        nothing_found(&answer)
+        let Ok(asked) = C::from_plain(alloc, RpAsk::NotHere) else {
+            return None;
+        };
+        let answer = self.core.step(alloc, at, words_of_place(1), asked);
+        Self::nothing_found(&answer)
     }
 }
 
-impl RelyingParty {
+impl<C: Begins> RelyingParty<C> {
     /// The relying party with this name and an empty history; none if the configuration is rejected or has no such party. Its
     /// logins begin at the authorization endpoint of the configuration's provider. If another one is given, they begin there,
     /// and its provider has no UserInfo.
@@ -155,7 +159,7 @@ impl RelyingParty {
         file: &str,
         name: &str,
         authorize: Option<&str>,
-    ) -> Result<Option<RelyingParty>, NoMemory> {
+    ) -> Result<Option<RelyingParty<C>>, NoMemory> {
         let registry = read_registry(alloc, file.as_bytes());
         party_read(alloc, &registry, name, authorize)
     }
@@ -216,29 +220,35 @@ impl RelyingParty {
     // ---- requests
 
     // Parses an answer of the token endpoint.
-    fn tokens(&self, alloc: Global, exchange: &str, answer: &[&str]) -> Result<RpAsk, NoMemory> {
+    fn tokens(&self, alloc: Global, exchange: &str, answer: &[&str]) -> Result<C::Ask, NoMemory> {
         if self.party >= self.registry.parties() {
-            return Ok(RpAsk::NotHere);
+            return C::from_plain(alloc, RpAsk::NotHere);
         }
         let answer = answered(alloc, answer)?;
         let exchange = word_of(exchange);
-        prepare_tokens(alloc, &self.registry, self.party, exchange, &answer)
+        C::prepare_tokens(alloc, &self.registry, self.party, exchange, &answer)
     }
 
     // Parses a request.
-    fn requested(&self, alloc: Global, fields: &[&str]) -> Result<RpAsk, NoMemory> {
+    fn requested(&self, alloc: Global, fields: &[&str]) -> Result<C::Ask, NoMemory> {
         if self.party >= self.registry.parties() {
-            return Ok(RpAsk::NotHere);
+            return C::from_plain(alloc, RpAsk::NotHere);
         }
         let request = request(alloc, fields)?;
-        prepare_rp(alloc, &self.registry, self.party, &request)
+        C::prepare(alloc, &self.registry, self.party, &request)
+    }
+
+    // Parses an answer of UserInfo.
+    fn info(alloc: Global, exchange: &str, answer: &[&str]) -> Result<C::Ask, NoMemory> {
+        let answer = answered(alloc, answer)?;
+        C::prepare_info(alloc, word_of(exchange), &answer)
     }
 
     // Parses a request, or an answer of the provider.
-    fn asked(&self, alloc: Global, fields: &[&str]) -> Result<RpAsk, NoMemory> {
+    fn asked(&self, alloc: Global, fields: &[&str]) -> Result<C::Ask, NoMemory> {
         match fields {
             ["tokens", exchange, answer @ ..] => self.tokens(alloc, exchange, answer),
-            ["info", exchange, answer @ ..] => info(alloc, exchange, answer),
+            ["info", exchange, answer @ ..] => Self::info(alloc, exchange, answer),
             _ => self.requested(alloc, fields),
         }
     }
@@ -266,6 +276,26 @@ impl RelyingParty {
         let answer = self.core.step(alloc, at, run.words(), asked);
         step_told(alloc, run, call, self, &answer)
     }
+
+    // ---- replies
+
+    fn nothing_found(answer: &Result<C::Reply, CoreNo>) -> Option<bool> {
+        match answer {
+            Ok(reply) => Some(matches!(C::answer(reply), RpReply::NotHere)),
+            Err(CoreNo::NoMemory) => None,
+            Err(CoreNo::JournalFull(_)) => Some(false),
+        }
+    }
+
+    // The message to the provider after a reply, if there is one.
+    fn messages_in(alloc: Global, reply: &C::Reply) -> Result<Vec<Message>, NoMemory> {
+        let mut messages = Vec::new(alloc);
+        if let Some(sending) = C::message(alloc, reply)? {
+            let Sending { message, .. } = sending;
+            messages.push(message)?;
+        }
+        Ok(messages)
+    }
 }
 
 // The place of the earlier request that a refusal names.
@@ -285,32 +315,6 @@ fn push_place(alloc: Global, out: &mut String, reply: &RpReply) -> Result<(), No
         out.push_str(format!(in alloc; ", place {place}")?.as_str())?;
     }
     Ok(())
-}
-
-fn nothing_found(answer: &Result<RpReply, CoreNo>) -> Option<bool> {
-    match answer {
-        Ok(RpReply::NotHere) => Some(true),
-        Err(CoreNo::NoMemory) => None,
-        _ => Some(false),
-    }
-}
-
-// Parses an answer of UserInfo.
-fn info(alloc: Global, exchange: &str, answer: &[&str]) -> Result<RpAsk, NoMemory> {
-    let answer = answered(alloc, answer)?;
-    prepare_info(alloc, word_of(exchange), &answer)
-}
-
-// The message to the provider in a reply, if there is one.
-fn messages_in(alloc: Global, reply: &RpReply) -> Result<Vec<Message>, NoMemory> {
-    let mut messages = Vec::new(alloc);
-    match reply {
-        RpReply::Exchange { message, .. } | RpReply::Fetch { message, .. } => {
-            messages.push(message.copy(alloc)?)?;
-        }
-        _ => {}
-    }
-    Ok(messages)
 }
 
 // ---- table entries
@@ -361,7 +365,10 @@ fn push_held(
     Ok(())
 }
 
-fn held(alloc: Global, tables: &Logins) -> Result<String, NoMemory> {
+fn held(alloc: Global, tables: Option<&Logins>) -> Result<String, NoMemory> {
+    let Some(tables) = tables else {
+        return told(alloc, "no tables");
+    };
     let mut out = String::new(alloc);
     for number in 1..64u32 {
         push_held(alloc, &mut out, tables, number)?;
@@ -370,7 +377,15 @@ fn held(alloc: Global, tables: &Logins) -> Result<String, NoMemory> {
 }
 
 // The logout token that named this session last, if it is remembered.
-fn remembered(alloc: Global, tables: &Logins, at: Moment, sid: &str) -> Result<String, NoMemory> {
+fn remembered(
+    alloc: Global,
+    tables: Option<&Logins>,
+    at: Moment,
+    sid: &str,
+) -> Result<String, NoMemory> {
+    let Some(tables) = tables else {
+        return told(alloc, "no tables");
+    };
     match tables.live_dead(sid.as_bytes(), at) {
         Some(row) => {
             let (place, accepted) = (row.place, row.accepted.seconds());
@@ -394,7 +409,10 @@ fn push_stored(
 }
 
 // The rows of this name: of a logout token, and of a session that one named.
-fn stored(alloc: Global, tables: &Logins, name: &str) -> Result<String, NoMemory> {
+fn stored(alloc: Global, tables: Option<&Logins>, name: &str) -> Result<String, NoMemory> {
+    let Some(tables) = tables else {
+        return told(alloc, "no tables");
+    };
     let mut out = String::new(alloc);
     if let Some(row) = tables.seen(name.as_bytes()) {
         push_stored(alloc, &mut out, "token", row.place, row.accepted)?;

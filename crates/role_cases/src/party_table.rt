@@ -1,5 +1,6 @@
 // The calls of the table `party`.
 
+use crate::cores::Begins;
 use crate::roles::{Role, Roles};
 use crate::setup::{
     ELSEWHERE, ELSEWHERE_AUTHORIZE, LOCAL, configuration, configuration_with,
@@ -9,15 +10,15 @@ use case_lines::number;
 use sso_base::NoMemory;
 use std::alloc::Global;
 
-fn begin_provider(alloc: Global, roles: &mut Roles) -> Result<String, NoMemory> {
+fn begin_provider<C: Begins>(alloc: Global, roles: &mut Roles<C>) -> Result<String, NoMemory> {
     let file = configuration(alloc, LOCAL)?;
     roles.begin_provider(alloc, file.as_str())
 }
 
 // The same if clients have two secrets.
-fn begin_changing_provider(
+fn begin_changing_provider<C: Begins>(
     alloc: Global,
-    roles: &mut Roles,
+    roles: &mut Roles<C>,
     secrets: &str,
 ) -> Result<String, NoMemory> {
     let file = configuration_with(alloc, secrets)?;
@@ -25,15 +26,19 @@ fn begin_changing_provider(
 }
 
 // Begins a relying party of the provider of the cases.
-fn begin_party(alloc: Global, roles: &mut Roles, name: &str) -> Result<String, NoMemory> {
+fn begin_party<C: Begins>(
+    alloc: Global,
+    roles: &mut Roles<C>,
+    name: &str,
+) -> Result<String, NoMemory> {
     let file = configuration(alloc, LOCAL)?;
     roles.begin_party(alloc, file.as_str(), name, None)
 }
 
 // The same if its client has two secrets.
-fn begin_changing_party(
+fn begin_changing_party<C: Begins>(
     alloc: Global,
-    roles: &mut Roles,
+    roles: &mut Roles<C>,
     name: &str,
     secrets: &str,
 ) -> Result<String, NoMemory> {
@@ -42,13 +47,21 @@ fn begin_changing_party(
 }
 
 // The same with full pages.
-fn begin_full_party(alloc: Global, roles: &mut Roles, name: &str) -> Result<String, NoMemory> {
+fn begin_full_party<C: Begins>(
+    alloc: Global,
+    roles: &mut Roles<C>,
+    name: &str,
+) -> Result<String, NoMemory> {
     let file = configuration_with_pages(alloc)?;
     roles.begin_party(alloc, file.as_str(), name, None)
 }
 
 // Begins a relying party of the other provider.
-fn begin_elsewhere(alloc: Global, roles: &mut Roles, name: &str) -> Result<String, NoMemory> {
+fn begin_elsewhere<C: Begins>(
+    alloc: Global,
+    roles: &mut Roles<C>,
+    name: &str,
+) -> Result<String, NoMemory> {
     let file = configuration(alloc, ELSEWHERE)?;
     roles.begin_party(alloc, file.as_str(), name, Some(ELSEWHERE_AUTHORIZE))
 }
@@ -56,7 +69,11 @@ fn begin_elsewhere(alloc: Global, roles: &mut Roles, name: &str) -> Result<Strin
 /// The answer to a call: `party|NAME`, `party|NAME|elsewhere`, `party|NAME|full pages` and `provider` begin a role. With `two
 /// secrets` or `old seals` at the end, clients have two secrets. A call after `provider` goes to the provider, and every other
 /// call to the relying party, as often as `times|COUNT` before it says.
-pub fn answer(alloc: Global, roles: &mut Roles, fields: &[&str]) -> Result<String, NoMemory> {
+pub fn answer<C: Begins>(
+    alloc: Global,
+    roles: &mut Roles<C>,
+    fields: &[&str],
+) -> Result<String, NoMemory> {
     match fields {
         ["party", name] => begin_party(alloc, roles, name),
         ["party", name, "elsewhere"] => begin_elsewhere(alloc, roles, name),

@@ -1,5 +1,6 @@
 // The roles of a run.
 
+use crate::cores::Begins;
 use crate::party::RelyingParty;
 use crate::provider::Provider;
 use case_lines::{Run, told};
@@ -14,17 +15,17 @@ pub enum Role {
     Party,
 }
 
-/// The provider and the relying party, and their run.
+/// The provider and the relying party, which is in a core of this type, and their run.
 #[derive(Drop)]
-pub struct Roles {
+pub struct Roles<C: Begins> {
     provider: Option<Provider>,
-    party: Option<RelyingParty>,
+    party: Option<RelyingParty<C>>,
     run: Run,
 }
 
-impl Roles {
+impl<C: Begins> Roles<C> {
     /// No role yet.
-    pub fn new(alloc: Global) -> Roles {
+    pub fn new(alloc: Global) -> Roles<C> {
         Roles {
             provider: None,
             party: None,
@@ -42,7 +43,7 @@ impl Roles {
     }
 
     // The same for this relying party.
-    fn set_party(&mut self, alloc: Global, party: Option<RelyingParty>) -> bool {
+    fn set_party(&mut self, alloc: Global, party: Option<RelyingParty<C>>) -> bool {
         let begins = party.is_some();
         drop(mem::replace(&mut self.party, party));
         self.run = Run::new(alloc);

@@ -14,8 +14,7 @@
 ghost use Rattle.std.specs.Prelude.{◌≡◌, ◌^◌, ◌≤◌, ◌<◌, IfOk};
 ghost use Rattle.std.specs.List.{All};
 
-use crate::sources::SlowSource;
-use case_lines::{as_text, bytes, field, number, push_field, told_quoted};
+use case_lines::{SlowSource, as_text, bytes, field, number, push_field, told_quoted};
 use server_desk::{
     Connection, Desk, Door, Exchanged, FaultyDoor, FaultyLink, FaultySource, MemoryClock,
     MemoryDoor, MemoryDraw, MemoryLink, Tools,

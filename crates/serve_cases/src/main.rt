@@ -29,7 +29,6 @@
 //!
 //! | Module | What it has |
 //! |---|---|
-//! | `sources`, `sinks` | sources that give and sinks that take few bytes at a call |
 //! | `desks` | desks in memory: reads them from a field, and prints them |
 //! | `tick`, `tally`, `tally_role` | the core that counts its requests, and the role over it |
 //! | `passes`, `one_pass`, `two_passes`, `often` | the calls `calls`, `two threads` and `often`: a store over that core |
@@ -50,8 +49,6 @@ mod often;
 mod one_pass;
 mod passes;
 mod servers;
-mod sinks;
-mod sources;
 mod tally;
 mod tally_role;
 mod this_machine;

@@ -5,9 +5,8 @@ ghost use Rattle.std.specs.List.{All};
 
 use crate::desks::{CaseDesk, desks_in, failing, push_desks};
 use crate::files::shelf_of;
-use crate::sinks::SlowSink;
 use crate::{late, two};
-use case_lines::{as_text, number, told, told_quoted};
+use case_lines::{SlowSink, as_text, number, told, told_quoted};
 use server_desk::{Clock, Desk, Door, Draw, Link};
 use sso::sso;
 use sso_base::{FaultyShelf, FaultySink, File, NoMemory, Text};
