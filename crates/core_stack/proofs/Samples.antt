@@ -10,7 +10,7 @@ use Rattle.op_exchange.specs.Values.{IsOpAsk}
 use Rattle.op_exchange.specs.Weight.{ask_weight}
 use Rattle.op_exchange.proofs.Sample.{word, sample, wish}
 use Rattle.op_answer.specs.Answering.{op_answer}
-use Rattle.op_answer.specs.Legal.{IsLegalHistory}
+use Rattle.op_answer.specs.Legal.{IsLegalHistory, IsLegalOp}
 use Rattle.op_answer.proofs.FirstLogin.{pair_of, authorize_entry, login_page, past_login, login_entry, consent_page, past_consent, consent_entry, code_answer, past_code}
 use Rattle.sso_base.specs.Journal.{most_of}
 use Rattle.sso_base.proofs.Histories.{beginning_is_legal}
@@ -149,7 +149,7 @@ provider_is_a_stack =
     record {
       begins = refl;
       beginnings = beginning_is_legal IsOpAsk (op_answer sample) ask_weight (most_of sample.lasting);
-      provider = λ h legal. legal;
+      provider = λ h legal. legal.past;
       adds = λ h p legal. op_adds h p;
     }
 
