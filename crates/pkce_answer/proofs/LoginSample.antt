@@ -2,7 +2,7 @@
 -- one, gets the tokens.
 use Rattle.std.proofs.Common.{◌≡◌, ℕ, true, false, List, [], ◌∷◌, ◌++◌, length, Option, Some, None, Ok, codes, refl, ap, sym, ◌∙◌, subst, inr, arith}
 use Rattle.std.specs.Str.{IsUtf8}
-use Rattle.json.proofs.Printed.Utf8.{IsUtf8-are_ascii}
+use Rattle.sso_base.proofs.Utf8Bytes.{IsUtf8-are_ascii}
 use Rattle.sha2.specs.Sha256.{sha256}
 use Rattle.sha2.proofs.Facts256.{length-sha256}
 use Rattle.sso_base.specs.Words.{Word, Text, IsWord, word_text, word_of_text, fresh_word}
