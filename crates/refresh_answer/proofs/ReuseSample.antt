@@ -253,7 +253,7 @@ module _ (code first second : Text) (spells : word_of_text code ≡ Some (word 1
               λ k low drawn. no_word_again 9 (passed_pair authorize_entry (Through login_page) ∷ []) (tt, λ n less. words_below 5 9 (omega arith) n less) k low drawn,
             ),
             λ k low drawn. no_word_again 13 (passed_pair login_entry (Through consent_page) ∷ passed_pair authorize_entry (Through login_page) ∷ [])
-            ((tt, λ n less. words_below 5 13 (omega arith) n less), λ n less. words_below 9 13 (omega arith) n less) k low drawn,
+                ((tt, λ n less. words_below 5 13 (omega arith) n less), λ n less. words_below 9 13 (omega arith) n less) k low drawn,
           ),
           λ k low drawn. no_word_again 21 before (before_is_below 21 (omega arith)) k low drawn,
         ),
@@ -262,7 +262,7 @@ module _ (code first second : Text) (spells : word_of_text code ≡ Some (word 1
       λ k low drawn. no_word_again 29 refreshed ((before_is_below 29 (omega arith), λ n less. words_below 21 29 (omega arith) n less), λ n less. words_below 25 29 (omega arith) n less) k low drawn,
     ),
     λ k low drawn. no_word_again 33 (reuse ∷ refreshed)
-    (((before_is_below 33 (omega arith), λ n less. words_below 21 33 (omega arith) n less), λ n less. words_below 25 33 (omega arith) n less), λ n less. words_below 29 33 (omega arith) n less) k low drawn,
+        (((before_is_below 33 (omega arith), λ n less. words_below 21 33 (omega arith) n less), λ n less. words_below 25 33 (omega arith) n less), λ n less. words_below 29 33 (omega arith) n less) k low drawn,
   )
 
 -- there are such texts
