@@ -1,10 +1,10 @@
 -- The rows that pass a test were taken out, in one pass over the slots and each index.
-use Rattle.std.proofs.Common.{◌≡◌, ◌≢◌, ◌<◌, ◌≤◌, ◌+◌, ℕ, suc, Bool, true, false, not, cond, List, [], ◌∷◌, ◌++◌, map, filter, length, Option, Some, None, is_some, option_and_then, unwrap_or, inl, inr, refl, sym, ◌∙◌, ap, subst, arith}
+use Rattle.std.proofs.Common.{◌≡◌, ◌≢◌, ◌<◌, ◌≤◌, ◌+◌, ℕ, suc, Bool, true, false, not, cond, List, [], ◌∷◌, ◌++◌, map, filter, take, drop, get_or, length, Option, Some, None, is_some, IsSome, option_and_then, unwrap_or, inl, inr, refl, sym, ◌∙◌, ap, subst, arith}
 use Rattle.std.specs.List.{AllByRecursion, filter_map, cons_option}
 use Rattle.std.specs.Cmp.Lexicographic.{slice_cmp}
 use Rattle.std.specs.Ordering.{nat_cmp}
 use Rattle.std.specs.declared.cmp.Ordering.TheVariants.{Less}
-use Rattle.std.proofs.lemmas.List.{length-append}
+use Rattle.std.proofs.lemmas.List.{length-append, take-append-drop, take_more, take_all}
 use Rattle.std.proofs.lemmas.List.Elements.{filter-append}
 use Rattle.sso_base.specs.Words.{Word}
 use Rattle.sso_base.proofs.RowLaws.{bool_cases, option_cases}
@@ -14,10 +14,11 @@ use Rattle.held_rows.specs.declared.stored.Issued.{Issued}
 use Rattle.held_rows.specs.declared.stored.Stored.{Stored}
 use Rattle.held_rows.specs.Counts.{count, Lists}
 use Rattle.held_rows.specs.Held.{IsHeld}
-use Rattle.held_rows.specs.Index.{issued_row, issued_serial, row_at, serial_at, rows_at, left, hit_of, hit, has_row, rank, key_in, rank_in, IsAscending, IsIndex, IsRising, IsBounded, IsStored, HasMemoryFor, stored_rows, stored_capacity}
+use Rattle.held_rows.specs.Index.{issued_row, issued_serial, row_at, serial_at, rows_at, left, hit_of, hit, has_row, IsEmptied, rank, key_in, rank_in, IsAscending, IsIndex, IsRising, IsBounded, IsStored, HasMemoryFor, stored_rows, stored_capacity}
 use Rattle.held_rows.specs.SlotList.{SlotList, get, value_count, Changes}
 use Rattle.held_rows.proofs.Counts.{one, same_or_other, count-append, map_same, row_listed, listed_row, length-rows}
 use Rattle.held_rows.proofs.HeldLaws.{held_filter, filter_short}
+use Rattle.held_rows.proofs.Hits.{count_hits}
 use Rattle.held_rows.proofs.Parts.{as_many}
 
 -- ---- lists of numbers, of which some are kept
@@ -141,6 +142,11 @@ module _ {R : Type 0} (p : R → Bool) where
       let L : Bool → Option (Issued R) = λ b. cond b None (Some issued) in
       ap L e
 
+-- a row that passes is a value
+pub hit_value : {R : Type 0} (p : R → Bool) (o : Option (Issued R)) → hit_of p (issued_row o) ≡ true → is_some o ≡ true
+hit_value p None e = (let clash : false ≡ true = e in absurd (cc))
+hit_value p (Some issued) e = refl
+
 no_row : {R : Type 0} (o : Option R) → is_some o ≡ false → o ≡ None
 no_row None e = refl
 no_row (Some row) e = cc
@@ -148,6 +154,24 @@ no_row (Some row) e = cc
 no_value : {R : Type 0} (o : Option (Issued R)) → issued_row o ≡ None → o ≡ None
 no_value None e = refl
 no_value (Some issued) e = cc
+
+-- a slot at a place is not among those before it
+unseen_before : {R : Type 0} (f : ℕ → Option R) (by_issue seen : List ℕ) (slot : ℕ) (behind : List ℕ) → Lists f by_issue → by_issue ≡ (seen ++ slot ∷ []) ++ behind → count slot seen ≡ 0
+unseen_before {R} f by_issue seen slot behind lists whole =
+    let F : Option R → ℕ = λ o. cond (is_some o) 1 0 in
+    let C : List ℕ → ℕ = λ xs. count slot xs in
+    let all : count slot by_issue ≡ count slot ((seen ++ slot ∷ []) ++ behind) = ap C whole in
+    let parts = count-append slot (seen ++ slot ∷ []) behind in
+    let before = count-append slot seen (slot ∷ []) in
+    let most : count slot by_issue ≤ 1 =
+    elim (option_cases (f slot)) [
+      | inl none ↦ (let no : count slot by_issue ≡ 0 = lists slot ∙ ap F none in omega (arith, no))
+      | inr some ↦ (let once : count slot by_issue ≡ 1 = lists slot ∙ ap F some.1 in omega (arith, once))
+    ] in
+    elim (same_or_other slot slot) [
+      | inl same ↦ (let on = same.1 in omega (arith, all, parts, before, most, on))
+      | inr other ↦ absurd (other.0 refl)
+    ]
 
 -- ---- the pass over the slots
 
@@ -193,18 +217,20 @@ module _ {R : Type 0} (p : R → Bool) (old : SlotList (Issued R)) where
         ap H (so_far.rest slot unseen)
 
     -- a row that passes was removed
-    pub hit_emptied : (new : SlotList (Issued R)) → hit p (row_at mid) slot ≡ true → Changes (get mid) (get new) slot None → value_count new + 1 ≡ value_count mid → new.capacity ≡ mid.capacity
-        → Emptied p old new (seen ++ slot ∷ []) (number + 1)
-    hit_emptied new e changes one_less capacity =
+    hit_emptied : (new : SlotList (Issued R)) (k : ℕ) → IsEmptied p mid new slot k → hit p (row_at mid) slot ≡ true → Emptied p old new (seen ++ slot ∷ []) (number + k)
+    hit_emptied new k step e =
         let hits = sym hit_same ∙ e in
         let many = hits_last seen slot true hits in
         let counted = so_far.counted in
         let values = so_far.values in
+        let changes = step.changes e in
+        let one_less = step.fewer e in
+        let is_one = step.one e in
         record {
           done = λ t there. (let parts = count_last t seen slot in
             elim (same_or_other t slot) [
               | inl same ↦
-                  (let N = get new in
+                  (let N : ℕ → Option (Issued R) = get new in
                   let L : ℕ → Option (Issued R) = λ x. left p (get old x) in
                   ap N same.0 ∙ changes.changed ∙ sym (left_hit p (get old slot) hits) ∙ sym (ap L same.0))
               | inr other ↦ (let off = other.1 in changes.others t other.0 ∙ so_far.done t (omega (arith, parts, off, there)))
@@ -214,31 +240,66 @@ module _ {R : Type 0} (p : R → Bool) (old : SlotList (Issued R)) where
               | inl same ↦ (let on = same.1 in absurd (omega (arith, parts, on, none)))
               | inr other ↦ (let off = other.1 in changes.others t other.0 ∙ so_far.rest t (omega (arith, parts, off, none)))
             ]);
-          counted = omega (arith, many, counted);
-          values = omega (arith, one_less, values);
-          capacity = capacity ∙ so_far.capacity;
+          counted = omega (arith, many, counted, is_one);
+          values = omega (arith, one_less, values, is_one);
+          capacity = step.capacity ∙ so_far.capacity;
         }
 
     -- a row that does not pass stays
-    pub miss_emptied : hit p (row_at mid) slot ≡ false → Emptied p old mid (seen ++ slot ∷ []) number
-    miss_emptied e =
+    miss_emptied : (new : SlotList (Issued R)) (k : ℕ) → IsEmptied p mid new slot k → hit p (row_at mid) slot ≡ false → Emptied p old new (seen ++ slot ∷ []) (number + k)
+    miss_emptied new k step e =
         let misses = sym hit_same ∙ e in
         let many = hits_last seen slot false misses in
         let counted = so_far.counted in
+        let values = so_far.values in
+        let is_none = step.none e in
+        let same_slots : new ≡ mid = step.same e in
+        let value_same : value_count new ≡ value_count mid = (let V : SlotList (Issued R) → ℕ = λ s. value_count s in ap V same_slots) in
+        let reads : (t : ℕ) → get new t ≡ get mid t = λ t. (let G : SlotList (Issued R) → Option (Issued R) = λ s. get s t in ap G same_slots) in
         record {
           done = λ t there. (let parts = count_last t seen slot in
             elim (same_or_other t slot) [
               | inl same ↦
-                  (let M = get mid in
+                  (let M : ℕ → Option (Issued R) = get mid in
                   let L : ℕ → Option (Issued R) = λ x. left p (get old x) in
-                  ap M same.0 ∙ so_far.rest slot unseen ∙ sym (left_miss p (get old slot) misses) ∙ sym (ap L same.0))
-              | inr other ↦ (let off = other.1 in so_far.done t (omega (arith, parts, off, there)))
+                  reads t ∙ ap M same.0 ∙ so_far.rest slot unseen ∙ sym (left_miss p (get old slot) misses) ∙ sym (ap L same.0))
+              | inr other ↦ (let off = other.1 in reads t ∙ so_far.done t (omega (arith, parts, off, there)))
             ]);
-          rest = λ t none. (let parts = count_last t seen slot in so_far.rest t (omega (arith, parts, none)));
-          counted = omega (arith, many, counted);
-          values = so_far.values;
-          capacity = so_far.capacity;
+          rest = λ t none. (let parts = count_last t seen slot in reads t ∙ so_far.rest t (omega (arith, parts, none)));
+          counted = omega (arith, many, counted, is_none);
+          values = omega (arith, value_same, values, is_none);
+          capacity = step.capacity ∙ so_far.capacity;
         }
+
+    last_emptied : (new : SlotList (Issued R)) (k : ℕ) → IsEmptied p mid new slot k → Emptied p old new (seen ++ slot ∷ []) (number + k)
+    last_emptied new k step = elim (bool_cases (hit p (row_at mid) slot)) [ inl e ↦ hit_emptied new k step e | inr e ↦ miss_emptied new k step e ]
+
+  -- the slot at the next place
+  pub next_emptied : (mid new : SlotList (Issued R)) (by_issue : List ℕ) (n number slot k : ℕ) → Lists (row_at old) by_issue → n < length by_issue → slot ≡ get_or by_issue n slot
+      → Emptied p old mid (take n by_issue) number → IsEmptied p mid new slot k → Emptied p old new (take (n + 1) by_issue) (number + k)
+  next_emptied mid new by_issue n number slot k lists low here so_far step =
+      let more : take (n + 1) by_issue ≡ take n by_issue ++ slot ∷ [] = take_more by_issue n slot low ∙ ap (λ (x : ℕ). take n by_issue ++ x ∷ []) (sym here) in
+      let whole : by_issue ≡ (take n by_issue ++ slot ∷ []) ++ drop (n + 1) by_issue = sym (take-append-drop (n + 1) by_issue) ∙ ap (λ (xs : List ℕ). xs ++ drop (n + 1) by_issue) more in
+      let unseen = unseen_before (row_at old) by_issue (take n by_issue) slot (drop (n + 1) by_issue) lists whole in
+      let E : List ℕ → Type 0 = λ xs. Emptied p old new xs (number + k) in
+      subst E (sym more) (last_emptied mid (take n by_issue) number slot so_far unseen new k step)
+
+  -- no more are counted than there are slots
+  pub few_emptied : (mid : SlotList (Issued R)) (by_issue : List ℕ) (n number : ℕ) → Emptied p old mid (take n by_issue) number → number ≤ length by_issue
+  few_emptied mid by_issue n number so_far =
+      let short = filter_short (hit p (row_at old)) (take n by_issue) in
+      let parts : length (take n by_issue) + length (drop n by_issue) ≡ length by_issue = sym (length-append (take n by_issue) (drop n by_issue)) ∙ ap length (take-append-drop n by_issue) in
+      let counted = so_far.counted in
+      omega (arith, short, parts, counted)
+
+  -- at the end
+  pub whole_emptied : (new : SlotList (Issued R)) (by_issue : List ℕ) (n number : ℕ) → length by_issue ≤ n → Emptied p old new (take n by_issue) number → Emptied p old new by_issue number
+  whole_emptied new by_issue n number past so_far =
+      let E : List ℕ → Type 0 = λ xs. Emptied p old new xs number in
+      subst E (take_all n by_issue past) so_far
+
+  pub rows_counted : (new : SlotList (Issued R)) (by_issue : List ℕ) (number : ℕ) → Emptied p old new by_issue number → number ≡ length (filter p (rows_at old by_issue))
+  rows_counted new by_issue number emptied = emptied.counted ∙ sym (count_hits p (row_at old) by_issue)
 
   -- all slots were seen
   pub all_emptied : (new : SlotList (Issued R)) (by_issue : List ℕ) (number : ℕ) → Lists (row_at old) by_issue → Emptied p old new by_issue number → (t : ℕ) → get new t ≡ left p (get old t)
@@ -252,24 +313,6 @@ module _ {R : Type 0} (p : R → Bool) (old : SlotList (Issued R)) where
             emptied.rest t absent ∙ empty ∙ sym (ap L empty))
         | inr some ↦ (let once : count t by_issue ≡ 1 = lists t ∙ ap F some.1 in emptied.done t (omega (arith, once)))
       ]
-
--- a slot at a place is not among those before it
-pub unseen_before : {R : Type 0} (f : ℕ → Option R) (by_issue seen : List ℕ) (slot : ℕ) (behind : List ℕ) → Lists f by_issue → by_issue ≡ (seen ++ slot ∷ []) ++ behind → count slot seen ≡ 0
-unseen_before {R} f by_issue seen slot behind lists whole =
-    let F : Option R → ℕ = λ o. cond (is_some o) 1 0 in
-    let C : List ℕ → ℕ = λ xs. count slot xs in
-    let all : count slot by_issue ≡ count slot ((seen ++ slot ∷ []) ++ behind) = ap C whole in
-    let parts = count-append slot (seen ++ slot ∷ []) behind in
-    let before = count-append slot seen (slot ∷ []) in
-    let most : count slot by_issue ≤ 1 =
-    elim (option_cases (f slot)) [
-      | inl none ↦ (let no : count slot by_issue ≡ 0 = lists slot ∙ ap F none in omega (arith, no))
-      | inr some ↦ (let once : count slot by_issue ≡ 1 = lists slot ∙ ap F some.1 in omega (arith, once))
-    ] in
-    elim (same_or_other slot slot) [
-      | inl same ↦ (let on = same.1 in omega (arith, all, parts, before, most, on))
-      | inr other ↦ absurd (other.0 refl)
-    ]
 
 -- ---- the rows
 

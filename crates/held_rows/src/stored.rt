@@ -7,7 +7,7 @@ ghost use Rattle.std.specs.List.{list_any};
 ghost use Rattle.sso_base.specs.Rows.{row_of, live_rows};
 ghost use Rattle.held_rows.specs.Held as spec;
 ghost use Rattle.held_rows.specs.Counts.{Lists};
-ghost use Rattle.held_rows.specs.Index.{row_at, serial_at, IsIndex, IsRising, IsStored, IsRemoved, IsReplaced, stored_rows, stored_capacity, rows_at, left, hit, IsRowAt, IsOverAt};
+ghost use Rattle.held_rows.specs.Index.{row_at, serial_at, IsIndex, IsRising, IsStored, IsRemoved, IsReplaced, stored_rows, stored_capacity, rows_at, left, hit, IsEmptied, IsRowAt, IsOverAt};
 ghost use Rattle.held_rows.specs.SlotList.{HasValue, get, value_count};
 
 use crate::index::{is_at, keep_held, put_in, start, take_from};
@@ -95,6 +95,21 @@ fn passes_in<R: Row, T: Test<R>>(slots: &SlotVec<Issued<R>>, slot: u16, test: &T
     }
 }
 
+// Removes the row in a slot, if it passes the test, and returns whether it does as a number. The indices still have the slot.
+fn empty_slot<R: Row + Drop, T: Test<R>>(
+    slots: &mut SlotVec<Issued<R>>,
+    slot: u16,
+    test: &T,
+) -> u32
+    ensures { IsEmptied (T.passes test.now) slots.old slots.new slot result }
+{
+    if !passes_in(slots, slot, test) {
+        return 0;
+    }
+    let _ = slots.remove(slot);
+    1
+}
+
 // Removes the rows that pass the test from their slots, and returns their number. The indices still have these slots.
 fn empty_slots<R: Row + Drop, T: Test<R>>(
     slots: &mut SlotVec<Issued<R>>,
@@ -111,10 +126,8 @@ fn empty_slots<R: Row + Drop, T: Test<R>>(
     let mut count = 0;
     for place in 0..by_issue.len() {
         let slot = by_issue[place];
-        if passes_in(slots, slot, test) {
-            slots.remove(slot);
-            count += 1;
-        }
+        let emptied = empty_slot(slots, slot, test);
+        count += emptied;
     }
     count
 }
