@@ -1,5 +1,5 @@
 -- The answer of a peer: a response head and its body (RFC 9112, 4 to 6).
-use Rattle.std.specs.Prelude.{◌≡◌, ◌≤◌, ℕ, nat_le, List, [], ◌∷◌, length, map, take, codes, Option, Some, None, option_map, option_and_then, if◌then◌else◌}
+use Rattle.std.specs.Prelude.{◌≡◌, ◌≤◌, ℕ, Bool, true, false, nat_le, is_some, List, [], ◌∷◌, length, map, take, codes, Option, Some, None, option_map, option_and_then, if◌then◌else◌}
 use Rattle.httparse.specs.Grammar.{ResponseHead, ReadsResponse, status_code}
 use Rattle.httparse.specs.Spans.{name_and_value}
 use Rattle.sso_base.specs.declared.message.Answered.{Answered}
@@ -49,3 +49,20 @@ pub record IsResponseParts (bytes : List ℕ) (status : ℕ) (fields : Fields) (
   pub reads : IsResponse bytes head rest
   pub status_is : status ≡ status_code head
   pub fields_are : fields ≡ map name_and_value head.fields
+
+-- ---- answers that are whole by their length
+
+-- as many bytes are there as the one `Content-Length` says
+abbrev pub has_length : List (List ℕ) → List ℕ → Bool
+has_length [] rest = false
+has_length (value ∷ values) rest = is_some (cut_body (value ∷ values) rest)
+
+unfoldable pub is_whole_body : Fields → List ℕ → Bool
+is_whole_body fields rest = if has_transfer fields then false else has_length (values_of (codes "content-length") fields) rest
+
+-- the bytes are an answer, and no byte is missing, whether more follow or not
+pub record IsWhole (bytes : List ℕ) : Type 0 where
+  pub head : ResponseHead
+  pub rest : List ℕ
+  pub reads : IsResponse bytes head rest
+  pub whole : is_whole_body (map name_and_value head.fields) rest ≡ true
