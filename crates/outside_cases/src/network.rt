@@ -111,7 +111,8 @@ pub fn names(alloc: Global, host: &str, lines: &str) -> Result<String, NoMemory>
     let text = lines.replace(alloc, " / ", "\n")?;
     let names = Names::new(Blob::new(alloc, text.as_str().as_bytes())?);
     let mut out = String::new(alloc);
-    for address in names.addresses(alloc, host)?.as_slice() {
+    let known = names.addresses(alloc, host)?;
+    for address in known.as_slice() {
         let told = format!(in alloc; "{address}")?;
         push_part(&mut out, ", ", told.as_str())?;
     }

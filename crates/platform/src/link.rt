@@ -80,7 +80,8 @@ fn addresses_of(alloc: Global, names: &Names, to: &str) -> Result<Vec<SocketAddr
     let Ok(port) = port.parse::<u16>() else {
         return Ok(found);
     };
-    for ip in names.addresses(alloc, host)?.as_slice() {
+    let known = names.addresses(alloc, host)?;
+    for ip in known.as_slice() {
         found.push(SocketAddr::new(*ip, port))?;
     }
     Ok(found)

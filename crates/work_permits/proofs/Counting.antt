@@ -51,20 +51,22 @@ sits most slots s k _ _ =
     let same = holding_in-new s.views most in let out = k.out in let few = k.few in
     (nobody most, record { one = k.one; out = omega arith; few = omega arith }, refl)
 
-pub looks : (most slots id : ℕ) (me : Mine) → me.0.most ≡ most → me.0.holds ≡ false → Allows (KeepsCount most) slots id me 0 (λ x. x) (Looks (step slots 0 0 0 none) me)
-looks most slots id me all idle s k _ at _ =
+pub looks : (most slots id : ℕ) (me : Mine) → me.0 ≡ nobody most → Allows (KeepsCount most) slots id me 0 (λ x. x) (Looks (step slots 0 0 0 none) me)
+looks most slots id me is_nobody s k _ at _ =
     let x : ℕ = get_or s.words 0 0 in let out = k.out in let few = k.few in
+    let all : me.0.most ≡ most = ap (λ (h : Holder). h.most) is_nobody in
+    let idle : me.0.holds ≡ false = ap (λ (h : Holder). h.holds) is_nobody in
     let high : x ≤ me.0.most = omega arith in
     dite (ℕ_discrete x me.0.most)
     (λ hit. (turned_away me.0.most, keeps, tt, unmoved most s k id me (turned_away me.0.most) at (sym idle), (high, (λ _. refl), λ not. absurd (not hit))))
     (λ miss. (me.0, keeps, tt, unmoved most s k id me me.0 at refl, (high, (λ hit. absurd (miss hit)), λ _. refl)))
 
-pub takes : (most slots id : ℕ) (me : Mine) (old : ℕ) → me.0.holds ≡ false → old < most
+pub takes : (most slots id : ℕ) (me : Mine) (old : ℕ) → me.0 ≡ nobody most → old < most
     → Allows (KeepsCount most) slots id me 0 (λ x. either (eqb x old) (old + 1) x) (Takes (step slots 0 old (old + 1) none) me)
-takes most slots id me old idle room s k _ at _ =
+takes most slots id me old is_nobody room s k _ at _ =
     let x : ℕ = get_or s.words 0 0 in
     let sum = holding_in-set s.views id me.0 (holding me.0.most) at in
-    let none_yet : one_if me.0.holds ≡ 0 = ap one_if idle in
+    let none_yet : one_if me.0.holds ≡ 0 = ap (λ (h : Holder). one_if h.holds) is_nobody in
     let out = k.out in
     dite (ℕ_discrete x old)
     (λ hit. (
@@ -83,12 +85,12 @@ takes most slots id me old idle room s k _ at _ =
       ((λ hit. absurd (miss hit)), λ _. refl),
     ))
 
-pub gives : (most slots id : ℕ) (me : Mine) → me.0.holds ≡ true → Allows (KeepsCount most) slots id me 0 (λ x. (x + (2 ^ 64 - 1)) % 2 ^ 64) (Gives (step slots 0 1 0 none) me)
-gives most slots id me has s k _ at small =
+pub gives : (most slots id : ℕ) (me : Mine) → me.0 ≡ holding most → Allows (KeepsCount most) slots id me 0 (λ x. (x + (2 ^ 64 - 1)) % 2 ^ 64) (Gives (step slots 0 1 0 none) me)
+gives most slots id me is_holding s k _ at small =
     let x : ℕ = get_or s.words 0 0 in
     let w : Holder = nobody me.0.most in
     let n : ℕ = holding_in (set s.views id w) in
-    let one : one_if me.0.holds ≡ 1 = ap one_if has in
+    let one : one_if me.0.holds ≡ 1 = ap (λ (h : Holder). one_if h.holds) is_holding in
     let sum = holding_in-set s.views id me.0 w at in
     let out = k.out in let few = k.few in
     let more : holding_in s.views ≡ n + 1 = omega arith in

@@ -4,6 +4,7 @@ ghost use Rattle.std.specs.Prelude.{◌≡◌, ◌<◌, ◌^◌, IfOk, IfErr};
 ghost use Rattle.work_permits.specs.Permitted.{most_of, IsPermitOf, IsRefusalOf, SitsAt};
 
 use crate::rule::{Giving, Looking, PermitSeat, PermitTable, Sitting, Taking};
+use atomic_table::Table;
 use sso_base::NoMemory;
 use std::alloc::Global;
 use std::sync::Wait;
@@ -37,15 +38,17 @@ impl Permits {
     /// # Errors
     ///
     /// `NoMemory` if memory ran out.
+    #[tactic(auto, using(crate::proofs::Counting::opens))]
     pub fn new(alloc: Global, most: u32) -> Result<Permits, NoMemory>
         ensures { IfOk result (λ permits. most_of permits ≡ most) }
     {
         let most = u64::from(most);
-        let (table, _seat) = PermitTable::of_words(alloc, &[0], &most)?;
+        let (table, _seat) = Table::of_words(alloc, &[0], &most)?;
         Ok(Permits { table, most })
     }
 
     // A new seat, which knows nothing.
+    #[tactic(auto, using(crate::proofs::Counting::sits))]
     fn sit(&self) -> PermitSeat
         ensures { SitsAt self.now result }
     {
@@ -55,6 +58,7 @@ impl Permits {
 
     /// Takes a permit, or says that all are taken. It does not wait for one. It tries again only if another thread took or gave one
     /// in between.
+    #[tactic(auto, using(crate::proofs::Counting::looks, crate::proofs::Counting::takes))]
     pub fn try_take<R: Wait>(&self, rt: &R) -> Result<Permit, AllTaken>
         ensures taken { IfOk result (IsPermitOf self.now) }
         ensures none { IfErr result (IsRefusalOf self.now) }
@@ -75,6 +79,7 @@ impl Permits {
     }
 
     /// Takes a permit. It waits until one is free.
+    #[tactic(auto, using(crate::proofs::Counting::takes))]
     pub fn take<R: Wait>(&self, rt: &R) -> Permit
         ensures { IsPermitOf self.now result }
     {
@@ -95,6 +100,7 @@ impl Permits {
     }
 
     /// Gives a permit back, and wakes one of the threads that wait.
+    #[tactic(auto, using(crate::proofs::Counting::gives))]
     pub fn give(&self, permit: Permit)
         requires { IsPermitOf self.now permit }
     {
