@@ -1,6 +1,6 @@
 // A core that the provider is in, as a role.
 
-ghost use Rattle.std.specs.Prelude.{◌≡◌, ◌<◌};
+ghost use Rattle.std.specs.Prelude.{◌≡◌};
 ghost use Rattle.std.specs.Option.{option_copied};
 ghost use Rattle.server_roles.specs.Roles.{is_small_if, provider_workers};
 
@@ -38,8 +38,7 @@ fn is_small_if(ask: Option<&OpAsk>) -> bool
 
 // How many workers serve the provider of a registry.
 fn provider_workers(_registry: &Registry) -> u32
-    ensures workers { result ≡ provider_workers _registry.now }
-    ensures some { 0 < result }
+    ensures { result ≡ provider_workers _registry.now }
 {
     4
 }

@@ -53,8 +53,7 @@ pub trait Role: Sync {
 
     /// The number of workers, if there are as many desks.
     fn workers(&self) -> u32
-        ensures workers { result ≡ (manner self.now).workers }
-        ensures some { 0 < result };
+        ensures { result ≡ (manner self.now).workers };
 
     /// Whether a parsed request is small enough for the server.
     fn takes(&self, ask: &<Self::Core as Core>::Ask) -> bool

@@ -72,7 +72,7 @@ where
 
 /// Serves at the first of these desks concurrently, one worker each, with this core, which must have an empty history. There are as many
 /// workers as the role says, if there are as many desks; further desks are dropped. The first door listens at the place, and the others
-/// share its address. Without a desk nothing is done.
+/// share its address. Without a worker nothing is done.
 ///
 /// At most half of the workers prove passwords at a time, and at least one, as [`Gate`] says. A request that proves one is answered with
 /// the status 503 if as many workers as may do that, or wait for it.
@@ -104,7 +104,9 @@ where
     ensures memory { OnErr result (desks.new.items ≡ desks.old.items) }
 {
     let workers = role.workers() as usize;
-    if desks.is_empty() {
+    let count = desks.len().min(workers);
+    if count == 0 {
+        desks.truncate(0);
         return Ok(Summary {
             served: 0,
             entries: 0,
@@ -112,7 +114,6 @@ where
             closed: None,
         });
     }
-    let count = desks.len().min(workers);
     let gate = Gate::new(alloc, count as u32)?;
     let (store, passes) = Turn::new(alloc, core, count as u32)?;
     let seats = Vec::with_capacity(alloc, count)?;
