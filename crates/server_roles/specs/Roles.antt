@@ -37,8 +37,8 @@ abbrev pub is_small_if : Option OpAsk → Bool
 is_small_if (Some asked) = op_held.is_small asked
 is_small_if None = true
 
--- It makes no requests to other servers. A login proves a password. The clients of a session are notified of a sign-out before its reply is written (OpenID Connect
--- Back-Channel Logout 1.0, 2.5). If its history lasts, it takes only small requests.
+-- It makes no requests to other servers. A login proves a password. The clients of a session are notified of a sign-out before its
+-- reply is written (OpenID Connect Back-Channel Logout 1.0, 2.5). If its history lasts, it takes only small requests.
 abbrev pub provider_manner : {A R : Type 0} → (A → Option OpAsk) → (R → Option (List Message)) → (Configuration → Ask → A) → (OpAsk → A)
     → (Configuration → R → HttpReply) → (A → ℕ) → Configuration → Manner A R
 provider_manner plain notices prepared from_op http weighs c = record {

@@ -264,10 +264,10 @@ asked-the_length_of_its_path : IsAsked manner (Some get_text) (Some []) 1
 asked-the_length_of_its_path = ((_, record { head = get_text; body = []; given = refl; request = a_request }, refl), refl)
 
 busy-at_a_password : Cause proving limit (Some get_text) (Some []) 0 0 [] [] [] (Err Busy)
-busy-at_a_password = (refl, refl, _, record { head = get_text; body = []; given = refl; request = a_request }, refl)
+busy-at_a_password = (refl, refl, (_, record { head = get_text; body = []; given = refl; request = a_request }, refl))
 
 not_busy-without_a_password : Cause manner limit (Some get_text) (Some []) 0 0 [] [] [] (Err Busy) → ⊥
-not_busy-without_a_password cause = absurd (cc cause.2.2.2)
+not_busy-without_a_password cause = let e : false ≡ true = cause.2.2 in absurd (cc e)
 
 unasked-three_bytes : IsUnasked manner (Some (codes "GET")) (Some []) 0 0 http_no.EndedEarly
 unasked-three_bytes = record {

@@ -1,5 +1,5 @@
 -- What is sent to a connection in place of a reply of a core, and how its serving ends then.
-use Rattle.std.specs.Prelude.{ℕ, List, codes, Option, Some, Result, Ok, Err}
+use Rattle.std.specs.Prelude.{ℕ, List, ◌++◌, codes, Option, Some, Result, Ok, Err}
 use Rattle.http_reply.specs.Replies.{plain}
 use Rattle.sso_http.specs.Replies.{reply_bytes}
 use Rattle.sso_http.specs.Refusals.{refusal_bytes}
@@ -24,7 +24,8 @@ memory_bytes = reply_bytes (plain 503 (codes "memory"))
 -- the reply if the workers that may prove passwords do: come again in a second (RFC 9110, 10.2.3)
 unfoldable pub busy_bytes : List ℕ
 busy_bytes =
-    codes "HTTP/1.1 503 Service Unavailable\r\nRetry-After: 1\r\nCache-Control: no-store\r\nContent-Type: text/plain; charset=utf-8\r\nContent-Length: 5\r\nConnection: close\r\n\r\nbusy\n"
+    codes "HTTP/1.1 503 Service Unavailable\r\nRetry-After: 1\r\nCache-Control: no-store\r\n"
+    ++ codes "Content-Type: text/plain; charset=utf-8\r\nContent-Length: 5\r\nConnection: close\r\n\r\nbusy\n"
 
 -- one line of text with a status; none if the request's source failed or ended, since nobody would receive it
 unfoldable pub bytes_without : NoReply → Option (List ℕ)

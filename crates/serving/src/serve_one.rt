@@ -1,6 +1,7 @@
 // One connection is served.
 
-ghost use Rattle.std.specs.Prelude.{◌≡◌, ◌≢◌, ◌⊎◌, ◌+◌, ◌≤◌, ◌<◌, ◌++◌, ◌∷◌, ℕ, List, [], map, length, true, Ok, Err, Some, None, IfOk, IfErr, IfSome, OnErr};
+ghost use Rattle.std.specs.Prelude.{◌≡◌, ◌≢◌, ◌⊎◌, ◌+◌, ◌≤◌, ◌<◌, ◌++◌, ◌∷◌, ℕ, true, false, List, [], map, length};
+ghost use Rattle.std.specs.Prelude.{Ok, Err, Some, None, IfOk, IfErr, IfSome, OnErr};
 ghost use Rattle.sso_base.specs.Faults.{Rose};
 ghost use Rattle.turn_store.specs.Passes.{IsPassOf, number_of, front_of, setup_of};
 ghost use Rattle.work_permits.specs.Gates.{IsEnteredAt, IsTurnedAway};
@@ -26,7 +27,19 @@ use std::sync::Wait;
 use turn_store::Pass;
 use work_permits::{AllTaken, Entered};
 
-// The parsed form of a request that proves a password, by a worker that has entered the gate.
+// The parsed form of a request that proves no password.
+fn parsed_at_once<R: Wait, X: Role>(
+    backend: &Backend<'_, R, X, X::Core>,
+    request: &Ask,
+) -> Result<<X::Core as Core>::Ask, NoMemory>
+    requires ready { X.ready backend.now.role.now }
+    requires quick { (X.manner backend.now.role.now).proves request.now ≡ false }
+    ensures { IfOk result (λ asked. asked ≡ (X.manner backend.now.role.now).prepared request.now) }
+{
+    backend.role.prepare(backend.alloc, request)
+}
+
+// The parsed form of any request, by a worker that has entered the gate.
 fn parsed_behind<R: Wait, X: Role>(
     backend: &Backend<'_, R, X, X::Core>,
     _entered: &Entered,
@@ -50,7 +63,7 @@ fn parsed<R: Wait, X: Role>(
     ensures proves { IfOk result (λ parsed. OnErr parsed ((X.manner backend.now.role.now).proves request.now ≡ true)) }
 {
     if !backend.role.proves(request) {
-        return Ok(Ok(backend.role.prepare(backend.alloc, request)?));
+        return Ok(Ok(parsed_at_once(backend, request)?));
     }
     match backend.gate.enter(backend.rt) {
         Ok(entered) => {
@@ -69,7 +82,8 @@ fn prepared<R: Wait, X: Role, S: Source>(
 ) -> Result<<X::Core as Core>::Ask, NoReply>
     requires { X.ready backend.now.role.now }
     ensures ok { IfOk result (spec.IsPrepared (X.manner backend.now.role.now) (S.left source.old) (S.left source.new)) }
-    ensures err { IfErr result (spec.IsUnread (X.manner backend.now.role.now) (S.left source.old) (S.left source.new) (S.faults source.old) (S.faults source.new)) }
+    ensures err { IfErr result (spec.IsUnread (X.manner backend.now.role.now)
+        (S.left source.old) (S.left source.new) (S.faults source.old) (S.faults source.new)) }
 {
     let (first, second) = backend.role.cookies(backend.alloc)?;
     match read_ask(backend.alloc, source, &first, &second) {
@@ -89,7 +103,8 @@ fn asked<R: Wait, X: Role, S: Source>(
 ) -> Result<<X::Core as Core>::Ask, NoReply>
     requires { X.ready backend.now.role.now }
     ensures ok { IfOk result (spec.IsAsked (X.manner backend.now.role.now) (S.left source.old) (S.left source.new)) }
-    ensures err { IfErr result (spec.IsUnread (X.manner backend.now.role.now) (S.left source.old) (S.left source.new) (S.faults source.old) (S.faults source.new)) }
+    ensures err { IfErr result (spec.IsUnread (X.manner backend.now.role.now)
+        (S.left source.old) (S.left source.new) (S.faults source.old) (S.faults source.new)) }
 {
     let ask = prepared(backend, source)?;
     if !backend.role.takes(&ask) {

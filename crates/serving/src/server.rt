@@ -82,7 +82,7 @@ where
 /// # Errors
 ///
 /// `NoMemory` if memory ran out, before the first door was started. The desks are unchanged, and the core is dropped.
-#[tactic(auto, using(crate::proofs::Firsts::how_many, crate::proofs::Firsts::all_first, crate::proofs::Firsts::same_gate, crate::proofs::Firsts::first_served, crate::proofs::Firsts::nobody_served))]
+#[tactic(auto, using(crate::proofs::Firsts::first_served, crate::proofs::Firsts::nobody_served, crate::proofs::Firsts::all_first))]
 pub fn serve<R: Threads + Wait + Sync, X: Role, D: Door, L: Link, C: Clock, W: Draw>(
     rt: &R,
     alloc: Global,

@@ -1,7 +1,8 @@
 -- The definitions on small numbers of permits and of workers.
-use Rattle.std.proofs.Common.{◌≡◌, ℕ, ◌≤◌, [], ◌∷◌, refl, arith}
+use Rattle.std.proofs.Common.{◌≡◌, ℕ, ◌≤◌, true, false, [], ◌∷◌, refl, ap, arith}
 use Rattle.atomic_table.specs.Table.{step}
 use mathlib.Core.Option.{none}
+use Rattle.work_permits.specs.declared.holder.Holder.{Holder}
 use Rattle.work_permits.specs.Rule.{nobody, holding, turned_away, holding_in, KeepsCount}
 use Rattle.work_permits.specs.Steps.{Looks}
 use Rattle.work_permits.specs.Gates.{most_working, most_inside}
@@ -19,7 +20,9 @@ looks-all_taken : Looks (step 0 0 0 0 none) (nobody 2, []) 2 (turned_away 2, [])
 looks-all_taken = (omega arith, (λ is. refl), λ not. absurd (not refl))
 
 not_looks-all_taken_of_one : Looks (step 0 0 0 0 none) (nobody 2, []) 1 (turned_away 2, []) → ⊥
-not_looks-all_taken_of_one looks = absurd (cc (looks.2 (λ is. absurd (omega (arith, is)))))
+not_looks-all_taken_of_one looks =
+    let same : turned_away 2 ≡ nobody 2 = looks.2 (λ is. absurd (omega (arith, is))) in
+    let e : true ≡ false = ap (λ (h : Holder). h.found_all) same in absurd (cc e)
 
 working-of_eight : most_working 8 ≡ 4
 working-of_eight = refl
