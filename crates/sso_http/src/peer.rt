@@ -93,10 +93,7 @@ pub fn read_peer(alloc: Global, bytes: &[u8]) -> Result<Option<Answered>, NoMemo
 fn has_length(values: &[&[u8]], rest: &[u8]) -> bool
     ensures { result ≡ spec.has_length (map (λ v. v.now) values.now) rest.now }
 {
-    if values.is_empty() {
-        return false;
-    }
-    cut_body(values, rest).is_some()
+    !values.is_empty() && cut_body(values, rest).is_some()
 }
 
 // Whether the body is whole by its length, from the fields and the bytes after the head.
