@@ -2,11 +2,12 @@
 
 ghost use Rattle.std.specs.Prelude.{◌≡◌};
 ghost use Rattle.std.specs.Option.{option_copied};
-ghost use Rattle.server_roles.specs.Roles.{is_small_if};
+ghost use Rattle.server_roles.specs.Roles.{is_small_if, provider_workers};
 
 use client_registry::Registry;
 use core_stack::Provides;
 use op_exchange::{OpAsk, is_small};
+use op_request::is_login;
 use serving::Role;
 use sso_base::{Answered, Ask, HttpReply, Message, Messages, NoMemory, Text};
 use std::alloc::Global;
@@ -35,6 +36,13 @@ fn is_small_if(ask: Option<&OpAsk>) -> bool
     }
 }
 
+// How many workers serve the provider of a registry.
+fn provider_workers(_registry: &Registry) -> u32
+    ensures { result ≡ provider_workers _registry.now }
+{
+    4
+}
+
 impl<'a, P: Provides + Send + Sync> Role for OpRole<'a, P> {
     ghost use Rattle.std.specs.Prelude.{refl};
     ghost use Rattle.server_roles.specs.Roles.{provider_manner};
@@ -56,6 +64,10 @@ impl<'a, P: Provides + Send + Sync> Role for OpRole<'a, P> {
         P::prepare(alloc, self.registry, request)
     }
 
+    fn proves(&self, request: &Ask) -> bool {
+        is_login(self.registry, request)
+    }
+
     fn question(&self, _alloc: Global, _reply: &P::Reply) -> Result<Option<Message>, NoMemory> {
         Ok(None)
     }
@@ -67,6 +79,10 @@ impl<'a, P: Provides + Send + Sync> Role for OpRole<'a, P> {
         _answer: &Answered,
     ) -> Result<P::Ask, NoMemory> {
         P::from_plain(alloc, OpAsk::NotHere)
+    }
+
+    fn workers(&self) -> u32 {
+        provider_workers(self.registry)
     }
 
     fn takes(&self, ask: &P::Ask) -> bool {

@@ -1,5 +1,8 @@
 // A core that a relying party is in, as a role.
 
+ghost use Rattle.std.specs.Prelude.{◌≡◌};
+ghost use Rattle.server_roles.specs.Roles.{party_workers};
+
 use client_registry::Registry;
 use core_stack::{Relies, Sending};
 use http_reply::concatenated;
@@ -15,6 +18,13 @@ pub struct RpRole<'a, P> {
     pub registry: &'a Registry,
     pub party: u32,
     pub core: PhantomData<P>,
+}
+
+// How many workers serve the party with this number in a registry.
+fn party_workers(_registry: &Registry, _party: u32) -> u32
+    ensures { result ≡ party_workers _registry.now _party }
+{
+    4
 }
 
 impl<'a, P: Relies + Send + Sync> Role for RpRole<'a, P> {
@@ -46,6 +56,10 @@ impl<'a, P: Relies + Send + Sync> Role for RpRole<'a, P> {
         P::prepare(alloc, self.registry, self.party, request)
     }
 
+    fn proves(&self, _request: &Ask) -> bool {
+        false
+    }
+
     fn question(&self, alloc: Global, reply: &P::Reply) -> Result<Option<Message>, NoMemory> {
         match P::message(alloc, reply)? {
             Some(Sending { message, .. }) => Ok(Some(message)),
@@ -66,6 +80,10 @@ impl<'a, P: Relies + Send + Sync> Role for RpRole<'a, P> {
             RpReply::Fetch { pending, .. } => P::prepare_info(alloc, *pending, answer),
             _ => P::from_plain(alloc, RpAsk::NotHere),
         }
+    }
+
+    fn workers(&self) -> u32 {
+        party_workers(self.registry, self.party)
     }
 
     fn takes(&self, ask: &P::Ask) -> bool {
