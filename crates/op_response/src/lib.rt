@@ -6,7 +6,7 @@
 //! | `telling` | [`op_http`] and [`token_response`]: the status, the fields and the body of a reply |
 //! | `html` | the plain login page and the plain consent page |
 //! | `full_pages` | the full pages: login, consent, the end of a session, and errors |
-//! | `cookies` | the browser's cookie and the session's |
+//! | `cookies` | [`browser_cookie`] and [`session_cookie`], the names of the browser's cookie and the session's |
 //! | `lines` | [`op_line`]: the line of a reply |
 //! | `law` | laws about the output of replies, for the crates above |
 #![tactic(auto)]
@@ -18,6 +18,7 @@ mod law;
 mod lines;
 mod telling;
 
+pub use cookies::{browser_cookie, session_cookie};
 pub use law::{
     challenges_are_unauthorized, cookies_hold_the_words_of_replies,
     forms_are_posted_to_the_provider, full_pages_post_what_plain_ones_post,

@@ -42,14 +42,14 @@ fn json(alloc: Global, body: &[u8]) -> Result<HttpReply, NoMemory>
 // A redirect of the user agent to this location, with the session cookie if there is a session word.
 fn sent_with_session(
     alloc: Global,
-    secure: bool,
+    registry: &Registry,
     location: Text,
     session: &Option<Word>,
 ) -> Result<HttpReply, NoMemory>
-    ensures { IfOk result (λ h. h ≡ sent_to location (session_cookies secure session.now)) }
+    ensures { IfOk result (λ h. h ≡ sent_to location (session_cookies registry.now session.now)) }
 {
     let mut cookies = Texts::new(alloc);
-    push_session(&mut cookies, alloc, secure, session)?;
+    push_session(&mut cookies, alloc, registry, session)?;
     Ok(http_reply::sent_to(alloc, location, cookies))
 }
 
@@ -132,7 +132,7 @@ fn login_shown(
 ) -> Result<HttpReply, NoMemory>
     ensures { IfOk result (λ h. h ≡ spec.login_shown registry.now turn.now browser.now again) }
 {
-    let cookies = browser_cookies(alloc, registry.secure(), browser)?;
+    let cookies = browser_cookies(alloc, registry, browser)?;
     let page = login_body(alloc, registry, turn, again)?;
     Ok(html(cookies, page))
 }
@@ -177,8 +177,8 @@ fn consent_shown(
 ) -> Result<HttpReply, NoMemory>
     ensures { IfOk result (λ h. h ≡ spec.consent_shown registry.now turn.now browser.now session.now client.now scopes.now) }
 {
-    let mut cookies = browser_cookies(alloc, registry.secure(), browser)?;
-    push_session(&mut cookies, alloc, registry.secure(), session)?;
+    let mut cookies = browser_cookies(alloc, registry, browser)?;
+    push_session(&mut cookies, alloc, registry, session)?;
     let page = consent_body(alloc, registry, turn, client, scopes)?;
     Ok(html(cookies, page))
 }
@@ -203,7 +203,7 @@ fn signed_out_shown(alloc: Global, registry: &Registry) -> Result<HttpReply, NoM
 /// A login page and a consent page are HTML, plain or full as the registry says, and set the browser's cookie `op_b`.
 /// Authorization responses redirect the user agent to their location, with status 303. Each of these, except a login page, sets
 /// the session's cookie `op_s` if it has a session word. A cookie is a word's text, for every path, `HttpOnly`, `SameSite=Lax`
-/// and, if the issuer is https, `Secure` (RFC 6265, 4.1).
+/// and, if the issuer is https, `Secure` (RFC 6265, 4.1). If the registry says so, both names begin with `__Host-`.
 ///
 /// Token responses are JSON with `Pragma: no-cache` (RFC 6749, 5.1 and 5.2). The claims of a user, the provider's metadata and
 /// its keys are JSON. Error pages and sign-outs are one line of text, or HTML if pages are full. Replies for an unknown path or a
@@ -213,7 +213,6 @@ fn signed_out_shown(alloc: Global, registry: &Registry) -> Result<HttpReply, NoM
 pub fn op_http(alloc: Global, registry: &Registry, reply: &OpReply) -> Result<HttpReply, NoMemory>
     ensures { IfOk result (λ h. h ≡ spec.http_of registry.now reply.now) }
 {
-    let secure = registry.secure();
     match reply {
         OpReply::LoginPage {
             turn,
@@ -228,10 +227,10 @@ pub fn op_http(alloc: Global, registry: &Registry, reply: &OpReply) -> Result<Ht
             scopes,
         } => consent_shown(alloc, registry, turn, browser, session, client, scopes),
         OpReply::Answered { answer, session } => {
-            sent_with_session(alloc, secure, print_answer(alloc, answer)?, session)
+            sent_with_session(alloc, registry, print_answer(alloc, answer)?, session)
         }
         OpReply::Refused { refusal, session } => {
-            sent_with_session(alloc, secure, print_refusal(alloc, refusal)?, session)
+            sent_with_session(alloc, registry, print_refusal(alloc, refusal)?, session)
         }
         OpReply::ErrorPage { why } => error_shown(alloc, registry, *why),
         OpReply::Tokens { access, id } => {

@@ -6,7 +6,7 @@ use Rattle.sso_base.specs.declared.http.HttpReply.{HttpReply}
 use Rattle.sso_base.specs.declared.message.Message.{Message}
 use Rattle.sso_base.specs.declared.message.Answered.{Answered}
 use Rattle.client_registry.specs.Configuration.{Configuration}
-use Rattle.client_registry.specs.Numbers.{party_row}
+use Rattle.client_registry.specs.Numbers.{party_name}
 use Rattle.op_exchange.specs.declared.ask.OpAsk.{OpAsk}
 use Rattle.op_exchange.specs.declared.ask.OpAsk.TheVariants as op_ask
 use Rattle.op_exchange.specs.Held as op_held
@@ -27,13 +27,13 @@ abbrev pub is_small_if : Option OpAsk → Bool
 is_small_if (Some asked) = op_held.is_small asked
 is_small_if None = true
 
--- It makes no requests to other servers. The clients of a session are notified of a sign-out before its reply is written (OpenID Connect
+-- It reads the cookies that its replies set, under the same names. It makes no requests to other servers. The clients of a session are notified of a sign-out before its reply is written (OpenID Connect
 -- Back-Channel Logout 1.0, 2.5). If its history lasts, it takes only small requests.
 abbrev pub provider_manner : {A R : Type 0} → (A → Option OpAsk) → (R → Option (List Message)) → (Configuration → Ask → A) → (OpAsk → A)
     → (Configuration → R → HttpReply) → (A → ℕ) → Configuration → Manner A R
 provider_manner plain notices prepared from_op http weighs c = record {
-  first = op_cookies.browser_cookie;
-  second = op_cookies.session_cookie;
+  first = op_cookies.browser_cookie c.settings.host_cookies;
+  second = op_cookies.session_cookie c.settings.host_cookies;
   prepared = prepared c;
   question = λ reply. None;
   answered = λ reply answer. from_op op_ask.NotHere;
@@ -55,13 +55,13 @@ answered_by tokens info none (Exchange pending message) answer = tokens pending 
 answered_by tokens info none (Fetch pending message) answer = info pending answer
 answered_by tokens info none reply answer = none
 
--- if its history lasts, it takes only small requests and responses
+-- It reads the cookies that its replies set, under the same names. If its history lasts, it takes only small requests and responses.
 abbrev pub party_manner : {A R : Type 0} → (A → RpAsk) → (R → RpReply) → (R → Option Sending) → (Configuration → ℕ → Ask → A)
     → (Configuration → ℕ → Word → Answered → A) → (Word → Answered → A) → (RpAsk → A) → (Configuration → ℕ → R → HttpReply) → (A → ℕ)
     → Configuration → ℕ → Manner A R
 party_manner plain told sent prepared tokens info from_rp http weighs c n = record {
-  first = rp_cookies.browser_cookie (party_row c n).name;
-  second = rp_cookies.session_cookie (party_row c n).name;
+  first = rp_cookies.browser_cookie c.settings.host_cookies (party_name c n);
+  second = rp_cookies.session_cookie c.settings.host_cookies (party_name c n);
   prepared = prepared c n;
   question = λ reply. message_in (sent reply);
   answered = λ reply answer. answered_by (tokens c n) info (from_rp rp_ask.NotHere) (told reply) answer;
