@@ -3,7 +3,7 @@ use Rattle.std.specs.Prelude.{ℕ, Bool, true, false, [], ◌∷◌, ◌++◌, c
 use Rattle.sso_base.specs.Words.{Word, Text, word_text}
 use Rattle.sso_base.specs.declared.http.HttpReply.{HttpReply}
 use Rattle.sso_base.specs.declared.http.Kind.TheVariants.{Empty, Json}
-use Rattle.http_reply.specs.Replies.{html, plain, sent_to}
+use Rattle.http_reply.specs.Replies.{html, sent_to}
 use Rattle.html_pages.specs.Documents.{shown}
 use Rattle.client_registry.specs.declared.records.Client.{Client}
 use Rattle.client_registry.specs.Configuration.{Configuration}
@@ -22,7 +22,7 @@ use Rattle.op_exchange.specs.declared.reply.OpReply.{OpReply}
 use Rattle.op_exchange.specs.declared.reply.OpReply.TheVariants as reply
 use Rattle.op_response.specs.Cookies.{browser_cookies, session_cookies}
 use Rattle.op_response.specs.Pages.{login_page, consent_page}
-use Rattle.op_response.specs.FullPages.{full_login_page, full_consent_page, error_line, error_page, signed_out_page}
+use Rattle.op_response.specs.FullPages.{full_login_page, full_consent_page, error_line, error_page, signed_out_page, table_page, missing_page}
 
 -- ---- kinds of replies
 
@@ -74,6 +74,12 @@ error_shown c why = shown 400 (error_page c.full_pages c.title why) (error_line 
 abbrev pub signed_out_shown : Configuration → HttpReply
 signed_out_shown c = shown 200 (signed_out_page c.full_pages c.title) (codes "signed out")
 
+abbrev pub full_shown : Configuration → HttpReply
+full_shown c = shown 503 (table_page c.full_pages c.title) (codes "full")
+
+abbrev pub missing_shown : Configuration → HttpReply
+missing_shown c = shown 404 (missing_page c.full_pages c.title) (codes "not here")
+
 -- ---- error responses
 
 -- a client that is not authenticated gets a challenge (RFC 6749, 5.2; RFC 7617, 2)
@@ -101,5 +107,5 @@ http_of c (reply.InfoRefused given) = unauthorized (bearer_challenge given)
 http_of c (reply.SignedOut messages) = signed_out_shown c
 http_of c (reply.Metadata text) = json text
 http_of c reply.Keys = json (codes "{\"keys\":[]}")
-http_of c reply.NotHere = plain 404 (codes "not here")
-http_of c reply.Full = plain 503 (codes "full")
+http_of c reply.NotHere = missing_shown c
+http_of c reply.Full = full_shown c

@@ -5,7 +5,7 @@
 //! |---|---|
 //! | `telling` | [`op_http`] and [`token_response`]: the status, the fields and the body of a reply |
 //! | `html` | the plain login page and the plain consent page |
-//! | `full_pages` | the full pages: login, consent, the end of a session, and errors |
+//! | `full_pages` | the full pages: login, consent, the end of a session, errors; [`notice_page`] |
 //! | `cookies` | [`browser_cookie`] and [`session_cookie`], the names of the browser's cookie and the session's |
 //! | `lines` | [`op_line`]: the line of a reply |
 //! | `law` | laws about the output of replies, for the crates above |
@@ -26,4 +26,5 @@ pub use law::{
     responses_send_the_user_agent_on, token_responses_are_not_cached,
 };
 pub use lines::op_line;
-pub use telling::{op_http, token_response};
+pub use full_pages::notice_page;
+pub use telling::{full_shown, op_http, signed_out_shown, token_response};
