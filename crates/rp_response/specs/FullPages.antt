@@ -49,7 +49,7 @@ denied_advice AccessDenied = codes "You did not agree, or you may not use this a
 denied_advice code = codes "You could not be signed in. Please begin again."
 
 abbrev pub unfinished_advice : Text
-unfinished_advice = codes "This site could not finish the sign-in. Its operator can see why."
+unfinished_advice = codes "This site could not finish the sign-in. Its operator can see why from the line below."
 
 -- what happened, and what a user can do
 abbrev pub refusal_advice : RpNo → Text

@@ -121,7 +121,7 @@ fn refusal_advice(why: &RpNo) -> &'static str
         RpNo::Provider(code) => denied_advice(*code),
         RpNo::Full(_) => "Too many people are signing in. Please wait for some minutes.",
         RpNo::Tokens(_) | RpNo::Id(_) | RpNo::Info(_) =>
-            "This site could not finish the sign-in. Its operator can see why.",
+            "This site could not finish the sign-in. Its operator can see why from the line below.",
         _ => "It took too long, was done already, or began in another browser.",
     }
 }
