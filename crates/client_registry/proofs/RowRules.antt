@@ -380,10 +380,14 @@ https_kept version.Second t known clients i d h =
     (front_nil (keys.https_rule host r d) (keys.workers_key r d) (party_keys_kept version.Second host clients i d h))
     (ap is_some u.url_there)
 
+neither : (a b : Bool) → a ≡ false → b ≡ false → (a || b) ≡ false
+neither true b p q = absurd (true≢false p)
+neither false b p q = q
+
 none_http : (host : Bool) (ps : List Party) → AllByRecursion (λ (p : Party). (host && not p.redirect_url.secure) ≡ false) ps → (host && list_any (λ (p : Party). not p.redirect_url.secure) ps) ≡ false
 none_http false ps h = refl
 none_http true [] h = refl
-none_http true (p ∷ ps) h = rw h.0 (none_http true ps h.1)
+none_http true (p ∷ ps) h = neither (not p.redirect_url.secure) (list_any (λ (q : Party). not q.redirect_url.secure) ps) h.0 (none_http true ps h.1)
 
 pub parties_are_https : (v : Version) (t : Data) (known : List Client) (clients rows : List Data) → each (keys.party_row v (keys.host_cookies v t) clients) rows ≡ []
     → (keys.host_cookies v t && list_any (λ (p : Party). not p.redirect_url.secure) (map (party_of v known) rows)) ≡ false
