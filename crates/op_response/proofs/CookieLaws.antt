@@ -20,10 +20,10 @@ use Rattle.op_response.specs.Told.{browser_given, words_set}
 
 -- ---- names
 
-browser_name : (host : Bool) → is_cookie_name (browser_cookie host) ≡ true
+pub browser_name : (host : Bool) → is_cookie_name (browser_cookie host) ≡ true
 browser_name host = prefixed_name host (codes "op_b") refl
 
-session_name : (host : Bool) → is_cookie_name (session_cookie host) ≡ true
+pub session_name : (host : Bool) → is_cookie_name (session_cookie host) ≡ true
 session_name host = prefixed_name host (codes "op_s") refl
 
 -- ---- what is read

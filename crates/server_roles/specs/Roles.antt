@@ -1,6 +1,6 @@
 -- The roles of the two servers. A core that the provider or a relying party is in says of itself what its requests and replies are.
 use Rattle.std.specs.Prelude.{ℕ, Bool, true, not, ◌||◌, List, [], Option, Some, None, option_map, unwrap_or}
-use Rattle.sso_base.specs.Words.{Word}
+use Rattle.sso_base.specs.Words.{Word, Text}
 use Rattle.sso_base.specs.declared.http.Ask.{Ask}
 use Rattle.sso_base.specs.declared.http.HttpReply.{HttpReply}
 use Rattle.sso_base.specs.declared.message.Message.{Message}
@@ -22,18 +22,22 @@ use Rattle.serving.specs.Manner.{Manner}
 
 -- ---- the provider
 
+-- the names under which its two cookies are set and read: the browser's and the session's
+abbrev pub provider_names : Configuration → Text × Text
+provider_names c = (op_cookies.browser_cookie c.settings.host_cookies, op_cookies.session_cookie c.settings.host_cookies)
+
 -- the provider's request in a request is small, or there is none
 abbrev pub is_small_if : Option OpAsk → Bool
 is_small_if (Some asked) = op_held.is_small asked
 is_small_if None = true
 
--- It reads the cookies that its replies set, under the same names. It makes no requests to other servers. The clients of a session are notified of a sign-out before its reply is written (OpenID Connect
+-- It makes no requests to other servers. The clients of a session are notified of a sign-out before its reply is written (OpenID Connect
 -- Back-Channel Logout 1.0, 2.5). If its history lasts, it takes only small requests.
 abbrev pub provider_manner : {A R : Type 0} → (A → Option OpAsk) → (R → Option (List Message)) → (Configuration → Ask → A) → (OpAsk → A)
     → (Configuration → R → HttpReply) → (A → ℕ) → Configuration → Manner A R
 provider_manner plain notices prepared from_op http weighs c = record {
-  first = op_cookies.browser_cookie c.settings.host_cookies;
-  second = op_cookies.session_cookie c.settings.host_cookies;
+  first = (provider_names c).0;
+  second = (provider_names c).1;
   prepared = prepared c;
   question = λ reply. None;
   answered = λ reply answer. from_op op_ask.NotHere;
@@ -45,6 +49,11 @@ provider_manner plain notices prepared from_op http weighs c = record {
 
 -- ---- the relying party with a number
 
+-- the same at a party
+abbrev pub party_names : Configuration → ℕ → Text × Text
+party_names c n =
+    (rp_cookies.browser_cookie c.settings.host_cookies (party_name c n), rp_cookies.session_cookie c.settings.host_cookies (party_name c n))
+
 -- a token request and a UserInfo request go to the provider (OpenID Connect Core 1.0, 3.1.3.1 and 5.3.1)
 abbrev pub message_in : Option Sending → Option Message
 message_in sending = option_map (λ (s : Sending). s.message) sending
@@ -55,13 +64,13 @@ answered_by tokens info none (Exchange pending message) answer = tokens pending 
 answered_by tokens info none (Fetch pending message) answer = info pending answer
 answered_by tokens info none reply answer = none
 
--- It reads the cookies that its replies set, under the same names. If its history lasts, it takes only small requests and responses.
+-- if its history lasts, it takes only small requests and responses
 abbrev pub party_manner : {A R : Type 0} → (A → RpAsk) → (R → RpReply) → (R → Option Sending) → (Configuration → ℕ → Ask → A)
     → (Configuration → ℕ → Word → Answered → A) → (Word → Answered → A) → (RpAsk → A) → (Configuration → ℕ → R → HttpReply) → (A → ℕ)
     → Configuration → ℕ → Manner A R
 party_manner plain told sent prepared tokens info from_rp http weighs c n = record {
-  first = rp_cookies.browser_cookie c.settings.host_cookies (party_name c n);
-  second = rp_cookies.session_cookie c.settings.host_cookies (party_name c n);
+  first = (party_names c n).0;
+  second = (party_names c n).1;
   prepared = prepared c n;
   question = λ reply. message_in (sent reply);
   answered = λ reply answer. answered_by (tokens c n) info (from_rp rp_ask.NotHere) (told reply) answer;
