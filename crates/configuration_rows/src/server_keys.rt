@@ -1,6 +1,6 @@
 // The names of cookies, and the workers of servers: keys of the second version.
 
-ghost use Rattle.std.specs.Prelude.{◌≡◌, ◌++◌, IfOk, OnOk};
+ghost use Rattle.std.specs.Prelude.{◌≡◌, ◌++◌, ◌&&◌, IfOk, OnOk};
 ghost use Rattle.toml.specs.View.{view};
 ghost use Rattle.configuration_rows.specs.Values.{url_at as url_in};
 ghost use Rattle.configuration_rows.specs.Rows as spec;
@@ -26,10 +26,13 @@ pub fn host_cookies(version: Version, provider: &Value) -> bool
     }
 }
 
-// Whether the URL at a key is not https.
-fn is_http(alloc: Global, values: &Value, key: &str) -> Result<bool, NoMemory>
-    ensures { IfOk result (λ b. b ≡ spec.is_http (url_in key.now (view values.now))) }
+// Whether names of cookies begin with `__Host-`, and the URL at a key is not https.
+fn lacks_https(alloc: Global, host: bool, values: &Value, key: &str) -> Result<bool, NoMemory>
+    ensures { IfOk result (λ b. b ≡ (host && spec.is_http (url_in key.now (view values.now)))) }
 {
+    if !host {
+        return Ok(false);
+    }
     match url_at(alloc, values, key)? {
         Some(url) => Ok(!url.secure),
         None => Ok(false),
@@ -41,26 +44,21 @@ fn issuer_rule(refusals: &mut Refusals, host: bool, values: &Value) -> Result<()
     ensures { OnOk result (refusals.new ≡ refusals.old ++ spec.issuer_rule host (view values.now)) }
 {
     let alloc = refusals.alloc();
-    if host && is_http(alloc, values, "issuer")? {
-        return refusals.note(RegNo::WrongKind(Row::Provider.path(alloc, "cookies")?));
+    if !lacks_https(alloc, host, values, "issuer")? {
+        return Ok(());
     }
-    Ok(())
+    refusals.note(RegNo::WrongKind(Row::Provider.path(alloc, "cookies")?))
 }
 
 // Checks that the redirect URI of a party is https, if names of cookies begin with `__Host-`.
-fn https_rule(
-    refusals: &mut Refusals,
-    host: bool,
-    row: Row,
-    values: &Value,
-) -> Result<(), NoMemory>
+fn https_rule(refusals: &mut Refusals, host: bool, row: Row, values: &Value) -> Result<(), NoMemory>
     ensures { OnOk result (refusals.new ≡ refusals.old ++ spec.https_rule host row (view values.now)) }
 {
     let alloc = refusals.alloc();
-    if host && is_http(alloc, values, "redirect_uri")? {
-        return refusals.note(RegNo::BadUrl(row.path(alloc, "redirect_uri")?));
+    if !lacks_https(alloc, host, values, "redirect_uri")? {
+        return Ok(());
     }
-    Ok(())
+    refusals.note(RegNo::BadUrl(row.path(alloc, "redirect_uri")?))
 }
 
 // Checks how many workers serve requests at the same time.

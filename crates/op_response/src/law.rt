@@ -31,8 +31,10 @@ ghost use Rattle.op_response.specs.Laws.{FullConsentPagesNameApplicationAndScope
 /// without a session word sets no session cookie.
 pub fn cookies_hold_the_words_of_replies()
     ensures read { (c : Configuration) (r : OpReply) → map cookie_read (http_of c r).cookies ≡ map (kept c.secure) (words_set c.settings.host_cookies r) }
-    ensures session { (c : Configuration) (r : OpReply) → sets_cookie (session_cookie c.settings.host_cookies) (http_of c r).cookies ≡ is_some (session_given r) }
-    ensures browser { (c : Configuration) (r : OpReply) → sets_cookie (browser_cookie c.settings.host_cookies) (http_of c r).cookies ≡ is_some (browser_given r) }
+    ensures session { (c : Configuration) (r : OpReply)
+        → sets_cookie (session_cookie c.settings.host_cookies) (http_of c r).cookies ≡ is_some (session_given r) }
+    ensures browser { (c : Configuration) (r : OpReply)
+        → sets_cookie (browser_cookie c.settings.host_cookies) (http_of c r).cookies ≡ is_some (browser_given r) }
     ensures taken { (c : Configuration) (r : OpReply) → IsRegistry c → AreTaken c.secure (words_set c.settings.host_cookies r) }
 {}
 

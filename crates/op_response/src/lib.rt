@@ -19,6 +19,7 @@ mod lines;
 mod telling;
 
 pub use cookies::{browser_cookie, session_cookie};
+pub use full_pages::notice_page;
 pub use law::{
     challenges_are_unauthorized, cookies_hold_the_words_of_replies,
     forms_are_posted_to_the_provider, full_pages_post_what_plain_ones_post,
@@ -26,5 +27,4 @@ pub use law::{
     responses_send_the_user_agent_on, token_responses_are_not_cached,
 };
 pub use lines::op_line;
-pub use full_pages::notice_page;
 pub use telling::{full_shown, op_http, signed_out_shown, token_response};

@@ -47,12 +47,7 @@ pub fn session_cookie(alloc: Global, registry: &Registry, party: u32) -> Result<
 }
 
 // Only the cookie of this name.
-fn one_cookie(
-    alloc: Global,
-    secure: bool,
-    name: &Text,
-    word: &Word,
-) -> Result<Texts, NoMemory>
+fn one_cookie(alloc: Global, secure: bool, name: &Text, word: &Word) -> Result<Texts, NoMemory>
     ensures { IfOk result (λ t. t ≡ cookie secure name.now word.now ∷ []) }
 {
     let mut cookies = Texts::new(alloc);
