@@ -1,4 +1,5 @@
 pub mod Keeps
 pub mod Pages
 pub mod Prepared
+pub mod Posted
 pub mod Reading

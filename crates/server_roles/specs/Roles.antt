@@ -1,12 +1,12 @@
 -- The roles of the two servers. A core that the provider or a relying party is in says of itself what its requests and replies are.
 use Rattle.std.specs.Prelude.{ℕ, Bool, true, false, not, ◌||◌, List, [], Option, Some, None, option_map, unwrap_or}
-use Rattle.sso_base.specs.Words.{Word}
+use Rattle.sso_base.specs.Words.{Word, Text}
 use Rattle.sso_base.specs.declared.http.Ask.{Ask}
 use Rattle.sso_base.specs.declared.http.HttpReply.{HttpReply}
 use Rattle.sso_base.specs.declared.message.Message.{Message}
 use Rattle.sso_base.specs.declared.message.Answered.{Answered}
 use Rattle.client_registry.specs.Configuration.{Configuration}
-use Rattle.client_registry.specs.Numbers.{party_row}
+use Rattle.client_registry.specs.Numbers.{party_name}
 use Rattle.op_exchange.specs.declared.ask.OpAsk.{OpAsk}
 use Rattle.op_exchange.specs.declared.ask.OpAsk.TheVariants as op_ask
 use Rattle.op_exchange.specs.Held as op_held
@@ -32,6 +32,10 @@ party_workers c n = 4
 
 -- ---- the provider
 
+-- the names under which its two cookies are set and read: the browser's and the session's
+abbrev pub provider_names : Configuration → Text × Text
+provider_names c = (op_cookies.browser_cookie c.settings.host_cookies, op_cookies.session_cookie c.settings.host_cookies)
+
 -- the provider's request in a request is small, or there is none
 abbrev pub is_small_if : Option OpAsk → Bool
 is_small_if (Some asked) = op_held.is_small asked
@@ -42,8 +46,8 @@ is_small_if None = true
 abbrev pub provider_manner : {A R : Type 0} → (A → Option OpAsk) → (R → Option (List Message)) → (Configuration → Ask → A) → (OpAsk → A)
     → (Configuration → R → HttpReply) → (A → ℕ) → Configuration → Manner A R
 provider_manner plain notices prepared from_op http weighs c = record {
-  first = op_cookies.browser_cookie;
-  second = op_cookies.session_cookie;
+  first = (provider_names c).0;
+  second = (provider_names c).1;
   prepared = prepared c;
   proves = is_login c.prefix;
   question = λ reply. None;
@@ -56,6 +60,11 @@ provider_manner plain notices prepared from_op http weighs c = record {
 }
 
 -- ---- the relying party with a number
+
+-- the same at a party
+abbrev pub party_names : Configuration → ℕ → Text × Text
+party_names c n =
+    (rp_cookies.browser_cookie c.settings.host_cookies (party_name c n), rp_cookies.session_cookie c.settings.host_cookies (party_name c n))
 
 -- a token request and a UserInfo request go to the provider (OpenID Connect Core 1.0, 3.1.3.1 and 5.3.1)
 abbrev pub message_in : Option Sending → Option Message
@@ -72,8 +81,8 @@ abbrev pub party_manner : {A R : Type 0} → (A → RpAsk) → (R → RpReply) �
     → (Configuration → ℕ → Word → Answered → A) → (Word → Answered → A) → (RpAsk → A) → (Configuration → ℕ → R → HttpReply) → (A → ℕ)
     → Configuration → ℕ → Manner A R
 party_manner plain told sent prepared tokens info from_rp http weighs c n = record {
-  first = rp_cookies.browser_cookie (party_row c n).name;
-  second = rp_cookies.session_cookie (party_row c n).name;
+  first = (party_names c n).0;
+  second = (party_names c n).1;
   prepared = prepared c n;
   proves = λ request. false;
   question = λ reply. message_in (sent reply);

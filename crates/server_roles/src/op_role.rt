@@ -8,16 +8,11 @@ use client_registry::Registry;
 use core_stack::Provides;
 use op_exchange::{OpAsk, is_small};
 use op_request::is_login;
+use op_response::{browser_cookie, session_cookie};
 use serving::Role;
 use sso_base::{Answered, Ask, HttpReply, Message, Messages, NoMemory, Text};
 use std::alloc::Global;
 use std::marker::PhantomData;
-
-/// The name of the browser's cookie.
-const BROWSER: &str = "op_b";
-
-/// The name of the session's cookie.
-const SESSION: &str = "op_s";
 
 /// The role of the provider's server: a core of this type, which the provider of this registry is in.
 #[derive(Drop)]
@@ -57,7 +52,10 @@ impl<'a, P: Provides + Send + Sync> Role for OpRole<'a, P> {
     ghost rounds = { λ _. 0 };
 
     fn cookies(&self, alloc: Global) -> Result<(Text, Text), NoMemory> {
-        Ok((Text::new(alloc, BROWSER)?, Text::new(alloc, SESSION)?))
+        Ok((
+            browser_cookie(alloc, self.registry)?,
+            session_cookie(alloc, self.registry)?,
+        ))
     }
 
     fn prepare(&self, alloc: Global, request: &Ask) -> Result<P::Ask, NoMemory> {

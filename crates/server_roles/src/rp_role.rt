@@ -5,8 +5,8 @@ ghost use Rattle.server_roles.specs.Roles.{party_workers};
 
 use client_registry::Registry;
 use core_stack::{Relies, Sending};
-use http_reply::concatenated;
 use rp_exchange::{RpAsk, RpReply, is_small};
+use rp_response::{browser_cookie, session_cookie};
 use serving::Role;
 use sso_base::{Answered, Ask, HttpReply, Message, Messages, NoMemory, Text};
 use std::alloc::Global;
@@ -45,10 +45,9 @@ impl<'a, P: Relies + Send + Sync> Role for RpRole<'a, P> {
     ghost rounds = { λ reply. rounds_of (P.rp_reply reply) };
 
     fn cookies(&self, alloc: Global) -> Result<(Text, Text), NoMemory> {
-        let name = self.registry.party(self.party).name.as_str();
         Ok((
-            concatenated(alloc, name, "_b")?,
-            concatenated(alloc, name, "_s")?,
+            browser_cookie(alloc, self.registry, self.party)?,
+            session_cookie(alloc, self.registry, self.party)?,
         ))
     }
 
