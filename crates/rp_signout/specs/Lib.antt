@@ -1,5 +1,5 @@
 pub mod Keeps
 pub mod Pages
-pub mod Prepared
 pub mod Posted
+pub mod Prepared
 pub mod Reading
