@@ -8,6 +8,7 @@ pub mod Stacking
 pub mod OnePair
 pub mod Same
 pub mod Added
+pub mod Provided
 pub mod Marked
 pub mod Rooms
 pub mod MarksHeld

@@ -149,7 +149,7 @@ provider_is_a_stack =
     record {
       begins = refl;
       beginnings = beginning_is_legal IsOpAsk (op_answer sample) ask_weight (most_of sample.lasting);
-      provider = λ h legal. legal;
+      provider = λ h legal. legal.past;
       adds = λ h p legal. op_adds h p;
     }
 

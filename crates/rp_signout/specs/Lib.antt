@@ -1,3 +1,4 @@
 pub mod Keeps
 pub mod Pages
 pub mod Prepared
+pub mod Reading
