@@ -1,6 +1,6 @@
 // A core that a relying party is in, as a role.
 
-ghost use Rattle.std.specs.Prelude.{◌≡◌};
+ghost use Rattle.std.specs.Prelude.{◌≡◌, ◌<◌, length};
 ghost use Rattle.server_roles.specs.Roles.{party_workers};
 
 use client_registry::Registry;
@@ -22,6 +22,7 @@ pub struct RpRole<'a, P> {
 
 // How many workers serve the party with this number in a registry.
 fn party_workers(_registry: &Registry, _party: u32) -> u32
+    requires { _party < length _registry.now.parties }
     ensures { result ≡ party_workers _registry.now _party }
 {
     4

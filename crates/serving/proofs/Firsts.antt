@@ -28,27 +28,27 @@ pub how_many : {X : Type 0} (n : ℕ) (xs now : List X) → now ≡ take n xs �
 how_many n xs now e = ap (λ l. length l) e ∙ length-take n xs
 
 -- what holds of all desks holds of them
-pub all_first : {X : Type 0} (P : X → Type 0) (n : ℕ) (xs now : List X) → now ≡ take n xs → All P xs → All P now
-all_first P n xs now e h = subst (λ l. All P l) (sym e) (All-take P n xs h)
+pub hold : {X : Type 0} (P : X → Type 0) (n : ℕ) (xs now : List X) → now ≡ take n xs → All P xs → All P now
+hold P n xs now e h = subst (λ l. All P l) (sym e) (All-take P n xs h)
 
 -- a gate for a number of workers, by what the number is
-pub same_gate : (gate : Gate) (n k : ℕ) → n ≡ k → IsGateFor n gate → IsGateFor k gate
-same_gate gate n k e g = subst (λ (i : ℕ). IsGateFor i gate) e g
+pub gate_for : (gate : Gate) (n k : ℕ) → n ≡ k → IsGateFor n gate → IsGateFor k gate
+gate_for gate n k e g = subst (λ (i : ℕ). IsGateFor i gate) e g
 
 module _ {D L C W S K A R Core Setup : Type 0} (t : Telling D L C W S K) (m : Manner A R) (most : Setup → ℕ) (setup : Core → Setup)
     (history_of : Core → List (Pair A R)) (is_legal : Setup → List (Pair A R) → Type 0) (configured : Setup) (place : Text) where
   -- the first desks served
-  pub first_served : (olds now news : List (Desk D L C W)) (s : Summary Core A R) → now ≡ take m.workers olds
+  pub served : (olds now news : List (Desk D L C W)) (s : Summary Core A R) → now ≡ take m.workers olds
       → SummarisesDesks t m most setup history_of is_legal configured place now news s
       → Summarises t m most setup history_of is_legal configured place olds news s
-  first_served olds now news s e served =
+  served olds now news s e done =
       subst (λ (l : List (Desk D L C W)). SummarisesDesks t m most setup history_of is_legal configured place l news s)
-      (e ∙ first_is_take m.workers olds) served
+      (e ∙ first_is_take m.workers olds) done
 
   -- there are none
-  pub nobody_served : (olds now : List (Desk D L C W)) → min (length olds) m.workers ≡ 0 → now ≡ take 0 olds
+  pub unserved : (olds now : List (Desk D L C W)) → min (length olds) m.workers ≡ 0 → now ≡ take 0 olds
       → Summarises t m most setup history_of is_legal configured place olds now (record { served = 0; entries = 0; fault = false; closed = None })
-  nobody_served olds now e is =
+  unserved olds now e is =
       subst
       (λ (l : List (Desk D L C W)). SummarisesDesks t m most setup history_of is_legal configured place l now (record { served = 0; entries = 0; fault = false; closed = None }))
       (sym (first_none m.workers olds e))

@@ -53,6 +53,7 @@ pub trait Role: Sync {
 
     /// The number of workers, if there are as many desks.
     fn workers(&self) -> u32
+        requires { ready self.now }
         ensures { result ≡ (manner self.now).workers };
 
     /// Whether a parsed request is small enough for the server.

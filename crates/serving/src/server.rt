@@ -1,6 +1,6 @@
 // A server: one worker for each desk, over one store.
 
-ghost use Rattle.std.specs.Prelude.{◌≡◌, ◌^◌, ◌≤◌, ◌<◌, [], length, map, IfOk, OnErr, vec_capacity};
+ghost use Rattle.std.specs.Prelude.{◌≡◌, ◌^◌, ◌≤◌, ◌<◌, min, [], length, map, take, IfOk, OnErr, vec_capacity};
 ghost use Rattle.std.specs.List.{All};
 ghost use Rattle.turn_store.specs.Passes.{IsPassOf, HasDoneNothing, number_of, passes_of, setup_of};
 ghost use Rattle.turn_store.specs.Places.{numbers_from};
@@ -70,6 +70,17 @@ where
     }
 }
 
+// Drops the desks after the first ones.
+fn keep_first<D: Door, L: Link, C: Clock, W: Draw>(
+    desks: &mut Vec<Desk<D, L, C, W>>,
+    count: usize,
+)
+    ensures items { desks.new.items ≡ take count desks.old.items }
+    ensures count { length desks.new.items ≡ min (length desks.old.items) count }
+{
+    desks.truncate(count);
+}
+
 /// Serves at the first of these desks concurrently, one worker each, with this core, which must have an empty history. There are as many
 /// workers as the role says, if there are as many desks; further desks are dropped. The first door listens at the place, and the others
 /// share its address. Without a worker nothing is done.
@@ -82,7 +93,7 @@ where
 /// # Errors
 ///
 /// `NoMemory` if memory ran out, before the first door was started. The desks are unchanged, and the core is dropped.
-#[tactic(auto, using(crate::proofs::Firsts::first_served, crate::proofs::Firsts::nobody_served, crate::proofs::Firsts::all_first))]
+#[tactic(auto, using(crate::proofs::Firsts::served, crate::proofs::Firsts::unserved, crate::proofs::Firsts::hold, crate::proofs::Firsts::gate_for))]
 pub fn serve<R: Threads + Wait + Sync, X: Role, D: Door, L: Link, C: Clock, W: Draw>(
     rt: &R,
     alloc: Global,
@@ -106,7 +117,7 @@ where
     let workers = role.workers() as usize;
     let count = desks.len().min(workers);
     if count == 0 {
-        desks.truncate(0);
+        keep_first(desks, 0);
         return Ok(Summary {
             served: 0,
             entries: 0,
@@ -117,6 +128,6 @@ where
     let gate = Gate::new(alloc, count as u32)?;
     let (store, passes) = Turn::new(alloc, core, count as u32)?;
     let seats = Vec::with_capacity(alloc, count)?;
-    desks.truncate(workers);
+    keep_first(desks, workers);
     Ok(serve_desks(rt, alloc, role, gate, store, passes, seats, place, desks))
 }
